@@ -1,0 +1,65 @@
+// The four numbers that are never taken for one another, and the two ways between them.
+// Each holds any number a script may hold, so that a wrong one is judged and never cut.
+ghost use mathlib.Core.Path.{_≡_};
+ghost use Rattle.units.specs.Units.{wholeSeconds, durationOf};
+
+// A time, or a stretch of it, in tenths of a second.
+pub struct Tenths(pub u32);
+
+// Charged seconds. The field is private: whole_seconds alone makes them.
+pub struct Seconds(u32);
+
+// A slot's number.
+pub struct SlotNumber(pub u32);
+
+// A working channel's number.
+pub struct Channel(pub u32);
+
+// A duration as an end of call tells it.
+pub struct Duration {
+    pub hours: u8,
+    pub minutes: u8,
+    pub seconds: u8,
+}
+
+// What an end of call can tell of charged seconds.
+pub enum Told {
+    Nothing,
+    Lasting(Duration),
+}
+
+impl Tenths {
+    // Whole seconds, rounded down.
+    pub fn whole_seconds(self) -> Seconds
+        ensures { λ r. ⌜ r ≡ wholeSeconds self ⌝ }
+    {
+        Seconds(self.0 / 10)
+    }
+}
+
+impl Seconds {
+    // The number itself, for the charge's bytes.
+    pub fn count(self) -> u32
+        ensures { λ r. ⌜ r ≡ self .0 ⌝ }
+    {
+        self.0
+    }
+
+    // Hours, minutes and seconds; from 100 hours on there is no place for them.
+    pub fn duration(self) -> Told
+        ensures { λ r. ⌜ r ≡ durationOf self ⌝ }
+    {
+        let s = self.0;
+        if s <= 359999 {
+            let hours = (s / 3600) as u8;
+            let minutes = (s / 60 % 60) as u8;
+            let seconds = (s % 60) as u8;
+            return Told::Lasting(Duration {
+                hours: hours,
+                minutes: minutes,
+                seconds: seconds,
+            });
+        }
+        Told::Nothing
+    }
+}
