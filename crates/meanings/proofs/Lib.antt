@@ -1,0 +1,6 @@
+pub mod IdentityLaws
+pub mod FieldLaws
+pub mod NumberLaws
+pub mod RoundTrip
+pub mod Theorems
+pub mod CasesHold

@@ -1,0 +1,47 @@
+// The digits of a number, out of its pairs.
+ghost use mathlib.Core.Path.{_≡_};
+ghost use Prim.Native.Nat.{_≤_};
+ghost use lib.ListN.{getD, length, drop};
+ghost use Rattle.sequence.specs.Reading.{digitsOf, sixteen, zeroBefore, numberOf};
+use sequence::Number;
+use sequence::symbols::at;
+
+fn digit(pairs: &[u8], j: usize) -> u8
+    ensures { λ r. ⌜ r ≡ getD (digitsOf (now (pairs .entry))) j 0 ⌝ }
+{
+    let p = at(pairs, j / 2);
+    if j % 2 == 0 { p / 10 } else { p % 10 }
+}
+
+// Sixteen digits, from the second on where the first is the 0 put before an odd count.
+fn sixteen_digits(pairs: &[u8], start: usize) -> [u8; 16]
+    requires { ⌜ start ≤ 1 ⌝ }
+    ensures { λ r. ⌜ r ≡ sixteen (drop start (digitsOf (now (pairs .entry)))) ⌝ }
+{
+    let mut digits = [0u8; 16];
+    let mut i = 0;
+    while i < 16 {
+        digits[i] = digit(pairs, start + i);
+        i += 1;
+    }
+    digits
+}
+
+fn zero_before(parity: u8) -> usize
+    ensures { λ r. ⌜ r ≡ zeroBefore parity ⌝ }
+{
+    if parity == 105 { 1 } else { 0 }
+}
+
+pub(crate) fn number_of(parity: u8, pairs: &[u8]) -> Number
+    requires { ⌜ (1 ≤ length (now pairs)) × (length (now pairs) ≤ 8) ⌝ }
+    ensures { λ r. ⌜ r ≡ numberOf parity (now (pairs .entry)) ⌝ }
+{
+    let n = pairs.len();
+    let start = zero_before(parity);
+    let digits = sixteen_digits(pairs, start);
+    Number {
+        count: (2 * n - start) as u8,
+        digits: digits,
+    }
+}

@@ -1,0 +1,122 @@
+// The reader: any symbols to their meaning, or to the first refusal in document 01's order.
+ghost use mathlib.Core.Path.{_≡_};
+ghost use mathlib.Core.Bool.{true};
+ghost use Rattle.sequence.specs.Answers.{isDone};
+ghost use Rattle.sequence.specs.Reading.{answerOf, meaningOf, blankMeaning, readingOf};
+
+mod digits;
+mod places;
+
+use crate::digits::number_of;
+use crate::places::category_in;
+use crate::places::check_in;
+use crate::places::end_in;
+use crate::places::field_in;
+use crate::places::field_of;
+use crate::places::format_in;
+use crate::places::identities_in;
+use crate::places::identity_at;
+use crate::places::length_in;
+use crate::places::number_in;
+use crate::places::telecommands_in;
+use sequence::Answer;
+use sequence::Field;
+use sequence::Meaning;
+use sequence::Number;
+use sequence::Reading;
+use sequence::symbols::all_at_most;
+use sequence::symbols::at;
+
+fn answer_to(s: &[u8]) -> Answer
+    ensures { λ r. ⌜ r ≡ answerOf (now (s .entry)) ⌝ }
+{
+    if !length_in(s) {
+        return Answer::BadLength;
+    }
+    if !all_at_most(s, 127) {
+        return Answer::BadSymbol;
+    }
+    if !check_in(s) {
+        return Answer::BadCheck;
+    }
+    if !format_in(s) {
+        return Answer::BadFormat;
+    }
+    if !identities_in(s) {
+        return Answer::BadIdentities;
+    }
+    if !category_in(s) {
+        return Answer::BadCategory;
+    }
+    if !telecommands_in(s) {
+        return Answer::BadTelecommands;
+    }
+    if !field_in(s) {
+        return Answer::BadField;
+    }
+    if !number_in(s) {
+        return Answer::BadNumber;
+    }
+    if !end_in(s) {
+        return Answer::BadEnd;
+    }
+    Answer::Done
+}
+
+// What symbols that pass every test mean.
+fn meaning_of(s: &[u8]) -> Meaning
+    requires { ⌜ isDone (answerOf (now s)) ≡ true ⌝ }
+    ensures { λ r. ⌜ r ≡ meaningOf (now (s .entry)) ⌝ }
+{
+    let last = s.len() - 2;
+    let first = at(s, 12);
+    let field = field_of(first, at(s, 14), at(s, 15), at(s, 16));
+    let number = number_of(at(s, 17), &s[18..last]);
+    Meaning {
+        address: identity_at(s, 1),
+        sender: identity_at(s, 7),
+        first: first,
+        second: at(s, 13),
+        field: field,
+        number: number,
+        end: at(s, last),
+    }
+}
+
+// The meaning beside a refusal.
+fn blank_meaning() -> Meaning
+    ensures { λ r. ⌜ r ≡ blankMeaning ⌝ }
+{
+    let number = Number {
+        count: 0,
+        digits: [0u8; 16],
+    };
+    Meaning {
+        address: 0,
+        sender: 0,
+        first: 0,
+        second: 0,
+        field: Field::Blank,
+        number: number,
+        end: 0,
+    }
+}
+
+// Reads one sequence: Done with its meaning, or the first refusal with the blank meaning.
+pub fn read(s: &[u8]) -> Reading
+    ensures { λ r. ⌜ r ≡ readingOf (now (s .entry)) ⌝ }
+{
+    let answer = answer_to(s);
+    if answer.is_done() {
+        let meaning = meaning_of(s);
+        return Reading {
+            answer: answer,
+            meaning: meaning,
+        };
+    }
+    let meaning = blank_meaning();
+    Reading {
+        answer: answer,
+        meaning: meaning,
+    }
+}

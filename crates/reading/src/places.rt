@@ -1,0 +1,223 @@
+// The tests of a sequence's places, in document 01's order of refusals.
+ghost use mathlib.Core.Path.{_≡_};
+ghost use Prim.Native.Nat.{_≤_};
+ghost use lib.ListN.{length};
+ghost use Rattle.sequence.specs.Identity.{identityPairs, identityOf};
+ghost use Rattle.sequence.specs.Reading.{lengthIn, checkIn, formatIn, identityAt, identityPairsAt, identitiesIn, categoryIn, telecommandsIn, blankSymbols, channelSymbols, fieldSymbols, fieldOf, fieldIn, parityOk, pairsOk, numberIn, endIn};
+use sequence::Field;
+use sequence::parts::channel_ok;
+use sequence::parts::duration_ok;
+use sequence::parts::end_ok;
+use sequence::parts::identities_ok;
+use sequence::parts::is_call;
+use sequence::parts::telecommands_ok;
+use sequence::symbols::all_at_most;
+use sequence::symbols::at;
+use sequence::symbols::exclusive_or;
+use units::Channel;
+use units::Duration;
+
+pub(crate) fn length_in(s: &[u8]) -> bool
+    ensures { λ r. ⌜ r ≡ lengthIn (now (s .entry)) ⌝ }
+{
+    let n = s.len();
+    21 <= n && n <= 28
+}
+
+// The last symbol is the exclusive-or of those before it.
+pub(crate) fn check_in(s: &[u8]) -> bool
+    ensures { λ r. ⌜ r ≡ checkIn (now (s .entry)) ⌝ }
+{
+    let n = s.len();
+    if n == 0 {
+        return false;
+    }
+    let last = s[n - 1];
+    exclusive_or(&s[..n - 1]) == last
+}
+
+pub(crate) fn format_in(s: &[u8]) -> bool
+    ensures { λ r. ⌜ r ≡ formatIn (now (s .entry)) ⌝ }
+{
+    at(s, 0) == 123
+}
+
+fn identity_pairs(a: u8, b: u8, c: u8, d: u8, e: u8) -> bool
+    ensures { λ r. ⌜ r ≡ identityPairs a b c d e ⌝ }
+{
+    if 99 < a {
+        return false;
+    }
+    if 99 < b {
+        return false;
+    }
+    if 99 < c {
+        return false;
+    }
+    if 99 < d {
+        return false;
+    }
+    if 99 < e {
+        return false;
+    }
+    e % 10 == 0
+}
+
+fn identity_of(a: u8, b: u8, c: u8, d: u8, e: u8) -> u32
+    ensures { λ r. ⌜ r ≡ identityOf a b c d e ⌝ }
+{
+    (a as u32) * 10000000
+        + (b as u32) * 100000
+        + (c as u32) * 1000
+        + (d as u32) * 10
+        + (e as u32) / 10
+}
+
+fn identity_pairs_at(s: &[u8], i: usize) -> bool
+    requires { ⌜ i ≤ 64 ⌝ }
+    ensures { λ r. ⌜ r ≡ identityPairsAt (now (s .entry)) i ⌝ }
+{
+    identity_pairs(
+        at(s, i),
+        at(s, i + 1),
+        at(s, i + 2),
+        at(s, i + 3),
+        at(s, i + 4),
+    )
+}
+
+pub(crate) fn identity_at(s: &[u8], i: usize) -> u32
+    requires { ⌜ i ≤ 64 ⌝ }
+    ensures { λ r. ⌜ r ≡ identityAt (now (s .entry)) i ⌝ }
+{
+    identity_of(
+        at(s, i),
+        at(s, i + 1),
+        at(s, i + 2),
+        at(s, i + 3),
+        at(s, i + 4),
+    )
+}
+
+pub(crate) fn identities_in(s: &[u8]) -> bool
+    ensures { λ r. ⌜ r ≡ identitiesIn (now (s .entry)) ⌝ }
+{
+    if identity_pairs_at(s, 1) {
+        if identity_pairs_at(s, 7) {
+            return identities_ok(identity_at(s, 1), identity_at(s, 7));
+        }
+        return false;
+    }
+    false
+}
+
+pub(crate) fn category_in(s: &[u8]) -> bool
+    ensures { λ r. ⌜ r ≡ categoryIn (now (s .entry)) ⌝ }
+{
+    at(s, 6) == 100
+}
+
+pub(crate) fn telecommands_in(s: &[u8]) -> bool
+    ensures { λ r. ⌜ r ≡ telecommandsIn (now (s .entry)) ⌝ }
+{
+    telecommands_ok(at(s, 12), at(s, 13))
+}
+
+fn blank_symbols(x: u8, y: u8, z: u8) -> bool
+    ensures { λ r. ⌜ r ≡ blankSymbols x y z ⌝ }
+{
+    if x == 126 {
+        return y == 126 && z == 126;
+    }
+    false
+}
+
+fn channel_symbols(x: u8, y: u8, z: u8) -> bool
+    ensures { λ r. ⌜ r ≡ channelSymbols x y z ⌝ }
+{
+    if x == 90 {
+        if y == 0 {
+            return channel_ok(Channel(z as u32));
+        }
+        return false;
+    }
+    false
+}
+
+// Whether three symbols are a field behind a first telecommand.
+fn field_symbols(first: u8, x: u8, y: u8, z: u8) -> bool
+    ensures { λ r. ⌜ r ≡ fieldSymbols first x y z ⌝ }
+{
+    if blank_symbols(x, y, z) {
+        return true;
+    }
+    if is_call(first) {
+        return channel_symbols(x, y, z);
+    }
+    if first == 105 {
+        return duration_ok(Duration {
+            hours: x,
+            minutes: y,
+            seconds: z,
+        });
+    }
+    false
+}
+
+// The field that three symbols are, behind a first telecommand.
+pub(crate) fn field_of(first: u8, x: u8, y: u8, z: u8) -> Field
+    ensures { λ r. ⌜ r ≡ fieldOf first x y z ⌝ }
+{
+    if blank_symbols(x, y, z) {
+        return Field::Blank;
+    }
+    if is_call(first) {
+        return Field::Channel(Channel(z as u32));
+    }
+    Field::Duration(Duration {
+        hours: x,
+        minutes: y,
+        seconds: z,
+    })
+}
+
+pub(crate) fn field_in(s: &[u8]) -> bool
+    ensures { λ r. ⌜ r ≡ fieldIn (now (s .entry)) ⌝ }
+{
+    field_symbols(at(s, 12), at(s, 14), at(s, 15), at(s, 16))
+}
+
+// 105 behind which the first digit is 0, or 106.
+fn parity_ok(parity: u8, pair: u8) -> bool
+    ensures { λ r. ⌜ r ≡ parityOk parity pair ⌝ }
+{
+    if parity == 105 {
+        return pair <= 9;
+    }
+    parity == 106
+}
+
+fn pairs_ok(parity: u8, pairs: &[u8]) -> bool
+    ensures { λ r. ⌜ r ≡ pairsOk parity (now (pairs .entry)) ⌝ }
+{
+    if parity_ok(parity, at(pairs, 0)) {
+        return all_at_most(pairs, 99);
+    }
+    false
+}
+
+pub(crate) fn number_in(s: &[u8]) -> bool
+    requires { ⌜ 20 ≤ length (now s) ⌝ }
+    ensures { λ r. ⌜ r ≡ numberIn (now (s .entry)) ⌝ }
+{
+    let last = s.len() - 2;
+    pairs_ok(at(s, 17), &s[18..last])
+}
+
+pub(crate) fn end_in(s: &[u8]) -> bool
+    requires { ⌜ 20 ≤ length (now s) ⌝ }
+    ensures { λ r. ⌜ r ≡ endIn (now (s .entry)) ⌝ }
+{
+    let last = s.len() - 2;
+    end_ok(at(s, last))
+}

@@ -1,0 +1,59 @@
+// The channel field of a meaning: whether it may stand, and its three symbols.
+ghost use mathlib.Core.Path.{_≡_};
+ghost use Prim.Native.Nat.{_≤_};
+ghost use Rattle.sequence.specs.Field.{fieldOk, fieldFirst, fieldSecond, fieldThird};
+use sequence::Field;
+use sequence::parts::channel_ok;
+use sequence::parts::duration_ok;
+use sequence::parts::is_call;
+
+pub(crate) fn field_ok(first: u8, field: Field) -> bool
+    ensures { λ r. ⌜ r ≡ fieldOk first field ⌝ }
+{
+    match field {
+        Field::Blank => true,
+        Field::Channel(c) => {
+            if is_call(first) {
+                return channel_ok(c);
+            }
+            false
+        }
+        Field::Duration(d) => {
+            if first == 105 {
+                return duration_ok(d);
+            }
+            false
+        }
+    }
+}
+
+pub(crate) fn field_first(field: Field) -> u8
+    ensures { λ r. ⌜ r ≡ fieldFirst field ⌝ }
+{
+    match field {
+        Field::Blank => 126,
+        Field::Channel(_) => 90,
+        Field::Duration(d) => d.hours,
+    }
+}
+
+pub(crate) fn field_second(field: Field) -> u8
+    ensures { λ r. ⌜ r ≡ fieldSecond field ⌝ }
+{
+    match field {
+        Field::Blank => 126,
+        Field::Channel(_) => 0,
+        Field::Duration(d) => d.minutes,
+    }
+}
+
+pub(crate) fn field_third(field: Field) -> u8
+    requires { ⌜ fieldThird field ≤ 127 ⌝ }
+    ensures { λ r. ⌜ r ≡ fieldThird field ⌝ }
+{
+    match field {
+        Field::Blank => 126,
+        Field::Channel(c) => c.0 as u8,
+        Field::Duration(d) => d.seconds,
+    }
+}
