@@ -1,15 +1,14 @@
 -- Reading a valid meaning's layout gives the meaning back, and laying out what was read gives the symbols back.
 use Prim.Native.Nat.{ℕ, _+_, _-_, _*_, _/_, _%_, _<_, _≤_}
 use mathlib.Core.Path.{_≡_, refl, sym, ap, _∙_}
-use mathlib.Core.Bool.{Bool, true, false, cond}
+use mathlib.Core.Bool.{true}
 use mathlib.Core.List.{List, [], _∷_, _++_, append-assoc}
 use native.Mathlib.Omega.{arith}
 use lib.Bits.{bitXor, xor-lt}
-use lib.Dec.{leb, eqb}
+use lib.Dec.{leb}
 use lib.ListN.{length, take, drop, getD, length-append, length-take, length-drop, drop-of-length-le, take-append-drop}
 use lib.Seq.{take-at, drop-at, getD-append-seam, getD-drop, drop-drop}
 use borrow.Author.Tests.{le-leb, eq-eqb, leb-true, eqb-true}
-use Rattle.sequence.specs.declared.Answer.the-variants.{Done}
 use Rattle.sequence.specs.declared.Meaning.{Meaning}
 use Rattle.sequence.specs.Answers.{isDone}
 use Rattle.sequence.specs.Symbols.{allAtMost, exclusiveOr}
@@ -23,7 +22,7 @@ use Rattle.sequence.proofs.Tests.{both-true}
 use Rattle.reading.proofs.Passed.{Passed, passed, done, long}
 use Rattle.writing.proofs.EvenedLaws.{fit, evened-all}
 use Rattle.writing.proofs.Bounds.{telecommands-le, field-le, end-le, parity-le}
-use Rattle.writing.proofs.Valid.{Parts, parts, whole as all-parts, identities-le, front-length, count-pairs, body-length, layout-length}
+use Rattle.writing.proofs.Valid.{parts, whole as all-parts, identities-le, front-length, count-pairs, body-length, layout-length}
 use Rattle.meanings.proofs.IdentityLaws.{identity-value, identity-pairs, identity-back}
 use Rattle.meanings.proofs.FieldLaws.{kept, Back, back}
 use Rattle.meanings.proofs.NumberLaws.{pairs-all, number-same, number-reads, Again, again}

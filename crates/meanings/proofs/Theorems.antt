@@ -1,21 +1,18 @@
 -- The statements, proved.
 use Prim.Native.Nat.{ℕ, _≤_}
 use mathlib.Core.Path.{_≡_, refl, sym, ap, _∙_}
-use mathlib.Core.Bool.{Bool, true, false, cond}
-use mathlib.Core.List.{List, _∷_, _++_}
-use lib.Dec.{leb}
+use mathlib.Core.Bool.{true}
+use mathlib.Core.List.{List}
 use lib.ListN.{length, take, drop}
 use lib.Seq.{take-at}
 use borrow.Author.Tests.{le-leb}
-use Rattle.sequence.specs.declared.Answer.{Answer}
-use Rattle.sequence.specs.declared.Answer.the-variants.{Done, ShortRoom}
+use Rattle.sequence.specs.declared.Answer.the-variants.{Done}
 use Rattle.sequence.specs.declared.Meaning.{Meaning}
 use Rattle.sequence.specs.declared.Reading.{Reading}
-use Rattle.sequence.specs.Refusals.{firstRefusal}
 use Rattle.sequence.specs.Answers.{isDone}
 use Rattle.sequence.specs.Layout.{valid, layout}
 use Rattle.sequence.specs.Reading.{answerOf, meaningOf, doneWith, readingOf}
-use Rattle.sequence.specs.Writing.{meaningRefusals, writingAnswer, writtenOf, roomAfter}
+use Rattle.sequence.specs.Writing.{writingAnswer, writtenOf, roomAfter}
 use Rattle.writing.proofs.Valid.{valid-done, written}
 use Rattle.meanings.specs.Statement.{ReadsExactly, OneMeaning, OneSequence, ReadsWhatWasWritten, WritesWhatWasRead}
 use Rattle.meanings.proofs.RoundTrip.{reads-back, lays-back, reads-valid}

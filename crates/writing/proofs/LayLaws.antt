@@ -1,27 +1,20 @@
 -- What the room holds once the parts of a sequence are laid one after the other.
 use Prim.Native.Nat.{ℕ, _+_, _/_, _<_, _≤_}
-use mathlib.Core.Path.{_≡_, refl, sym, _∙_}
+use mathlib.Core.Path.{_≡_, sym, _∙_}
 use mathlib.Core.Bool.{true}
 use mathlib.Core.List.{List, [], _∷_, _++_, append-assoc}
 use native.Mathlib.Omega.{arith}
 use lib.ListN.{length, take, drop, set, length-append}
-use lib.Seq.{paste, take-at, take-length, drop-append-add, drop-drop, set-at}
+use lib.Seq.{paste, take-at, set-at}
 use Rattle.sequence.specs.declared.Meaning.{Meaning}
 use Rattle.sequence.specs.Symbols.{exclusiveOr}
 use Rattle.sequence.specs.Number.{evened, pairsOf}
 use Rattle.sequence.specs.Layout.{valid, front, body, layout}
+use Rattle.sequence.proofs.Paste.{paste-behind}
 use Rattle.sequence.proofs.Rest.{rest}
-use Rattle.writing.proofs.Valid.{front-length, count-pairs, body-length}
+use Rattle.writing.proofs.Valid.{front-length, count-pairs}
 
--- pairs behind the front
-pairs-laid : (f p room laid : List ℕ) → length f ≡ 18 → laid ≡ f ++ drop 18 room
-    → paste laid 18 p (length p) ≡ (f ++ p) ++ drop (18 + length p) room
-pairs-laid f p room laid e h =
-    let d : drop (18 + length p) (f ++ drop 18 room) ≡ drop (18 + length p) room =
-    (rw e at (drop-append-add f (drop 18 room) (length p))) ∙ drop-drop (length p) 18 room in
-    rw (h, d, take-at f (drop 18 room) 18 e, take-length p)
-
--- the end of sequence behind them
+-- the pairs and the end of sequence behind the front
 pub body-laid : (m : Meaning) (room laid : List ℕ) (n : ℕ) → valid m ≡ true → 28 ≤ length room → n ≡ 18 + (m .number .count + 1) / 2 → n < 28
     → laid ≡ front m ++ drop 18 room
     → set (paste laid 18 (pairsOf (evened (m .number))) (length (pairsOf (evened (m .number))))) n (m .end) ≡ body m ++ drop (length (body m)) room
@@ -33,7 +26,7 @@ body-laid m room laid n ok wide e small h =
     let p : length (front m ++ pairsOf (evened (m .number))) ≡ n = simp length-append (omega arith) in
     let b : length (front m ++ (pairsOf (evened (m .number)) ++ (m .end ∷ []))) ≡ n + 1 = simp length-append (omega arith) in
     rw (
-      pairs-laid (front m) (pairsOf (evened (m .number))) room laid f h,
+      paste-behind (front m) (pairsOf (evened (m .number))) room laid 18 f h,
       l,
       b,
       rest room n (omega arith),

@@ -2,14 +2,14 @@
 use Prim.Native.Nat.{ℕ, _+_, _/_, _≤_}
 use mathlib.Core.Path.{_≡_, refl}
 use mathlib.Core.Bool.{Bool, true, false, cond, _&&_}
-use mathlib.Core.List.{List, [], _∷_}
+use mathlib.Core.List.{_∷_}
 use native.Mathlib.Omega.{arith}
 use lib.Dec.{leb}
 use lib.ListN.{length, length-append}
 use borrow.Author.Tests.{leb-true}
 use Rattle.sequence.specs.declared.Answer.the-variants.{Done, ShortRoom}
 use Rattle.sequence.specs.declared.Meaning.{Meaning}
-use Rattle.sequence.specs.Refusals.{row, firstRefusal, allHold}
+use Rattle.sequence.specs.Refusals.{row, firstRefusal}
 use Rattle.sequence.specs.Answers.{isDone}
 use Rattle.sequence.specs.Identity.{isShip, isCoast, identitiesOk}
 use Rattle.sequence.specs.Field.{telecommandsOk, fieldOk}

@@ -6,7 +6,6 @@ ghost use Prim.Native.Nat.{_≤_};
 ghost use lib.ListN.{length, drop};
 ghost use Rattle.sequence.specs.declared.Answer.the-variants.{Done};
 ghost use Rattle.sequence.specs.Refusals.{firstRefusal};
-ghost use Rattle.sequence.specs.Field.{fieldOk};
 ghost use Rattle.sequence.specs.Layout.{valid, front, body, layout};
 ghost use Rattle.sequence.specs.Writing.{meaningRefusals, writingAnswer, writtenOf, roomAfter};
 

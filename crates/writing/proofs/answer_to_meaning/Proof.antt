@@ -1,6 +1,5 @@
 use Rattle.sequence.proofs.RefusalLaws.{held, failed}
 use Rattle.sequence.specs.Writing.{meaningRefusals}
-use mathlib.Core.Path.{sym, _∙_}
 use borrow.Author.Needs.{needs}
 use Rattle.writing.proofs.answer_to_meaning.Statement.{statement}
 use Rattle.writing.proofs.answer_to_meaning.Tie as tie

@@ -1,7 +1,7 @@
 use Rattle.writing.proofs.LayLaws.{check-laid}
 use Rattle.writing.proofs.Valid.{parts, body-length, layout-length}
 use Rattle.writing.proofs.EvenedLaws.{fit}
-use lib.ListN.{length, length-take}
+use lib.ListN.{length-take}
 use native.Mathlib.Omega.{arith}
 use borrow.Author.Needs.{needs}
 use Rattle.writing.proofs.lay.Statement.{statement}

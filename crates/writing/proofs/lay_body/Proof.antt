@@ -4,7 +4,6 @@ use Rattle.writing.proofs.LayLaws.{body-laid}
 use Rattle.writing.proofs.Valid.{parts, body-length}
 use Rattle.writing.proofs.EvenedLaws.{fit}
 use native.Mathlib.Omega.{arith}
-use mathlib.Core.Path.{_≡_, _∙_}
 use borrow.Author.Needs.{needs}
 use Rattle.writing.proofs.lay_body.Statement.{statement}
 use Rattle.writing.proofs.lay_body.Tie as tie

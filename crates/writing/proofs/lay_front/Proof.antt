@@ -1,5 +1,5 @@
 use Rattle.writing.proofs.Valid.{front-length}
-use lib.Seq.{paste, paste-zero}
+use lib.Seq.{paste}
 use Rattle.sequence.proofs.Paste.{front-turn, paste-front}
 use Rattle.sequence.specs.Layout.{front}
 use lib.ListN.{length, length-set}

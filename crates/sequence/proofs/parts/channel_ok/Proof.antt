@@ -1,6 +1,6 @@
 use Rattle.sequence.proofs.Tests.{tests}
 use Rattle.sequence.specs.Field.{channelOk}
-use borrow.Author.Tests.{ne-eqb, le-leb, lt-leb}
+use borrow.Author.Tests.{ne-eqb, lt-leb}
 use native.Mathlib.Omega.{arith}
 use Rattle.sequence.proofs.parts.channel_ok.Statement.{statement}
 use Rattle.sequence.proofs.parts.channel_ok.Tie as tie

@@ -1,0 +1,3 @@
+pub mod MeaningLaws
+pub mod ThereAndBack
+pub mod Settled
