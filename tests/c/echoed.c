@@ -1,4 +1,6 @@
-/* Reads a byte and prints it with the size of a pointer: what tests/x86_64 builds each way. */
+/* Reads a byte and prints it with the size of a pointer: what tests/x86_64 builds each way, with each header it may use. */
+#include <stdbool.h>
+#include <stddef.h>
 #include <stdint.h>
 
 extern int printf(const char *, ...);
@@ -6,6 +8,8 @@ extern int getchar(void);
 
 int main(int argc, char **argv) {
     uint32_t byte = (uint32_t)getchar();
-    printf("%u %u %s\n", (unsigned)byte, (unsigned)sizeof(void *), argc > 1 ? argv[1] : "-");
+    size_t pointer = sizeof(void *);
+    bool told = argc > 1;
+    printf("%u %u %s\n", (unsigned)byte, (unsigned)pointer, told ? argv[1] : "-");
     return 0;
 }

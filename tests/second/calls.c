@@ -1,0 +1,188 @@
+/* What happens to a slot and its call: offer, ring-back, dial, the two ends.
+ * The station's clock already stands at the time of the event (or due time). */
+#include "inside.h"
+
+#define TENTHS_A_SECOND 10u
+#define SECONDS_A_MINUTE 60u
+#define SECONDS_AN_HOUR 3600u
+#define HOURS_TOO_MANY 100u
+
+/* "Duration: whole seconds, rounded down." The only turn of tenths to
+ * charged seconds. */
+uint32_t charged_seconds(uint32_t tenths)
+{
+    return tenths / TENTHS_A_SECOND;
+}
+
+/* A line was dialled and is not released. */
+bool has_call(enum phase phase)
+{
+    return phase == PHASE_DIALLING || phase == PHASE_ANSWERED;
+}
+
+/* "the offered, ring-back, acknowledged, dialling and answered slots" */
+bool holds_ship(enum phase phase)
+{
+    return phase == PHASE_OFFERED || phase == PHASE_RING_BACK ||
+           phase == PHASE_RING_BACK_REPEATED || phase == PHASE_ACKNOWLEDGED ||
+           has_call(phase);
+}
+
+static struct slot *slot_at(struct work *work, uint32_t slot)
+{
+    return &work->station->slots[slot];
+}
+
+/* The acknowledgement (BQ) or the ring-back's "able" answer (RQ): "Answers
+ * repeat the request with identities exchanged", "with the channel". */
+void send_able(struct work *work, uint32_t slot, uint8_t end)
+{
+    struct meaning m = slot_at(work, slot)->request;
+    m.address = slot_at(work, slot)->request.self;
+    m.self = work->station->identity;
+    m.kind = FIELD_CHANNEL;
+    m.channel = work->station->channels[slot];
+    m.end = end;
+    act_send_calling(work, (uint8_t)slot, &m);
+}
+
+/* The slot is now this request's, in this phase, its wait begun now. */
+static void store(struct work *work, uint32_t slot, enum phase phase,
+                  const struct meaning *request)
+{
+    struct slot next = {0};
+    next.phase = phase;
+    next.request = *request;
+    next.due = due_after(work->station->clock, slot_wait(phase));
+    *slot_at(work, slot) = next;
+}
+
+/* "new request stored, acknowledgement sent, .. wait 160 from now"; the
+ * carrier, if it is not yet on, was put on before. */
+void offer(struct work *work, uint32_t slot, const struct meaning *request)
+{
+    store(work, slot, PHASE_OFFERED, request);
+    send_able(work, slot, BQ);
+}
+
+/* "takes the oldest: carrier on, the "able" answer but with RQ; wait 50" */
+static void ring_back(struct work *work, uint32_t slot)
+{
+    struct meaning request = work->station->queue[0].request;
+    queue_drop(work->station, 0);
+    store(work, slot, PHASE_RING_BACK, &request);
+    act_carrier_on(work, slot);
+    send_able(work, slot, RQ);
+}
+
+/* "send once more, wait 50" */
+void repeat_ring_back(struct work *work, uint32_t slot)
+{
+    struct meaning request = slot_at(work, slot)->request;
+    store(work, slot, PHASE_RING_BACK_REPEATED, &request);
+    send_able(work, slot, RQ);
+}
+
+/* "Whenever a slot is freed and a ship waits, the same event takes the
+ * oldest." */
+void free_slot(struct work *work, uint32_t slot)
+{
+    static const struct slot empty = {0};
+    *slot_at(work, slot) = empty;
+    if (work->station->waiting_count > 0u)
+        ring_back(work, slot);
+}
+
+/* "Offer due: carrier off, slot freed"; the same for an acknowledged slot
+ * and after the second ring-back call. */
+void close_unused(struct work *work, uint32_t slot)
+{
+    act_carrier_off(work, slot);
+    free_slot(work, slot);
+}
+
+/* "dial the stored request's number .. Carrier counts as present; wait 600" */
+void dial(struct work *work, uint32_t slot)
+{
+    struct meaning request = slot_at(work, slot)->request;
+    store(work, slot, PHASE_DIALLING, &request);
+    slot_at(work, slot)->carrier = CARRIER_PRESENT;
+    act_dial(work, slot);
+}
+
+/* "Duration: whole seconds, rounded down; unanswered, or 100 hours and over:
+ * 126s." */
+static struct duration call_duration(const struct slot *call, uint32_t stop)
+{
+    struct duration result = {FIELD_NONE, 0, 0, 0};
+    uint32_t seconds, hours;
+    if (call->phase != PHASE_ANSWERED)
+        return result;
+    seconds = charged_seconds(stop - call->start);
+    hours = seconds / SECONDS_AN_HOUR;
+    if (hours >= HOURS_TOO_MANY)
+        return result;
+    result.kind = FIELD_DURATION;
+    result.hours = (uint8_t)hours;
+    result.minutes = (uint8_t)(seconds % SECONDS_AN_HOUR / SECONDS_A_MINUTE);
+    result.seconds = (uint8_t)(seconds % SECONDS_A_MINUTE);
+    return result;
+}
+
+/* "send 105/126 with .. the duration"; "At either end the number sent is the
+ * stored request's." */
+static void send_end(struct work *work, uint32_t slot,
+                     struct duration duration, uint8_t end)
+{
+    struct meaning m = slot_at(work, slot)->request;
+    m.address = slot_at(work, slot)->request.self;
+    m.self = work->station->identity;
+    m.first = END_OF_CALL;
+    m.second = NO_INFORMATION;
+    m.kind = duration.kind;
+    m.hours = duration.hours;
+    m.minutes = duration.minutes;
+    m.seconds = duration.seconds;
+    m.end = end;
+    act_send_working(work, slot, &m);
+}
+
+/* What both ends share: "charge if answered, release line, send 105/126 ..,
+ * carrier off". The call stops at the clock. */
+static struct duration end_call(struct work *work, uint32_t slot, uint8_t end)
+{
+    uint32_t stop = work->station->clock;
+    struct duration duration = call_duration(slot_at(work, slot), stop);
+    if (slot_at(work, slot)->phase == PHASE_ANSWERED)
+        act_charge(work, slot, stop);
+    act_release(work, slot);
+    send_end(work, slot, duration, end);
+    act_carrier_off(work, slot);
+    return duration;
+}
+
+/* "Coast's end (on-hook .., no reply, carrier loss, rule c): .. with 127 ..,
+ * slot freed at once." */
+void coasts_end(struct work *work, uint32_t slot)
+{
+    end_call(work, slot, OTHER_END);
+    free_slot(work, slot);
+}
+
+/* "Ship's end of call: .. with BQ and the duration, .. hold for 40" */
+void ships_end(struct work *work, uint32_t slot)
+{
+    struct meaning request = slot_at(work, slot)->request;
+    struct duration duration = end_call(work, slot, BQ);
+    store(work, slot, PHASE_HOLD, &request);
+    slot_at(work, slot)->duration = duration;
+}
+
+/* "Another such end from that ship in the hold: carrier on, the same answer
+ * sent, carrier off; the wait unchanged." */
+void repeat_ships_end(struct work *work, uint32_t slot)
+{
+    act_carrier_on(work, slot);
+    send_end(work, slot, slot_at(work, slot)->duration, BQ);
+    act_carrier_off(work, slot);
+}

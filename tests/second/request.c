@@ -1,0 +1,169 @@
+/* "What each event does": sequences heard. The clock already stands at the
+ * event's time, and the sequence is one that the reader accepts. */
+#include "inside.h"
+
+#define NO_SLOT MOST_SLOTS
+#define NO_SLOT_BYTE 255u
+#define BUSY 102u
+#define QUEUED 103u
+#define MODE_NOT_USABLE 109u
+
+static bool same_number(const struct meaning *a, const struct meaning *b)
+{
+    bool same = a->count == b->count;
+    for (size_t i = 0; i < MOST_DIGITS; i++)
+        same = same && a->digits[i] == b->digits[i];
+    return same;
+}
+
+/* "an identical request": both are call requests to this station. */
+static bool same_request(const struct meaning *a, const struct meaning *b)
+{
+    return a->self == b->self && a->first == b->first &&
+           a->second == b->second && same_number(a, b);
+}
+
+/* "answer 104/.." with "identities exchanged, BQ, .. the field 126s" */
+static void answer_unable(struct work *work, const struct meaning *request,
+                          uint8_t reason)
+{
+    struct meaning m = *request;
+    m.address = request->self;
+    m.self = work->station->identity;
+    m.first = UNABLE;
+    m.second = reason;
+    m.end = BQ;
+    act_send_calling(work, NO_SLOT_BYTE, &m);
+}
+
+static uint32_t ships_slot(const struct station *station, uint32_t ship)
+{
+    for (uint32_t i = 0; i < station->channel_count; i++)
+        if (holds_ship(station->slots[i].phase) &&
+            station->slots[i].request.self == ship)
+            return i;
+    return NO_SLOT;
+}
+
+static uint32_t lowest_free(const struct station *station)
+{
+    for (uint32_t i = 0; i < station->channel_count; i++)
+        if (station->slots[i].phase == PHASE_FREE)
+            return i;
+    return NO_SLOT;
+}
+
+/* Rules d to g. */
+static void place_ship(struct work *work, const struct meaning *request)
+{
+    struct station *station = work->station;
+    uint32_t place = place_in_queue(station, request->self);
+    uint32_t slot = lowest_free(station);
+    if (place < station->waiting_count) {
+        station->queue[place].request = *request;
+        answer_unable(work, request, QUEUED);
+    } else if (slot != NO_SLOT) {
+        act_carrier_on(work, slot);
+        offer(work, slot, request);
+    } else if (station->waiting_count < MOST_WAITING) {
+        queue_join(station, request);
+        answer_unable(work, request, QUEUED);
+    } else {
+        answer_unable(work, request, BUSY);
+    }
+}
+
+/* Rule b: offered, ring-back or acknowledged. */
+static void ask_again(struct work *work, uint32_t slot,
+                      const struct meaning *request)
+{
+    const struct slot *held = &work->station->slots[slot];
+    if (held->phase == PHASE_OFFERED && same_request(&held->request, request))
+        send_able(work, slot, BQ);
+    else
+        offer(work, slot, request);
+}
+
+/* Call request, "first rule that fits". */
+static int call_request(struct work *work, const struct meaning *request)
+{
+    uint32_t slot = ships_slot(work->station, request->self);
+    if (request->first == DATA) {
+        answer_unable(work, request, MODE_NOT_USABLE);
+        return DONE;
+    }
+    if (slot != NO_SLOT) {
+        const struct slot *held = &work->station->slots[slot];
+        if (!has_call(held->phase)) {
+            ask_again(work, slot, request);
+            return DONE;
+        }
+        /* c. "ignored if duplex or if its carrier is present" */
+        if (held->request.first == DUPLEX || held->carrier == CARRIER_PRESENT)
+            return IGNORED;
+        coasts_end(work, slot);
+    }
+    place_ship(work, request);
+    return DONE;
+}
+
+/* "BQ on channel 70 from that ship, telecommand 100 or 101, naming that
+ * channel: acknowledged, wait 160". */
+static int ring_back_answer(struct work *work, const struct meaning *m)
+{
+    struct station *station = work->station;
+    uint32_t slot = ships_slot(station, m->self);
+    struct slot *held;
+    if (slot == NO_SLOT || m->channel != station->channels[slot])
+        return IGNORED;
+    held = &station->slots[slot];
+    if (held->phase != PHASE_RING_BACK &&
+        held->phase != PHASE_RING_BACK_REPEATED)
+        return IGNORED;
+    held->phase = PHASE_ACKNOWLEDGED;
+    held->due = due_after(station->clock, slot_wait(PHASE_ACKNOWLEDGED));
+    return DONE;
+}
+
+static bool is_voice(const struct meaning *m)
+{
+    return m->first == SIMPLEX || m->first == DUPLEX;
+}
+
+int heard_on_calling(struct work *work, const struct meaning *m)
+{
+    bool asks = is_voice(m) || m->first == DATA;
+    if (m->address != work->station->identity)
+        return IGNORED;
+    if (m->end == RQ && asks && m->kind == FIELD_NONE)
+        return call_request(work, m);
+    if (m->end == BQ && is_voice(m) && m->kind == FIELD_CHANNEL)
+        return ring_back_answer(work, m);
+    return IGNORED;
+}
+
+/* "Working call (127; 100 or 101; field 126s) on an offered or acknowledged
+ * slot"; "Ship's end of call (117, 105, field 126s) while dialling or
+ * answered", or in the hold; "same ship" each time. */
+int heard_on_working(struct work *work, uint32_t slot,
+                     const struct meaning *m)
+{
+    const struct slot *held = &work->station->slots[slot];
+    enum phase phase = held->phase;
+    bool ours = holds_ship(phase) || phase == PHASE_HOLD;
+    bool working_call = m->end == OTHER_END && is_voice(m);
+    bool ends = m->end == RQ && m->first == END_OF_CALL;
+    if (m->address != work->station->identity || m->kind != FIELD_NONE ||
+        !ours || m->self != held->request.self)
+        return IGNORED;
+    if (working_call &&
+        (phase == PHASE_OFFERED || phase == PHASE_ACKNOWLEDGED))
+        dial(work, slot);
+    else if (ends && has_call(phase))
+        ships_end(work, slot);
+    else if (ends && phase == PHASE_HOLD)
+        repeat_ships_end(work, slot);
+    else
+        return IGNORED;
+    return DONE;
+}

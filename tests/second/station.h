@@ -1,0 +1,117 @@
+/* The automatic coast station of 01, by value: it is handed in and the next
+ * station is handed back, with the answer and the count of actions. */
+#ifndef SECOND_STATION_H
+#define SECOND_STATION_H
+
+#include "sequence.h"
+
+#define MOST_SLOTS 16u
+#define MOST_WAITING 32u
+#define MOST_ACTIONS 8u
+#define ACTION_BYTES 40u
+#define ACTION_ROOM (MOST_ACTIONS * ACTION_BYTES)
+#define TIME_LIMIT 4000000000u
+
+/* Waits, in tenths of a second. */
+#define OFFER_WAIT 160u
+#define RING_BACK_WAIT 50u
+#define REPLY_WAIT 600u
+#define DUPLEX_CARRIER_WAIT 50u
+#define SIMPLEX_CARRIER_WAIT 450u
+#define HOLD_WAIT 40u
+#define QUEUE_WAIT 9000u
+
+/* Answers and refusals. */
+enum answer {
+    DONE = 0, IGNORED = 1, NOT_SOUND = 29, ROOM_TOO_SMALL = 30,
+    TIME_OVER_LIMIT = 31, TIME_BEFORE_CLOCK = 32, WAIT_IS_DUE = 33,
+    NO_SUCH_SLOT = 34, OPERATOR_REFUSED = 35, SET_UP_BAD = 36
+};
+
+enum phase {
+    PHASE_FREE, PHASE_TAKEN, PHASE_OFFERED, PHASE_RING_BACK,
+    PHASE_RING_BACK_REPEATED, PHASE_ACKNOWLEDGED, PHASE_DIALLING,
+    PHASE_ANSWERED, PHASE_HOLD
+};
+
+enum carrier { CARRIER_PRESENT, CARRIER_ABSENT };
+
+/* What a send of 105/126 carries; kind is FIELD_NONE (126s) or FIELD_DURATION. */
+struct duration {
+    enum field_kind kind;
+    uint8_t hours, minutes, seconds;
+};
+
+/* Parts that the phase does not use are 0 and are not looked at. */
+struct slot {
+    enum phase phase;
+    enum carrier carrier;     /* the ship's, while dialling or answered */
+    uint32_t due;             /* offer, ring-back, acknowledged, reply, hold */
+    uint32_t carrier_due;     /* while the carrier is absent */
+    uint32_t start;           /* of an answered call, in tenths */
+    struct duration duration; /* of the hold's answer */
+    struct meaning request;   /* stored from the offer or ring-back on */
+};
+
+struct waiting_ship {
+    struct meaning request;
+    uint32_t due;
+};
+
+struct station {
+    uint32_t identity;
+    uint32_t clock;
+    uint32_t channel_count;
+    uint32_t waiting_count;
+    uint8_t channels[MOST_SLOTS];
+    struct slot slots[MOST_SLOTS];
+    struct waiting_ship queue[MOST_WAITING]; /* oldest first */
+};
+
+struct step {
+    int answer;
+    uint32_t actions;
+    struct station station; /* after a refusal: the one handed in */
+};
+
+/* Room lent for actions; a refusal leaves every byte of it. */
+struct lent {
+    uint8_t *bytes;
+    size_t length;
+};
+
+struct heard {
+    const uint8_t *symbols;
+    size_t count;
+};
+
+/* Set-up: 0 or 36; for 36 the station handed back means nothing. */
+struct step second_set_up(uint32_t identity, const uint32_t *channels,
+                          size_t count);
+
+bool second_is_sound(const struct station *station);
+
+/* The earliest due time, if any wait runs. */
+bool second_next_due(const struct station *station, uint32_t *due);
+
+struct step second_on_calling_channel(struct station station, uint32_t time,
+                                      struct heard heard, struct lent room);
+struct step second_on_working_channel(struct station station, uint32_t time,
+                                      uint32_t slot, struct heard heard,
+                                      struct lent room);
+struct step second_carrier_up(struct station station, uint32_t time,
+                              uint32_t slot, struct lent room);
+struct step second_carrier_down(struct station station, uint32_t time,
+                                uint32_t slot, struct lent room);
+struct step second_off_hook(struct station station, uint32_t time,
+                            uint32_t slot, struct lent room);
+struct step second_on_hook(struct station station, uint32_t time,
+                           uint32_t slot, struct lent room);
+struct step second_operator_takes(struct station station, uint32_t time,
+                                  uint32_t slot, struct lent room);
+struct step second_operator_gives_back(struct station station, uint32_t time,
+                                       uint32_t slot, struct lent room);
+struct step second_tick(struct station station, uint32_t time,
+                        struct lent room);
+
+#endif
