@@ -2,7 +2,7 @@
 ghost use mathlib.Core.Path.{_≡_};
 ghost use Prim.Native.Nat.{_≤_};
 ghost use lib.ListN.{getD, length, drop};
-ghost use Rattle.sequence.specs.Reading.{digitsOf, sixteen, zeroBefore, numberOf};
+ghost use Rattle.sequence.specs.Reading.{digitsOf, sixteen, numberOf};
 use sequence::Number;
 use sequence::symbols::at;
 
@@ -27,21 +27,21 @@ fn sixteen_digits(pairs: &[u8], start: usize) -> [u8; 16]
     digits
 }
 
-fn zero_before(parity: u8) -> usize
-    ensures { λ r. ⌜ r ≡ zeroBefore parity ⌝ }
-{
-    if parity == 105 { 1 } else { 0 }
-}
-
 pub(crate) fn number_of(parity: u8, pairs: &[u8]) -> Number
     requires { ⌜ (1 ≤ length (now pairs)) × (length (now pairs) ≤ 8) ⌝ }
     ensures { λ r. ⌜ r ≡ numberOf parity (now (pairs .entry)) ⌝ }
 {
     let n = pairs.len();
-    let start = zero_before(parity);
-    let digits = sixteen_digits(pairs, start);
+    if parity == 105 {
+        let digits = sixteen_digits(pairs, 1);
+        return Number {
+            count: (2 * n - 1) as u8,
+            digits: digits,
+        };
+    }
+    let digits = sixteen_digits(pairs, 0);
     Number {
-        count: (2 * n - start) as u8,
+        count: (2 * n) as u8,
         digits: digits,
     }
 }

@@ -13,14 +13,15 @@ pub fn at(s: &[u8], i: usize) -> u8
 pub fn all_at_most(s: &[u8], most: u8) -> bool
     ensures { λ r. ⌜ r ≡ allAtMost most (now (s .entry)) ⌝ }
 {
+    let mut within = true;
     let mut i = 0;
     while i < s.len() {
         if most < s[i] {
-            return false;
+            within = false;
         }
         i += 1;
     }
-    true
+    within
 }
 
 pub fn exclusive_or(s: &[u8]) -> u8
