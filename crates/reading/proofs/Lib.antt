@@ -1,3 +1,4 @@
 pub mod Passed
 pub mod DigitLaws
+pub mod FiveLaws
 pub mod Settled

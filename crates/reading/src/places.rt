@@ -3,7 +3,8 @@ ghost use mathlib.Core.Path.{_≡_};
 ghost use Prim.Native.Nat.{_≤_};
 ghost use lib.ListN.{length};
 ghost use Rattle.sequence.specs.Identity.{identityPairs, identityOf};
-ghost use Rattle.sequence.specs.Reading.{lengthIn, checkIn, formatIn, identityAt, identityPairsAt, identitiesIn, categoryIn, telecommandsIn, blankSymbols, channelSymbols, fieldSymbols, fieldOf, fieldIn, parityOk, pairsOk, numberIn, endIn};
+ghost use Rattle.reading.specs.Five.{fiveAt};
+ghost use Rattle.sequence.specs.Reading.{lengthIn, checkIn, formatIn, identityAt, identitiesIn, categoryIn, telecommandsIn, blankSymbols, channelSymbols, fieldSymbols, fieldOf, fieldIn, parityOk, pairsOk, numberIn, endIn};
 use sequence::Field;
 use sequence::parts::channel_ok;
 use sequence::parts::duration_ok;
@@ -42,69 +43,74 @@ pub(crate) fn format_in(s: &[u8]) -> bool
     at(s, 0) == 123
 }
 
-fn identity_pairs(a: u8, b: u8, c: u8, d: u8, e: u8) -> bool
-    ensures { λ r. ⌜ r ≡ identityPairs a b c d e ⌝ }
-{
-    if 99 < a {
-        return false;
-    }
-    if 99 < b {
-        return false;
-    }
-    if 99 < c {
-        return false;
-    }
-    if 99 < d {
-        return false;
-    }
-    if 99 < e {
-        return false;
-    }
-    e % 10 == 0
+// The five symbols of an identity.
+struct Five {
+    a: u8,
+    b: u8,
+    c: u8,
+    d: u8,
+    e: u8,
 }
 
-fn identity_of(a: u8, b: u8, c: u8, d: u8, e: u8) -> u32
-    ensures { λ r. ⌜ r ≡ identityOf a b c d e ⌝ }
-{
-    (a as u32) * 10000000
-        + (b as u32) * 100000
-        + (c as u32) * 1000
-        + (d as u32) * 10
-        + (e as u32) / 10
-}
-
-fn identity_pairs_at(s: &[u8], i: usize) -> bool
+fn five_at(s: &[u8], i: usize) -> Five
     requires { ⌜ i ≤ 64 ⌝ }
-    ensures { λ r. ⌜ r ≡ identityPairsAt (now (s .entry)) i ⌝ }
+    ensures { λ r. ⌜ r ≡ fiveAt (now (s .entry)) i ⌝ }
 {
-    identity_pairs(
-        at(s, i),
-        at(s, i + 1),
-        at(s, i + 2),
-        at(s, i + 3),
-        at(s, i + 4),
-    )
+    Five {
+        a: at(s, i),
+        b: at(s, i + 1),
+        c: at(s, i + 2),
+        d: at(s, i + 3),
+        e: at(s, i + 4),
+    }
+}
+
+fn identity_pairs(f: Five) -> bool
+    ensures { λ r. ⌜ r ≡ identityPairs (f .a) (f .b) (f .c) (f .d) (f .e) ⌝ }
+{
+    if 99 < f.a {
+        return false;
+    }
+    if 99 < f.b {
+        return false;
+    }
+    if 99 < f.c {
+        return false;
+    }
+    if 99 < f.d {
+        return false;
+    }
+    if 99 < f.e {
+        return false;
+    }
+    f.e % 10 == 0
+}
+
+fn identity_of(f: Five) -> u32
+    ensures { λ r. ⌜ r ≡ identityOf (f .a) (f .b) (f .c) (f .d) (f .e) ⌝ }
+{
+    (f.a as u32) * 10000000
+        + (f.b as u32) * 100000
+        + (f.c as u32) * 1000
+        + (f.d as u32) * 10
+        + (f.e as u32) / 10
 }
 
 pub(crate) fn identity_at(s: &[u8], i: usize) -> u32
     requires { ⌜ i ≤ 64 ⌝ }
     ensures { λ r. ⌜ r ≡ identityAt (now (s .entry)) i ⌝ }
 {
-    identity_of(
-        at(s, i),
-        at(s, i + 1),
-        at(s, i + 2),
-        at(s, i + 3),
-        at(s, i + 4),
-    )
+    identity_of(five_at(s, i))
 }
 
 pub(crate) fn identities_in(s: &[u8]) -> bool
     ensures { λ r. ⌜ r ≡ identitiesIn (now (s .entry)) ⌝ }
 {
-    if identity_pairs_at(s, 1) {
-        if identity_pairs_at(s, 7) {
-            return identities_ok(identity_at(s, 1), identity_at(s, 7));
+    let address = five_at(s, 1);
+    let sender = five_at(s, 7);
+    if identity_pairs(address) {
+        if identity_pairs(sender) {
+            return identities_ok(identity_of(address), identity_of(sender));
         }
         return false;
     }

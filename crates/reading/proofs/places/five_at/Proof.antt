@@ -1,7 +1,6 @@
-use Rattle.sequence.specs.Reading.{identityPairsAt}
 use borrow.Author.Needs.{needs}
-use Rattle.reading.proofs.places.identity_pairs_at.Statement.{statement}
-use Rattle.reading.proofs.places.identity_pairs_at.Tie as tie
+use Rattle.reading.proofs.places.five_at.Statement.{statement}
+use Rattle.reading.proofs.places.five_at.Tie as tie
 
 at-requires : tie.Need-at-requires
 at-requires c κs = search needs
@@ -30,15 +29,11 @@ add-at-4 c = search needs
 at-requires-5 : tie.Need-at-requires-5
 at-requires-5 c κs = search needs
 
-identity-pairs-requires : tie.Need-identity-pairs-requires
-identity-pairs-requires c κs = search needs
-
 returns : tie.Need-returns
-unfolding identityPairsAt
-returns c = rw (c .identity-pairs .ensures, c .before .at5 .ensures, c .before .before .at4 .ensures, c .before .before .before .at3 .ensures, c .before .before .before .before .at2 .ensures, c .before .before .before .before .before .at .ensures)
+returns c = rw (c .at5 .ensures, c .before .at4 .ensures, c .before .before .at3 .ensures, c .before .before .before .at2 .ensures, c .before .before .before .before .at .ensures)
 
-pub identity-pairs-at-spec : {M : Type 1} → statement M
-identity-pairs-at-spec =
+pub five-at-spec : {M : Type 1} → statement M
+five-at-spec =
     tie.close
     (tie.spec
     at-requires
@@ -50,5 +45,4 @@ identity-pairs-at-spec =
     at-requires-4
     add-at-4
     at-requires-5
-    identity-pairs-requires
     returns)
