@@ -3,4 +3,3 @@ pub mod FieldLaws
 pub mod NumberLaws
 pub mod RoundTrip
 pub mod Theorems
-pub mod CasesHold

@@ -1,0 +1,128 @@
+-- The clock goes on, a charge's beginning is not after its end, its end is the clock; and the two counts agree.
+use mathlib.Core.Path.{_≡_, refl, sym, ap, _∙_}
+use mathlib.Core.List.{List, [], _∷_, map}
+use mathlib.Core.Bool.{Bool, true, false, cond}
+use mathlib.Core.Option.{Option, none, some}
+use Prim.Native.Nat.{ℕ, zero, suc, _+_, _-_, _≤_}
+use native.Mathlib.Omega.{arith}
+use lib.ListN.{getD}
+use borrow.Author.Tests.{leb-true}
+use Rattle.rules.specs.Places.{all, Each}
+use Rattle.rules.specs.Words.{Party, Config, Happened, heard, offHook, onHook, carrierUp, carrierDown, takes, givesBack, What, tick, onChannel70, onSlot, Event}
+use Rattle.rules.specs.Waits.{Wait, ofQueue, loss, main, Due}
+use Rattle.rules.specs.Heard.{Heard, callRequest, dataRequest, bq, workingCall, endOfCall, nothing, meaning}
+use Rattle.rules.specs.Station.{Slot, Station, fresh}
+use Rattle.rules.specs.Calls.{act}
+use Rattle.rules.specs.Verdict.{verdict, play, final}
+use Rattle.rules.specs.Book.{Stop, Call, quiet, dialled, talking, Line, Book, blank, blankBook, line, falling, moment, stopOf, callOf, stopsSaid, stopsOn, stopsDue, askedAgain, stopsAgain, stopsHeard, stopsAt}
+use Rattle.rules.specs.Reading.{stopsIn, Numbered, stops, readAll, talkedBy, lengths, countedByCalls}
+use Rattle.rules.specs.Statement.{notes, owed, owedFor, ChargesAreStops, tenthsIn, heldTenths, TenthsAgree, CountsAgree, InOrder, ClockIsNow}
+use Rattle.rules.proofs.PlaceLaws.{and-true, each-append}
+use Rattle.rules.proofs.Base.{view, seen}
+use Rattle.rules.proofs.Accepted.{accepted, sounds, begunBy, begun-all}
+use Rattle.rules.proofs.Run.{noteOf, turn-is, stops-are, play-on, play-past, final-on, final-past, fresh-seen, charges-are-stops}
+use Rattle.rules.proofs.Tenths.{since, since-slot, moment-on, held-seen, clock-is, tenths-agree}
+
+-- ── the order of times ───────────────────────────────────────────────────────
+
+module _ (cfg : Config) (c t : ℕ) (h : c ≤ t) where
+  abbrev Good-stop : Stop → Type 0
+  Good-stop s = (s .start .0 ≤ s .stop .0) × (s .stop .0 ≡ t)
+
+  one-good : (i : ℕ) (k : Call) → since c k ≡ true → Each Good-stop (stopOf t i k)
+  one-good i quiet e = tt
+  one-good i (dialled x m) e = tt
+  one-good i (talking x m b) e = let a = leb-true b c e in ((omega arith, refl), tt)
+
+  if-good : (b : Bool) (ss : List Stop) → Each Good-stop ss → Each Good-stop (cond b ss [])
+  if-good true ss g = g
+  if-good false ss g = tt
+
+  again-good : (x : Party) (i : ℕ) (ls : List Line) → all (λ l. since c (l .call)) ls ≡ true → Each Good-stop (stopsAgain t x i ls)
+  again-good x i [] e = tt
+  again-good x i (l ∷ ls) e = let w = and-true (since c (l .call)) (all (λ l. since c (l .call)) ls) e in each-append Good-stop (cond (askedAgain x (l .call) (l .gone)) (stopOf t i (l .call)) []) (stopsAgain t x (suc i) ls) (if-good (askedAgain x (l .call) (l .gone)) (stopOf t i (l .call)) (one-good i (l .call) (w .0))) (again-good x (suc i) ls (w .1))
+
+  at-line : (i : ℕ) (ls : List Line) → all (λ l. since c (l .call)) ls ≡ true → since c (getD ls i blank .call) ≡ true
+  at-line i [] e = refl
+  at-line zero (l ∷ ls) e = and-true (since c (l .call)) (all (λ l. since c (l .call)) ls) e .0
+  at-line (suc i) (l ∷ ls) e = at-line i ls (and-true (since c (l .call)) (all (λ l. since c (l .call)) ls) e .1)
+
+  said-good : (i : ℕ) (k : Call) → since c k ≡ true → (m : Heard) → Each Good-stop (stopsSaid t i k m)
+  said-good i k e (callRequest r) = tt
+  said-good i k e (dataRequest x n) = tt
+  said-good i k e (bq j x) = tt
+  said-good i k e (workingCall x) = tt
+  said-good i k e (endOfCall x) = if-good (callOf x k) (stopOf t i k) (one-good i k e)
+  said-good i k e nothing = tt
+
+  on-good : (i : ℕ) (k : Call) → since c k ≡ true → (x : Happened) → Each Good-stop (stopsOn cfg t i k x)
+  on-good i k e (heard m) = said-good i k e (meaning cfg m)
+  on-good i k e offHook = tt
+  on-good i k e onHook = one-good i k e
+  on-good i k e carrierUp = tt
+  on-good i k e carrierDown = tt
+  on-good i k e takes = tt
+  on-good i k e givesBack = tt
+
+  heard-good : (ls : List Line) → all (λ l. since c (l .call)) ls ≡ true → (m : Heard) → Each Good-stop (stopsHeard t ls m)
+  heard-good ls e (callRequest r) = again-good (r .who) 0 ls e
+  heard-good ls e (dataRequest x n) = tt
+  heard-good ls e (bq i x) = tt
+  heard-good ls e (workingCall x) = tt
+  heard-good ls e (endOfCall x) = tt
+  heard-good ls e nothing = tt
+
+  all-good : (b : Book) → all (λ l. since c (l .call)) (b .lines) ≡ true → (o : Option Due) (w : What) → Each Good-stop (stopsAt cfg t b o w)
+  all-good b e none tick = tt
+  all-good b e (some p) tick = go (p .what)
+    where
+      go : (w : Wait) → Each Good-stop (stopsDue t b (some record { what = w; at = p .at }))
+      go (ofQueue k) = tt
+      go (loss i) = one-good i (line b i .call) (at-line i (b .lines) e)
+      go (main i) = tt
+  all-good b e o (onChannel70 m) = heard-good (b .lines) e (meaning cfg m)
+  all-good b e o (onSlot i x) = on-good i (line b i .call) (at-line i (b .lines) e) x
+
+all-since : (c : ℕ) (ss : List Slot) → all (begunBy c) ss ≡ true → all (λ l. since c (l .call)) (map view ss) ≡ true
+all-since c [] h = refl
+all-since c (s ∷ ss) h = let w = and-true (begunBy c s) (all (begunBy c) ss) h in rw (since-slot c s, w .0) (all-since c ss (w .1))
+
+owed-each : (t : ℕ) (ss : List Stop) → Each (λ s. (s .start .0 ≤ s .stop .0) × (s .stop .0 ≡ t)) ss → Each (λ c. (c .start .0 ≤ c .stop .0) × (c .stop .0 ≡ t)) (map owed ss)
+owed-each t [] g = tt
+owed-each t (s ∷ ss) g = (g .0, owed-each t ss (g .1))
+
+stops-good : (cfg : Config) (st : Station) (e : Event) → verdict cfg st e ≡ none → Each (λ s. (s .start .0 ≤ s .stop .0) × (s .stop .0 ≡ moment (seen st) e)) (stopsIn cfg (seen st) (noteOf e (act cfg st e .acts)))
+unfolding stopsIn seen
+stops-good cfg st e v = all-good cfg (st .clock) (moment (seen st) e) (moment-on cfg st e v) (seen st) (all-since (st .clock) (st .slots) (begun-all cfg st (sounds cfg st (accepted cfg st e v .is-sound)))) (falling (seen st) e) (e .what)
+
+pub in-order : InOrder
+unfolding InOrder
+in-order cfg st e v = rw (clock-is cfg st e v, stops-are cfg st e v) (moment-on cfg st e v, owed-each (moment (seen st) e) (stopsIn cfg (seen st) (noteOf e (act cfg st e .acts))) (stops-good cfg st e v))
+
+-- ── the two counts ───────────────────────────────────────────────────────────
+
+read-final : (cfg : Config) (es : List Event) (st : Station) → readAll cfg (notes (play cfg es st)) (seen st) ≡ seen (final cfg es st)
+unfolding play final readAll notes
+read-final cfg [] st = refl
+read-final cfg (e ∷ es) st = go (verdict cfg st e) refl (λ s. read-final cfg es s)
+  where
+    go : (o : Option ℕ) → verdict cfg st e ≡ o → ((s : Station) → readAll cfg (notes (play cfg es s)) (seen s) ≡ seen (final cfg es s)) → readAll cfg (notes (play cfg (e ∷ es) st)) (seen st) ≡ seen (final cfg (e ∷ es) st)
+    go none v ih = rw (play-on cfg e es st v, final-on cfg e es st v) (ap (readAll cfg (notes (play cfg es (act cfg st e .next)))) (turn-is cfg st e v) ∙ ih (act cfg st e .next))
+    go (some n) v ih = rw (play-past cfg e es st n v, final-past cfg e es st n v) (ih st)
+
+owed-lengths : (ss : List (Numbered Stop)) → tenthsIn (owedFor ss) ≡ lengths ss
+owed-lengths [] = refl
+owed-lengths (s ∷ ss) = ap (λ n. (s .it .stop .0 - s .it .start .0) + n) (owed-lengths ss)
+
+held-read : (cfg : Config) (es : List Event) → talkedBy (readAll cfg (notes (play cfg es (fresh cfg))) (blankBook cfg) .now) (readAll cfg (notes (play cfg es (fresh cfg))) (blankBook cfg) .lines) ≡ heldTenths (final cfg es (fresh cfg))
+unfolding seen
+held-read cfg es = ap (λ (b : Book). talkedBy (b .now) (b .lines)) (ap (readAll cfg (notes (play cfg es (fresh cfg)))) (sym (fresh-seen cfg)) ∙ read-final cfg es (fresh cfg)) ∙ sym (held-seen (final cfg es (fresh cfg)))
+
+pub counts-agree : CountsAgree
+unfolding CountsAgree countedByCalls ChargesAreStops TenthsAgree
+counts-agree cfg set es = ap (λ m. lengths (stops cfg 0 (notes (play cfg es (fresh cfg))) (blankBook cfg)) + m) (held-read cfg es) ∙ ap (λ m. m + heldTenths (final cfg es (fresh cfg))) (sym (ap tenthsIn (charges-are-stops cfg set es) ∙ owed-lengths (stops cfg 0 (notes (play cfg es (fresh cfg))) (blankBook cfg)))) ∙ tenths-agree cfg set es
+
+-- the station's clock is the time of the last entry
+pub clock-is-now : ClockIsNow
+unfolding ClockIsNow seen
+clock-is-now cfg set es = ap (λ (b : Book). b .now) (ap (readAll cfg (notes (play cfg es (fresh cfg)))) (sym (fresh-seen cfg)) ∙ read-final cfg es (fresh cfg))

@@ -1,0 +1,133 @@
+-- Each piece of which the events are made: what the list reads from its deeds is what it leaves.
+use mathlib.Core.Path.{_≡_, refl, sym, ap, _∙_}
+use mathlib.Core.List.{List, [], _∷_, _++_, map}
+use mathlib.Core.Bool.{Bool, true, false, cond}
+use mathlib.Core.Option.{Option, none, some}
+use Prim.Native.Nat.{ℕ, zero, suc, _+_, _-_}
+use lib.Dec.{ltb}
+use lib.ListN.{getD, length}
+use native.Mathlib.Omega.{arith}
+use Rattle.rules.specs.Places.{modAt, shift, lowest}
+use Rattle.rules.specs.Words.{Party, is, Request}
+use Rattle.rules.specs.Actions.{theCoast, Action}
+use Rattle.rules.specs.Station.{offered, firstRing, Stage, dialling, answered, Slot, free, taken, pending, busy, held, Waiting, Station, setSlot, setQueue, dueAfter, queueWait}
+use Rattle.rules.specs.Requests.{Out, done, ignored, also, rungBack, freedFor, freed, endActs, coastEnd, waitsFor, afresh, ruleD, offer, ruleF, ruleG, isFree, eToG, newcomer}
+use Rattle.rules.specs.Book.{Stop, Line, Place, Book, blank, atLine, stopOf}
+use Rattle.rules.specs.Reading.{tell, rungUp, letGo, hush, leave, join, reads}
+use Rattle.rules.specs.Statement.{deedsOf, chargesOf, owed}
+use Rattle.rules.proofs.PlaceLaws.{modAt-modAt, modAt-map, lowest-is, shift-some, shift-none}
+use Rattle.rules.proofs.Base.{callIn, view, place, seen, is-same, is-true, deeds-append, charges-append, reads-append, atLine², moves}
+
+-- ── what is shown of a piece ─────────────────────────────────────────────────
+
+-- read from the book b at the time t, the piece's deeds give the book of what it leaves, and its charges are cs
+pub record Good (t : ℕ) (b : Book) (cs : List Stop) (o : Out) : Type 0 where
+  pub reading : reads t (deedsOf (o .acts)) b ≡ seen (o .next)
+  pub charging : chargesOf (o .acts) ≡ map owed cs
+
+pub good-if : (t : ℕ) (b : Book) (cs : List Stop) (c : Bool) (x y : Out) → (c ≡ true → Good t b cs x) → (c ≡ false → Good t b cs y) → Good t b cs (cond c x y)
+good-if t b cs true x y p q = p refl
+good-if t b cs false x y p q = q refl
+
+map-append : {A B : Type 0} (f : A → B) (a b : List A) → map f (a ++ b) ≡ map f a ++ map f b
+map-append f [] b = refl
+map-append f (x ∷ a) b = ap (λ r. f x ∷ r) (map-append f a b)
+
+pub good-also : (t : ℕ) (b k : Book) (cs ds : List Stop) (a : List Action) (o : Out) → reads t (deedsOf a) b ≡ k → chargesOf a ≡ map owed cs → Good t k ds o → Good t b (cs ++ ds) (also a o)
+good-also t b k cs ds a o h c g = record {
+  reading = ap (λ z. reads t z b) (deeds-append a (o .acts)) ∙ reads-append t (deedsOf a) (deedsOf (o .acts)) b ∙ ap (reads t (deedsOf (o .acts))) h ∙ g .reading;
+  charging = charges-append a (o .acts) ∙ rw (c, g .charging) (sym (map-append owed cs ds));
+}
+
+pub good-ignored : (st : Station) (b : Book) → b ≡ seen st → Good (st .clock) b [] (ignored st)
+unfolding reads
+good-ignored st b h = record { reading = h; charging = refl }
+
+pub good-done : (st : Station) (b : Book) → b ≡ seen st → Good (st .clock) b [] (done st)
+unfolding reads
+good-done st b h = record { reading = h; charging = refl }
+
+pub book-is : {a b : Book} → a .now ≡ b .now → a .lines ≡ b .lines → a .places ≡ b .places → a ≡ b
+book-is p q r = λ k. record { now = p k; lines = q k; places = r k }
+
+-- two readings of one slot, one after the other
+pub lines² : (i : ℕ) (st : Station) (p : Slot) → getD (st .slots) i free ≡ p → (f g : Line → Line) (q : Slot) → g (f (view p)) ≡ view q
+    → modAt g i (modAt f i (map view (st .slots))) ≡ map view (modAt (λ x. q) i (st .slots))
+lines² i st p e f g q h = modAt-modAt f g i (map view (st .slots)) ∙ modAt-map view (λ l. g (f l)) q free i (st .slots) (rw e h)
+
+pub atLine³ : (i : ℕ) (f g h : Line → Line) (b : Book) → atLine i h (atLine i g (atLine i f b)) ≡ atLine i (λ l. h (g (f l))) b
+atLine³ i f g h b = ap (atLine i h) (atLine² i f g b) ∙ atLine² i (λ l. g (f l)) h b
+
+-- ── a slot is freed ──────────────────────────────────────────────────────────
+
+leave-first : (x : Party) (p : Place) (ps : List Place) → p .who ≡ x → leave x (p ∷ ps) ≡ ps
+leave-first x p ps h = rw (is-same x (p .who) (sym h))
+
+freedFor-good : (i : ℕ) (st : Station) (p : Slot) → getD (st .slots) i free ≡ p → (q : List Waiting) → st .queue ≡ q
+    → (f : Line → Line) → f (view p) ≡ blank → Good (st .clock) (atLine i f (seen st)) [] (freedFor i st q)
+unfolding freedFor rungBack reads seen setSlot setQueue
+freedFor-good i st p e [] eq f h = record { reading = moves i st p e f free h; charging = refl }
+freedFor-good i st p e (w ∷ q) eq f h = record {
+  reading = book-is refl (lines² i st p e f (rungUp (st .clock) (w .request)) (pending firstRing (w .request) (dueAfter (st .clock) 50)) (ap (rungUp (st .clock) (w .request)) h)) (rw eq (leave-first (w .request .who) (place w) (map place q) refl));
+  charging = refl;
+}
+
+pub freed-good : (i : ℕ) (st : Station) (p : Slot) → getD (st .slots) i free ≡ p → (f : Line → Line) → f (view p) ≡ blank → Good (st .clock) (atLine i f (seen st)) [] (freed i st)
+unfolding freed
+freed-good i st p e f h = freedFor-good i st p e (st .queue) refl f h
+
+-- ── the coast's end ──────────────────────────────────────────────────────────
+
+pub coastEnd-good : (i : ℕ) (r : Request) (g : Stage) (st : Station) (p : Slot) → getD (st .slots) i free ≡ p → (f : Line → Line) → hush (letGo (f (view p))) ≡ blank
+    → Good (st .clock) (atLine i f (seen st)) (stopOf (st .clock) i (callIn r g)) (coastEnd i r g st)
+unfolding coastEnd reads
+coastEnd-good i r (dialling d) st p e f h = good-also (st .clock) (atLine i f (seen st)) (atLine i (λ l. hush (letGo (f l))) (seen st)) [] [] (endActs i theCoast r (dialling d) (st .clock)) (freed i st) (atLine³ i f letGo hush (seen st)) refl (freed-good i st p e (λ l. hush (letGo (f l))) h)
+coastEnd-good i r (answered b) st p e f h = good-also (st .clock) (atLine i f (seen st)) (atLine i (λ l. hush (letGo (f l))) (seen st)) (stopOf (st .clock) i (callIn r (answered b))) [] (endActs i theCoast r (answered b) (st .clock)) (freed i st) (atLine³ i f letGo hush (seen st)) refl (freed-good i st p e (λ l. hush (letGo (f l))) h)
+
+-- ── rules d to g ─────────────────────────────────────────────────────────────
+
+pub free-is : (s : Slot) → isFree s ≡ true → s ≡ free
+free-is free h = refl
+free-is taken h = cc
+free-is (pending k r d) h = cc
+free-is (busy r g c) h = cc
+free-is (held r n d) h = cc
+
+abbrev renewed : Request → Waiting → Waiting
+renewed r w = record { request = r; due = w .due }
+
+join-waiting : (t : ℕ) (r : Request) (k : ℕ) (q : List Waiting) → lowest (waitsFor (r .who)) q ≡ some k → join t (r .who) (map place q) ≡ map place (modAt (renewed r) k q)
+join-waiting t r k [] h = cc
+join-waiting t r k (w ∷ q) h = go (is (r .who) (w .request .who)) refl k h (λ j e. join-waiting t r j q e)
+  where
+    go : (b : Bool) → is (r .who) (w .request .who) ≡ b → (k : ℕ) → cond b (some zero) (shift (lowest (waitsFor (r .who)) q)) ≡ some k
+        → ((j : ℕ) → lowest (waitsFor (r .who)) q ≡ some j → join t (r .who) (map place q) ≡ map place (modAt (renewed r) j q)) → join t (r .who) (map place (w ∷ q)) ≡ map place (modAt (renewed r) k (w ∷ q))
+    go true e zero z ih = rw e (ap (λ (x : Party). record { who = x; due = w .due } ∷ map place q) (sym (is-true (r .who) (w .request .who) e)))
+    go true e (suc k) z ih = let y : zero ≡ suc k = cc in absurd (omega arith)
+    go false e zero z ih = absurd (no-shift (lowest (waitsFor (r .who)) q) z)
+      where
+        no-shift : (o : Option ℕ) → shift o ≡ some zero → ⊥
+        no-shift none h = let y : _≡_ {A = ℕ} 0 1 = cc in omega arith
+        no-shift (some n) h = let y : suc n ≡ zero = cc in omega arith
+    go false e (suc k) z ih = rw e (ap (λ z. place w ∷ z) (ih k (shift-some _ k z)))
+
+join-new : (t : ℕ) (r : Request) (q : List Waiting) → lowest (waitsFor (r .who)) q ≡ none → join t (r .who) (map place q) ≡ map place (q ++ record { request = r; due = dueAfter t queueWait } ∷ [])
+join-new t r [] h = refl
+join-new t r (w ∷ q) h = go (is (r .who) (w .request .who)) refl (λ e. join-new t r q e)
+  where
+    go : (b : Bool) → is (r .who) (w .request .who) ≡ b → (lowest (waitsFor (r .who)) q ≡ none → join t (r .who) (map place q) ≡ map place (q ++ record { request = r; due = dueAfter t queueWait } ∷ [])) → join t (r .who) (map place (w ∷ q)) ≡ map place ((w ∷ q) ++ record { request = r; due = dueAfter t queueWait } ∷ [])
+    go true e ih = let k : _≡_ {A = Option ℕ} (some zero) none = rw e at h in cc
+    go false e ih = rw e (ap (λ z. place w ∷ z) (ih (shift-none _ (rw e at h))))
+
+eToG-good : (st : Station) (r : Request) (o : Option ℕ) → lowest isFree (st .slots) ≡ o → lowest (waitsFor (r .who)) (st .queue) ≡ none → Good (st .clock) (seen st) [] (eToG st r o)
+unfolding eToG offer afresh ruleF ruleG reads seen setQueue setSlot
+eToG-good st r (some i) h w = record { reading = moves i st free (free-is _ (lowest-is free isFree (st .slots) i h)) (tell (st .clock) r) (pending offered r (dueAfter (st .clock) 160)) refl; charging = refl }
+eToG-good st r none h w = good-if _ _ _ (ltb (length (st .queue)) 32) (ruleF st r) (ruleG st r) (λ e. record { reading = book-is refl refl (join-new (st .clock) r (st .queue) w); charging = refl }) (λ e. record { reading = refl; charging = refl })
+
+pub newcomer-good : (st : Station) (r : Request) → lowest (waitsFor (r .who)) (st .queue) ≡ none → Good (st .clock) (seen st) [] (newcomer st r)
+unfolding newcomer
+newcomer-good st r w = eToG-good st r (lowest isFree (st .slots)) refl w
+
+pub ruleD-good : (k : ℕ) (st : Station) (r : Request) → lowest (waitsFor (r .who)) (st .queue) ≡ some k → Good (st .clock) (seen st) [] (ruleD k st r)
+unfolding ruleD reads seen setQueue
+ruleD-good k st r h = record { reading = book-is refl refl (join-waiting (st .clock) r k (st .queue) h); charging = refl }

@@ -1,0 +1,96 @@
+-- Laws of a place in a list, and of tests.
+use mathlib.Core.Path.{_≡_, refl, ap}
+use mathlib.Core.List.{List, [], _∷_, _++_, map}
+use mathlib.Core.Bool.{Bool, true, false, cond, _&&_, _||_}
+use mathlib.Core.Option.{Option, none, some}
+use Prim.Native.Nat.{ℕ, zero, suc, _≤_}
+use native.Mathlib.Omega.{arith}
+use lib.ListN.{getD, length}
+use Rattle.rules.specs.Places.{modAt, dropAt, shift, lowest, all, Each}
+
+-- ── tests ────────────────────────────────────────────────────────────────────
+
+pub or-false : (a b : Bool) → (a || b) ≡ false → (a ≡ false) × (b ≡ false)
+or-false true b h = let k : true ≡ false = h in (cc, cc)
+or-false false b h = (refl, h)
+
+pub and-true : (a b : Bool) → (a && b) ≡ true → (a ≡ true) × (b ≡ true)
+and-true true b h = (refl, h)
+and-true false b h = let k : false ≡ true = h in (cc, cc)
+
+-- ── the element at a place changed ────────────────────────────────────────────
+
+pub modAt-modAt : {A : Type 0} (f g : A → A) (i : ℕ) (l : List A) → modAt g i (modAt f i l) ≡ modAt (λ x. g (f x)) i l
+modAt-modAt f g i [] = refl
+modAt-modAt f g zero (x ∷ xs) = refl
+modAt-modAt f g (suc i) (x ∷ xs) = ap (λ r. x ∷ r) (modAt-modAt f g i xs)
+
+pub modAt-map : {A B : Type 0} (v : A → B) (g : B → B) (p d : A) (i : ℕ) (l : List A) → g (v (getD l i d)) ≡ v p → modAt g i (map v l) ≡ map v (modAt (λ x. p) i l)
+modAt-map v g p d i [] h = refl
+modAt-map v g p d zero (x ∷ xs) h = ap (λ y. y ∷ map v xs) h
+modAt-map v g p d (suc i) (x ∷ xs) h = ap (λ r. v x ∷ r) (modAt-map v g p d i xs h)
+
+pub modAt-same : {A B : Type 0} (v : A → B) (g : B → B) (d : A) (i : ℕ) (l : List A) → g (v (getD l i d)) ≡ v (getD l i d) → modAt g i (map v l) ≡ map v l
+modAt-same v g d i [] h = refl
+modAt-same v g d zero (x ∷ xs) h = ap (λ y. y ∷ map v xs) h
+modAt-same v g d (suc i) (x ∷ xs) h = ap (λ r. v x ∷ r) (modAt-same v g d i xs h)
+
+pub modAt-length : {A : Type 0} (f : A → A) (i : ℕ) (l : List A) → length (modAt f i l) ≡ length l
+modAt-length f i [] = refl
+modAt-length f zero (x ∷ l) = refl
+modAt-length f (suc i) (x ∷ l) = ap suc (modAt-length f i l)
+
+-- ── the lowest place that passes ──────────────────────────────────────────────
+
+pub lowest-is : {A : Type 0} (z : A) (p : A → Bool) (ss : List A) (i : ℕ) → lowest p ss ≡ some i → p (getD ss i z) ≡ true
+lowest-is d p [] i h = cc
+lowest-is d p (s ∷ ss) i h = go (p s) refl (lowest p ss) refl (λ j. lowest-is d p ss j) h
+  where
+    go : (b : Bool) → p s ≡ b → (o : Option ℕ) → lowest p ss ≡ o → ((j : ℕ) → lowest p ss ≡ some j → p (getD ss j d) ≡ true) → cond b (some zero) (shift o) ≡ some i → p (getD (s ∷ ss) i d) ≡ true
+    go true e o eo ih k = let z : zero ≡ i = cc in rw (← z) e
+    go false e none eo ih k = cc
+    go false e (some j) eo ih k = let z : suc j ≡ i = cc in rw (← z) (ih j eo)
+
+pub shift-some : (o : Option ℕ) (k : ℕ) → shift o ≡ some (suc k) → o ≡ some k
+shift-some none k h = cc
+shift-some (some n) k h = let e : suc n ≡ suc k = cc in ap some (omega arith)
+
+pub shift-none : (o : Option ℕ) → shift o ≡ none → o ≡ none
+shift-none none h = refl
+shift-none (some n) h = cc
+
+-- ── what holds of all ─────────────────────────────────────────────────────────
+
+pub all-set : {A : Type 0} (f : A → Bool) (i : ℕ) (p : A) (ss : List A) → all f ss ≡ true → f p ≡ true → all f (modAt (λ y. p) i ss) ≡ true
+all-set f i p [] h k = refl
+all-set f zero p (s ∷ ss) h k = rw k (and-true (f s) (all f ss) h .1)
+all-set f (suc i) p (s ∷ ss) h k = let w = and-true (f s) (all f ss) h in rw (w .0) (all-set f i p ss (w .1) k)
+
+pub all-at : {A : Type 0} (f : A → Bool) (d : A) → f d ≡ true → (i : ℕ) (ss : List A) → all f ss ≡ true → f (getD ss i d) ≡ true
+all-at f d z i [] h = z
+all-at f d z zero (s ∷ ss) h = and-true (f s) (all f ss) h .0
+all-at f d z (suc i) (s ∷ ss) h = all-at f d z i ss (and-true (f s) (all f ss) h .1)
+
+pub all-end : {A : Type 0} (f : A → Bool) (l : List A) (x : A) → all f l ≡ true → f x ≡ true → all f (l ++ x ∷ []) ≡ true
+all-end f [] x h k = rw k refl
+all-end f (y ∷ l) x h k = let a = and-true (f y) (all f l) h in rw (a .0) (all-end f l x (a .1) k)
+
+pub all-dropped : {A : Type 0} (f : A → Bool) (k : ℕ) (l : List A) → all f l ≡ true → all f (dropAt k l) ≡ true
+all-dropped f k [] h = refl
+all-dropped f zero (x ∷ l) h = and-true (f x) (all f l) h .1
+all-dropped f (suc k) (x ∷ l) h = let a = and-true (f x) (all f l) h in rw (a .0) (all-dropped f k l (a .1))
+
+pub dropped-length : {A : Type 0} (k : ℕ) (l : List A) → length (dropAt k l) ≤ length l
+dropped-length k [] = omega arith
+dropped-length zero (x ∷ l) = omega arith
+dropped-length (suc k) (x ∷ l) = omega (arith, dropped-length k l)
+
+-- ── what is claimed of each ───────────────────────────────────────────────────
+
+pub each-append : {A : Type 0} (P : A → Type 0) (a b : List A) → Each P a → Each P b → Each P (a ++ b)
+each-append P [] b h k = k
+each-append P (x ∷ a) b h k = (h .0, each-append P a b (h .1) k)
+
+pub each-weaken : {A : Type 0} (P Q : A → Type 0) → ((x : A) → P x → Q x) → (l : List A) → Each P l → Each Q l
+each-weaken P Q f [] h = tt
+each-weaken P Q f (x ∷ l) h = (f x (h .0), each-weaken P Q f l (h .1))

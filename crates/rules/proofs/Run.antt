@@ -1,0 +1,131 @@
+-- One accepted event, and then the run.
+use mathlib.Core.Path.{_≡_, refl, ap}
+use mathlib.Core.List.{List, [], _∷_, map}
+use mathlib.Core.Bool.{true}
+use mathlib.Core.Option.{Option, none, some}
+use Prim.Native.Nat.{ℕ, zero, suc, _-_}
+use lib.ListN.{getD, length, replicate}
+use Rattle.rules.specs.Places.{dropAt, distinct}
+use Rattle.rules.specs.Words.{is, Config, What, tick, onChannel70, onSlot, Event}
+use Rattle.rules.specs.Waits.{Wait, ofQueue, loss, main, Due}
+use Rattle.rules.specs.Heard.{Heard, callRequest, dataRequest, bq, workingCall, endOfCall, nothing, meaning}
+use Rattle.rules.specs.Actions.{Action}
+use Rattle.rules.specs.Station.{free, Waiting, Station, fresh, setClock, setQueue, fires}
+use Rattle.rules.specs.Sound.{owners}
+use Rattle.rules.specs.Requests.{slotOf, placeOf, standing, ruleA}
+use Rattle.rules.specs.Calls.{fire, ticked, heardOn70, actAt, act}
+use Rattle.rules.specs.Verdict.{verdict, step, play, final}
+use Rattle.rules.specs.Book.{Note, Stop, Line, Place, blank, blankBook, fallsAt, momentOf, stopsDue, stopsHeard, stopsAt}
+use Rattle.rules.specs.Reading.{hearHeard, hearDue, hear, reads, setNow, turn, stopsIn, Numbered, numbered, stops}
+use Rattle.rules.specs.Statement.{deedsOf, chargesOf, notes, charged, owed, owedFor, ChargesAreStops, RefusedLeavesAll, Accepts, eventsOf, AllPlayed}
+use Rattle.rules.proofs.Base.{view, place, seen, is-same, falls-fires, line-is}
+use Rattle.rules.proofs.Pieces.{Good, good-ignored, good-done}
+use Rattle.rules.proofs.OneSlot.{end-good, agree-good, main-good, happened-good}
+use Rattle.rules.proofs.Asked.{request-good}
+use Rattle.rules.proofs.Accepted.{accepted, Sound, sounds, elem-waiting, owner-apart}
+
+-- ── a tick ───────────────────────────────────────────────────────────────────
+
+dropAt-map : (k : ℕ) (q : List Waiting) → dropAt k (map place q) ≡ map place (dropAt k q)
+dropAt-map k [] = refl
+dropAt-map zero (w ∷ q) = refl
+dropAt-map (suc k) (w ∷ q) = ap (λ z. place w ∷ z) (dropAt-map k q)
+
+fire-good : (cfg : Config) (st : Station) → Sound cfg st → (w : Wait) (d : ℕ)
+    → Good d (hearDue (setNow d (seen st)) (some record { what = w; at = d })) (stopsDue d (seen st) (some record { what = w; at = d })) (fire (setClock d st) w)
+unfolding fire setClock setQueue seen
+fire-good cfg st s (ofQueue k) d = good-done (setQueue (dropAt k (st .queue)) (setClock d st)) _ (ap (λ (z : List Place). record { now = d; lines = map view (st .slots); places = z }) (dropAt-map k (st .queue)))
+fire-good cfg st s (loss i) d = rw (line-is i st (getD (st .slots) i free) refl) (end-good i (setClock d st) (getD (st .slots) i free) refl)
+fire-good cfg st s (main i) d = main-good i (setClock d st) (λ k r u e. elem-waiting (r .who) (st .queue) (owner-apart (r .who) (st .slots) (map (λ w. w .request .who) (st .queue)) i (s .no-twice) (rw e (is-same (r .who) (r .who) refl)))) (getD (st .slots) i free) refl
+
+tick-good : (cfg : Config) (st : Station) → Sound cfg st → (t : ℕ) (o : Option Due) → Good (momentOf t o) (hearDue (setNow (momentOf t o) (seen st)) o) (stopsDue (momentOf t o) (seen st) o) (ticked st t o)
+unfolding ticked setClock seen
+tick-good cfg st s t none = good-done (setClock t st) _ refl
+tick-good cfg st s t (some p) = fire-good cfg st s (p .what) (p .at)
+
+-- ── any event ────────────────────────────────────────────────────────────────
+
+heard-good : (st : Station) → distinct is (owners (st .slots) (map (λ w. w .request .who) (st .queue))) ≡ true → (h : Heard) → Good (st .clock) (hearHeard (st .clock) h (seen st)) (stopsHeard (st .clock) (seen st .lines) h) (heardOn70 st h)
+unfolding heardOn70 ruleA standing seen reads
+heard-good st s (callRequest r) = request-good st r (map (λ w. w .request .who) (st .queue)) s (slotOf (r .who) st) (placeOf (r .who) st) refl refl
+heard-good st s (dataRequest x n) = record { reading = refl; charging = refl }
+heard-good st s (bq i x) = agree-good i st x (getD (st .slots) i free) refl
+heard-good st s (workingCall x) = good-ignored st _ refl
+heard-good st s (endOfCall x) = good-ignored st _ refl
+heard-good st s nothing = good-ignored st _ refl
+
+pub event-good : (cfg : Config) (st : Station) → Sound cfg st → (t : ℕ) (w : What)
+    → Good (momentOf t (fallsAt (seen st) t w)) (hear cfg (momentOf t (fallsAt (seen st) t w)) (fallsAt (seen st) t w) w (setNow (momentOf t (fallsAt (seen st) t w)) (seen st))) (stopsAt cfg (momentOf t (fallsAt (seen st) t w)) (seen st) (fallsAt (seen st) t w) w) (actAt cfg st t w)
+unfolding actAt seen setClock
+event-good cfg st s t tick = rw (falls-fires t st) (tick-good cfg st s t (fires t st))
+event-good cfg st s t (onChannel70 m) = heard-good (setClock t st) (s .no-twice) (meaning cfg m)
+event-good cfg st s t (onSlot i h) = rw (line-is i st (getD (st .slots) i free) refl) (happened-good i (setClock t st) cfg (getD (st .slots) i free) refl h)
+
+-- ── the run ──────────────────────────────────────────────────────────────────
+
+abbrev pub noteOf : Event → List Action → Note
+noteOf e a = record { event = e; deeds = deedsOf a }
+
+pub turn-is : (cfg : Config) (st : Station) (e : Event) → verdict cfg st e ≡ none → turn cfg (seen st) (noteOf e (act cfg st e .acts)) ≡ seen (act cfg st e .next)
+unfolding turn
+turn-is cfg st e h = event-good cfg st (sounds cfg st (accepted cfg st e h .is-sound)) (e .time) (e .what) .reading
+
+pub stops-are : (cfg : Config) (st : Station) (e : Event) → verdict cfg st e ≡ none → chargesOf (act cfg st e .acts) ≡ map owed (stopsIn cfg (seen st) (noteOf e (act cfg st e .acts)))
+unfolding stopsIn
+stops-are cfg st e h = event-good cfg st (sounds cfg st (accepted cfg st e h .is-sound)) (e .time) (e .what) .charging
+
+pub play-on : (cfg : Config) (e : Event) (es : List Event) (st : Station) → verdict cfg st e ≡ none → play cfg (e ∷ es) st ≡ record { event = e; given = act cfg st e .acts } ∷ play cfg es (act cfg st e .next)
+unfolding play
+play-on cfg e es st h = rw (h, play)
+
+pub play-past : (cfg : Config) (e : Event) (es : List Event) (st : Station) (n : ℕ) → verdict cfg st e ≡ some n → play cfg (e ∷ es) st ≡ play cfg es st
+unfolding play
+play-past cfg e es st n h = rw (h, play)
+
+pub final-on : (cfg : Config) (e : Event) (es : List Event) (st : Station) → verdict cfg st e ≡ none → final cfg (e ∷ es) st ≡ final cfg es (act cfg st e .next)
+unfolding final step
+final-on cfg e es st h = rw h refl
+
+pub final-past : (cfg : Config) (e : Event) (es : List Event) (st : Station) (n : ℕ) → verdict cfg st e ≡ some n → final cfg (e ∷ es) st ≡ final cfg es st
+unfolding final step
+final-past cfg e es st n h = rw h refl
+
+owed-numbered : (k : ℕ) (ss : List Stop) (r : List (Numbered Stop)) → numbered k (map owed ss) (owedFor r) ≡ owedFor (numbered k ss r)
+owed-numbered k [] r = refl
+owed-numbered k (s ∷ ss) r = ap (λ z. record { entry = k; it = owed s } ∷ z) (owed-numbered k ss r)
+
+run-charges : (cfg : Config) (es : List Event) (k : ℕ) (st : Station) → charged k (play cfg es st) ≡ owedFor (stops cfg k (notes (play cfg es st)) (seen st))
+unfolding play charged stops notes
+run-charges cfg [] k st = refl
+run-charges cfg (e ∷ es) k st = go (verdict cfg st e) refl (λ k s. run-charges cfg es k s)
+  where
+    go : (o : Option ℕ) → verdict cfg st e ≡ o → ((k : ℕ) (s : Station) → charged k (play cfg es s) ≡ owedFor (stops cfg k (notes (play cfg es s)) (seen s))) → charged k (play cfg (e ∷ es) st) ≡ owedFor (stops cfg k (notes (play cfg (e ∷ es) st)) (seen st))
+    go none h ih = rw (play-on cfg e es st h, turn-is cfg st e h, stops-are cfg st e h, ih (suc k) (act cfg st e .next)) (owed-numbered k (stopsIn cfg (seen st) (noteOf e (act cfg st e .acts))) (stops cfg (suc k) (notes (play cfg es (act cfg st e .next))) (seen (act cfg st e .next))))
+    go (some n) h ih = rw (play-past cfg e es st n h) (ih k st)
+
+fresh-lines : (n : ℕ) → map view (replicate n free) ≡ replicate n blank
+fresh-lines zero = refl
+fresh-lines (suc n) = ap (λ z. blank ∷ z) (fresh-lines n)
+
+pub fresh-seen : (cfg : Config) → seen (fresh cfg) ≡ blankBook cfg
+unfolding seen fresh blankBook
+fresh-seen cfg = ap (λ (z : List Line). record { now = 0; lines = z; places = [] }) (fresh-lines (length (cfg .channels)))
+
+-- the charges given are the stops that the list shows, in order, each in its entry
+pub charges-are-stops : ChargesAreStops
+unfolding ChargesAreStops
+charges-are-stops cfg set es = rw (← (fresh-seen cfg)) (run-charges cfg es 0 (fresh cfg))
+
+events-played : (cfg : Config) (es : List Event) (st : Station) → Accepts cfg es st → eventsOf (play cfg es st) ≡ es
+unfolding Accepts play
+events-played cfg [] st h = refl
+events-played cfg (e ∷ es) st h = rw (play-on cfg e es st (h .0)) (ap (λ z. e ∷ z) (events-played cfg es (act cfg st e .next) (h .1)))
+
+pub all-played : AllPlayed
+unfolding AllPlayed
+all-played cfg es st h = events-played cfg es st h
+
+-- a refused event changes nothing, and leaves no entry
+pub refused-leaves-all : RefusedLeavesAll
+unfolding RefusedLeavesAll
+refused-leaves-all cfg st e n v es = (play-past cfg e es st n v, final-past cfg e es st n v)

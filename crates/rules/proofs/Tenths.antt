@@ -1,0 +1,207 @@
+-- The tenths: time moves on, and theorem two.
+use mathlib.Core.Path.{_≡_, refl, sym, ap, _∙_}
+use mathlib.Core.List.{List, [], _∷_, map}
+use mathlib.Core.Bool.{Bool, true, false, cond}
+use mathlib.Core.Option.{Option, none, some}
+use Prim.Native.Nat.{ℕ, zero, suc, _+_, _-_, _*_, _≤_}
+use native.Mathlib.Omega.{arith}
+use lib.Dec.{eqb, leb}
+use lib.ListN.{length, replicate}
+use borrow.Author.Tests.{leb-true}
+use Rattle.rules.specs.Places.{all}
+use Rattle.rules.specs.Words.{Party, Config, What, tick, onChannel70, onSlot, Event, Deed, carrierOn, carrierOff, acknowledge, ringBack, unable, dial, releaseLine}
+use Rattle.rules.specs.Waits.{Wait, ofQueue, loss, main, Due, sooner, earliest, ifDue}
+use Rattle.rules.specs.Heard.{Heard, callRequest, dataRequest, bq, workingCall, endOfCall, nothing, meaning}
+use Rattle.rules.specs.Actions.{Charge}
+use Rattle.rules.specs.Station.{dialling, answered, Slot, free, taken, pending, busy, held, Station, fresh, table, fires}
+use Rattle.rules.specs.Calls.{act}
+use Rattle.rules.specs.Verdict.{verdict, play, final}
+use Rattle.rules.specs.Book.{Note, Stop, after, Call, quiet, dialled, talking, Book, atPlaces, fallsAt, falling, momentOf, moment}
+use Rattle.rules.specs.Reading.{hearHeard, hearDue, hear, join, read, reads, setNow, turn, stopsIn, Numbered, numbered, isTalking, talkers, counted, talked, talkedBy}
+use Rattle.rules.specs.Statement.{notes, charged, owed, tenthsIn, heldSlot, heldSlots, heldTenths, TenthsAgree}
+use Rattle.rules.proofs.PlaceLaws.{and-true}
+use Rattle.rules.proofs.Base.{view, seen, falls-fires}
+use Rattle.rules.proofs.Accepted.{accepted, Sound, sounds, begunBy, begun-all, due-all}
+use Rattle.rules.proofs.Run.{noteOf, turn-is, stops-are, play-on, play-past, final-on, final-past, fresh-seen}
+use Rattle.rules.proofs.Talked.{sum, turn-takes}
+
+-- ── the time moves on ────────────────────────────────────────────────────────
+
+abbrev pub since : ℕ → Call → Bool
+since t quiet = true
+since t (dialled x m) = true
+since t (talking x m b) = leb b t
+
+pub since-slot : (t : ℕ) (s : Slot) → since t (view s .call) ≡ begunBy t s
+since-slot t free = refl
+since-slot t taken = refl
+since-slot t (pending k r d) = refl
+since-slot t (busy r (dialling d) c) = refl
+since-slot t (busy r (answered b) c) = refl
+since-slot t (held r n d) = refl
+
+held-slot : (t : ℕ) (s : Slot) → talked t (view s .call) ≡ heldSlot t s
+held-slot t free = refl
+held-slot t taken = refl
+held-slot t (pending k r d) = refl
+held-slot t (busy r (dialling d) c) = refl
+held-slot t (busy r (answered b) c) = refl
+held-slot t (held r n d) = refl
+
+held-slots : (t : ℕ) (ss : List Slot) → talkedBy t (map view ss) ≡ heldSlots t ss
+held-slots t [] = refl
+held-slots t (s ∷ ss) = rw (held-slot t s, held-slots t ss) refl
+
+advance-one : (c t : ℕ) → c ≤ t → (k : Call) → since c k ≡ true → talked t k ≡ talked c k + (t - c) * isTalking k
+advance-one c t h quiet e = omega arith
+advance-one c t h (dialled x m) e = omega arith
+advance-one c t h (talking x m b) e = omega (arith, leb-true b c e)
+
+add-both : (d x y p q a b : ℕ) → a ≡ x + d * p → b ≡ y + d * q → a + b ≡ x + y + d * (p + q)
+add-both d x y p q a b h k = omega arith
+
+advance : (c t : ℕ) → c ≤ t → (ss : List Slot) → all (begunBy c) ss ≡ true → talkedBy t (map view ss) ≡ talkedBy c (map view ss) + (t - c) * talkers (map view ss)
+advance c t h [] e = omega arith
+advance c t h (s ∷ ss) e =
+    let w = and-true (begunBy c s) (all (begunBy c) ss) e in
+    let a = advance-one c t h (view s .call) (since-slot c s ∙ w .0) in
+    let r = advance c t h ss (w .1) in
+    add-both (t - c) (talked c (view s .call)) (talkedBy c (map view ss)) (isTalking (view s .call)) (talkers (map view ss)) (talked t (view s .call)) (talkedBy t (map view ss)) a r
+
+-- an accepted entry never goes back: its own time is not before the clock, and no wait is due before it
+earliest-all : (p : Due → Bool) (l : List Due) (d : Due) → all p l ≡ true → earliest l ≡ some d → p d ≡ true
+earliest-all p [] d h e = cc
+earliest-all p (q ∷ l) d h e = let w = and-true (p q) (all p l) h in go (earliest l) refl (λ z. earliest-all p l z (w .1)) (w .0) e
+  where
+    pick : (b : Bool) (z : Due) → p q ≡ true → p z ≡ true → cond b (some q) (some z) ≡ some d → p d ≡ true
+    pick true z hq hz k = let y : q ≡ d = cc in rw (← y) hq
+    pick false z hq hz k = let y : z ≡ d = cc in rw (← y) hz
+
+    go : (o : Option Due) → earliest l ≡ o → ((z : Due) → earliest l ≡ some z → p z ≡ true) → p q ≡ true → sooner q o ≡ some d → p d ≡ true
+    go none eo ih hq k = let y : q ≡ d = cc in rw (← y) hq
+    go (some z) eo ih hq k = pick (leb (q .at) (z .at)) z hq (ih z eo) k
+
+ifDue-some : (t : ℕ) (o : Option Due) (d : Due) → ifDue t o ≡ some d → o ≡ some d
+ifDue-some t none d h = cc
+ifDue-some t (some p) d h = pick (leb (p .at) t) h
+  where
+    pick : (b : Bool) → cond b (some p) none ≡ some d → some p ≡ some d
+    pick true k = k
+    pick false k = cc
+
+pub tick-on : (cfg : Config) (st : Station) → Sound cfg st → (t : ℕ) → st .clock ≤ t → (o : Option Due) → fires t st ≡ o → st .clock ≤ momentOf t o
+unfolding fires
+tick-on cfg st s t h none e = h
+tick-on cfg st s t h (some p) e = leb-true (st .clock) (p .at) (earliest-all (λ q. leb (st .clock) (q .at)) (table st) p (due-all cfg st s) (ifDue-some t (earliest (table st)) p e))
+
+pub moment-on : (cfg : Config) (st : Station) (e : Event) → verdict cfg st e ≡ none → st .clock ≤ moment (seen st) e
+moment-on cfg st e v = go (e .what)
+  where
+    in-order : st .clock ≤ e .time
+    in-order = leb-true (st .clock) (e .time) (accepted cfg st e v .in-time)
+
+    go : (w : What) → st .clock ≤ momentOf (e .time) (fallsAt (seen st) (e .time) w)
+    go tick = rw (falls-fires (e .time) st) (tick-on cfg st (sounds cfg st (accepted cfg st e v .is-sound)) (e .time) in-order (fires (e .time) st) refl)
+    go (onChannel70 h) = in-order
+    go (onSlot i h) = in-order
+
+-- ── the run ──────────────────────────────────────────────────────────────────
+
+tenths-numbered : (k : ℕ) (cs : List Stop) (r : List (Numbered Charge)) → tenthsIn (numbered k (map owed cs) r) ≡ sum cs + tenthsIn r
+tenths-numbered k [] r = omega arith
+tenths-numbered k (c ∷ cs) r = omega (arith, tenths-numbered k cs r)
+
+pub held-seen : (st : Station) → heldTenths st ≡ talkedBy (st .clock) (seen st .lines)
+unfolding heldTenths seen
+held-seen st = sym (held-slots (st .clock) (st .slots))
+
+reads-now : (u : ℕ) (ds : List Deed) (b : Book) → reads u ds b .now ≡ b .now
+unfolding reads
+reads-now u [] b = refl
+reads-now u (d ∷ ds) b = reads-now u ds (read u d b) ∙ one d
+  where
+    queued-now : (n : ℕ) (x : Party) (c : Bool) → cond c (atPlaces (join u x) b) b .now ≡ b .now
+    queued-now n x true = refl
+    queued-now n x false = refl
+
+    one : (d : Deed) → read u d b .now ≡ b .now
+    one (carrierOn i) = refl
+    one (carrierOff i) = refl
+    one (acknowledge i r) = refl
+    one (ringBack i r) = refl
+    one (unable n x digits) = queued-now n x (eqb n 103)
+    one (dial i n) = refl
+    one (releaseLine i) = refl
+
+hear-now : (cfg : Config) (u : ℕ) (b : Book) (o : Option Due) (w : What) → hear cfg u o w b .now ≡ b .now
+hear-now cfg u b none tick = refl
+hear-now cfg u b (some p) tick = go (p .what)
+  where
+    go : (w : Wait) → hearDue b (some record { what = w; at = p .at }) .now ≡ b .now
+    go (ofQueue k) = refl
+    go (loss i) = refl
+    go (main i) = refl
+hear-now cfg u b o (onChannel70 m) = heard-now (meaning cfg m)
+  where
+    heard-now : (h : Heard) → hearHeard u h b .now ≡ b .now
+    heard-now (callRequest r) = refl
+    heard-now (dataRequest x n) = refl
+    heard-now (bq i x) = refl
+    heard-now (workingCall x) = refl
+    heard-now (endOfCall x) = refl
+    heard-now nothing = refl
+hear-now cfg u b o (onSlot i h) = refl
+
+pub turn-now : (cfg : Config) (b : Book) (n : Note) → turn cfg b n .now ≡ moment b (n .event)
+unfolding turn
+turn-now cfg b n = reads-now _ (n .deeds) _ ∙ hear-now cfg _ (setNow (moment b (n .event)) b) (falling b (n .event)) (n .event .what)
+
+-- the clock of the next station is the entry's moment
+pub clock-is : (cfg : Config) (st : Station) (e : Event) → verdict cfg st e ≡ none → act cfg st e .next .clock ≡ moment (seen st) e
+unfolding seen
+clock-is cfg st e v = sym (ap (λ (b : Book). b .now) (turn-is cfg st e v)) ∙ turn-now cfg (seen st) (noteOf e (act cfg st e .acts))
+
+settle-up : (h x s a n w : ℕ) → w ≡ h + x → s + a ≡ w → n ≡ a → h + x ≡ s + n
+settle-up h x s a n w p q r = omega arith
+
+-- one entry: what ran before, and the tenths that passed, are what it charges and what runs after
+entry-tenths : (cfg : Config) (st : Station) (e : Event) → verdict cfg st e ≡ none
+    → heldTenths st + (moment (seen st) e - st .clock) * talkers (seen st .lines) ≡ sum (stopsIn cfg (seen st) (noteOf e (act cfg st e .acts))) + heldTenths (act cfg st e .next)
+unfolding seen
+entry-tenths cfg st e v =
+    let t = moment (seen st) e in
+    let o = act cfg st e in
+    let after : ℕ = talkedBy t (turn cfg (seen st) (noteOf e (o .acts)) .lines) in
+    let p1 : talkedBy t (seen st .lines) ≡ heldTenths st + (t - st .clock) * talkers (seen st .lines) = rw (held-seen st) (advance (st .clock) t (moment-on cfg st e v) (st .slots) (begun-all cfg st (sounds cfg st (accepted cfg st e v .is-sound)))) in
+    let p2 : sum (stopsIn cfg (seen st) (noteOf e (o .acts))) + after ≡ talkedBy t (seen st .lines) = turn-takes cfg (seen st) (noteOf e (o .acts)) in
+    let p3 : heldTenths (o .next) ≡ after = held-seen (o .next) ∙ ap (λ (c : ℕ). talkedBy c (seen (o .next) .lines)) (clock-is cfg st e v) ∙ ap (λ (b : Book). talkedBy t (b .lines)) (sym (turn-is cfg st e v)) in
+    settle-up (heldTenths st) ((t - st .clock) * talkers (seen st .lines)) (sum (stopsIn cfg (seen st) (noteOf e (o .acts)))) after (heldTenths (o .next)) (talkedBy t (seen st .lines)) p1 p2 p3
+
+carry : (s r f h x n c : ℕ) → h + x ≡ s + n → r + f ≡ n + c → s + r + f ≡ h + (x + c)
+carry s r f h x n c p q = omega arith
+
+run-tenths : (cfg : Config) (es : List Event) (k : ℕ) (st : Station) → tenthsIn (charged k (play cfg es st)) + heldTenths (final cfg es st) ≡ heldTenths st + counted cfg (notes (play cfg es st)) (seen st)
+unfolding play final charged counted notes seen
+run-tenths cfg [] k st = omega arith
+run-tenths cfg (e ∷ es) k st = go (verdict cfg st e) refl (λ k s. run-tenths cfg es k s)
+  where
+    go : (o : Option ℕ) → verdict cfg st e ≡ o → ((k : ℕ) (s : Station) → tenthsIn (charged k (play cfg es s)) + heldTenths (final cfg es s) ≡ heldTenths s + counted cfg (notes (play cfg es s)) (seen s))
+        → tenthsIn (charged k (play cfg (e ∷ es) st)) + heldTenths (final cfg (e ∷ es) st) ≡ heldTenths st + counted cfg (notes (play cfg (e ∷ es) st)) (seen st)
+    go none h ih = rw (play-on cfg e es st h, final-on cfg e es st h, turn-is cfg st e h, stops-are cfg st e h, tenths-numbered k (stopsIn cfg (seen st) (noteOf e (act cfg st e .acts))) (charged (suc k) (play cfg es (act cfg st e .next)))) (carry (sum (stopsIn cfg (seen st) (noteOf e (act cfg st e .acts)))) (tenthsIn (charged (suc k) (play cfg es (act cfg st e .next)))) (heldTenths (final cfg es (act cfg st e .next))) (heldTenths st) ((moment (seen st) e - st .clock) * talkers (seen st .lines)) (heldTenths (act cfg st e .next)) (counted cfg (notes (play cfg es (act cfg st e .next))) (seen (act cfg st e .next))) (entry-tenths cfg st e h) (ih (suc k) (act cfg st e .next)))
+    go (some n) h ih = rw (play-past cfg e es st n h, final-past cfg e es st n h) (ih k st)
+
+fresh-held : (cfg : Config) → heldTenths (fresh cfg) ≡ 0
+unfolding heldTenths fresh
+fresh-held cfg = go (length (cfg .channels))
+  where
+    go : (n : ℕ) → heldSlots 0 (replicate n free) ≡ 0
+    go zero = refl
+    go (suc n) = omega (arith, go n)
+
+zero-left : (a b c : ℕ) → a ≡ 0 → b ≡ a + c → b ≡ c
+zero-left a b c p q = omega arith
+
+-- after every event: the charged tenths and those of the calls held as answered are the answered tenths counted from the list
+pub tenths-agree : TenthsAgree
+unfolding TenthsAgree
+tenths-agree cfg set es = rw (← (fresh-seen cfg)) (zero-left (heldTenths (fresh cfg)) _ _ (fresh-held cfg) (run-tenths cfg es 0 (fresh cfg)))

@@ -1,0 +1,22 @@
+-- The actions handed out: the deeds, the end of a call with its duration, and the charge.
+use Prim.Native.Nat.{ℕ}
+use Rattle.units.specs.declared.Tenths.{Tenths}
+use Rattle.units.specs.declared.Seconds.{Seconds}
+use Rattle.units.specs.declared.Told.{Told}
+use Rattle.rules.specs.Words.{Request, Deed}
+
+-- tenths and charged seconds are records of their own
+pub record Charge : Type 0 where
+  pub slot : ℕ
+  pub ship : ℕ
+  pub start : Tenths
+  pub stop : Tenths
+  pub seconds : Seconds
+
+pub data Ender : Type 0 where
+  theShip theCoast : Ender
+
+pub data Action : Type 0 where
+  does : Deed → Action
+  over : ℕ → Ender → Request → Told → Action  -- 105/126 on the working channel: slot, who ended, the request, the duration
+  charge : Charge → Action

@@ -1,0 +1,217 @@
+-- A case for each other event, and for ticks: what the last event of a short script prints.
+use mathlib.Core.List.{List, [], _∷_}
+use Rattle.sequence.specs.Reading.{readingOf}
+use Rattle.rules.specs.Words.{simplex, duplex, heard, offHook, onHook, carrierUp, carrierDown, takes, givesBack, carrierOn, dial}
+use Rattle.rules.specs.Actions.{does}
+use Rattle.rules.specs.Verdict.{step}
+use Rattle.rules.specs.Bytes.{blockOf}
+use Rattle.rules.specs.Printed.{lines}
+use Rattle.rules.specs.Runs.{station, seven, eight, usual, calls, on, works, ends, ticks}
+use Rattle.rules.specs.Cases.{Row}
+use Rattle.rules.specs.Scripts.{gives, ninety, fieldTold, charges, crossed, overSevenByCoast15, ringEight26, unable103Seven, unable103Eight, overSeven411, overSeven, overSevenByCoast411, overSevenByCoast, overSevenByCoast0, ringSeven26}
+
+-- ── off-hook and carrier ──────────────────────────────────────────────────────
+
+-- off-hook while dialling: the reply wait ends, a carrier wait runs on
+abbrev pub offHookAnswers : Row
+offHookAnswers = record {
+  computed = gives 1 (calls 100 seven simplex ∷ works 200 0 seven ∷ on 300 0 carrierDown ∷ on 310 0 offHook ∷ []);
+  expected = (0 ∷ 310 ∷ 0 ∷ 751 ∷ []) ∷ [];
+}
+
+-- a second off-hook: ignored
+abbrev pub offHookSecond : Row
+offHookSecond = record {
+  computed = gives 1 (calls 100 seven duplex ∷ works 200 0 seven ∷ on 300 0 offHook ∷ on 310 0 offHook ∷ []);
+  expected = (1 ∷ 310 ∷ 0 ∷ []) ∷ [];
+}
+
+-- a second carrier down does not restart the wait, and answers 0
+abbrev pub downSecond : Row
+downSecond = record {
+  computed = gives 1 (calls 100 seven duplex ∷ works 200 0 seven ∷ on 300 0 carrierDown ∷ on 320 0 carrierDown ∷ []);
+  expected = (0 ∷ 320 ∷ 0 ∷ 351 ∷ []) ∷ [];
+}
+
+-- carrier up ends it
+abbrev pub upEnds : Row
+upEnds = record {
+  computed = gives 1 (calls 100 seven duplex ∷ works 200 0 seven ∷ on 300 0 carrierDown ∷ on 320 0 carrierUp ∷ []);
+  expected = (0 ∷ 320 ∷ 0 ∷ 801 ∷ []) ∷ [];
+}
+
+-- carrier up where none was awaited answers 0
+abbrev pub upUnneeded : Row
+upUnneeded = record {
+  computed = gives 1 (calls 100 seven duplex ∷ works 200 0 seven ∷ on 300 0 carrierUp ∷ []);
+  expected = (0 ∷ 300 ∷ 0 ∷ 801 ∷ []) ∷ [];
+}
+
+-- a carrier event in another phase: ignored
+abbrev pub carrierElsewhere : Row
+carrierElsewhere = record {
+  computed = gives 1 (calls 100 seven duplex ∷ on 110 0 carrierDown ∷ []);
+  expected = (1 ∷ 110 ∷ 0 ∷ 261 ∷ []) ∷ [];
+}
+
+-- ── ship's end of call ────────────────────────────────────────────────────────
+
+-- charge, line released, answer with BQ, carrier off, hold for 40
+abbrev pub shipEndAnswered : Row
+shipEndAnswered = record {
+  computed = gives 1 (calls 100 seven duplex ∷ works 200 0 seven ∷ on 300 0 offHook ∷ ends 4410 0 seven ∷ []);
+  expected = (0 ∷ 4410 ∷ 4 ∷ 4451 ∷ []) ∷ (charges 0 seven 300 4410 411) ∷ (6 ∷ 0 ∷ []) ∷ (4 ∷ 0 ∷ overSeven411) ∷ (2 ∷ 0 ∷ []) ∷ [];
+}
+
+-- while dialling: no charge, and 126s
+abbrev pub shipEndUnanswered : Row
+shipEndUnanswered = record {
+  computed = gives 1 (calls 100 seven duplex ∷ works 200 0 seven ∷ ends 300 0 seven ∷ []);
+  expected = (0 ∷ 300 ∷ 3 ∷ 341 ∷ []) ∷ (6 ∷ 0 ∷ []) ∷ (4 ∷ 0 ∷ overSeven) ∷ (2 ∷ 0 ∷ []) ∷ [];
+}
+
+-- from another ship: ignored
+abbrev pub shipEndStranger : Row
+shipEndStranger = record {
+  computed = gives 1 (calls 100 seven duplex ∷ works 200 0 seven ∷ ends 300 0 eight ∷ []);
+  expected = (1 ∷ 300 ∷ 0 ∷ 801 ∷ []) ∷ [];
+}
+
+-- 90 0 26 in an end of call: ninety hours and 26 seconds, no channel; and with a field it is no end of a ship's call
+abbrev pub ninetyHours : Row
+ninetyHours = record {
+  computed = fieldTold (readingOf ninety .meaning .field) ∷ gives 1 (calls 100 seven duplex ∷ works 200 0 seven ∷ on 300 0 (heard ninety) ∷ []);
+  expected = (90 ∷ 0 ∷ 26 ∷ []) ∷ (1 ∷ 300 ∷ 0 ∷ 801 ∷ []) ∷ [];
+}
+
+-- once more in the hold: carrier on, the same answer, carrier off; the wait unchanged
+abbrev pub holdRepeats : Row
+holdRepeats = record {
+  computed = gives 1 (calls 100 seven duplex ∷ works 200 0 seven ∷ ends 300 0 seven ∷ ends 330 0 seven ∷ []);
+  expected = (0 ∷ 330 ∷ 3 ∷ 341 ∷ []) ∷ (1 ∷ 0 ∷ []) ∷ (4 ∷ 0 ∷ overSeven) ∷ (2 ∷ 0 ∷ []) ∷ [];
+}
+
+-- in the hold from another ship: ignored
+abbrev pub holdStranger : Row
+holdStranger = record {
+  computed = gives 1 (calls 100 seven duplex ∷ works 200 0 seven ∷ ends 300 0 seven ∷ ends 330 0 eight ∷ []);
+  expected = (1 ∷ 330 ∷ 0 ∷ 341 ∷ []) ∷ [];
+}
+
+-- the held slot is not given to others: they wait
+abbrev pub holdNotGiven : Row
+holdNotGiven = record {
+  computed = gives 1 (calls 100 seven duplex ∷ works 200 0 seven ∷ ends 300 0 seven ∷ calls 310 eight duplex ∷ []);
+  expected = (0 ∷ 310 ∷ 1 ∷ 341 ∷ []) ∷ (3 ∷ 255 ∷ unable103Eight) ∷ [];
+}
+
+-- then it is freed
+abbrev pub holdThenFreed : Row
+holdThenFreed = record {
+  computed = gives 1 (calls 100 seven duplex ∷ works 200 0 seven ∷ ends 300 0 seven ∷ calls 310 eight duplex ∷ ticks 341 ∷ []);
+  expected = (0 ∷ 341 ∷ 2 ∷ 392 ∷ []) ∷ (1 ∷ 0 ∷ []) ∷ (3 ∷ 0 ∷ ringEight26) ∷ [];
+}
+
+-- ── coast's end ───────────────────────────────────────────────────────────────
+
+-- on-hook: charge, line released, 127 with the duration, carrier off, slot freed at once
+abbrev pub onHookAnswered : Row
+onHookAnswered = record {
+  computed = gives 1 (calls 100 seven duplex ∷ works 200 0 seven ∷ on 300 0 offHook ∷ on 4410 0 onHook ∷ []);
+  expected = (0 ∷ 4410 ∷ 4 ∷ []) ∷ (charges 0 seven 300 4410 411) ∷ (6 ∷ 0 ∷ []) ∷ (4 ∷ 0 ∷ overSevenByCoast411) ∷ (2 ∷ 0 ∷ []) ∷ [];
+}
+
+-- on-hook while dialling: no charge, 126s
+abbrev pub onHookDialling : Row
+onHookDialling = record {
+  computed = gives 1 (calls 100 seven duplex ∷ works 200 0 seven ∷ on 300 0 onHook ∷ []);
+  expected = (0 ∷ 300 ∷ 3 ∷ []) ∷ (6 ∷ 0 ∷ []) ∷ (4 ∷ 0 ∷ overSevenByCoast) ∷ (2 ∷ 0 ∷ []) ∷ [];
+}
+
+-- no reply within 600: the same, at the due time
+abbrev pub noReplyDue : Row
+noReplyDue = record {
+  computed = gives 1 (calls 100 seven duplex ∷ works 200 0 seven ∷ ticks 9999 ∷ []);
+  expected = (0 ∷ 801 ∷ 3 ∷ []) ∷ (6 ∷ 0 ∷ []) ∷ (4 ∷ 0 ∷ overSevenByCoast) ∷ (2 ∷ 0 ∷ []) ∷ [];
+}
+
+-- carrier loss: charged to the due time, however late the tick
+abbrev pub carrierLossDue : Row
+carrierLossDue = record {
+  computed = gives 1 (calls 100 seven duplex ∷ works 200 0 seven ∷ on 300 0 offHook ∷ on 400 0 carrierDown ∷ ticks 9999 ∷ []);
+  expected = (0 ∷ 451 ∷ 4 ∷ []) ∷ (charges 0 seven 300 451 15) ∷ (6 ∷ 0 ∷ []) ∷ (4 ∷ 0 ∷ overSevenByCoast15) ∷ (2 ∷ 0 ∷ []) ∷ [];
+}
+
+-- a call answered for less than a second is charged 0 seconds, and its field is 0 0 0
+abbrev pub secondUnderOne : Row
+secondUnderOne = record {
+  computed = gives 1 (calls 100 seven duplex ∷ works 200 0 seven ∷ on 300 0 offHook ∷ on 309 0 onHook ∷ []);
+  expected = (0 ∷ 309 ∷ 4 ∷ []) ∷ (charges 0 seven 300 309 0) ∷ (6 ∷ 0 ∷ []) ∷ (4 ∷ 0 ∷ overSevenByCoast0) ∷ (2 ∷ 0 ∷ []) ∷ [];
+}
+
+-- ── operator ──────────────────────────────────────────────────────────────────
+
+-- a free slot is taken: done, and no action
+abbrev pub operatorTook : Row
+operatorTook = record {
+  computed = gives 1 (on 50 0 takes ∷ []);
+  expected = (0 ∷ 50 ∷ 0 ∷ []) ∷ [];
+}
+
+-- a free slot is taken, and a request then finds no slot free
+abbrev pub operatorTakes : Row
+operatorTakes = record {
+  computed = gives 1 (on 50 0 takes ∷ calls 100 seven duplex ∷ []);
+  expected = (0 ∷ 100 ∷ 1 ∷ 9101 ∷ []) ∷ (3 ∷ 255 ∷ unable103Seven) ∷ [];
+}
+
+-- it is given back, freed: the oldest waiting ship is rung back
+abbrev pub operatorGives : Row
+operatorGives = record {
+  computed = gives 1 (on 50 0 takes ∷ calls 100 seven duplex ∷ on 200 0 givesBack ∷ []);
+  expected = (0 ∷ 200 ∷ 2 ∷ 251 ∷ []) ∷ (1 ∷ 0 ∷ []) ∷ (3 ∷ 0 ∷ ringSeven26) ∷ [];
+}
+
+-- ── ticks ─────────────────────────────────────────────────────────────────────
+
+-- a tick with nothing due: the clock becomes its time
+abbrev pub tickIdle : Row
+tickIdle = record {
+  computed = gives 1 (calls 100 seven duplex ∷ ticks 200 ∷ []);
+  expected = (0 ∷ 200 ∷ 0 ∷ 261 ∷ []) ∷ [];
+}
+
+-- one wait a tick: of two due, the queue entry before the slot
+abbrev pub tickOnce : Row
+tickOnce = record {
+  computed = gives 2 (calls 100 seven duplex ∷ on 110 1 takes ∷ calls 150 eight duplex ∷ works 200 0 seven ∷ on 300 0 offHook ∷ on 9100 0 carrierDown ∷ ticks 9999 ∷ []);
+  expected = (0 ∷ 9151 ∷ 0 ∷ 9151 ∷ []) ∷ [];
+}
+
+-- of two queue entries the one due first, here the younger
+abbrev pub tickYounger : Row
+tickYounger = record {
+  computed = lines (station 1) (step (station 1) crossed (ticks 2500));
+  expected = (0 ∷ 2000 ∷ 0 ∷ 3000 ∷ []) ∷ [];
+}
+
+-- in one slot carrier loss before no reply: both due at 801, one end
+abbrev pub tickInSlot : Row
+tickInSlot = record {
+  computed = gives 1 (calls 100 seven duplex ∷ works 200 0 seven ∷ on 750 0 carrierDown ∷ ticks 801 ∷ []);
+  expected = (0 ∷ 801 ∷ 3 ∷ []) ∷ (6 ∷ 0 ∷ []) ∷ (4 ∷ 0 ∷ overSevenByCoast) ∷ (2 ∷ 0 ∷ []) ∷ [];
+}
+
+-- ── actions handed out ────────────────────────────────────────────────────────
+
+-- a block: kind, slot, payload length, 0, payload, zeros
+abbrev pub blockShown : Row
+blockShown = record {
+  computed = blockOf (station 1) (does (carrierOn 2)) ∷ blockOf (station 1) (does (dial 3 usual)) ∷ [];
+  expected = (1 ∷ 2 ∷ 0 ∷ 0 ∷ 0 ∷ 0 ∷ 0 ∷ 0 ∷ 0 ∷ 0 ∷ 0 ∷ 0 ∷ 0 ∷ 0 ∷ 0 ∷ 0 ∷ 0 ∷ 0 ∷ 0 ∷ 0 ∷ 0 ∷ 0 ∷ 0 ∷ 0 ∷ 0 ∷ 0 ∷ 0 ∷ 0 ∷ 0 ∷ 0 ∷ 0 ∷ 0 ∷ 0 ∷ 0 ∷ 0 ∷ 0 ∷ 0 ∷ 0 ∷ 0 ∷ 0 ∷ []) ∷ (5 ∷ 3 ∷ 7 ∷ 0 ∷ 5 ∷ 5 ∷ 5 ∷ 1 ∷ 2 ∷ 3 ∷ 4 ∷ 0 ∷ 0 ∷ 0 ∷ 0 ∷ 0 ∷ 0 ∷ 0 ∷ 0 ∷ 0 ∷ 0 ∷ 0 ∷ 0 ∷ 0 ∷ 0 ∷ 0 ∷ 0 ∷ 0 ∷ 0 ∷ 0 ∷ 0 ∷ 0 ∷ 0 ∷ 0 ∷ 0 ∷ 0 ∷ 0 ∷ 0 ∷ 0 ∷ 0 ∷ []) ∷ [];
+}
+
+-- ── all of them ──────────────────────────────────────────────────────────────
+
+abbrev pub callCases : List Row
+callCases = offHookAnswers ∷ offHookSecond ∷ downSecond ∷ upEnds ∷ upUnneeded ∷ carrierElsewhere ∷ shipEndAnswered ∷ shipEndUnanswered ∷ shipEndStranger ∷ ninetyHours ∷ holdRepeats ∷ holdStranger ∷ holdNotGiven ∷ holdThenFreed ∷ onHookAnswered ∷ onHookDialling ∷ noReplyDue ∷ carrierLossDue ∷ secondUnderOne ∷ operatorTook ∷ operatorTakes ∷ operatorGives ∷ tickIdle ∷ tickOnce ∷ tickYounger ∷ tickInSlot ∷ blockShown ∷ []

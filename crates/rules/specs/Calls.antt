@@ -1,0 +1,229 @@
+-- What each other event does: working call, ring-back acknowledged, off-hook, carrier, both ends, operator, and a wait that falls due. One function for an event, a clause for each phase of the slot.
+use mathlib.Core.List.{[], _∷_}
+use mathlib.Core.Bool.{cond}
+use mathlib.Core.Option.{Option, none, some}
+use Prim.Native.Nat.{ℕ}
+use lib.ListN.{getD}
+use Rattle.units.specs.declared.Told.{Told}
+use Rattle.rules.specs.Places.{dropAt}
+use Rattle.rules.specs.Words.{Party, is, Mode, Request, Config, Happened, heard, offHook, onHook, carrierUp, carrierDown, takes, givesBack, What, tick, onChannel70, onSlot, Event, carrierOn, carrierOff, ringBack, dial}
+use Rattle.rules.specs.Waits.{Wait, ofQueue, loss, main, Due}
+use Rattle.rules.specs.Heard.{Heard, callRequest, dataRequest, bq, workingCall, endOfCall, nothing, meaning}
+use Rattle.rules.specs.Actions.{does, over, theShip}
+use Rattle.rules.specs.Station.{Kind, offered, firstRing, secondRing, acknowledged, Stage, dialling, answered, Slot, free, taken, pending, busy, held, Station, setSlot, setClock, setQueue, dueAfter, kindWait, carrierWait, replyWait, holdWait, fires}
+use Rattle.rules.specs.Requests.{Out, done, ignored, also, freed, lasted, endActs, coastEnd, standing, ruleA, requested}
+
+-- ── working call ─────────────────────────────────────────────────────────────
+
+-- "dial the stored request's number .. Carrier counts as present; wait 600 for a reply" (house: from the start of dialling, and in the stored mode)
+unfoldable pub dialNow : ℕ → Request → Station → Out
+dialNow i r st =
+    record {
+      answer = 0;
+      next = setSlot i (busy r (dialling (dueAfter (st .clock) replyWait)) none) st;
+      acts = does (dial i (r .number)) ∷ [];
+    }
+
+-- "on an offered or acknowledged slot"
+unfoldable pub workingKind : ℕ → Kind → Request → Station → Out
+workingKind i offered r st = dialNow i r st
+workingKind i firstRing r st = ignored st
+workingKind i secondRing r st = ignored st
+workingKind i acknowledged r st = dialNow i r st
+
+-- ".., same ship"
+unfoldable pub workingOn : ℕ → Party → Station → Slot → Out
+workingOn i x st free = ignored st
+workingOn i x st taken = ignored st
+workingOn i x st (pending k r d) = cond (is x (r .who)) (workingKind i k r st) (ignored st)
+workingOn i x st (busy r g c) = ignored st
+workingOn i x st (held r n d) = ignored st
+
+-- ── ring-back acknowledged ───────────────────────────────────────────────────
+
+-- "acknowledged, wait 160" (house)
+unfoldable pub agreed : ℕ → Request → Station → Out
+agreed i r st = done (setSlot i (pending acknowledged r (dueAfter (st .clock) (kindWait acknowledged))) st)
+
+unfoldable pub bqKind : ℕ → Kind → Request → Station → Out
+bqKind i offered r st = ignored st
+bqKind i firstRing r st = agreed i r st
+bqKind i secondRing r st = agreed i r st
+bqKind i acknowledged r st = ignored st
+
+-- "BQ on channel 70 from that ship .. naming that channel"
+unfoldable pub bqFor : ℕ → Party → Station → Slot → Out
+bqFor i x st free = ignored st
+bqFor i x st taken = ignored st
+bqFor i x st (pending k r d) = cond (is x (r .who)) (bqKind i k r st) (ignored st)
+bqFor i x st (busy r g c) = ignored st
+bqFor i x st (held r n d) = ignored st
+
+-- ── off-hook, carrier down, carrier up ───────────────────────────────────────
+
+-- "while dialling: answered, the reply wait ends, a carrier wait runs on"
+unfoldable pub offHookStage : ℕ → Request → Option ℕ → Station → Stage → Out
+offHookStage i r c st (dialling d) = done (setSlot i (busy r (answered (st .clock)) c) st)
+offHookStage i r c st (answered b) = ignored st
+
+unfoldable pub offHookOn : ℕ → Station → Slot → Out
+offHookOn i st free = ignored st
+offHookOn i st taken = ignored st
+offHookOn i st (pending k r d) = ignored st
+offHookOn i st (busy r g c) = offHookStage i r c st g
+offHookOn i st (held r n d) = ignored st
+
+-- "starts a wait of 50 duplex, 450 simplex; a second down doesn't restart it"
+abbrev pub startLoss : ℕ → Mode → Option ℕ → Option ℕ
+startLoss t m none = some (dueAfter t (carrierWait m))
+startLoss t m (some d) = some d
+
+-- "while dialling or answered .. answers 0 even where nothing changes"
+unfoldable pub downOn : ℕ → Station → Slot → Out
+downOn i st free = ignored st
+downOn i st taken = ignored st
+downOn i st (pending k r d) = ignored st
+downOn i st (busy r g c) = done (setSlot i (busy r g (startLoss (st .clock) (r .mode) c)) st)
+downOn i st (held r n d) = ignored st
+
+-- "carrier up ends it"
+unfoldable pub upOn : ℕ → Station → Slot → Out
+upOn i st free = ignored st
+upOn i st taken = ignored st
+upOn i st (pending k r d) = ignored st
+upOn i st (busy r g c) = done (setSlot i (busy r g none) st)
+upOn i st (held r n d) = ignored st
+
+-- ── ship's end of call ───────────────────────────────────────────────────────
+
+-- ".. with BQ and the duration, carrier off, hold for 40" (house: not given to others)
+unfoldable pub shipEnd : ℕ → Request → Stage → Station → Out
+shipEnd i r g st =
+    record {
+      answer = 0;
+      next = setSlot i (held r (lasted g (st .clock)) (dueAfter (st .clock) holdWait)) st;
+      acts = endActs i theShip r g (st .clock);
+    }
+
+-- "in the hold: carrier on, the same answer sent, carrier off; the wait unchanged"
+unfoldable pub sayAgain : ℕ → Request → Told → Station → Out
+sayAgain i r n st = record { answer = 0; next = st; acts = does (carrierOn i) ∷ over i theShip r n ∷ does (carrierOff i) ∷ [] }
+
+-- "while dialling or answered, same ship"
+unfoldable pub shipEndOn : ℕ → Party → Station → Slot → Out
+shipEndOn i x st free = ignored st
+shipEndOn i x st taken = ignored st
+shipEndOn i x st (pending k r d) = ignored st
+shipEndOn i x st (busy r g c) = cond (is x (r .who)) (shipEnd i r g st) (ignored st)
+shipEndOn i x st (held r n d) = cond (is x (r .who)) (sayAgain i r n st) (ignored st)
+
+-- ── coast's end: on-hook, carrier loss ───────────────────────────────────────
+
+unfoldable pub endOn : ℕ → Station → Slot → Out
+endOn i st free = ignored st
+endOn i st taken = ignored st
+endOn i st (pending k r d) = ignored st
+endOn i st (busy r g c) = coastEnd i r g st
+endOn i st (held r n d) = ignored st
+
+-- ── operator ─────────────────────────────────────────────────────────────────
+
+-- "takes a free slot"
+unfoldable pub takeOn : ℕ → Station → Slot → Out
+takeOn i st free = done (setSlot i taken st)
+takeOn i st taken = ignored st
+takeOn i st (pending k r d) = ignored st
+takeOn i st (busy r g c) = ignored st
+takeOn i st (held r n d) = ignored st
+
+-- "or gives it back (freed)"
+unfoldable pub giveOn : ℕ → Station → Slot → Out
+giveOn i st free = ignored st
+giveOn i st taken = freed i st
+giveOn i st (pending k r d) = ignored st
+giveOn i st (busy r g c) = ignored st
+giveOn i st (held r n d) = ignored st
+
+-- ── a wait falls due ─────────────────────────────────────────────────────────
+
+-- "Offer due: carrier off, slot freed."
+unfoldable pub offerDue : ℕ → Station → Out
+offerDue i st = also (does (carrierOff i) ∷ []) (freed i st)
+
+-- "send once more, wait 50"
+unfoldable pub ringAgain : ℕ → Request → Station → Out
+ringAgain i r st =
+    record {
+      answer = 0;
+      next = setSlot i (pending secondRing r (dueAfter (st .clock) (kindWait secondRing))) st;
+      acts = does (ringBack i r) ∷ [];
+    }
+
+-- "then carrier off, details dropped, slot freed"; acknowledged: "then as an offer due"
+unfoldable pub pendingDue : ℕ → Kind → Request → Station → Out
+pendingDue i offered r st = offerDue i st
+pendingDue i firstRing r st = ringAgain i r st
+pendingDue i secondRing r st = offerDue i st
+pendingDue i acknowledged r st = offerDue i st
+
+-- no reply
+unfoldable pub replyDue : ℕ → Request → Station → Stage → Out
+replyDue i r st (dialling d) = coastEnd i r (dialling d) st
+replyDue i r st (answered b) = ignored st
+
+-- the hold: "Then freed."
+unfoldable pub mainOn : ℕ → Station → Slot → Out
+mainOn i st free = ignored st
+mainOn i st taken = ignored st
+mainOn i st (pending k r d) = pendingDue i k r st
+mainOn i st (busy r g c) = replyDue i r st g
+mainOn i st (held r n d) = freed i st
+
+-- "A queue entry due is dropped."
+unfoldable pub fire : Station → Wait → Out
+fire st (ofQueue k) = done (setQueue (dropAt k (st .queue)) st)
+fire st (loss i) = endOn i st (getD (st .slots) i free)
+fire st (main i) = mainOn i st (getD (st .slots) i free)
+
+-- "sets the clock to its due time; with none due the clock becomes t"
+unfoldable pub ticked : Station → ℕ → Option Due → Out
+ticked st t none = done (setClock t st)
+ticked st t (some p) = fire (setClock (p .at) st) (p .what)
+
+-- ── an accepted event ────────────────────────────────────────────────────────
+
+-- heard on channel 70
+unfoldable pub heardOn70 : Station → Heard → Out
+heardOn70 st (callRequest r) = requested st r (standing st (r .who))
+heardOn70 st (dataRequest x n) = ruleA st x n
+heardOn70 st (bq i x) = bqFor i x st (getD (st .slots) i free)
+heardOn70 st (workingCall x) = ignored st
+heardOn70 st (endOfCall x) = ignored st
+heardOn70 st nothing = ignored st
+
+-- heard on a slot's working channel
+unfoldable pub heardOn : ℕ → Station → Slot → Heard → Out
+heardOn i st s (callRequest r) = ignored st
+heardOn i st s (dataRequest x n) = ignored st
+heardOn i st s (bq j x) = ignored st
+heardOn i st s (workingCall x) = workingOn i x st s
+heardOn i st s (endOfCall x) = shipEndOn i x st s
+heardOn i st s nothing = ignored st
+
+unfoldable pub happenedOn : Config → ℕ → Station → Slot → Happened → Out
+happenedOn c i st s (heard m) = heardOn i st s (meaning c m)
+happenedOn c i st s offHook = offHookOn i st s
+happenedOn c i st s onHook = endOn i st s
+happenedOn c i st s carrierUp = upOn i st s
+happenedOn c i st s carrierDown = downOn i st s
+happenedOn c i st s takes = takeOn i st s
+happenedOn c i st s givesBack = giveOn i st s
+
+-- "Any other accepted event sets the clock to its own time."
+unfoldable pub actAt : Config → Station → ℕ → What → Out
+actAt c st t tick = ticked st t (fires t st)
+actAt c st t (onChannel70 m) = heardOn70 (setClock t st) (meaning c m)
+actAt c st t (onSlot i h) = happenedOn c i (setClock t st) (getD (st .slots) i free) h
+
+abbrev pub act : Config → Station → Event → Out
+act c st e = actAt c st (e .time) (e .what)

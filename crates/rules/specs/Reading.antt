@@ -1,0 +1,249 @@
+-- The list alone, second part: what an event says, what a deed says, the stops of the list, and the answered tenths counted.
+use mathlib.Core.List.{List, [], _∷_, map}
+use mathlib.Core.Bool.{cond}
+use mathlib.Core.Option.{Option, none, some}
+use Prim.Native.Nat.{ℕ, suc, _+_, _-_, _*_}
+use lib.Dec.{eqb}
+use Rattle.rules.specs.Places.{dropAt}
+use Rattle.rules.specs.Words.{Party, is, Mode, Request, Config, Happened, heard, offHook, onHook, carrierUp, carrierDown, takes, givesBack, What, tick, onChannel70, onSlot, Deed, carrierOn, carrierOff, acknowledge, ringBack, unable, dial, releaseLine}
+use Rattle.rules.specs.Waits.{ofQueue, loss, main, Due}
+use Rattle.rules.specs.Heard.{Heard, callRequest, dataRequest, bq, workingCall, endOfCall, nothing, meaning}
+use Rattle.rules.specs.Book.{Note, Stop, after, silence, offerTime, ringTime, replyTime, holdTime, queueTime, Said, silent, toldBQ, toldRQ, settled, Call, quiet, dialled, talking, Line, Place, Book, atLine, atPlaces, falling, moment, callOf, askedAgain, stopsAt}
+unfoldable use Rattle.rules.specs.Book.{alike}
+
+-- ── what an event says ───────────────────────────────────────────────────────
+
+-- an answered call has stopped
+abbrev pub goneAfter : Call → Option ℕ → Option ℕ
+goneAfter quiet g = g
+goneAfter (dialled x m) g = g
+goneAfter (talking x m b) g = none
+
+abbrev pub closed : Call → Call
+closed quiet = quiet
+closed (dialled x m) = dialled x m
+closed (talking x m b) = quiet
+
+abbrev pub close : Line → Line
+close l = record { said = l .said; wait = l .wait; call = closed (l .call); gone = goneAfter (l .call) (l .gone) }
+
+abbrev pub withWait : Option ℕ → Line → Line
+withWait w l = record { said = l .said; wait = w; call = l .call; gone = l .gone }
+
+abbrev pub withGone : Option ℕ → Line → Line
+withGone g l = record { said = l .said; wait = l .wait; call = l .call; gone = g }
+
+-- off-hook on a dialled line: it talks from then on, and the reply wait ends
+abbrev pub pickUpCall : ℕ → Call → Line → Line
+pickUpCall t quiet l = l
+pickUpCall t (dialled x m) l = record { said = l .said; wait = none; call = talking x m t; gone = l .gone }
+pickUpCall t (talking x m b) l = l
+
+abbrev pub pickUp : ℕ → Line → Line
+pickUp t l = pickUpCall t (l .call) l
+
+-- absent from t on, unless it is absent already
+abbrev pub absentFrom : ℕ → Mode → Option ℕ → Option ℕ
+absentFrom t m none = some (after t (silence m))
+absentFrom t m (some d) = some d
+
+abbrev pub loseCall : ℕ → Call → Line → Line
+loseCall t quiet l = l
+loseCall t (dialled x m) l = withGone (absentFrom t m (l .gone)) l
+loseCall t (talking x m b) l = withGone (absentFrom t m (l .gone)) l
+
+abbrev pub lose : ℕ → Line → Line
+lose t l = loseCall t (l .call) l
+
+-- the ship's end of call: the line is held for it
+abbrev pub signOff : ℕ → Party → Line → Line
+signOff t x l = cond (callOf x (l .call)) (record { said = l .said; wait = some (after t holdTime); call = quiet; gone = none }) l
+
+abbrev pub hearSaid : ℕ → Heard → Line → Line
+hearSaid t (callRequest r) l = l
+hearSaid t (dataRequest x n) l = l
+hearSaid t (bq i x) l = l
+hearSaid t (workingCall x) l = l
+hearSaid t (endOfCall x) l = signOff t x l
+hearSaid t nothing l = l
+
+abbrev pub hearLine : Config → ℕ → Happened → Line → Line
+hearLine c t (heard m) l = hearSaid t (meaning c m) l
+hearLine c t offHook l = pickUp t l
+hearLine c t onHook l = close l
+hearLine c t carrierUp l = withGone none l
+hearLine c t carrierDown l = lose t l
+hearLine c t takes l = l
+hearLine c t givesBack l = l
+
+-- the ship's BQ to a ring-back
+abbrev pub settleSaid : ℕ → Party → Said → Line → Line
+settleSaid t x silent l = l
+settleSaid t x (toldBQ r) l = l
+settleSaid t x (toldRQ r) l = cond (is x (r .who)) (record { said = settled r; wait = some (after t offerTime); call = l .call; gone = l .gone }) l
+settleSaid t x (settled r) l = l
+
+abbrev pub settle : ℕ → Party → Line → Line
+settle t x l = settleSaid t x (l .said) l
+
+-- a request from the ship of an answered simplex call whose carrier is absent
+abbrev pub again : Party → Line → Line
+again x l = cond (askedAgain x (l .call) (l .gone)) (close l) l
+
+abbrev pub hearHeard : ℕ → Heard → Book → Book
+hearHeard t (callRequest r) b = record { now = b .now; lines = map (again (r .who)) (b .lines); places = b .places }
+hearHeard t (dataRequest x n) b = b
+hearHeard t (bq i x) b = atLine i (settle t x) b
+hearHeard t (workingCall x) b = b
+hearHeard t (endOfCall x) b = b
+hearHeard t nothing b = b
+
+-- the wait that the tick fires is over
+abbrev pub hearDue : Book → Option Due → Book
+hearDue b none = b
+hearDue b (some p) = elim (p .what) [ ofQueue k ↦ atPlaces (dropAt k) b | loss i ↦ atLine i close b | main i ↦ atLine i (withWait none) b ]
+
+abbrev pub hear : Config → ℕ → Option Due → What → Book → Book
+hear c t f tick b = hearDue b f
+hear c t f (onChannel70 m) b = hearHeard t (meaning c m) b
+hear c t f (onSlot i h) b = atLine i (hearLine c t h) b
+
+-- ── what a deed says ─────────────────────────────────────────────────────────
+
+abbrev pub told : ℕ → Request → Line → Line
+told t r l = record { said = toldBQ r; wait = some (after t offerTime); call = l .call; gone = l .gone }
+
+-- an acknowledgement that repeats the one before it leaves the wait as it is
+abbrev pub tellSaid : ℕ → Request → Said → Line → Line
+tellSaid t r silent l = told t r l
+tellSaid t r (toldBQ o) l = cond (alike r o) l (told t r l)
+tellSaid t r (toldRQ o) l = told t r l
+tellSaid t r (settled o) l = told t r l
+
+abbrev pub tell : ℕ → Request → Line → Line
+tell t r l = tellSaid t r (l .said) l
+
+abbrev pub rungUp : ℕ → Request → Line → Line
+rungUp t r l = record { said = toldRQ r; wait = some (after t ringTime); call = l .call; gone = l .gone }
+
+abbrev pub beginCall : Request → Call → Call
+beginCall r quiet = dialled (r .who) (r .mode)
+beginCall r (dialled x m) = dialled (r .who) (r .mode)
+beginCall r (talking x m b) = talking x m b
+
+-- "Carrier counts as present"; the called person has a minute
+abbrev pub dialReq : ℕ → Request → Line → Line
+dialReq t r l = record { said = silent; wait = some (after t replyTime); call = beginCall r (l .call); gone = none }
+
+-- dialled for the ship and in the mode that channel 70 last named
+abbrev pub dialSaid : ℕ → Said → Line → Line
+dialSaid t silent l = l
+dialSaid t (toldBQ r) l = dialReq t r l
+dialSaid t (toldRQ r) l = dialReq t r l
+dialSaid t (settled r) l = dialReq t r l
+
+abbrev pub dialUp : ℕ → Line → Line
+dialUp t l = dialSaid t (l .said) l
+
+abbrev pub letGoCall : Call → Line → Line
+letGoCall quiet l = l
+letGoCall (dialled x m) l = record { said = l .said; wait = none; call = quiet; gone = none }
+letGoCall (talking x m b) l = l
+
+-- the line is released; a call that is answered goes on to one of its stops
+abbrev pub letGo : Line → Line
+letGo l = letGoCall (l .call) l
+
+abbrev pub hush : Line → Line
+hush l = record { said = silent; wait = l .wait; call = l .call; gone = l .gone }
+
+abbrev pub leave : Party → List Place → List Place
+leave x [] = []
+leave x (p ∷ ps) = cond (is x (p .who)) ps (p ∷ leave x ps)
+
+-- told 104/103: the ship joins the queue, unless it stands there
+abbrev pub join : ℕ → Party → List Place → List Place
+join t x [] = record { who = x; due = after t queueTime } ∷ []
+join t x (p ∷ ps) = cond (is x (p .who)) (p ∷ ps) (p ∷ join t x ps)
+
+abbrev pub queued : ℕ → ℕ → Party → Book → Book
+queued t n x b = cond (eqb n 103) (atPlaces (join t x) b) b
+
+abbrev pub read : ℕ → Deed → Book → Book
+read t (carrierOn i) b = b
+read t (carrierOff i) b = atLine i hush b
+read t (acknowledge i r) b = atLine i (tell t r) b
+read t (ringBack i r) b = atPlaces (leave (r .who)) (atLine i (rungUp t r) b)
+read t (unable n x digits) b = queued t n x b
+read t (dial i digits) b = atLine i (dialUp t) b
+read t (releaseLine i) b = atLine i letGo b
+
+unfoldable pub reads : ℕ → List Deed → Book → Book
+reads t [] b = b
+reads t (d ∷ ds) b = reads t ds (read t d b)
+
+-- ── the list read ────────────────────────────────────────────────────────────
+
+abbrev pub setNow : ℕ → Book → Book
+setNow t b = record { now = t; lines = b .lines; places = b .places }
+
+-- the book after an entry: its event heard, then its deeds read
+unfoldable pub turn : Config → Book → Note → Book
+turn c b n =
+    reads (moment b (n .event)) (n .deeds)
+    (hear c (moment b (n .event)) (falling b (n .event)) (n .event .what) (setNow (moment b (n .event)) b))
+
+unfoldable pub stopsIn : Config → Book → Note → List Stop
+stopsIn c b n = stopsAt c (moment b (n .event)) b (falling b (n .event)) (n .event .what)
+
+-- a thing with the number of the entry in which it stands
+pub record Numbered (A : Type 0) : Type 0 where
+  pub entry : ℕ
+  pub it : A
+
+abbrev pub numbered : {A : Type 0} → ℕ → List A → List (Numbered A) → List (Numbered A)
+numbered k [] r = r
+numbered k (s ∷ ss) r = record { entry = k; it = s } ∷ numbered k ss r
+
+unfoldable pub stops : Config → ℕ → List Note → Book → List (Numbered Stop)
+stops c k [] b = []
+stops c k (n ∷ ns) b = numbered k (stopsIn c b n) (stops c (suc k) ns (turn c b n))
+
+-- the book after the list
+unfoldable pub readAll : Config → List Note → Book → Book
+readAll c [] b = b
+readAll c (n ∷ ns) b = readAll c ns (turn c b n)
+
+-- ── the answered tenths, counted ─────────────────────────────────────────────
+
+abbrev pub isTalking : Call → ℕ
+isTalking quiet = 0
+isTalking (dialled x m) = 0
+isTalking (talking x m b) = 1
+
+abbrev pub talkers : List Line → ℕ
+talkers [] = 0
+talkers (l ∷ ls) = isTalking (l .call) + talkers ls
+
+-- by time: each entry moves the time on, and every answered call that runs meanwhile counts
+unfoldable pub counted : Config → List Note → Book → ℕ
+counted c [] b = 0
+counted c (n ∷ ns) b = (moment b (n .event) - b .now) * talkers (b .lines) + counted c ns (turn c b n)
+
+-- by calls: what a call has talked up to t, if it is answered and not stopped
+abbrev pub talked : ℕ → Call → ℕ
+talked t quiet = 0
+talked t (dialled x m) = 0
+talked t (talking x m b) = t - b
+
+abbrev pub talkedBy : ℕ → List Line → ℕ
+talkedBy t [] = 0
+talkedBy t (l ∷ ls) = talked t (l .call) + talkedBy t ls
+
+abbrev pub lengths : List (Numbered Stop) → ℕ
+lengths [] = 0
+lengths (s ∷ ss) = (s .it .stop .0 - s .it .start .0) + lengths ss
+
+-- the calls that stopped, and those that still talk at the end of the list
+unfoldable pub countedByCalls : Config → List Note → Book → ℕ
+countedByCalls c ns b = lengths (stops c 0 ns b) + talkedBy (readAll c ns b .now) (readAll c ns b .lines)

@@ -1,0 +1,58 @@
+-- What the reading means, said of any book and any entry, with no station in sight.
+use mathlib.Core.Path.{_≡_}
+use mathlib.Core.Logic.{_⊎_}
+use mathlib.Core.List.{List, [], _∷_, _++_}
+use mathlib.Core.Option.{none, some}
+use Prim.Native.Nat.{ℕ, _≤_, _<_}
+use lib.ListN.{getD, length}
+use Rattle.rules.specs.Places.{Each}
+use Rattle.rules.specs.Words.{Party, Mode, Config, offHook, onSlot, Deed}
+use Rattle.rules.specs.Waits.{ofQueue, Due, queueTable}
+use Rattle.rules.specs.Book.{Note, Stop, dialled, talking, Book, line, waitsIn, falls, moment}
+use Rattle.rules.specs.Reading.{turn, stopsIn}
+
+-- ── 01's order of waits, without the function that finds the earliest ─────────
+
+-- d stands in the table l: no wait before it is due as early, and none behind it is due earlier
+pub record First (l : List Due) (d : Due) : Type 0 where
+  pub before : List Due
+  pub after : List Due
+  pub split : l ≡ before ++ d ∷ after
+  pub later : Each (λ p. d .at < p .at) before
+  pub not-earlier : Each (λ p. d .at ≤ p .at) after
+
+-- the wait that a tick at t fires is due at or before t, and is the first of the earliest
+unfoldable pub FiredIsFirst : Type 0
+FiredIsFirst = (t : ℕ) (b : Book) (d : Due) → falls t b ≡ some d → (d .at ≤ t) × First (waitsIn b) d
+
+-- where none fires, every wait is due after t
+unfoldable pub NoneFired : Type 0
+NoneFired = (t : ℕ) (b : Book) → falls t b ≡ none → Each (λ p. t < p .at) (waitsIn b)
+
+-- a queue entry is named by its place
+unfoldable pub QueueNamed : Type 0
+QueueNamed = (ds : List ℕ) (slots : List Due) (k : ℕ) (none : Due) → k < length ds → getD (queueTable 0 ds slots) k none ≡ record { what = ofQueue k; at = getD ds k 0 }
+
+-- ── a call's beginning and its end ───────────────────────────────────────────
+
+abbrev pub In : Stop → List Stop → Type 0
+In s [] = ⊥
+In s (r ∷ l) = (s ≡ r) ⊎ In s l
+
+abbrev pub stopAt : ℕ → Party → ℕ → ℕ → Stop
+stopAt i x b t = record { slot = i; ship = x .ship; start = record { 0 = b }; stop = record { 0 = t } }
+
+-- a slot talks after an entry only if it talked before, or the entry is an off-hook on it while it was dialled
+unfoldable pub Begins : Type 0
+Begins = (c : Config) (b : Book) (n : Note) (i : ℕ) (x : Party) (m : Mode) (t : ℕ) → line (turn c b n) i .call ≡ talking x m t
+    → (line b i .call ≡ talking x m t) ⊎ ((n .event .what ≡ onSlot i offHook) × ((moment b (n .event) ≡ t) × (line b i .call ≡ dialled x m)))
+
+-- an off-hook on a dialled slot makes it talk since that time
+unfoldable pub Lifts : Type 0
+Lifts = (c : Config) (t room : ℕ) (ds : List Deed) (b : Book) (i : ℕ) (x : Party) (m : Mode) → line b i .call ≡ dialled x m
+    → line (turn c b (record { event = record { time = t; room = room; what = onSlot i offHook }; deeds = ds })) i .call ≡ talking x m t
+
+-- a slot that talked talks on, or the entry holds its stop, with its beginning and the entry's moment
+unfoldable pub Ends : Type 0
+Ends = (c : Config) (b : Book) (n : Note) (i : ℕ) (x : Party) (m : Mode) (t : ℕ) → line b i .call ≡ talking x m t
+    → (line (turn c b n) i .call ≡ talking x m t) ⊎ In (stopAt i x t (moment b (n .event))) (stopsIn c b n)

@@ -1,0 +1,227 @@
+-- A call request, rules a to g; before them what they rest on: a slot freed with its ring-back, the coast's end of a call, where a ship stands.
+use mathlib.Core.List.{List, [], _∷_, _++_}
+use mathlib.Core.Bool.{Bool, true, false, cond, _&&_}
+use mathlib.Core.Option.{Option, none, some}
+use Prim.Native.Nat.{ℕ, _-_}
+use lib.Dec.{eqb, ltb}
+use lib.ListN.{length, getD}
+use Rattle.units.specs.Units.{wholeSeconds, durationOf}
+use Rattle.units.specs.declared.Told.{Told}
+use Rattle.units.specs.declared.Told.the-variants.{Nothing}
+use Rattle.rules.specs.Places.{modAt, lowest}
+use Rattle.rules.specs.Words.{Party, is, Mode, simplex, duplex, Request, Deed, carrierOn, carrierOff, acknowledge, ringBack, unable, releaseLine}
+use Rattle.rules.specs.Actions.{Action, does, over, charge, Ender, theCoast}
+use Rattle.rules.specs.Station.{Kind, offered, firstRing, secondRing, acknowledged, Stage, dialling, answered, Slot, free, taken, pending, busy, held, Waiting, Station, setSlot, setQueue, dueAfter, kindWait, queueWait}
+use Rattle.rules.specs.Sound.{queueRoom}
+
+-- what an accepted event gives: its answer, the next station, the actions in order
+pub record Out : Type 0 where
+  pub answer : ℕ
+  pub next : Station
+  pub acts : List Action
+
+-- "0 done"
+abbrev pub done : Station → Out
+done st = record { answer = 0; next = st; acts = [] }
+
+-- "ignored: accepted, no action, clock moved"
+abbrev pub ignored : Station → Out
+ignored st = record { answer = 1; next = st; acts = [] }
+
+-- one deed, and nothing changed
+abbrev pub saying : Deed → Station → Out
+saying d st = record { answer = 0; next = st; acts = does d ∷ [] }
+
+-- actions before those of an outcome
+abbrev pub also : List Action → Out → Out
+also a o = record { answer = o .answer; next = o .next; acts = a ++ o .acts }
+
+-- ── a slot is freed: ring-back ───────────────────────────────────────────────
+
+-- "carrier on, the able answer but with RQ; wait 50"
+unfoldable pub rungBack : ℕ → Station → Waiting → List Waiting → Out
+rungBack i st w q =
+    record {
+      answer = 0;
+      next = setSlot i (pending firstRing (w .request) (dueAfter (st .clock) (kindWait firstRing))) (setQueue q st);
+      acts = does (carrierOn i) ∷ does (ringBack i (w .request)) ∷ [];
+    }
+
+-- "Whenever a slot is freed and a ship waits, the same event takes the oldest"
+unfoldable pub freedFor : ℕ → Station → List Waiting → Out
+freedFor i st [] = done (setSlot i free st)
+freedFor i st (w ∷ q) = rungBack i st w q
+
+unfoldable pub freed : ℕ → Station → Out
+freed i st = freedFor i st (st .queue)
+
+-- ── the end of a call ────────────────────────────────────────────────────────
+
+-- "charge if answered": the one place where a charge is made
+abbrev pub bill : ℕ → Party → Stage → ℕ → List Action
+bill i x (dialling d) t = []
+bill i x (answered b) t =
+    charge record {
+      slot = i;
+      ship = x .ship;
+      start = record { 0 = b };
+      stop = record { 0 = t };
+      seconds = wholeSeconds (record { 0 = t - b });
+    } ∷ []
+
+-- "Duration: whole seconds, rounded down; unanswered, or 100 hours and over: 126s"
+abbrev pub lasted : Stage → ℕ → Told
+lasted (dialling d) t = Nothing
+lasted (answered b) t = durationOf (wholeSeconds (record { 0 = t - b }))
+
+-- "charge if answered, release line, send 105/126 with .. and the duration, carrier off"
+abbrev pub endActs : ℕ → Ender → Request → Stage → ℕ → List Action
+endActs i e r g t = bill i (r .who) g t ++ does (releaseLine i) ∷ over i e r (lasted g t) ∷ does (carrierOff i) ∷ []
+
+-- coast's end: ".. slot freed at once"
+unfoldable pub coastEnd : ℕ → Request → Stage → Station → Out
+coastEnd i r g st = also (endActs i theCoast r g (st .clock)) (freed i st)
+
+-- ── where a ship stands ──────────────────────────────────────────────────────
+
+pub data Standing : Type 0 where
+  nowhere : Standing
+  holds : ℕ → Standing  -- a slot
+  waits : ℕ → Standing  -- a place in the queue
+
+-- the slot is the ship's: a hold and a taken slot are nobody's
+abbrev pub owns : Party → Slot → Bool
+owns x free = false
+owns x taken = false
+owns x (pending k r d) = is x (r .who)
+owns x (busy r g c) = is x (r .who)
+owns x (held r n d) = false
+
+abbrev pub waitsFor : Party → Waiting → Bool
+waitsFor x w = is x (w .request .who)
+
+abbrev pub slotOf : Party → Station → Option ℕ
+slotOf x st = lowest (owns x) (st .slots)
+
+abbrev pub placeOf : Party → Station → Option ℕ
+placeOf x st = lowest (waitsFor x) (st .queue)
+
+abbrev pub standsAt : Option ℕ → Option ℕ → Standing
+standsAt (some i) k = holds i
+standsAt none (some k) = waits k
+standsAt none none = nowhere
+
+-- the one lookup
+unfoldable pub standing : Station → Party → Standing
+standing st x = standsAt (slotOf x st) (placeOf x st)
+
+-- ── the rules ────────────────────────────────────────────────────────────────
+
+-- a. "Data: answer 104/109."
+unfoldable pub ruleA : Station → Party → List ℕ → Out
+ruleA st x n = saying (unable 109 x n) st
+
+-- b. "repeat the acknowledgement, the wait unchanged" (§2.3.1.2)
+unfoldable pub repeated : ℕ → Station → Request → Out
+repeated i st r = saying (acknowledge i r) st
+
+-- b. "that slot is offered afresh: new request stored, acknowledgement sent, no carrier action, wait 160 from now" (house)
+unfoldable pub afresh : ℕ → Station → Request → Out
+afresh i st r =
+    record {
+      answer = 0;
+      next = setSlot i (pending offered r (dueAfter (st .clock) (kindWait offered))) st;
+      acts = does (acknowledge i r) ∷ [];
+    }
+
+abbrev pub sameMode : Mode → Mode → Bool
+sameMode simplex simplex = true
+sameMode simplex duplex = false
+sameMode duplex simplex = false
+sameMode duplex duplex = true
+
+abbrev pub sameNumber : List ℕ → List ℕ → Bool
+sameNumber [] [] = true
+sameNumber [] (y ∷ ys) = false
+sameNumber (x ∷ xs) [] = false
+sameNumber (x ∷ xs) (y ∷ ys) = eqb x y && sameNumber xs ys
+
+-- b. "identical": the ship, the mode, the second telecommand, the number
+unfoldable pub same : Request → Request → Bool
+same a b = is (a .who) (b .who) && (sameMode (a .mode) (b .mode) && (eqb (a .second) (b .second) && sameNumber (a .number) (b .number)))
+
+-- b. "offered a slot by an identical request .. If it differs, or the slot is in ring-back or acknowledged"
+unfoldable pub ruleB : ℕ → Kind → Request → Station → Request → Out
+ruleB i offered o st r = cond (same r o) (repeated i st r) (afresh i st r)
+ruleB i firstRing o st r = afresh i st r
+ruleB i secondRing o st r = afresh i st r
+ruleB i acknowledged o st r = afresh i st r
+
+-- d. "replace its request, keep place and due time, answer 104/103"
+unfoldable pub ruleD : ℕ → Station → Request → Out
+ruleD k st r =
+    record {
+      answer = 0;
+      next = setQueue (modAt (λ w. record { request = r; due = w .due }) k (st .queue)) st;
+      acts = does (unable 103 (r .who) (r .number)) ∷ [];
+    }
+
+-- e. "Carrier on, acknowledgement with the channel and BQ; wait 160", on a given free slot
+unfoldable pub offer : ℕ → Station → Request → Out
+offer i st r = also (does (carrierOn i) ∷ []) (afresh i st r)
+
+-- f. "join it, wait 9000, answer 104/103" (§2.2.3)
+unfoldable pub ruleF : Station → Request → Out
+ruleF st r =
+    record {
+      answer = 0;
+      next = setQueue (st .queue ++ record { request = r; due = dueAfter (st .clock) queueWait } ∷ []) st;
+      acts = does (unable 103 (r .who) (r .number)) ∷ [];
+    }
+
+-- g. "Otherwise answer 104/102." (§2.2.3)
+unfoldable pub ruleG : Station → Request → Out
+ruleG st r = saying (unable 102 (r .who) (r .number)) st
+
+abbrev pub isFree : Slot → Bool
+isFree free = true
+isFree taken = false
+isFree (pending k r d) = false
+isFree (busy r g c) = false
+isFree (held r n d) = false
+
+-- e. "A slot is free: offer the lowest"; f. "The queue has room"; g.
+unfoldable pub eToG : Station → Request → Option ℕ → Out
+eToG st r (some i) = offer i st r
+eToG st r none = cond (ltb (length (st .queue)) queueRoom) (ruleF st r) (ruleG st r)
+
+unfoldable pub newcomer : Station → Request → Out
+newcomer st r = eToG st r (lowest isFree (st .slots))
+
+unfoldable pub dToG : Station → Request → Option ℕ → Out
+dToG st r none = newcomer st r
+dToG st r (some k) = ruleD k st r
+
+-- c. "the coast ends that call (§2.4.3), any ring-back follows, then d to g apply"
+unfoldable pub redial : ℕ → Request → Stage → Station → Request → Out
+redial i o g st r = also (coastEnd i o g st .acts) (dToG (coastEnd i o g st .next) r (placeOf (r .who) (coastEnd i o g st .next)))
+
+-- c. "ignored if duplex or if its carrier is present. If simplex with carrier absent, .."
+unfoldable pub ruleC : ℕ → Request → Stage → Mode → Option ℕ → Station → Request → Out
+ruleC i o g duplex c st r = ignored st
+ruleC i o g simplex none st r = ignored st
+ruleC i o g simplex (some d) st r = redial i o g st r
+
+-- b. the ship's slot is before its dialling; c. "dialling or answered"
+unfoldable pub bOrC : ℕ → Slot → Station → Request → Out
+bOrC i free st r = ignored st
+bOrC i taken st r = ignored st
+bOrC i (pending k o d) st r = ruleB i k o st r
+bOrC i (busy o g c) st r = ruleC i o g (o .mode) c st r
+bOrC i (held o n d) st r = ignored st
+
+-- the first rule that fits, by where the ship stands
+unfoldable pub requested : Station → Request → Standing → Out
+requested st r nowhere = newcomer st r
+requested st r (holds i) = bOrC i (getD (st .slots) i free) st r
+requested st r (waits k) = ruleD k st r

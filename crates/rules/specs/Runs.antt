@@ -1,0 +1,209 @@
+-- Runs that a class can follow: what happens, and what is to be charged for it.
+use mathlib.Core.List.{List, [], _∷_}
+use Prim.Native.Nat.{ℕ}
+use lib.ListN.{take}
+use Rattle.units.specs.declared.Channel.{Channel as ChannelNumber}
+use Rattle.sequence.specs.declared.Field.{Field}
+use Rattle.sequence.specs.declared.Field.the-variants.{Blank, Channel}
+use Rattle.sequence.specs.Layout.{layout}
+use Rattle.rules.specs.Words.{Mode, simplex, duplex, modeNumber, Config, Happened, heard, offHook, onHook, carrierUp, carrierDown, tick, onChannel70, onSlot, What, Event}
+use Rattle.rules.specs.Actions.{Charge}
+use Rattle.rules.specs.Bytes.{numberOf}
+use Rattle.rules.specs.Reading.{Numbered}
+
+-- ── how a run is written ─────────────────────────────────────────────────────
+
+abbrev pub channel : ℕ → ChannelNumber
+channel n = record { 0 = n }
+
+-- a station with the first n of three channels
+abbrev pub station : ℕ → Config
+station n = record { identity = 2001234; channels = take n (channel 26 ∷ channel 27 ∷ channel 28 ∷ []) }
+
+-- three ships
+abbrev pub seven : ℕ
+seven = 200000007
+
+abbrev pub eight : ℕ
+eight = 200000008
+
+abbrev pub nine : ℕ
+nine = 200000009
+
+-- the symbols of a sequence from a ship
+abbrev pub sends : ℕ → ℕ → ℕ → Field → List ℕ → List ℕ
+sends x first end field digits =
+    layout (record { address = 2001234; sender = x; first = first; second = 126; field = field; number = numberOf digits; end = end })
+
+abbrev pub at : ℕ → What → Event
+at t w = record { time = t; room = 320; what = w }
+
+abbrev pub usual : List ℕ
+usual = 5 ∷ 5 ∷ 5 ∷ 1 ∷ 2 ∷ 3 ∷ 4 ∷ []
+
+abbrev pub callsFor : List ℕ → ℕ → ℕ → Mode → Event
+callsFor digits t x m = at t (onChannel70 (sends x (modeNumber m) 117 Blank digits))
+
+-- a call request
+abbrev pub calls : ℕ → ℕ → Mode → Event
+calls t x m = callsFor usual t x m
+
+-- a BQ that names a channel
+abbrev pub accepts : ℕ → ℕ → ℕ → Event
+accepts t n x = at t (onChannel70 (sends x 101 122 (Channel (channel n)) usual))
+
+abbrev pub on : ℕ → ℕ → Happened → Event
+on t i h = at t (onSlot i h)
+
+-- a working call, an end of call
+abbrev pub works : ℕ → ℕ → ℕ → Event
+works t i x = on t i (heard (sends x 101 127 Blank usual))
+
+abbrev pub ends : ℕ → ℕ → ℕ → Event
+ends t i x = on t i (heard (sends x 105 117 Blank usual))
+
+abbrev pub ticks : ℕ → Event
+ticks t = at t tick
+
+-- entry, slot, ship, beginning, end, seconds
+abbrev pub paid : ℕ → ℕ → ℕ → ℕ → ℕ → ℕ → Numbered Charge
+paid k i x b e s = record { entry = k; it = record { slot = i; ship = x; start = record { 0 = b }; stop = record { 0 = e }; seconds = record { 0 = s } } }
+
+pub record Run : Type 0 where
+  pub slots : ℕ
+  pub events : List Event
+  pub owing : List (Numbered Charge)
+
+-- ── the four stops ───────────────────────────────────────────────────────────
+
+-- by its ship's end of call; a second off-hook and another ship's end change nothing, and the end is repeated in the hold
+abbrev pub shipEnded : Run
+shipEnded = record {
+  slots = 1;
+  events = calls 100 seven simplex ∷ works 200 0 seven ∷ on 300 0 offHook ∷ on 310 0 offHook ∷ ends 320 0 eight ∷ ends 330 0 seven ∷ ends 340 0 seven ∷ ticks 371 ∷ [];
+  owing = paid 5 0 seven 300 330 3 ∷ [];
+}
+
+-- by on-hook; a duplex call is not ended by another request of its ship
+abbrev pub hungUp : Run
+hungUp = record {
+  slots = 1;
+  events = calls 100 seven duplex ∷ works 200 0 seven ∷ on 300 0 offHook ∷ on 400 0 carrierDown ∷ calls 410 seven duplex ∷ on 420 0 carrierUp ∷ on 500 0 onHook ∷ [];
+  owing = paid 6 0 seven 300 500 20 ∷ [];
+}
+
+-- by carrier loss of a silent simplex ship; a second carrier down does not restart the wait
+abbrev pub silent : Run
+silent = record {
+  slots = 1;
+  events = calls 100 seven simplex ∷ works 200 0 seven ∷ on 300 0 offHook ∷ on 400 0 carrierDown ∷ on 500 0 carrierDown ∷ ticks 851 ∷ [];
+  owing = paid 5 0 seven 300 851 55 ∷ [];
+}
+
+-- by rule c on the only slot, with a ship waiting: it is rung back, and the asker joins the queue
+abbrev pub redialled : Run
+redialled = record {
+  slots = 1;
+  events = calls 100 seven simplex ∷ works 200 0 seven ∷ calls 210 eight duplex ∷ on 300 0 offHook ∷ on 400 0 carrierDown ∷ calls 450 seven simplex ∷ accepts 460 26 eight ∷ works 470 0 eight ∷ on 480 0 offHook ∷ on 600 0 onHook ∷ [];
+  owing = paid 5 0 seven 300 450 15 ∷ paid 9 0 eight 480 600 12 ∷ [];
+}
+
+-- ── late ticks, and waits due together ────────────────────────────────────────
+
+-- the carrier of a duplex ship goes at 2000, and the tick comes late
+abbrev pub late : Run
+late = record {
+  slots = 2;
+  events = calls 100 seven duplex ∷ works 200 0 seven ∷ on 700 0 offHook ∷ on 2000 0 carrierDown ∷ ticks 9999 ∷ ticks 9999 ∷ [];
+  owing = paid 4 0 seven 700 2051 135 ∷ [];
+}
+
+-- two carriers lost with one due time: the lower slot by the first tick, the other by the second
+abbrev pub together : Run
+together = record {
+  slots = 2;
+  events = calls 100 seven duplex ∷ calls 101 eight duplex ∷ works 200 0 seven ∷ works 200 1 eight ∷ on 300 1 offHook ∷ on 310 0 offHook ∷ on 400 1 carrierDown ∷ on 400 0 carrierDown ∷ ticks 500 ∷ ticks 500 ∷ [];
+  owing = paid 8 0 seven 310 451 14 ∷ paid 9 1 eight 300 451 15 ∷ [];
+}
+
+-- carrier loss and no reply due together, of an unanswered call
+abbrev pub hurried : Run
+hurried = record {
+  slots = 1;
+  events = calls 100 seven duplex ∷ works 200 0 seven ∷ on 750 0 carrierDown ∷ ticks 900 ∷ [];
+  owing = [];
+}
+
+-- a reply that does not come is not charged
+abbrev pub unanswered : Run
+unanswered = record {
+  slots = 1;
+  events = calls 100 seven simplex ∷ works 200 0 seven ∷ ends 300 0 eight ∷ ticks 801 ∷ [];
+  owing = [];
+}
+
+-- ── each figure, by the tick that stops another call ─────────────────────────
+
+-- Here a wait that charges nothing falls due shortly before the carrier wait of an answered call: of two late ticks the second
+-- stops that call. With another figure the first one would.
+
+-- a repeated call keeps its offer's wait
+abbrev pub repeated : Run
+repeated = record {
+  slots = 3;
+  events = calls 100 seven duplex ∷ calls 110 eight duplex ∷ works 115 1 eight ∷ on 120 1 offHook ∷ calls 150 seven duplex ∷ on 210 1 carrierDown ∷ ticks 300 ∷ ticks 300 ∷ [];
+  owing = paid 7 1 eight 120 261 14 ∷ [];
+}
+
+-- with another number the slot is offered afresh, so the first tick stops the call
+abbrev pub renumbered : Run
+renumbered = record {
+  slots = 3;
+  events = calls 100 seven duplex ∷ calls 110 eight duplex ∷ works 115 1 eight ∷ on 120 1 offHook ∷ callsFor (4 ∷ 2 ∷ []) 150 seven duplex ∷ on 210 1 carrierDown ∷ ticks 300 ∷ ticks 300 ∷ [];
+  owing = paid 6 1 eight 120 261 14 ∷ [];
+}
+
+-- the hold
+abbrev pub holding : Run
+holding = record {
+  slots = 2;
+  events = calls 100 seven duplex ∷ calls 101 eight duplex ∷ works 110 0 seven ∷ works 111 1 eight ∷ on 120 1 offHook ∷ on 121 0 offHook ∷ on 195 1 carrierDown ∷ ends 200 0 seven ∷ ticks 300 ∷ ticks 300 ∷ [];
+  owing = paid 7 0 seven 121 200 7 ∷ paid 9 1 eight 120 246 12 ∷ [];
+}
+
+-- the reply
+abbrev pub replying : Run
+replying = record {
+  slots = 2;
+  events = calls 100 seven duplex ∷ calls 101 eight duplex ∷ works 200 0 seven ∷ works 201 1 eight ∷ on 210 1 offHook ∷ on 755 1 carrierDown ∷ ticks 900 ∷ ticks 900 ∷ [];
+  owing = paid 7 1 eight 210 806 59 ∷ [];
+}
+
+-- the quarter hour
+abbrev pub queueing : Run
+queueing = record {
+  slots = 1;
+  events = calls 100 seven duplex ∷ works 110 0 seven ∷ on 120 0 offHook ∷ calls 200 eight duplex ∷ on 9155 0 carrierDown ∷ ticks 9300 ∷ ticks 9300 ∷ [];
+  owing = paid 6 0 seven 120 9206 908 ∷ [];
+}
+
+-- the ring-back
+abbrev pub ringing : Run
+ringing = record {
+  slots = 2;
+  events = calls 100 seven duplex ∷ calls 101 eight duplex ∷ works 110 0 seven ∷ works 111 1 eight ∷ on 120 0 offHook ∷ on 121 1 offHook ∷ calls 130 nine duplex ∷ on 300 0 onHook ∷ on 305 1 carrierDown ∷ ticks 400 ∷ ticks 400 ∷ [];
+  owing = paid 7 0 seven 120 300 18 ∷ paid 10 1 eight 121 356 23 ∷ [];
+}
+
+-- ── a long call ──────────────────────────────────────────────────────────────
+
+-- a call of 100 hours is charged all its seconds
+abbrev pub hundredHours : Run
+hundredHours = record {
+  slots = 1;
+  events = calls 100 seven duplex ∷ works 200 0 seven ∷ on 300 0 offHook ∷ ends 3600300 0 seven ∷ [];
+  owing = paid 3 0 seven 300 3600300 360000 ∷ [];
+}
+
+abbrev pub runs : List Run
+runs = shipEnded ∷ hungUp ∷ silent ∷ redialled ∷ late ∷ together ∷ hurried ∷ unanswered ∷ repeated ∷ renumbered ∷ holding ∷ replying ∷ queueing ∷ ringing ∷ hundredHours ∷ []

@@ -1,0 +1,143 @@
+-- How a case is written, and the sequences that the cases expect.
+use mathlib.Core.List.{List, [], _∷_, _++_}
+use Prim.Native.Nat.{ℕ, zero, suc, _+_, _-_}
+use lib.ListN.{length, take}
+use Rattle.sequence.specs.declared.Field.{Field}
+use Rattle.sequence.specs.declared.Field.the-variants.{Blank, Channel, Duration}
+use Rattle.sequence.specs.Symbols.{exclusiveOr}
+use Rattle.sequence.specs.Layout.{layout}
+use Rattle.rules.specs.Places.{modAt}
+use Rattle.rules.specs.Words.{duplex, onChannel70, Event}
+use Rattle.rules.specs.Station.{taken, Waiting, Station, fresh}
+use Rattle.rules.specs.Bytes.{numberOf, four}
+use Rattle.rules.specs.Printed.{lastPrinted}
+use Rattle.rules.specs.Runs.{station, seven, eight, sends, at, usual}
+
+-- ── how a case is written ────────────────────────────────────────────────────
+
+-- what the last event prints, on a fresh station with so many channels
+abbrev pub gives : ℕ → List Event → List (List ℕ)
+gives n es = lastPrinted (station n) es (fresh (station n))
+
+-- a data request
+abbrev pub dataCalls : ℕ → ℕ → Event
+dataCalls t x = at t (onChannel70 (sends x 106 117 Blank usual))
+
+-- a call request to another station
+abbrev pub elsewhere : ℕ → List ℕ
+elsewhere end =
+    layout (record { address = 2001235; sender = seven; first = 101; second = 126; field = Blank; number = numberOf usual; end = end })
+
+-- a ship that waits
+abbrev pub waits : ℕ → ℕ → Waiting
+waits x due = record { request = record { who = record { ship = x; station = 2001234 }; mode = duplex; second = 126; number = usual }; due = due }
+
+-- a station whose slot is taken and whose queue is full
+abbrev pub waitingShips : ℕ → List Waiting
+waitingShips zero = []
+waitingShips (suc n) = waits (300000000 + n) 9101 ∷ waitingShips n
+
+abbrev pub crowded : Station
+crowded = record { clock = 100; slots = taken ∷ []; queue = waitingShips 32 }
+
+-- a station in which the younger of two waiting ships is due first
+abbrev pub crossed : Station
+crossed = record { clock = 100; slots = taken ∷ []; queue = waits seven 3000 ∷ waits eight 2000 ∷ [] }
+
+-- a call request as symbols; and symbols with their check worked out again
+abbrev pub call7 : List ℕ
+call7 = sends seven 101 117 Blank usual
+
+abbrev pub rechecked : List ℕ → List ℕ
+rechecked s = take (length s - 1) s ++ exclusiveOr 0 (take (length s - 1) s) ∷ []
+
+-- a charge as it is printed: slot, ship, start, stop, seconds
+abbrev pub charges : ℕ → ℕ → ℕ → ℕ → ℕ → List ℕ
+charges i x start stop seconds = 7 ∷ i ∷ four x (four start (four stop (four seconds [])))
+
+-- an end of call with 90 0 26 in its channel field
+abbrev pub ninety : List ℕ
+ninety = rechecked (modAt (λ x. 90) 14 (modAt (λ x. 0) 15 (modAt (λ x. 26) 16 (sends seven 105 117 Blank usual))))
+
+abbrev pub fieldTold : Field → List ℕ
+fieldTold Blank = []
+fieldTold (Channel n) = n .0 ∷ []
+fieldTold (Duration d) = d .hours ∷ d .minutes ∷ d .seconds ∷ []
+
+-- ── the sequences sent ───────────────────────────────────────────────────────
+
+-- 104/109 to seven
+abbrev pub unable109Seven : List ℕ
+unable109Seven = 123 ∷ 20 ∷ 0 ∷ 0 ∷ 0 ∷ 70 ∷ 100 ∷ 0 ∷ 20 ∷ 1 ∷ 23 ∷ 40 ∷ 104 ∷ 109 ∷ 126 ∷ 126 ∷ 126 ∷ 105 ∷ 5 ∷ 55 ∷ 12 ∷ 34 ∷ 122 ∷ 19 ∷ []
+
+-- acknowledgement, channel 26, seven
+abbrev pub ackSeven26 : List ℕ
+ackSeven26 = 123 ∷ 20 ∷ 0 ∷ 0 ∷ 0 ∷ 70 ∷ 100 ∷ 0 ∷ 20 ∷ 1 ∷ 23 ∷ 40 ∷ 101 ∷ 126 ∷ 90 ∷ 0 ∷ 26 ∷ 105 ∷ 5 ∷ 55 ∷ 12 ∷ 34 ∷ 122 ∷ 51 ∷ []
+
+-- acknowledgement, channel 26, seven, with the number 42
+abbrev pub ackSeven26Again : List ℕ
+ackSeven26Again = 123 ∷ 20 ∷ 0 ∷ 0 ∷ 0 ∷ 70 ∷ 100 ∷ 0 ∷ 20 ∷ 1 ∷ 23 ∷ 40 ∷ 101 ∷ 126 ∷ 90 ∷ 0 ∷ 26 ∷ 106 ∷ 42 ∷ 122 ∷ 6 ∷ []
+
+-- acknowledgement, channel 26, seven
+abbrev pub ackSeven26Simplex : List ℕ
+ackSeven26Simplex = 123 ∷ 20 ∷ 0 ∷ 0 ∷ 0 ∷ 70 ∷ 100 ∷ 0 ∷ 20 ∷ 1 ∷ 23 ∷ 40 ∷ 100 ∷ 126 ∷ 90 ∷ 0 ∷ 26 ∷ 105 ∷ 5 ∷ 55 ∷ 12 ∷ 34 ∷ 122 ∷ 50 ∷ []
+
+-- acknowledgement, channel 26, eight
+abbrev pub ackEight26 : List ℕ
+ackEight26 = 123 ∷ 20 ∷ 0 ∷ 0 ∷ 0 ∷ 80 ∷ 100 ∷ 0 ∷ 20 ∷ 1 ∷ 23 ∷ 40 ∷ 101 ∷ 126 ∷ 90 ∷ 0 ∷ 26 ∷ 105 ∷ 5 ∷ 55 ∷ 12 ∷ 34 ∷ 122 ∷ 37 ∷ []
+
+-- end of call to seven, 127, 0 0 15
+abbrev pub overSevenByCoast15 : List ℕ
+overSevenByCoast15 = 123 ∷ 20 ∷ 0 ∷ 0 ∷ 0 ∷ 70 ∷ 100 ∷ 0 ∷ 20 ∷ 1 ∷ 23 ∷ 40 ∷ 105 ∷ 126 ∷ 0 ∷ 0 ∷ 15 ∷ 105 ∷ 5 ∷ 55 ∷ 12 ∷ 34 ∷ 127 ∷ 117 ∷ []
+
+-- ring-back, channel 26, eight
+abbrev pub ringEight26 : List ℕ
+ringEight26 = 123 ∷ 20 ∷ 0 ∷ 0 ∷ 0 ∷ 80 ∷ 100 ∷ 0 ∷ 20 ∷ 1 ∷ 23 ∷ 40 ∷ 101 ∷ 126 ∷ 90 ∷ 0 ∷ 26 ∷ 105 ∷ 5 ∷ 55 ∷ 12 ∷ 34 ∷ 117 ∷ 42 ∷ []
+
+-- 104/103 to seven
+abbrev pub unable103Seven : List ℕ
+unable103Seven = 123 ∷ 20 ∷ 0 ∷ 0 ∷ 0 ∷ 70 ∷ 100 ∷ 0 ∷ 20 ∷ 1 ∷ 23 ∷ 40 ∷ 104 ∷ 103 ∷ 126 ∷ 126 ∷ 126 ∷ 105 ∷ 5 ∷ 55 ∷ 12 ∷ 34 ∷ 122 ∷ 25 ∷ []
+
+-- ring-back, channel 26, seven, with the number 42
+abbrev pub ringSeven26Again : List ℕ
+ringSeven26Again = 123 ∷ 20 ∷ 0 ∷ 0 ∷ 0 ∷ 70 ∷ 100 ∷ 0 ∷ 20 ∷ 1 ∷ 23 ∷ 40 ∷ 101 ∷ 126 ∷ 90 ∷ 0 ∷ 26 ∷ 106 ∷ 42 ∷ 117 ∷ 9 ∷ []
+
+-- acknowledgement, channel 27, seven
+abbrev pub ackSeven27 : List ℕ
+ackSeven27 = 123 ∷ 20 ∷ 0 ∷ 0 ∷ 0 ∷ 70 ∷ 100 ∷ 0 ∷ 20 ∷ 1 ∷ 23 ∷ 40 ∷ 101 ∷ 126 ∷ 90 ∷ 0 ∷ 27 ∷ 105 ∷ 5 ∷ 55 ∷ 12 ∷ 34 ∷ 122 ∷ 50 ∷ []
+
+-- 104/103 to eight
+abbrev pub unable103Eight : List ℕ
+unable103Eight = 123 ∷ 20 ∷ 0 ∷ 0 ∷ 0 ∷ 80 ∷ 100 ∷ 0 ∷ 20 ∷ 1 ∷ 23 ∷ 40 ∷ 104 ∷ 103 ∷ 126 ∷ 126 ∷ 126 ∷ 105 ∷ 5 ∷ 55 ∷ 12 ∷ 34 ∷ 122 ∷ 15 ∷ []
+
+-- 104/102 to nine
+abbrev pub unable102Nine : List ℕ
+unable102Nine = 123 ∷ 20 ∷ 0 ∷ 0 ∷ 0 ∷ 90 ∷ 100 ∷ 0 ∷ 20 ∷ 1 ∷ 23 ∷ 40 ∷ 104 ∷ 102 ∷ 126 ∷ 126 ∷ 126 ∷ 105 ∷ 5 ∷ 55 ∷ 12 ∷ 34 ∷ 122 ∷ 4 ∷ []
+
+-- ring-back, channel 26, nine
+abbrev pub ringNine26 : List ℕ
+ringNine26 = 123 ∷ 20 ∷ 0 ∷ 0 ∷ 0 ∷ 90 ∷ 100 ∷ 0 ∷ 20 ∷ 1 ∷ 23 ∷ 40 ∷ 101 ∷ 126 ∷ 90 ∷ 0 ∷ 26 ∷ 105 ∷ 5 ∷ 55 ∷ 12 ∷ 34 ∷ 117 ∷ 32 ∷ []
+
+-- end of call to seven, BQ, 0 6 51
+abbrev pub overSeven411 : List ℕ
+overSeven411 = 123 ∷ 20 ∷ 0 ∷ 0 ∷ 0 ∷ 70 ∷ 100 ∷ 0 ∷ 20 ∷ 1 ∷ 23 ∷ 40 ∷ 105 ∷ 126 ∷ 0 ∷ 6 ∷ 51 ∷ 105 ∷ 5 ∷ 55 ∷ 12 ∷ 34 ∷ 122 ∷ 74 ∷ []
+
+-- end of call to seven, BQ, 126s
+abbrev pub overSeven : List ℕ
+overSeven = 123 ∷ 20 ∷ 0 ∷ 0 ∷ 0 ∷ 70 ∷ 100 ∷ 0 ∷ 20 ∷ 1 ∷ 23 ∷ 40 ∷ 105 ∷ 126 ∷ 126 ∷ 126 ∷ 126 ∷ 105 ∷ 5 ∷ 55 ∷ 12 ∷ 34 ∷ 122 ∷ 1 ∷ []
+
+-- end of call to seven, 127, 0 6 51
+abbrev pub overSevenByCoast411 : List ℕ
+overSevenByCoast411 = 123 ∷ 20 ∷ 0 ∷ 0 ∷ 0 ∷ 70 ∷ 100 ∷ 0 ∷ 20 ∷ 1 ∷ 23 ∷ 40 ∷ 105 ∷ 126 ∷ 0 ∷ 6 ∷ 51 ∷ 105 ∷ 5 ∷ 55 ∷ 12 ∷ 34 ∷ 127 ∷ 79 ∷ []
+
+-- end of call to seven, 127, 126s
+abbrev pub overSevenByCoast : List ℕ
+overSevenByCoast = 123 ∷ 20 ∷ 0 ∷ 0 ∷ 0 ∷ 70 ∷ 100 ∷ 0 ∷ 20 ∷ 1 ∷ 23 ∷ 40 ∷ 105 ∷ 126 ∷ 126 ∷ 126 ∷ 126 ∷ 105 ∷ 5 ∷ 55 ∷ 12 ∷ 34 ∷ 127 ∷ 4 ∷ []
+
+-- end of call to seven, 127, 0 0 0
+abbrev pub overSevenByCoast0 : List ℕ
+overSevenByCoast0 = 123 ∷ 20 ∷ 0 ∷ 0 ∷ 0 ∷ 70 ∷ 100 ∷ 0 ∷ 20 ∷ 1 ∷ 23 ∷ 40 ∷ 105 ∷ 126 ∷ 0 ∷ 0 ∷ 0 ∷ 105 ∷ 5 ∷ 55 ∷ 12 ∷ 34 ∷ 127 ∷ 122 ∷ []
+
+-- ring-back, channel 26, seven
+abbrev pub ringSeven26 : List ℕ
+ringSeven26 = 123 ∷ 20 ∷ 0 ∷ 0 ∷ 0 ∷ 70 ∷ 100 ∷ 0 ∷ 20 ∷ 1 ∷ 23 ∷ 40 ∷ 101 ∷ 126 ∷ 90 ∷ 0 ∷ 26 ∷ 105 ∷ 5 ∷ 55 ∷ 12 ∷ 34 ∷ 117 ∷ 60 ∷ []

@@ -1,0 +1,164 @@
+-- What is claimed of every run: the theorem on charges, and what stands beside it.
+use mathlib.Core.Path.{_≡_}
+use mathlib.Core.List.{List, [], _∷_}
+use mathlib.Core.Bool.{true}
+use mathlib.Core.Option.{none, some}
+use Prim.Native.Nat.{ℕ, suc, _+_, _-_, _/_, _<_, _≤_}
+use lib.ListN.{length}
+use Rattle.units.specs.declared.Seconds.{Seconds}
+use Rattle.rules.specs.Places.{lowest, Each}
+use Rattle.rules.specs.Words.{Config, Event, Deed}
+use Rattle.rules.specs.Actions.{Charge, Action, does, over, charge}
+use Rattle.rules.specs.Station.{Stage, dialling, answered, Slot, free, taken, pending, busy, held, Waiting, Station, fresh}
+use Rattle.rules.specs.Sound.{sound}
+use Rattle.rules.specs.Requests.{isFree}
+use Rattle.rules.specs.Calls.{act}
+use Rattle.rules.specs.Verdict.{verdict, setUpVerdict, Entry, play, final}
+use Rattle.rules.specs.Bytes.{payloadOf}
+use Rattle.rules.specs.Book.{Book, Note, Stop, line, blankBook}
+use Rattle.rules.specs.Reading.{Numbered, numbered, stops, counted, countedByCalls, readAll}
+use Rattle.rules.specs.ThreeWords.{idle, wordAfter, wordOf}
+
+-- ── the list, and the charges in it ──────────────────────────────────────────
+
+-- the deeds among the actions: neither a charge nor an end of call with its duration
+abbrev pub deedsOf : List Action → List Deed
+deedsOf [] = []
+deedsOf (does d ∷ a) = d ∷ deedsOf a
+deedsOf (over i e r n ∷ a) = deedsOf a
+deedsOf (charge h ∷ a) = deedsOf a
+
+abbrev pub chargesOf : List Action → List Charge
+chargesOf [] = []
+chargesOf (does d ∷ a) = chargesOf a
+chargesOf (over i e r n ∷ a) = chargesOf a
+chargesOf (charge h ∷ a) = h ∷ chargesOf a
+
+-- the list, with nothing that tells a length of time
+unfoldable pub notes : List Entry → List Note
+notes [] = []
+notes (x ∷ xs) = record { event = x .event; deeds = deedsOf (x .given) } ∷ notes xs
+
+-- the charges given, in order, each with the number of its entry
+unfoldable pub charged : ℕ → List Entry → List (Numbered Charge)
+charged k [] = []
+charged k (x ∷ xs) = numbered k (chargesOf (x .given)) (charged (suc k) xs)
+
+-- whole seconds, rounded down
+abbrev pub secondsOf : ℕ → Seconds
+secondsOf n = record { 0 = n / 10 }
+
+-- the charge that a stop calls for
+abbrev pub owed : Stop → Charge
+owed s = record { slot = s .slot; ship = s .ship; start = s .start; stop = s .stop; seconds = secondsOf (s .stop .0 - s .start .0) }
+
+abbrev pub owedFor : List (Numbered Stop) → List (Numbered Charge)
+owedFor [] = []
+owedFor (s ∷ ss) = record { entry = s .entry; it = owed (s .it) } ∷ owedFor ss
+
+-- ── the theorem on charges ───────────────────────────────────────────────────
+
+-- what holds of the list of every run: from every set-up that 36 does not refuse, for any events
+abbrev pub OfEveryRun : (Config → List Event → Type 0) → Type 0
+OfEveryRun P = (c : Config) → setUpVerdict c ≡ none → (es : List Event) → P c es
+
+-- the run, the station after it, its list
+abbrev pub runOf : Config → List Event → List Entry
+runOf c es = play c es (fresh c)
+
+abbrev pub stationAfter : Config → List Event → Station
+stationAfter c es = final c es (fresh c)
+
+abbrev pub listOf : Config → List Event → List Note
+listOf c es = notes (runOf c es)
+
+-- what the list alone tells: its stops, and its book
+abbrev pub stopsOf : Config → List Event → List (Numbered Stop)
+stopsOf c es = stops c 0 (listOf c es) (blankBook c)
+
+abbrev pub bookOf : Config → List Event → Book
+bookOf c es = readAll c (listOf c es) (blankBook c)
+
+-- every stopped call has one charge, given at its stop, with that beginning and end and its whole seconds; and no other charge exists
+unfoldable pub ChargesAreStops : Type 0
+ChargesAreStops = OfEveryRun (λ c es. charged 0 (runOf c es) ≡ owedFor (stopsOf c es))
+
+abbrev pub tenthsIn : List (Numbered Charge) → ℕ
+tenthsIn [] = 0
+tenthsIn (h ∷ hs) = (h .it .stop .0 - h .it .start .0) + tenthsIn hs
+
+-- the calls that the station holds as answered, up to its clock
+abbrev pub heldStage : ℕ → Stage → ℕ
+heldStage t (dialling d) = 0
+heldStage t (answered b) = t - b
+
+abbrev pub heldSlot : ℕ → Slot → ℕ
+heldSlot t free = 0
+heldSlot t taken = 0
+heldSlot t (pending k r d) = 0
+heldSlot t (busy r g c) = heldStage t g
+heldSlot t (held r n d) = 0
+
+abbrev pub heldSlots : ℕ → List Slot → ℕ
+heldSlots t [] = 0
+heldSlots t (s ∷ ss) = heldSlot t s + heldSlots t ss
+
+unfoldable pub heldTenths : Station → ℕ
+heldTenths st = heldSlots (st .clock) (st .slots)
+
+-- charged tenths and held tenths are the answered tenths counted from the list
+unfoldable pub TenthsAgree : Type 0
+TenthsAgree = OfEveryRun (λ c es. tenthsIn (charged 0 (runOf c es)) + heldTenths (stationAfter c es) ≡ counted c (listOf c es) (blankBook c))
+
+-- ── beside it ────────────────────────────────────────────────────────────────
+
+-- the answered tenths counted by time and by calls are the same
+unfoldable pub CountsAgree : Type 0
+CountsAgree = OfEveryRun (λ c es. countedByCalls c (listOf c es) (blankBook c) ≡ counted c (listOf c es) (blankBook c))
+
+-- the clock never goes back; a charge's beginning is not after its end, and its end is the clock
+unfoldable pub InOrder : Type 0
+InOrder = (c : Config) (st : Station) (e : Event) → verdict c st e ≡ none
+    → (st .clock ≤ act c st e .next .clock) × Each (λ h. (h .start .0 ≤ h .stop .0) × (h .stop .0 ≡ act c st e .next .clock)) (chargesOf (act c st e .acts))
+
+-- the station's clock is the moment of the last entry
+unfoldable pub ClockIsNow : Type 0
+ClockIsNow = OfEveryRun (λ c es. bookOf c es .now ≡ stationAfter c es .clock)
+
+-- no event of a run is answered with 29
+unfoldable pub AlwaysSound : Type 0
+AlwaysSound = OfEveryRun (λ c es. sound c (stationAfter c es) ≡ true)
+
+-- every station of a run fits 16 slots and 32 waiting ships
+unfoldable pub AlwaysFits : Type 0
+AlwaysFits = OfEveryRun (λ c es. (length (stationAfter c es .slots) ≤ 16) × (length (stationAfter c es .queue) ≤ 32))
+
+-- "dial", "release line" and off-hook alone say of every slot what the book says of its line, after every entry
+unfoldable pub Literally : Type 0
+Literally = OfEveryRun (λ c es. (i : ℕ) → i < length (c .channels) → wordAfter i (listOf c es) idle ≡ wordOf (line (bookOf c es) i .call))
+
+-- while a ship waits no slot is free
+unfoldable pub NoChannelIdle : Type 0
+NoChannelIdle = OfEveryRun (λ c es. (w : Waiting) (q : List Waiting) → stationAfter c es .queue ≡ w ∷ q → lowest isFree (stationAfter c es .slots) ≡ none)
+
+-- of every sound station: at most 8 actions a step, and every payload within 36 bytes
+unfoldable pub AtMostEight : Type 0
+AtMostEight = (c : Config) (st : Station) (e : Event) → sound c st ≡ true
+    → (length (act c st e .acts) ≤ 8) × Each (λ a. length (payloadOf c a) ≤ 36) (act c st e .acts)
+
+-- a refused event changes nothing, and leaves no entry
+unfoldable pub RefusedLeavesAll : Type 0
+RefusedLeavesAll = (c : Config) (st : Station) (e : Event) (n : ℕ) → verdict c st e ≡ some n → (es : List Event)
+    → (play c (e ∷ es) st ≡ play c es st) × (final c (e ∷ es) st ≡ final c es st)
+
+-- where every event of the list is accepted, the run's events are the list
+unfoldable pub Accepts : Config → List Event → Station → Type 0
+Accepts c [] st = Unit {0}
+Accepts c (e ∷ es) st = (verdict c st e ≡ none) × Accepts c es (act c st e .next)
+
+abbrev pub eventsOf : List Entry → List Event
+eventsOf [] = []
+eventsOf (x ∷ xs) = x .event ∷ eventsOf xs
+
+unfoldable pub AllPlayed : Type 0
+AllPlayed = (c : Config) (es : List Event) (st : Station) → Accepts c es st → eventsOf (play c es st) ≡ es

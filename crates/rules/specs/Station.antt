@@ -1,0 +1,116 @@
+-- Time and the slots: what a station holds, its waits, and which of them a tick fires.
+use mathlib.Core.List.{List, [], _∷_, map}
+use mathlib.Core.Option.{Option, none, some}
+use Prim.Native.Nat.{ℕ, suc, _+_}
+use lib.ListN.{length, replicate}
+use Rattle.units.specs.declared.Told.{Told}
+use Rattle.rules.specs.Places.{modAt}
+use Rattle.rules.specs.Words.{Mode, simplex, duplex, Request, Config}
+use Rattle.rules.specs.Waits.{loss, main, Due, running, earliest, ifDue, queueTable}
+
+-- ── what a station holds ─────────────────────────────────────────────────────
+
+-- a slot before its line is dialled: offered; in ring-back, sent once or twice; acknowledged
+pub data Kind : Type 0 where
+  offered firstRing secondRing acknowledged : Kind
+
+pub data Stage : Type 0 where
+  dialling : ℕ → Stage  -- the due time of the reply wait
+  answered : ℕ → Stage  -- since when
+
+pub data Slot : Type 0 where
+  free : Slot
+  taken : Slot  -- by the operator
+  pending : Kind → Request → ℕ → Slot  -- with its due time
+  busy : Request → Stage → Option ℕ → Slot  -- with the due time of the carrier wait: none where the carrier is present
+  held : Request → Told → ℕ → Slot  -- the hold after a ship's end of call: the duration told, the due time
+
+pub record Waiting : Type 0 where
+  pub request : Request
+  pub due : ℕ
+
+-- "a queue of 32 waiting ships, oldest first"
+pub record Station : Type 0 where
+  pub clock : ℕ
+  pub slots : List Slot
+  pub queue : List Waiting
+
+-- "All slots begin free at clock 0."
+unfoldable pub fresh : Config → Station
+fresh c = record { clock = 0; slots = replicate (length (c .channels)) free; queue = [] }
+
+unfoldable pub setSlot : ℕ → Slot → Station → Station
+setSlot i s st = record { clock = st .clock; slots = modAt (λ x. s) i (st .slots); queue = st .queue }
+
+unfoldable pub setClock : ℕ → Station → Station
+setClock t st = record { clock = t; slots = st .slots; queue = st .queue }
+
+unfoldable pub setQueue : List Waiting → Station → Station
+setQueue q st = record { clock = st .clock; slots = st .slots; queue = q }
+
+-- ── the waits ────────────────────────────────────────────────────────────────
+
+-- "a wait begun at s falls due at s + p + 1 tenth"
+abbrev pub dueAfter : ℕ → ℕ → ℕ
+dueAfter s p = s + (p + 1)
+
+-- rules b and e; ring-back
+abbrev pub kindWait : Kind → ℕ
+kindWait offered = 160
+kindWait firstRing = 50
+kindWait secondRing = 50
+kindWait acknowledged = 160
+
+-- carrier down: "50 duplex, 450 simplex"
+abbrev pub carrierWait : Mode → ℕ
+carrierWait simplex = 450
+carrierWait duplex = 50
+
+-- working call; ship's end of call; rule f
+abbrev pub replyWait : ℕ
+replyWait = 600
+
+abbrev pub holdWait : ℕ
+holdWait = 40
+
+abbrev pub queueWait : ℕ
+queueWait = 9000
+
+abbrev pub lossDue : Slot → Option ℕ
+lossDue free = none
+lossDue taken = none
+lossDue (pending k r d) = none
+lossDue (busy r g c) = c
+lossDue (held r n d) = none
+
+abbrev pub stageDue : Stage → Option ℕ
+stageDue (dialling d) = some d
+stageDue (answered b) = none
+
+abbrev pub mainDue : Slot → Option ℕ
+mainDue free = none
+mainDue taken = none
+mainDue (pending k r d) = some d
+mainDue (busy r g c) = stageDue g
+mainDue (held r n d) = some d
+
+-- "slots, lowest first; in one slot carrier loss before no reply"
+abbrev pub slotTable : ℕ → List Slot → List Due
+slotTable i [] = []
+slotTable i (s ∷ ss) = running (loss i) (lossDue s) (running (main i) (mainDue s) (slotTable (suc i) ss))
+
+-- every wait that runs, in 01's order: "queue entries, oldest first; slots"
+unfoldable pub table : Station → List Due
+table st = queueTable 0 (map (λ w. w .due) (st .queue)) (slotTable 0 (st .slots))
+
+-- "the earliest wait due at or before t, one only"
+unfoldable pub fires : ℕ → Station → Option Due
+fires t st = ifDue t (earliest (table st))
+
+abbrev pub dueAt : Option Due → Option ℕ
+dueAt none = none
+dueAt (some p) = some (p .at)
+
+-- the next due time
+unfoldable pub nextDue : Station → Option ℕ
+nextDue st = dueAt (earliest (table st))

@@ -1,0 +1,126 @@
+-- Answer numbers: which event is refused, by the first test that fails; and a run, in which the accepted events are done.
+use mathlib.Core.List.{List, [], _∷_}
+use mathlib.Core.Bool.{Bool, true, false, not}
+use mathlib.Core.Option.{Option, none, some}
+use Prim.Native.Nat.{ℕ}
+use lib.Dec.{leb, ltb}
+use lib.ListN.{length, getD}
+use Rattle.sequence.specs.declared.Answer.{Answer}
+use Rattle.sequence.specs.declared.Answer.the-variants.{Done}
+use Rattle.sequence.specs.Refusals.{Row, row, firstRefusal}
+use Rattle.sequence.specs.Answers.{answerNumber, isDone}
+use Rattle.sequence.specs.Reading.{readingOf}
+use Rattle.rules.specs.Places.{isSome}
+use Rattle.rules.specs.Words.{Config, Happened, heard, offHook, onHook, carrierUp, carrierDown, takes, givesBack, What, tick, onChannel70, onSlot, Event}
+use Rattle.rules.specs.Actions.{Action}
+use Rattle.rules.specs.Station.{Slot, free, taken, pending, busy, held, Station, fires}
+use Rattle.rules.specs.Sound.{configKeeps, limit, sound}
+use Rattle.rules.specs.Requests.{Out, isFree}
+use Rattle.rules.specs.Calls.{act}
+
+-- a test, and the number given where it fails
+abbrev pub unless : Bool → ℕ → Row (Option ℕ)
+unless test n = row test (some n)
+
+-- 30: "action room under 320 bytes"
+abbrev pub roomNeeded : ℕ
+roomNeeded = 320
+
+-- 33: "not a tick and a wait is due at or before its time"
+abbrev pub overtaken : Station → ℕ → What → Bool
+overtaken st t tick = false
+overtaken st t (onChannel70 m) = isSome (fires t st)
+overtaken st t (onSlot i h) = isSome (fires t st)
+
+-- 34: "no such slot"
+abbrev pub slotThere : ℕ → What → Bool
+slotThere n tick = true
+slotThere n (onChannel70 m) = true
+slotThere n (onSlot i h) = ltb i n
+
+-- 11 to 20: "the event's sequence": the reader's answer
+abbrev pub readerSays : List ℕ → Answer
+readerSays m = readingOf m .answer
+
+abbrev pub readOn : Happened → Answer
+readOn (heard m) = readerSays m
+readOn offHook = Done
+readOn onHook = Done
+readOn carrierUp = Done
+readOn carrierDown = Done
+readOn takes = Done
+readOn givesBack = Done
+
+abbrev pub readIn : What → Answer
+readIn tick = Done
+readIn (onChannel70 m) = readerSays m
+readIn (onSlot i h) = readOn h
+
+abbrev pub isTaken : Slot → Bool
+isTaken free = false
+isTaken taken = true
+isTaken (pending k r d) = false
+isTaken (busy r g c) = false
+isTaken (held r n d) = false
+
+abbrev pub barredOn : Slot → Happened → Bool
+barredOn s (heard m) = false
+barredOn s offHook = false
+barredOn s onHook = false
+barredOn s carrierUp = false
+barredOn s carrierDown = false
+barredOn s takes = not (isFree s)
+barredOn s givesBack = not (isTaken s)
+
+-- 35: "operator takes a slot not free, or gives back one not taken"
+abbrev pub barred : List Slot → What → Bool
+barred ss tick = false
+barred ss (onChannel70 m) = false
+barred ss (onSlot i h) = barredOn (getD ss i free) h
+
+-- "Refusals, in this order"
+unfoldable pub refusals : Config → Station → Event → List (Row (Option ℕ))
+refusals c st e =
+    unless (sound c st) 29
+    ∷ unless (leb roomNeeded (e .room)) 30
+    ∷ unless (leb (e .time) limit) 31
+    ∷ unless (leb (st .clock) (e .time)) 32
+    ∷ unless (not (overtaken st (e .time) (e .what))) 33
+    ∷ unless (slotThere (length (st .slots)) (e .what)) 34
+    ∷ unless (isDone (readIn (e .what))) (answerNumber (readIn (e .what)))
+    ∷ unless (not (barred (st .slots) (e .what))) 35
+    ∷ []
+
+-- the number of the refusal, if the event is refused: the first that fits
+unfoldable pub verdict : Config → Station → Event → Option ℕ
+verdict c st e = firstRefusal (refusals c st e) none
+
+-- 36: "set-up: identity or channel list bad"
+unfoldable pub setUpVerdict : Config → Option ℕ
+setUpVerdict c = firstRefusal (unless (configKeeps c) 36 ∷ []) none
+
+-- ── an event: what is answered, the next station, the actions ────────────────
+
+-- "A refusal returns its number and no value .. and hands back the station unchanged, clock included."
+abbrev pub judged : Option ℕ → Station → Out → Out
+judged none st o = o
+judged (some n) st o = record { answer = n; next = st; acts = [] }
+
+unfoldable pub step : Config → Station → Event → Out
+step c st e = judged (verdict c st e) st (act c st e)
+
+-- ── a run: the accepted events with the actions given ────────────────────────
+
+pub record Entry : Type 0 where
+  pub event : Event
+  pub given : List Action
+
+-- a refused event changes nothing and leaves no entry
+unfoldable pub play : Config → List Event → Station → List Entry
+play c [] st = []
+play c (e ∷ es) st = elim (verdict c st e) [ none ↦ record { event = e; given = act c st e .acts } ∷ play c es (act c st e .next) | some n ↦ play c es st ]
+
+-- the station after them
+unfoldable pub final : Config → List Event → Station → Station
+final c [] st = st
+final c (e ∷ es) st = final c es (step c st e .next)

@@ -1,0 +1,66 @@
+-- The words of document 01: who asks for what, what comes in, what is done. Nothing here decides, and no wait has its figure here.
+use mathlib.Core.List.{List}
+use mathlib.Core.Bool.{Bool, _&&_}
+use Prim.Native.Nat.{ℕ}
+use lib.Dec.{eqb}
+use Rattle.units.specs.declared.Channel.{Channel}
+
+-- ── who asks for what ────────────────────────────────────────────────────────
+
+-- a ship with the station that it calls
+pub record Party : Type 0 where
+  pub ship : ℕ
+  pub station : ℕ
+
+-- the same ship, at the same station
+unfoldable pub is : Party → Party → Bool
+is a b = eqb (a .ship) (b .ship) && eqb (a .station) (b .station)
+
+pub data Mode : Type 0 where
+  simplex duplex : Mode
+
+-- the first telecommand: "100 simplex, 101 duplex"
+abbrev pub modeNumber : Mode → ℕ
+modeNumber simplex = 100
+modeNumber duplex = 101
+
+-- a call request, as it is stored
+pub record Request : Type 0 where
+  pub who : Party
+  pub mode : Mode
+  pub second : ℕ  -- its second telecommand
+  pub number : List ℕ  -- the digits to dial
+
+-- what a station is, from set-up on; slot i works on channel i of the list
+pub record Config : Type 0 where
+  pub identity : ℕ
+  pub channels : List Channel
+
+-- ── an event: a time and what ────────────────────────────────────────────────
+
+pub data Happened : Type 0 where
+  heard : List ℕ → Happened  -- symbols, on the working channel
+  offHook onHook : Happened  -- ashore
+  carrierUp carrierDown : Happened
+  takes givesBack : Happened  -- the operator
+
+pub data What : Type 0 where
+  tick : What
+  onChannel70 : List ℕ → What  -- symbols
+  onSlot : ℕ → Happened → What
+
+pub record Event : Type 0 where
+  pub time : ℕ  -- in tenths
+  pub room : ℕ  -- bytes lent for the actions
+  pub what : What
+
+-- ── what is done: the actions that tell no length of time ────────────────────
+
+pub data Deed : Type 0 where
+  carrierOn : ℕ → Deed
+  carrierOff : ℕ → Deed
+  acknowledge : ℕ → Request → Deed  -- channel 70: the slot's channel, with BQ
+  ringBack : ℕ → Request → Deed  -- the same with RQ
+  unable : ℕ → Party → List ℕ → Deed  -- channel 70: 104 with the second telecommand, and the number asked for
+  dial : ℕ → List ℕ → Deed
+  releaseLine : ℕ → Deed
