@@ -2,9 +2,9 @@
 use mathlib.Core.List.{List, [], _∷_}
 use Rattle.sequence.specs.Reading.{readingOf}
 use Rattle.rules.specs.Words.{simplex, duplex, heard, offHook, onHook, carrierUp, carrierDown, takes, givesBack, carrierOn, dial}
-use Rattle.rules.specs.Actions.{does}
+use Rattle.rules.specs.Actions.{does, charge}
 use Rattle.rules.specs.Verdict.{step}
-use Rattle.rules.specs.Bytes.{blockOf}
+use Rattle.rules.specs.Bytes.{payloadOf, blockOf}
 use Rattle.rules.specs.Printed.{lines}
 use Rattle.rules.specs.Runs.{station, seven, eight, usual, calls, on, works, ends, ticks}
 use Rattle.rules.specs.Cases.{Row}
@@ -211,7 +211,14 @@ blockShown = record {
   expected = (1 ∷ 2 ∷ 0 ∷ 0 ∷ 0 ∷ 0 ∷ 0 ∷ 0 ∷ 0 ∷ 0 ∷ 0 ∷ 0 ∷ 0 ∷ 0 ∷ 0 ∷ 0 ∷ 0 ∷ 0 ∷ 0 ∷ 0 ∷ 0 ∷ 0 ∷ 0 ∷ 0 ∷ 0 ∷ 0 ∷ 0 ∷ 0 ∷ 0 ∷ 0 ∷ 0 ∷ 0 ∷ 0 ∷ 0 ∷ 0 ∷ 0 ∷ 0 ∷ 0 ∷ 0 ∷ 0 ∷ []) ∷ (5 ∷ 3 ∷ 7 ∷ 0 ∷ 5 ∷ 5 ∷ 5 ∷ 1 ∷ 2 ∷ 3 ∷ 4 ∷ 0 ∷ 0 ∷ 0 ∷ 0 ∷ 0 ∷ 0 ∷ 0 ∷ 0 ∷ 0 ∷ 0 ∷ 0 ∷ 0 ∷ 0 ∷ 0 ∷ 0 ∷ 0 ∷ 0 ∷ 0 ∷ 0 ∷ 0 ∷ 0 ∷ 0 ∷ 0 ∷ 0 ∷ 0 ∷ 0 ∷ 0 ∷ 0 ∷ 0 ∷ []) ∷ [];
 }
 
+-- four bytes each, low first
+abbrev pub fourShown : Row
+fourShown = record {
+  computed = payloadOf (station 1) (charge record { slot = 1; ship = 67305985; start = record { 0 = 65536 }; stop = record { 0 = 16777216 }; seconds = record { 0 = 4294967295 } }) ∷ [];
+  expected = (1 ∷ 2 ∷ 3 ∷ 4 ∷ 0 ∷ 0 ∷ 1 ∷ 0 ∷ 0 ∷ 0 ∷ 0 ∷ 1 ∷ 255 ∷ 255 ∷ 255 ∷ 255 ∷ []) ∷ [];
+}
+
 -- ── all of them ──────────────────────────────────────────────────────────────
 
 abbrev pub callCases : List Row
-callCases = offHookAnswers ∷ offHookSecond ∷ downSecond ∷ upEnds ∷ upUnneeded ∷ carrierElsewhere ∷ shipEndAnswered ∷ shipEndUnanswered ∷ shipEndStranger ∷ ninetyHours ∷ holdRepeats ∷ holdStranger ∷ holdNotGiven ∷ holdThenFreed ∷ onHookAnswered ∷ onHookDialling ∷ noReplyDue ∷ carrierLossDue ∷ secondUnderOne ∷ operatorTook ∷ operatorTakes ∷ operatorGives ∷ tickIdle ∷ tickOnce ∷ tickYounger ∷ tickInSlot ∷ blockShown ∷ []
+callCases = offHookAnswers ∷ offHookSecond ∷ downSecond ∷ upEnds ∷ upUnneeded ∷ carrierElsewhere ∷ shipEndAnswered ∷ shipEndUnanswered ∷ shipEndStranger ∷ ninetyHours ∷ holdRepeats ∷ holdStranger ∷ holdNotGiven ∷ holdThenFreed ∷ onHookAnswered ∷ onHookDialling ∷ noReplyDue ∷ carrierLossDue ∷ secondUnderOne ∷ operatorTook ∷ operatorTakes ∷ operatorGives ∷ tickIdle ∷ tickOnce ∷ tickYounger ∷ tickInSlot ∷ blockShown ∷ fourShown ∷ []

@@ -1,9 +1,13 @@
+-- Document 01 as definitions, in the order in which to read them.
+
+-- the words, and what symbols mean
 pub mod Places
 pub mod Words
 pub mod Waits
 pub mod Heard
 pub mod Kinds
 pub mod Actions
+-- the rules: time and the slots, what each event does, answer numbers, actions handed out
 pub mod Station
 pub mod Sound
 pub mod Requests
@@ -11,11 +15,13 @@ pub mod Calls
 pub mod Verdict
 pub mod Bytes
 pub mod Printed
+-- the list alone, and what is claimed of every run
 pub mod Book
 pub mod Reading
 pub mod ReadingLaws
 pub mod ThreeWords
 pub mod Statement
+-- runs and cases
 pub mod Runs
 pub mod Cases
 pub mod Scripts

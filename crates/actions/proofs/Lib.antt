@@ -1,0 +1,6 @@
+pub mod ActionLaws
+pub mod BlockLaws
+pub mod Speaking
+pub mod Settled
+pub mod Saying
+pub mod Handed

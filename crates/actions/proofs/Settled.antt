@@ -1,0 +1,63 @@
+-- Any two results that meet a contract are equal.
+use mathlib.Core.Path.{_≡_, sym, _∙_}
+use contract.Lifetimes.{Lfts}
+use Rattle.actions.proofs.deeds.carrier_on.Reads as carrier-on
+use Rattle.actions.proofs.deeds.carrier_off.Reads as carrier-off
+use Rattle.actions.proofs.deeds.release_line.Reads as release-line
+use Rattle.actions.proofs.deeds.dial.Reads as dial
+use Rattle.actions.proofs.deeds.lasted.Reads as lasted
+use Rattle.actions.proofs.deeds.charge.Reads as charge
+use Rattle.actions.proofs.sequences.acknowledgement.Reads as acknowledgement
+use Rattle.actions.proofs.sequences.ring_back.Reads as ring-back
+use Rattle.actions.proofs.sequences.unable.Reads as unable
+use Rattle.actions.proofs.sequences.unable_to.Reads as unable-to
+use Rattle.actions.proofs.sequences.over.Reads as over
+use Rattle.actions.proofs.blocks.no_actions.Reads as no-actions
+use Rattle.actions.proofs.blocks.push_in.Reads as push-in
+use Rattle.actions.proofs.blocks.one_more.Reads as one-more
+use Rattle.actions.proofs.blocks.put.Reads as put
+
+pub carrier-on-settled : (κs : Lfts 0) (a : _) (r r' : _) (s s' : _) → carrier-on.Post κs a r s → carrier-on.Post κs a r' s' → r ≡ r'
+carrier-on-settled κs a r r' s s' p q = p .0 ∙ sym (q .0)
+
+pub carrier-off-settled : (κs : Lfts 0) (a : _) (r r' : _) (s s' : _) → carrier-off.Post κs a r s → carrier-off.Post κs a r' s' → r ≡ r'
+carrier-off-settled κs a r r' s s' p q = p .0 ∙ sym (q .0)
+
+pub release-line-settled : (κs : Lfts 0) (a : _) (r r' : _) (s s' : _) → release-line.Post κs a r s → release-line.Post κs a r' s' → r ≡ r'
+release-line-settled κs a r r' s s' p q = p .0 ∙ sym (q .0)
+
+pub dial-settled : (κs : Lfts 0) (a : _) (r r' : _) (s s' : _) → dial.Post κs a r s → dial.Post κs a r' s' → r ≡ r'
+dial-settled κs a r r' s s' p q = p .0 ∙ sym (q .0)
+
+pub lasted-settled : (κs : Lfts 0) (a : _) (r r' : _) (s s' : _) → lasted.Post κs a r s → lasted.Post κs a r' s' → r ≡ r'
+lasted-settled κs a r r' s s' p q = p ∙ sym q
+
+pub charge-settled : (κs : Lfts 0) (a : _) (r r' : _) (s s' : _) → charge.Post κs a r s → charge.Post κs a r' s' → r ≡ r'
+charge-settled κs a r r' s s' p q = p .0 ∙ sym (q .0)
+
+pub acknowledgement-settled : (κs : Lfts 0) (a : _) (r r' : _) (s s' : _) → acknowledgement.Post κs a r s → acknowledgement.Post κs a r' s' → r ≡ r'
+acknowledgement-settled κs a r r' s s' p q = p .0 ∙ sym (q .0)
+
+pub ring-back-settled : (κs : Lfts 0) (a : _) (r r' : _) (s s' : _) → ring-back.Post κs a r s → ring-back.Post κs a r' s' → r ≡ r'
+ring-back-settled κs a r r' s s' p q = p .0 ∙ sym (q .0)
+
+pub unable-settled : (κs : Lfts 0) (a : _) (r r' : _) (s s' : _) → unable.Post κs a r s → unable.Post κs a r' s' → r ≡ r'
+unable-settled κs a r r' s s' p q = p .0 ∙ sym (q .0)
+
+pub unable-to-settled : (κs : Lfts 0) (a : _) (r r' : _) (s s' : _) → unable-to.Post κs a r s → unable-to.Post κs a r' s' → r ≡ r'
+unable-to-settled κs a r r' s s' p q = p .0 ∙ sym (q .0)
+
+pub over-settled : (κs : Lfts 0) (a : _) (r r' : _) (s s' : _) → over.Post κs a r s → over.Post κs a r' s' → r ≡ r'
+over-settled κs a r r' s s' p q = p .0 ∙ sym (q .0)
+
+pub no-actions-settled : (κs : Lfts 0) (a : _) (r r' : _) (s s' : _) → no-actions.Post κs a r s → no-actions.Post κs a r' s' → r ≡ r'
+no-actions-settled κs a r r' s s' p q = p ∙ sym q
+
+pub push-in-settled : (κs : Lfts 0) (a : _) (r r' : _) (s s' : _) → push-in.Post κs a r s → push-in.Post κs a r' s' → r ≡ r'
+push-in-settled κs a r r' s s' p q = p .0 ∙ sym (q .0)
+
+pub one-more-settled : (κs : Lfts 0) (a : _) (r r' : _) (s s' : _) → one-more.Post κs a r s → one-more.Post κs a r' s' → r ≡ r'
+one-more-settled κs a r r' s s' p q = p ∙ sym q
+
+pub put-settled : (κs : Lfts 1) (a : _) (r r' : _) (s s' : _) → put.Post κs a r s → put.Post κs a r' s' → (r ≡ r') × (s .1 .1 .0 .now ≡ s' .1 .1 .0 .now)
+put-settled κs a r r' s s' p q = (p .0 ∙ sym (q .0), p .1 ∙ sym (q .1))

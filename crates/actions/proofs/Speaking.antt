@@ -1,0 +1,88 @@
+-- What the rack sends is what the rules say, wherever the meaning is valid; and it is for a request that keeps the rules.
+use Prim.Native.Nat.{ℕ, zero, suc, _<_}
+use mathlib.Core.Path.{_≡_, refl}
+use mathlib.Core.Bool.{Bool, true}
+use mathlib.Core.List.{List, [], _∷_, map}
+use native.Mathlib.Nat.{le-of-suc-le-suc, not-suc-le-zero}
+use lib.Dec.{eqb}
+use lib.ListN.{length, getD}
+use borrow.Author.Tests.{eqb-true}
+use Rattle.units.specs.declared.Told.{Told}
+use Rattle.sequence.specs.declared.Meaning.{Meaning}
+use Rattle.sequence.specs.Symbols.{within}
+use Rattle.sequence.specs.Identity.{isShip, isCoast}
+use Rattle.sequence.specs.Field.{unableSecond, channelOk}
+use Rattle.sequence.specs.Layout.{endOk, valid, layout}
+use Rattle.sequence.proofs.Tests.{both-true}
+use Rattle.rules.specs.Places.{all, Each}
+use Rattle.rules.specs.Words.{Request, Config, carrierOn, carrierOff, acknowledge, ringBack, unable, dial, releaseLine}
+use Rattle.rules.specs.Actions.{Ender, Action, does, over, charge}
+use Rattle.rules.specs.Bytes.{channelAt, payloadOf, blockOf, blocks}
+use Rattle.rules.specs.Sound.{identityKeeps, channelsKeep, configKeeps, numberKeeps, requestKeeps, durationKeeps}
+use Rattle.rules.proofs.SentLaws.{able-valid, unable-valid, over-valid}
+use Rattle.actions.specs.Blocks.{joined}
+use Rattle.actions.specs.Sent.{sent, sentPayload, sentBlock, speaks}
+
+pub sent-valid : (m : Meaning) → valid m ≡ true → sent m ≡ layout m
+unfolding sent
+sent-valid m h = rw h
+
+-- ── blocks ───────────────────────────────────────────────────────────────────
+
+abbrev pub Speaks : Config → Action → Type 0
+Speaks c a = speaks c a ≡ true
+
+pub sent-block : (c : Config) (a : Action) → Speaks c a → sentBlock c a ≡ blockOf c a
+unfolding sentBlock blockOf sentPayload payloadOf sent
+sent-block c (does (carrierOn i)) h = refl
+sent-block c (does (carrierOff i)) h = refl
+sent-block c (does (acknowledge i r)) h = rw h
+sent-block c (does (ringBack i r)) h = rw h
+sent-block c (does (unable n x digits)) h = rw h
+sent-block c (does (dial i digits)) h = refl
+sent-block c (does (releaseLine i)) h = refl
+sent-block c (over i e r n) h = rw h
+sent-block c (charge h) t = refl
+
+pub sent-blocks : (c : Config) (l : List Action) → Each (Speaks c) l → joined (map (sentBlock c) l) ≡ blocks c l
+sent-blocks c [] t = refl
+sent-blocks c (a ∷ l) t = rw (sent-block c a (t .0), sent-blocks c l (t .1))
+
+-- ── a request that keeps the rules, at a station that keeps them ─────────────
+
+all-in : {A : Type 0} (p : A → Bool) (l : List A) (i : ℕ) (d : A) → i < length l → all p l ≡ true → p (getD l i d) ≡ true
+all-in p [] i d h e = absurd (not-suc-le-zero h)
+all-in p (x ∷ l) zero d h e = both-true (p x) (all p l) e .0
+all-in p (x ∷ l) (suc i) d h e = all-in p l i d (le-of-suc-le-suc h) (both-true (p x) (all p l) e .1)
+
+module _ (c : Config) (keeps : configKeeps c ≡ true) where
+  pub coast : isCoast (c .identity) ≡ true
+  unfolding configKeeps identityKeeps
+  coast = both-true (isCoast (c .identity)) (channelsKeep (c .channels)) keeps .0
+
+  pub channel-good : (i : ℕ) → i < length (c .channels) → channelOk (channelAt c i) ≡ true
+  unfolding configKeeps channelsKeep
+  channel-good i h =
+      let a = both-true (identityKeeps c) _ keeps .1 in
+      let b = both-true (within 1 16 (length (c .channels))) _ a .1 in
+      all-in channelOk (c .channels) i (record { 0 = 0 }) h (both-true (all channelOk (c .channels)) _ b .0)
+
+  module _ (r : Request) (kept : requestKeeps c r ≡ true) where
+    pub acknowledge-speaks : (i : ℕ) → i < length (c .channels) → Speaks c (does (acknowledge i r))
+    unfolding endOk
+    acknowledge-speaks i h = able-valid c coast r kept (channelAt c i) (channel-good i h) 122 refl
+
+    pub ringBack-speaks : (i : ℕ) → i < length (c .channels) → Speaks c (does (ringBack i r))
+    unfolding endOk
+    ringBack-speaks i h = able-valid c coast r kept (channelAt c i) (channel-good i h) 117 refl
+
+    pub unable-speaks : (second : ℕ) → unableSecond second ≡ true → Speaks c (does (unable second (r .who) (r .number)))
+    unfolding requestKeeps
+    unable-speaks second u =
+        let a = both-true (isShip (r .who .ship)) _ kept in
+        let b = both-true (eqb (r .who .station) (c .identity)) _ (a .1) in
+        let d = both-true (within 100 126 (r .second)) (numberKeeps (r .number)) (b .1) in
+        unable-valid second (r .who) (r .number) (a .0) (rw (eqb-true (r .who .station) (c .identity) (b .0)) coast) u (d .1)
+
+    pub over-speaks : (i : ℕ) (e : Ender) (n : Told) → durationKeeps n ≡ true → Speaks c (over i e r n)
+    over-speaks i e n h = over-valid c coast r kept e n h

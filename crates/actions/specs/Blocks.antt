@@ -1,0 +1,53 @@
+-- An action of the rack, its block of 40 bytes, and what a room holds once the blocks are laid.
+use Prim.Native.Nat.{ℕ, _-_, _*_}
+use mathlib.Core.Bool.{Bool, cond}
+use mathlib.Core.List.{List, [], _++_, _∷_}
+use lib.Dec.{leb}
+use lib.ListN.{length, take, drop}
+use Rattle.units.specs.declared.Tenths.{Tenths}
+use Rattle.units.specs.Units.{wholeSeconds}
+use Rattle.rules.specs.Bytes.{padded, block, four}
+use Rattle.requests.specs.Views.{viewed}
+use Rattle.actions.specs.declared.Action.{Action}
+
+-- an action as it is laid out: its payload, and zeros
+unfoldable pub actionOf : ℕ → ℕ → List ℕ → Action
+actionOf kind slot payload = record { kind = kind; slot = slot; length = length payload; payload = padded 0 36 payload }
+
+unfoldable pub actionBlock : Action → List ℕ
+actionBlock a = block (a .kind) (a .slot) (take (a .length) (a .payload))
+
+unfoldable pub blankAction : Action
+blankAction = actionOf 0 0 []
+
+-- from a start to a stop, in tenths
+abbrev pub span : Tenths → Tenths → Tenths
+span start stop = record { 0 = stop .0 - start .0 }
+
+-- "ship, start, stop, seconds; four bytes each, low first"
+abbrev pub chargeBytes : ℕ → Tenths → Tenths → List ℕ
+chargeBytes ship start stop = four ship (four (start .0) (four (stop .0) (four (wholeSeconds (span start stop) .0) [])))
+
+-- "At most 8 a step"
+unfoldable pub clip : {A : Type 0} → List A → List A
+clip l = take 8 l
+
+-- the blocks of the first n actions
+unfoldable pub handed : ℕ → List Action → List (List ℕ)
+handed n a = clip (viewed actionBlock n a)
+
+-- one block after the other
+abbrev pub joined : List (List ℕ) → List ℕ
+joined [] = []
+joined (b ∷ bs) = b ++ joined bs
+
+-- a room holds the blocks
+unfoldable pub holds : List (List ℕ) → ℕ → Bool
+holds bs room = leb (40 * length bs) room
+
+unfoldable pub putCount : List (List ℕ) → ℕ → ℕ
+putCount bs room = cond (holds bs room) (length bs) 0
+
+-- "Bytes after the last action stay."
+unfoldable pub putRoom : List (List ℕ) → List ℕ → List ℕ
+putRoom bs room = cond (holds bs (length room)) (joined bs ++ drop (40 * length bs) room) room

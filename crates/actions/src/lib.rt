@@ -1,0 +1,18 @@
+// The actions that are handed out: each made with its payload, at most eight a step, laid block after block into a lent room.
+pub mod blocks;
+pub mod deeds;
+pub mod sequences;
+
+// One action: its kind, its slot, how much of its payload counts, and the payload.
+pub struct Action {
+    pub kind: u8,
+    pub slot: u8,
+    pub length: u8,
+    pub payload: [u8; 36],
+}
+
+// Who ends a call.
+pub enum Ender {
+    Ship,
+    Coast,
+}

@@ -1,0 +1,163 @@
+// The actions that send a sequence: the writer lays it into the payload.
+ghost use mathlib.Core.Path.{_≡_};
+ghost use Rattle.rules.specs.Words.{modeNumber};
+ghost use Rattle.rules.specs.Bytes.{block, numberOf, ableSaid, unableSaid, overSaid, toldField, endSymbol};
+ghost use Rattle.requests.specs.Views.{digitsOf, requestOf, modeOf};
+ghost use Rattle.actions.specs.Blocks.{actionOf, actionBlock};
+ghost use Rattle.actions.specs.Sent.{sent, party, enderOf};
+use crate::Action;
+use crate::Ender;
+use requests::Mode;
+use requests::Request;
+use requests::least;
+use sequence::Field;
+use sequence::Meaning;
+use sequence::Number;
+use units::Channel;
+use units::Told;
+use writing::write;
+
+// A number laid out anew: its digits, and 0 in each place that is not used.
+fn tidied(n: Number) -> Number
+    ensures { λ r. ⌜ r ≡ numberOf (digitsOf n) ⌝ }
+{
+    let count = least(n.count, 16);
+    let m = count as usize;
+    let d = n.digits;
+    let mut digits = [0u8; 16];
+    let mut k = 0;
+    while k < m {
+        digits[k] = d[k];
+        k += 1;
+    }
+    Number {
+        count: count,
+        digits: digits,
+    }
+}
+
+// The sequence of a valid meaning; nothing for another.
+fn send(kind: u8, i: u8, m: Meaning) -> Action
+    ensures { λ r. ⌜ r ≡ actionOf kind i (sent m) ⌝ }
+{
+    let mut payload = [0u8; 36];
+    let w = write(m, &mut payload);
+    Action {
+        kind: kind,
+        slot: i,
+        length: w.length as u8,
+        payload: payload,
+    }
+}
+
+fn first_of(m: Mode) -> u8
+    ensures { λ r. ⌜ r ≡ modeNumber (modeOf m) ⌝ }
+{
+    match m {
+        Mode::Simplex => 100,
+        Mode::Duplex => 101,
+    }
+}
+
+// "Answers repeat the request with identities exchanged", here with the channel of its slot.
+fn able(i: u8, channel: Channel, end: u8, q: Request) -> Action
+    ensures { λ r. ⌜ r ≡ actionOf 3 i (sent (ableSaid channel end (requestOf q))) ⌝ }
+{
+    let stored = q.number;
+    let number = tidied(stored);
+    let mode = q.mode;
+    let first = first_of(mode);
+    let m = Meaning {
+        address: q.ship,
+        sender: q.station,
+        first: first,
+        second: q.second,
+        field: Field::Channel(channel),
+        number: number,
+        end: end,
+    };
+    send(3, i, m)
+}
+
+// "acknowledgement with the channel and BQ"
+pub fn acknowledgement(i: u8, channel: Channel, q: Request) -> Action
+    ensures { λ r. ⌜ r ≡ actionOf 3 i (sent (ableSaid channel 122 (requestOf q))) ⌝ }
+    ensures { λ r. ⌜ actionBlock r ≡ block 3 i (sent (ableSaid channel 122 (requestOf q))) ⌝ }
+{
+    able(i, channel, 122, q)
+}
+
+// "the able answer but with RQ"
+pub fn ring_back(i: u8, channel: Channel, q: Request) -> Action
+    ensures { λ r. ⌜ r ≡ actionOf 3 i (sent (ableSaid channel 117 (requestOf q))) ⌝ }
+    ensures { λ r. ⌜ actionBlock r ≡ block 3 i (sent (ableSaid channel 117 (requestOf q))) ⌝ }
+{
+    able(i, channel, 117, q)
+}
+
+// "for 104 the field 126s", and 255 in the slot's place
+pub fn unable(second: u8, ship: u32, station: u32, number: Number) -> Action
+    ensures { λ r. ⌜ r ≡ actionOf 3 255 (sent (unableSaid second (party ship station) (digitsOf number))) ⌝ }
+    ensures { λ r. ⌜ actionBlock r ≡ block 3 255 (sent (unableSaid second (party ship station) (digitsOf number))) ⌝ }
+{
+    let n = tidied(number);
+    let m = Meaning {
+        address: ship,
+        sender: station,
+        first: 104,
+        second: second,
+        field: Field::Blank,
+        number: n,
+        end: 122,
+    };
+    send(3, 255, m)
+}
+
+// The same answer to a stored request.
+pub fn unable_to(second: u8, q: Request) -> Action
+    ensures { λ r. ⌜ r ≡ actionOf 3 255 (sent (unableSaid second (requestOf q .who) (requestOf q .number))) ⌝ }
+    ensures { λ r. ⌜ actionBlock r ≡ block 3 255 (sent (unableSaid second (requestOf q .who) (requestOf q .number))) ⌝ }
+{
+    let number = q.number;
+    unable(second, q.ship, q.station, number)
+}
+
+fn field_of(told: Told) -> Field
+    ensures { λ r. ⌜ r ≡ toldField told ⌝ }
+{
+    match told {
+        Told::Nothing => Field::Blank,
+        Told::Lasting(d) => Field::Duration(d),
+    }
+}
+
+// "with BQ" at the ship's end, "with 127" at the coast's
+fn end_of(by: Ender) -> u8
+    ensures { λ r. ⌜ r ≡ endSymbol (enderOf by) ⌝ }
+{
+    match by {
+        Ender::Ship => 122,
+        Ender::Coast => 127,
+    }
+}
+
+// "send 105/126 .. and the duration"; "the number sent is the stored request's"
+pub fn over(i: u8, by: Ender, q: Request, told: Told) -> Action
+    ensures { λ r. ⌜ r ≡ actionOf 4 i (sent (overSaid (enderOf by) (requestOf q) told)) ⌝ }
+    ensures { λ r. ⌜ actionBlock r ≡ block 4 i (sent (overSaid (enderOf by) (requestOf q) told)) ⌝ }
+{
+    let stored = q.number;
+    let number = tidied(stored);
+    let field = field_of(told);
+    let end = end_of(by);
+    let m = Meaning {
+        address: q.ship,
+        sender: q.station,
+        first: 105,
+        second: 126,
+        field: field,
+        number: number,
+        end: end,
+    };
+    send(4, i, m)
+}

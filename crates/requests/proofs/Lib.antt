@@ -1,0 +1,2 @@
+pub mod ArrayLaws
+pub mod Settled

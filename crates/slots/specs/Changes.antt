@@ -1,0 +1,51 @@
+-- What is done to an array, on the records themselves; and the searches and joins that count their place.
+use Prim.Native.Nat.{ℕ, zero, suc, _-_, min}
+use mathlib.Core.Bool.{Bool, cond}
+use mathlib.Core.List.{List, [], _∷_, _++_}
+use mathlib.Core.Option.{Option, none, some}
+use lib.Dec.{leb}
+use lib.ListN.{getD, set}
+use Rattle.rules.specs.Waits as T
+use Rattle.rules.specs.Waits.{ofQueue, sooner}
+use Rattle.requests.specs.declared.Request.{Request}
+use Rattle.slots.specs.declared.Phase.{Phase}
+use Rattle.slots.specs.declared.Slot.{Slot}
+use Rattle.slots.specs.declared.Waiting.{Waiting}
+use Rattle.slots.specs.Views.{noSlot, noWaiting}
+use Rattle.slots.specs.Images.{blankWaiting}
+
+-- another phase and request at i, the channel kept
+unfoldable pub putIn : List Slot → ℕ → Phase → Request → List Slot
+putIn a i p q = set a i (record { phase = p; channel = getD a i noSlot .channel; request = q })
+
+-- another request at k, the due time kept
+unfoldable pub replaceIn : List Waiting → ℕ → Request → List Waiting
+replaceIn a k q = set a k (record { due = getD a k noWaiting .due; request = q })
+
+-- the list without its element k, with b at its end
+unfoldable pub without : {A : Type 0} → A → List A → ℕ → List A
+without b [] k = []
+without b (x ∷ xs) zero = xs ++ (b ∷ [])
+without b (x ∷ xs) (suc k) = x ∷ without b xs k
+
+-- a line of n, of 32 at most, once its place k is gone: the count, and the array
+unfoldable pub cutLine : ℕ → ℕ → ℕ
+cutLine n k = cond (leb (min n 32) k) n (min n 32 - 1)
+
+unfoldable pub cutIn : List Waiting → ℕ → ℕ → List Waiting
+cutIn a n k = cond (leb (min n 32) k) a (without blankWaiting a k)
+
+-- the lowest place whose element passes, where the first has the place i
+abbrev pub lowestFrom : {A : Type 0} → (A → Bool) → ℕ → List A → Option ℕ
+lowestFrom p i [] = none
+lowestFrom p i (x ∷ xs) = cond (p x) (some i) (lowestFrom p (suc i) xs)
+
+-- a wait that may run, set before the others
+abbrev pub joinDue : T.Wait → Option ℕ → Option T.Due → Option T.Due
+joinDue w none e = e
+joinDue w (some d) e = sooner (record { what = w; at = d }) e
+
+-- the due times of waiting ships, set before the others
+abbrev pub queueJoined : ℕ → List ℕ → Option T.Due → Option T.Due
+queueJoined k [] e = e
+queueJoined k (d ∷ ds) e = sooner (record { what = ofQueue k; at = d }) (queueJoined (suc k) ds e)

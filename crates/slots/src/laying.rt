@@ -1,0 +1,156 @@
+// Records with nothing left in their unused places.
+ghost use mathlib.Core.Path.{_≡_};
+ghost use Prim.Native.Nat.{_<_};
+ghost use Rattle.rules.specs.Bytes.{padded};
+ghost use Rattle.requests.specs.Views.{viewed, itself};
+ghost use Rattle.requests.specs.Images.{tidyRequest};
+ghost use Rattle.slots.specs.Views.{stored};
+ghost use Rattle.slots.specs.Images.{blankSlot, blankWaiting, tidySlot, tidyWaiting};
+use crate::Phase;
+use crate::Slot;
+use crate::Waiting;
+use requests::Request;
+use requests::blank_request;
+use requests::least;
+use sequence::Number;
+use units::Channel;
+use units::Tenths;
+
+// The first n digits, and 0 behind them.
+fn cleared(d: [u8; 16], n: u8) -> [u8; 16]
+    ensures { λ r. ⌜ r ≡ padded 0 16 (viewed itself n d) ⌝ }
+{
+    let mut a = [0u8; 16];
+    let m = least(n, 16);
+    let mut i: u8 = 0;
+    while i < m {
+        let x = d[i as usize];
+        a[i as usize] = x;
+        i += 1;
+    }
+    a
+}
+
+fn tidy_request(q: Request) -> Request
+    ensures { λ r. ⌜ r ≡ tidyRequest q ⌝ }
+{
+    let number = q.number;
+    let k = number.count;
+    let n = least(k, 16);
+    let d = number.digits;
+    let e = cleared(d, k);
+    let mode = q.mode;
+    Request {
+        ship: q.ship,
+        station: q.station,
+        mode: mode,
+        second: q.second,
+        number: Number {
+            count: n,
+            digits: e,
+        },
+    }
+}
+
+// A phase that stores a request.
+pub fn stores(p: Phase) -> bool
+    ensures { λ r. ⌜ r ≡ stored p ⌝ }
+{
+    match p {
+        Phase::Free => false,
+        Phase::Offered(_) => true,
+        Phase::RingBack(_) => true,
+        Phase::RingAgain(_) => true,
+        Phase::Acknowledged(_) => true,
+        Phase::Dialling(_, _) => true,
+        Phase::Answered(_, _) => true,
+        Phase::Hold(_, _) => true,
+        Phase::Taken => false,
+    }
+}
+
+fn tidy_slot(s: Slot) -> Slot
+    ensures { λ r. ⌜ r ≡ tidySlot s ⌝ }
+{
+    let p = s.phase;
+    let c = s.channel;
+    let q = s.request;
+    if stores(p) {
+        let t = tidy_request(q);
+        return Slot {
+            phase: p,
+            channel: c,
+            request: t,
+        };
+    }
+    let b = blank_request();
+    Slot {
+        phase: p,
+        channel: c,
+        request: b,
+    }
+}
+
+pub fn blank_slot() -> Slot
+    ensures { λ r. ⌜ r ≡ blankSlot ⌝ }
+{
+    let b = blank_request();
+    Slot {
+        phase: Phase::Free,
+        channel: Channel(0),
+        request: b,
+    }
+}
+
+fn tidy_waiting(w: Waiting) -> Waiting
+    ensures { λ r. ⌜ r ≡ tidyWaiting w ⌝ }
+{
+    let t = w.due;
+    let q = w.request;
+    let n = tidy_request(q);
+    Waiting { due: t, request: n }
+}
+
+pub fn blank_waiting() -> Waiting
+    ensures { λ r. ⌜ r ≡ blankWaiting ⌝ }
+{
+    let b = blank_request();
+    Waiting {
+        due: Tenths(0),
+        request: b,
+    }
+}
+
+// The first n slots tidied, the others blank.
+pub fn tidy_slots(a: [Slot; 16], n: u8) -> [Slot; 16]
+    ensures { λ r. ⌜ r ≡ padded blankSlot 16 (viewed tidySlot n a) ⌝ }
+{
+    let blank = blank_slot();
+    let mut b = [blank; 16];
+    let m = least(n, 16);
+    let mut i: u8 = 0;
+    while i < m {
+        let s = a[i as usize];
+        let t = tidy_slot(s);
+        b[i as usize] = t;
+        i += 1;
+    }
+    b
+}
+
+// The first n waiting ships tidied, the others blank.
+pub fn tidy_queue(a: [Waiting; 32], n: u8) -> [Waiting; 32]
+    ensures { λ r. ⌜ r ≡ padded blankWaiting 32 (viewed tidyWaiting n a) ⌝ }
+{
+    let blank = blank_waiting();
+    let mut b = [blank; 32];
+    let m = least(n, 32);
+    let mut i: u8 = 0;
+    while i < m {
+        let w = a[i as usize];
+        let t = tidy_waiting(w);
+        b[i as usize] = t;
+        i += 1;
+    }
+    b
+}

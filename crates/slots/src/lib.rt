@@ -1,0 +1,66 @@
+// The slots and the waiting ships of a station, and what is done with one of them or with an array of them.
+pub mod dues;
+pub mod finding;
+pub mod laying;
+pub mod places;
+pub mod queue;
+pub mod sameness;
+
+use requests::Request;
+use units::Channel;
+use units::Tenths;
+use units::Told;
+
+// The carrier of a call, and when its absence falls due.
+pub enum Carrier {
+    Present,
+    Lost(Tenths),
+}
+
+// Each with its due time; an answered call with the time since when.
+pub enum Phase {
+    Free,
+    Offered(Tenths),
+    RingBack(Tenths),
+    RingAgain(Tenths),
+    Acknowledged(Tenths),
+    Dialling(Tenths, Carrier),
+    Answered(Tenths, Carrier),
+    Hold(Tenths, Told),
+    Taken,
+}
+
+pub struct Slot {
+    pub phase: Phase,
+    pub channel: Channel,
+    pub request: Request,
+}
+
+pub struct Waiting {
+    pub due: Tenths,
+    pub request: Request,
+}
+
+// Which wait falls due: a place in the queue, a slot's carrier loss, a slot's other wait.
+pub enum Wait {
+    Entry(u8),
+    Loss(u8),
+    Main(u8),
+}
+
+pub enum Due {
+    Never,
+    In(Tenths, Wait),
+}
+
+pub enum Found {
+    At(u8),
+    Nothing,
+}
+
+// Where a ship stands: in a slot, or at a place in the queue.
+pub enum Standing {
+    Nowhere,
+    Holds(u8),
+    Waits(u8),
+}

@@ -1,0 +1,94 @@
+// One place of an array: a slot, a waiting ship.
+ghost use mathlib.Core.Path.{_≡_};
+ghost use lib.ListN.{length, getD};
+ghost use Rattle.rules.specs.Places.{modAt};
+ghost use Rattle.rules.specs.Station.{free};
+ghost use Rattle.requests.specs.Views.{viewed, itself, requestOf};
+ghost use Rattle.slots.specs.Views.{slotView, phaseView, waitingView, channelOf};
+ghost use Rattle.slots.specs.Images.{blankSlot, blankWaiting};
+ghost use Rattle.slots.specs.Changes.{putIn};
+use crate::Phase;
+use crate::Slot;
+use crate::Waiting;
+use crate::laying::blank_slot;
+use crate::laying::blank_waiting;
+use requests::Request;
+use requests::least;
+use units::Channel;
+
+// The slot i of n.
+pub fn slot_in(a: [Slot; 16], n: u8, i: u8) -> Slot
+    ensures { λ r. ⌜ r ≡ getD (viewed itself n a) i blankSlot ⌝ }
+    ensures { λ r. ⌜ slotView r ≡ getD (viewed slotView n a) i free ⌝ }
+{
+    let m = least(n, 16);
+    if m <= i {
+        return blank_slot();
+    }
+    a[i as usize]
+}
+
+// The channel of the slot i of n.
+pub fn channel_in(a: [Slot; 16], n: u8, i: u8) -> Channel
+    ensures { λ r. ⌜ r ≡ getD (viewed channelOf n a) i (record { 0 = 0 }) ⌝ }
+{
+    let m = least(n, 16);
+    if m <= i {
+        return Channel(0);
+    }
+    let s = a[i as usize];
+    s.channel
+}
+
+// The slots with another phase and request at i, its channel kept.
+pub fn put_in(mut a: [Slot; 16], n: u8, i: u8, p: Phase, q: Request) -> [Slot; 16]
+    ensures { λ r. ⌜ r ≡ putIn a i p q ⌝ }
+    ensures { λ r. ⌜ viewed slotView n r ≡ modAt (λ y. phaseView p (requestOf q)) i (viewed slotView n a) ⌝ }
+    ensures { λ r. ⌜ viewed channelOf n r ≡ viewed channelOf n a ⌝ }
+{
+    if 16 <= i {
+        return a;
+    }
+    let s = a[i as usize];
+    let c = s.channel;
+    a[i as usize] = Slot {
+        phase: p,
+        channel: c,
+        request: q,
+    };
+    a
+}
+
+// The count of slots.
+pub fn held(a: [Slot; 16], n: u8) -> u8
+    ensures { λ r. ⌜ r ≡ length (viewed slotView n a) ⌝ }
+{
+    least(n, 16)
+}
+
+// The waiting ship at k of n.
+pub fn waiting_in(a: [Waiting; 32], n: u8, k: u8) -> Waiting
+    ensures { λ r. ⌜ r ≡ getD (viewed itself n a) k blankWaiting ⌝ }
+    ensures { λ r. ⌜ waitingView r ≡ getD (viewed waitingView n a) k (waitingView blankWaiting) ⌝ }
+{
+    let m = least(n, 32);
+    if m <= k {
+        return blank_waiting();
+    }
+    a[k as usize]
+}
+
+// The ship that has waited longest: "oldest first".
+pub fn oldest(a: [Waiting; 32], n: u8) -> Waiting
+    ensures { λ r. ⌜ r ≡ getD (viewed itself n a) 0 blankWaiting ⌝ }
+    ensures { λ r. ⌜ waitingView r ≡ getD (viewed waitingView n a) 0 (waitingView blankWaiting) ⌝ }
+{
+    waiting_in(a, n, 0)
+}
+
+// The count of waiting ships.
+pub fn in_line(a: [Waiting; 32], n: u8) -> u8
+    ensures { λ r. ⌜ r ≡ length (viewed waitingView n a) ⌝ }
+{
+    least(n, 32)
+}

@@ -1,0 +1,79 @@
+// The queue changed: a ship leaves it, joins it, or asks for something else.
+ghost use mathlib.Core.Path.{_≡_};
+ghost use mathlib.Core.List.{[], _∷_, _++_};
+ghost use Prim.Native.Nat.{_+_, _-_, _<_};
+ghost use lib.ListN.{set};
+ghost use Rattle.rules.specs.Places.{modAt, dropAt};
+ghost use Rattle.requests.specs.Views.{viewed, requestOf};
+ghost use Rattle.slots.specs.Views.{waitingView};
+ghost use Rattle.slots.specs.Images.{blankWaiting};
+ghost use Rattle.slots.specs.Changes.{without, cutIn, cutLine, replaceIn};
+use crate::Waiting;
+use crate::laying::blank_waiting;
+use requests::Request;
+use requests::least;
+
+// The array without its entry k, the later ones moved up, and a blank last.
+fn closed_up(mut a: [Waiting; 32], k: usize) -> [Waiting; 32]
+    requires { ⌜ k < 32 ⌝ }
+    ensures { λ r. ⌜ r ≡ without blankWaiting a k ⌝ }
+{
+    let mut i = k;
+    while i < 31 {
+        let w = a[i + 1];
+        a[i] = w;
+        i += 1;
+    }
+    let b = blank_waiting();
+    a[31] = b;
+    a
+}
+
+// The count of waiting ships once that at k is gone.
+pub fn cut_count(n: u8, k: u8) -> u8
+    ensures { λ r. ⌜ r ≡ cutLine n k ⌝ }
+{
+    let m = least(n, 32);
+    if m <= k {
+        return n;
+    }
+    m - 1
+}
+
+// The waiting ships without that at k, where there is one.
+pub fn cut_in(a: [Waiting; 32], n: u8, k: u8) -> [Waiting; 32]
+    ensures { λ r. ⌜ r ≡ cutIn a n k ⌝ }
+    ensures { λ r. ⌜ viewed waitingView (cutLine n k) r ≡ dropAt k (viewed waitingView n a) ⌝ }
+{
+    let m = least(n, 32);
+    if m <= k {
+        return a;
+    }
+    closed_up(a, k as usize)
+}
+
+// The n waiting ships with one more at the end, where there is room.
+pub fn join_in(mut a: [Waiting; 32], n: u8, w: Waiting) -> [Waiting; 32]
+    ensures { λ r. ⌜ r ≡ set a n w ⌝ }
+    ensures { λ r. ⌜ (n < 32 → viewed waitingView (n + 1) r ≡ viewed waitingView n a ++ (waitingView w ∷ [])) ⌝ }
+{
+    if 32 <= n {
+        return a;
+    }
+    a[n as usize] = w;
+    a
+}
+
+// Rule d: the waiting ship at k asks for q, its place and due time kept.
+pub fn replace_in(mut a: [Waiting; 32], n: u8, k: u8, q: Request) -> [Waiting; 32]
+    ensures { λ r. ⌜ r ≡ replaceIn a k q ⌝ }
+    ensures { λ r. ⌜ viewed waitingView n r ≡ modAt (λ w. record { request = requestOf q; due = w .due }) k (viewed waitingView n a) ⌝ }
+{
+    if 32 <= k {
+        return a;
+    }
+    let w = a[k as usize];
+    let t = w.due;
+    a[k as usize] = Waiting { due: t, request: q };
+    a
+}

@@ -1,0 +1,4 @@
+pub mod ApartLaws
+pub mod KeepLaws
+pub mod FitLaws
+pub mod Settled
