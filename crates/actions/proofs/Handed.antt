@@ -1,22 +1,20 @@
 -- Everything that an accepted event sends is a sequence: the blocks that the rack hands out are those of the rules.
 use Prim.Native.Nat.{ℕ}
 use mathlib.Core.Path.{_≡_, refl}
-use mathlib.Core.Bool.{Bool, true, false, _&&_}
+use mathlib.Core.Bool.{true}
 use mathlib.Core.List.{List, map}
 use mathlib.Core.Option.{none}
 use native.Mathlib.Omega.{arith}
-use lib.Dec.{leb}
 use lib.ListN.{length, take, getD, length-take}
-use borrow.Author.Tests.{leb-true, le-leb, eqb-true}
+use borrow.Author.Tests.{le-leb, eqb-true}
 use Rattle.sequence.specs.declared.Meaning.{Meaning}
 use Rattle.sequence.specs.declared.Number.{Number}
 use Rattle.sequence.specs.Answers.{isDone}
-use Rattle.sequence.specs.Identity.{isShip, isCoast, identitiesOk}
+use Rattle.sequence.specs.Identity.{isCoast}
 use Rattle.sequence.specs.Field.{unableSecond}
 use Rattle.sequence.specs.Number.{numberOk}
 use Rattle.sequence.specs.Layout.{valid}
 use Rattle.sequence.specs.Reading.{readingOf}
-use Rattle.sequence.proofs.Tests.{both-true}
 use Rattle.writing.proofs.Valid.{parts}
 use Rattle.writing.proofs.EvenedLaws.{fit, all-take}
 use Rattle.rules.specs.Words.{Party, Request, Config, Happened, What, tick, onChannel70, onSlot, Event, unable}
@@ -30,7 +28,7 @@ use Rattle.rules.specs.Requests.{standing, ruleA}
 use Rattle.rules.specs.Calls.{heardOn70, actAt, act}
 use Rattle.rules.specs.Verdict.{readIn, verdict}
 use Rattle.rules.proofs.KindLaws.{only-these}
-use Rattle.rules.proofs.Readable.{heard-keeps}
+use Rattle.rules.proofs.Readable.{heard-keeps, from-ship}
 use Rattle.rules.proofs.SentLaws.{unable-valid}
 use Rattle.rules.proofs.Stored.{Stored, clock-stored}
 use Rattle.rules.proofs.Accepted.{accepted, Sound, sounds}
@@ -40,21 +38,6 @@ use Rattle.actions.proofs.Speaking.{Speaks, coast, sent-blocks}
 use Rattle.actions.proofs.Saying.{Says, requested-says, bq-says, happened-says, ticked-says}
 
 -- ── a data request ───────────────────────────────────────────────────────────
-
-coast-no-ship : (n : ℕ) → isCoast n ≡ true → isShip n ≡ false
-unfolding isCoast isShip
-coast-no-ship n h = go (leb 200000000 n) refl
-  where
-    go : (b : Bool) → leb 200000000 n ≡ b → (b && leb n 799999999) ≡ false
-    go true e =
-        let a = leb-true n 7999999 (both-true (leb 2000000 n) (leb n 7999999) h .1) in
-        let k = leb-true 200000000 n e in
-        absurd (omega arith)
-    go false e = refl
-
-from-ship : (to from : ℕ) → isCoast to ≡ true → identitiesOk to from ≡ true → isShip from ≡ true
-unfolding identitiesOk
-from-ship to from k h = both-true (isCoast to) (isShip from) (rw (coast-no-ship to k) at h) .1
 
 number-keeps : (n : Number) → numberOk n ≡ true → numberKeeps (digitsIn n) ≡ true
 unfolding numberKeeps

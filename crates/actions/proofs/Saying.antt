@@ -1,17 +1,13 @@
 -- Everything that an event sends is a sequence, by the pieces of the rules, of a station whose stored requests keep them.
-use Prim.Native.Nat.{ℕ, zero, suc, _-_, _/_, _%_, _<_}
+use Prim.Native.Nat.{ℕ, zero, suc, _<_}
 use mathlib.Core.Path.{_≡_, refl}
 use mathlib.Core.Bool.{Bool, true, false, cond, not}
 use mathlib.Core.List.{List, [], _∷_}
 use mathlib.Core.Option.{Option, none, some}
 use native.Mathlib.Omega.{arith}
-use lib.Dec.{leb, ltb}
+use lib.Dec.{ltb}
 use lib.ListN.{length, getD}
-use borrow.Author.Tests.{leb-true, le-leb}
-use Rattle.units.specs.Units.{wholeSeconds, durationOf}
-use Rattle.units.specs.declared.Seconds.{Seconds}
-use Rattle.units.specs.declared.Told.the-variants.{Nothing, Lasting}
-use Rattle.sequence.specs.Field.{unableSecond, durationOk}
+use Rattle.sequence.specs.Field.{unableSecond}
 use Rattle.sequence.proofs.Tests.{both-true}
 use Rattle.rules.specs.Places.{all, Each, lowest}
 use Rattle.rules.specs.Words.{Party, is, Mode, simplex, duplex, Request, Config, Happened, heard, offHook, onHook, carrierUp, carrierDown, takes, givesBack, unable}
@@ -23,25 +19,8 @@ use Rattle.rules.specs.Sound.{configKeeps, requestKeeps, durationKeeps, slotKee
 use Rattle.rules.specs.Requests.{Out, ignored, rungBack, freedFor, freed, lasted, endActs, coastEnd, Standing, nowhere, holds, waits, placeOf, repeated, afresh, same, ruleB, ruleD, offer, ruleF, ruleG, isFree, eToG, newcomer, dToG, redial, ruleC, bOrC, requested}
 use Rattle.rules.specs.Calls.{dialNow, workingKind, workingOn, agreed, bqKind, bqFor, offHookStage, offHookOn, downOn, upOn, shipEnd, sayAgain, shipEndOn, endOn, takeOn, giveOn, offerDue, ringAgain, pendingDue, replyDue, mainOn, fire, ticked, heardOn, happenedOn}
 use Rattle.rules.proofs.PlaceLaws.{lowest-is, all-at, each-append}
-use Rattle.rules.proofs.Stored.{Stored, clock-stored, stored-closed}
+use Rattle.rules.proofs.Stored.{Stored, clock-stored, stored-closed, lasted-keeps}
 use Rattle.actions.proofs.Speaking.{Speaks, acknowledge-speaks, ringBack-speaks, unable-speaks, over-speaks}
-
--- ── the duration that is told ────────────────────────────────────────────────
-
-pub duration-keeps : (s : Seconds) → durationKeeps (durationOf s) ≡ true
-unfolding durationKeeps durationOk
-duration-keeps s = go (leb (s .0) 359999) refl
-  where
-    go : (b : Bool) → leb (s .0) 359999 ≡ b → durationKeeps (cond b (Lasting (record { hours = s .0 / 3600; minutes = s .0 / 60 % 60; seconds = s .0 % 60 })) Nothing) ≡ true
-    go true e =
-        let h = leb-true (s .0) 359999 e in
-        rw (le-leb (s .0 / 3600) 99 (omega arith), le-leb (s .0 / 60 % 60) 59 (omega arith), le-leb (s .0 % 60) 59 (omega arith)) refl
-    go false e = refl
-
-lasted-keeps : (g : Stage) (t : ℕ) → durationKeeps (lasted g t) ≡ true
-unfolding durationKeeps
-lasted-keeps (dialling d) t = refl
-lasted-keeps (answered b) t = duration-keeps (wholeSeconds (record { 0 = t - b }))
 
 -- ── places ───────────────────────────────────────────────────────────────────
 

@@ -114,7 +114,7 @@ coast-no-ship n h = go (leb 200000000 n) refl
     go true e = let a = leb-true n 7999999 (and-true (leb 2000000 n) (leb n 7999999) h .1) in let k = leb-true 200000000 n e in absurd (omega arith)
     go false e = refl
 
-from-ship : (to from : ℕ) → isCoast to ≡ true → identitiesOk to from ≡ true → isShip from ≡ true
+pub from-ship : (to from : ℕ) → isCoast to ≡ true → identitiesOk to from ≡ true → isShip from ≡ true
 unfolding identitiesOk
 from-ship to from c h = and-true (isCoast to) (isShip from) (rw (coast-no-ship to c) at h) .1
 

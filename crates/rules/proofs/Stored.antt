@@ -34,7 +34,7 @@ duration-keeps s = go (leb (s .0) 359999) refl
     go true e = let h = leb-true (s .0) 359999 e in rw (le-leb (s .0 / 3600) 99 (omega arith), le-leb (s .0 / 60 % 60) 59 (omega arith), le-leb (s .0 % 60) 59 (omega arith)) refl
     go false e = refl
 
-lasted-keeps : (g : Stage) (t : ℕ) → durationKeeps (lasted g t) ≡ true
+pub lasted-keeps : (g : Stage) (t : ℕ) → durationKeeps (lasted g t) ≡ true
 unfolding durationKeeps
 lasted-keeps (dialling d) t = refl
 lasted-keeps (answered b) t = duration-keeps (wholeSeconds (record { 0 = t - b }))

@@ -38,7 +38,7 @@ read-back v b (suc m) [] h = refl
 read-back v b zero (x ∷ l) h = absurd (not-suc-le-zero h)
 read-back v b (suc m) (x ∷ l) h = ap (λ r. v x ∷ r) (read-back v b m l (le-of-suc-le-suc h))
 
-map-itself : {A : Type 0} (l : List A) → map itself l ≡ l
+pub map-itself : {A : Type 0} (l : List A) → map itself l ≡ l
 map-itself [] = refl
 map-itself (x ∷ l) = ap (λ r. x ∷ r) (map-itself l)
 

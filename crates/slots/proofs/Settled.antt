@@ -23,7 +23,6 @@ use Rattle.slots.proofs.places.slot_in.Reads as slot-in
 use Rattle.slots.proofs.places.channel_in.Reads as channel-in
 use Rattle.slots.proofs.places.put_in.Reads as put-in
 use Rattle.slots.proofs.places.held.Reads as held
-use Rattle.slots.proofs.places.waiting_in.Reads as waiting-in
 use Rattle.slots.proofs.places.oldest.Reads as oldest
 use Rattle.slots.proofs.places.in_line.Reads as in-line
 use Rattle.slots.proofs.queue.cut_count.Reads as cut-count
@@ -94,9 +93,6 @@ put-in-settled κs a r r' s s' p q = p .0 ∙ sym (q .0)
 
 pub held-settled : (κs : Lfts 0) (a : _) (r r' : _) (s s' : _) → held.Post κs a r s → held.Post κs a r' s' → r ≡ r'
 held-settled κs a r r' s s' p q = p ∙ sym q
-
-pub waiting-in-settled : (κs : Lfts 0) (a : _) (r r' : _) (s s' : _) → waiting-in.Post κs a r s → waiting-in.Post κs a r' s' → r ≡ r'
-waiting-in-settled κs a r r' s s' p q = p .0 ∙ sym (q .0)
 
 pub oldest-settled : (κs : Lfts 0) (a : _) (r r' : _) (s s' : _) → oldest.Post κs a r s → oldest.Post κs a r' s' → r ≡ r'
 oldest-settled κs a r r' s s' p q = p .0 ∙ sym (q .0)

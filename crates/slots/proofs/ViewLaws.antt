@@ -1,23 +1,15 @@
 -- What a record stands for: laid out again it is the record, and two records that stand for one thing are one.
-use Prim.Native.Nat.{ℕ, zero, suc, _≤_}
 use mathlib.Core.Bool.{false, cond}
-use mathlib.Core.List.{List, [], _∷_}
-use mathlib.Core.Option.{Option, none, some}
+use mathlib.Core.List.{List, _∷_}
 use mathlib.Core.Path.{_≡_, refl, ap}
-use native.Mathlib.Nat.{le-of-suc-le-suc, not-suc-le-zero}
-use lib.ListN.{length}
-use Rattle.units.specs.declared.Channel.{Channel}
 use Rattle.rules.specs.Words as W
-use Rattle.rules.specs.Words.{is, Party, simplex, duplex}
-use Rattle.rules.specs.Bytes.{padded}
+use Rattle.rules.specs.Words.{is, Party}
 use Rattle.rules.specs.Waits as T
-use Rattle.rules.specs.Station as R
-use Rattle.rules.specs.Station.{free, taken, pending, busy, held, offered, firstRing, secondRing, acknowledged, dialling, answered}
 use Rattle.rules.specs.Requests.{owns}
 use Rattle.rules.specs.Sound.{owner}
 use Rattle.requests.specs.declared.Mode.{Mode}
 use Rattle.requests.specs.declared.Mode.the-variants.{Simplex, Duplex}
-use Rattle.requests.specs.Views.{viewed, itself, modeOf, digitsOf, requestOf}
+use Rattle.requests.specs.Views.{modeOf}
 use Rattle.requests.specs.Images.{modeImage, requestImage, blankRequest}
 use Rattle.slots.specs.declared.Carrier.{Carrier}
 use Rattle.slots.specs.declared.Carrier.the-variants.{Present, Lost}
@@ -31,8 +23,8 @@ use Rattle.slots.specs.declared.Found.{Found}
 use Rattle.slots.specs.declared.Found.the-variants.{At, Nothing}
 use Rattle.slots.specs.declared.Standing.{Standing}
 use Rattle.slots.specs.declared.Standing.the-variants.{Nowhere, Holds, Waits}
-use Rattle.slots.specs.Views.{carrierOf, phaseView, slotView, waitingView, waitView, dueView, foundView, standingView, stored, owned}
-use Rattle.slots.specs.Images.{carrierImage, phaseImage, storedImage, slotImage, waitingImage}
+use Rattle.slots.specs.Views.{carrierOf, phaseView, waitView, dueView, foundView, standingView, stored, owned}
+use Rattle.slots.specs.Images.{carrierImage, phaseImage, storedImage}
 
 -- ── a phase laid out again is the phase, and its request is kept where the phase stores one ──
 

@@ -67,7 +67,7 @@ pub fn held(a: [Slot; 16], n: u8) -> u8
 }
 
 // The waiting ship at k of n.
-pub fn waiting_in(a: [Waiting; 32], n: u8, k: u8) -> Waiting
+fn waiting_in(a: [Waiting; 32], n: u8, k: u8) -> Waiting
     ensures { λ r. ⌜ r ≡ getD (viewed itself n a) k blankWaiting ⌝ }
     ensures { λ r. ⌜ waitingView r ≡ getD (viewed waitingView n a) k (waitingView blankWaiting) ⌝ }
 {

@@ -1,7 +1,7 @@
--- What is stored keeps the rules of every station with the same identity.
+-- What is stored keeps the rules of every station with the same identity; the elements in use, as they are.
 use Prim.Native.Nat.{ℕ}
-use mathlib.Core.List.{List, [], _∷_, map}
-use mathlib.Core.Path.{_≡_, refl, ap}
+use mathlib.Core.List.{List, [], _∷_}
+use mathlib.Core.Path.{_≡_, refl}
 use lib.ListN.{take}
 use Rattle.units.specs.declared.Channel.{Channel}
 use Rattle.rules.specs.Places.{all}
@@ -9,6 +9,7 @@ use Rattle.rules.specs.Station as R
 use Rattle.rules.specs.Station.{free, taken, pending, busy, held}
 use Rattle.rules.specs.Sound.{requestKeeps, slotKeeps, waitingKeeps}
 use Rattle.requests.specs.Views.{viewed, itself}
+use Rattle.slots.proofs.ImageLaws.{map-itself}
 
 module _ (i : ℕ) (c d : List Channel) where
   slot-alike : (s : R.Slot) → slotKeeps (record { identity = i; channels = c }) s ≡ slotKeeps (record { identity = i; channels = d }) s
@@ -30,8 +31,4 @@ module _ (i : ℕ) (c d : List Channel) where
 
 pub viewed-take : {A : Type 0} (n : ℕ) (l : List A) → viewed itself n l ≡ take n l
 unfolding viewed
-viewed-take n l = go (take n l)
-  where
-    go : {A : Type 0} (l : List A) → map itself l ≡ l
-    go [] = refl
-    go (x ∷ l) = ap (λ r. x ∷ r) (go l)
+viewed-take n l = map-itself (take n l)
