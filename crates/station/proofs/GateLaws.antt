@@ -1,0 +1,137 @@
+-- The tests of an event one behind the other, and what an accepted event has passed.
+use Prim.Native.Nat.{ℕ, _≤_, _<_}
+use mathlib.Core.Bool.{Bool, true, false, cond, not, _&&_}
+use mathlib.Core.Option.{Option, none, some}
+use mathlib.Core.Path.{_≡_, refl, sym}
+use lib.Dec.{leb, ltb}
+use lib.ListN.{length, getD}
+use native.Mathlib.Omega.{arith}
+use borrow.Author.Tests.{leb-true, ltb-true}
+use Rattle.sequence.specs.Answers.{answerNumber, isDone}
+use Rattle.rules.specs.Places.{isSome, all}
+use Rattle.rules.specs.Words.{Happened, offHook, onHook, carrierUp, carrierDown, tick, onSlot, Event}
+use Rattle.rules.specs.Station.{free, fires}
+use Rattle.rules.specs.Sound.{sound}
+use Rattle.rules.proofs.PlaceLaws.{and-true}
+use Rattle.requests.proofs.ArrayLaws.{viewed-length}
+use Rattle.requests.specs.Views.{viewed, itself}
+use Rattle.slots.specs.Views.{slotView}
+use Rattle.soundness.specs.Soundly.{slotExact, waitingExact, soundly}
+use Rattle.rules.specs.Verdict.{overtaken, slotThere, readOn, barredOn, refusals, verdict}
+use Rattle.station.specs.declared.Station.{Station}
+use Rattle.station.specs.Model.{modelOf, configOf}
+use Rattle.station.specs.Step.{recordsKeep, refusal}
+use Rattle.station.specs.Draft.{andThen}
+
+pub not-not : (b : Bool) → not (not b) ≡ b
+not-not true = refl
+not-not false = refl
+
+pub some-if : {A : Type 0} (b : Bool) (a : A) → b ≡ isSome (cond b (some a) none)
+some-if true a = refl
+some-if false a = refl
+
+module _ (s : Station) (n t : ℕ) where
+  -- 29 to 32
+  pub tick-asked : andThen (andThen (andThen (andThen none (recordsKeep s && sound (configOf s) (modelOf s)) 29) (leb 320 n) 30) (leb t 4000000000) 31) (leb (s .clock .0) t) 32 ≡ refusal s (record { time = t; room = n; what = tick })
+  unfolding refusal refusals modelOf
+  tick-asked = go (recordsKeep s) (sound (configOf s) (modelOf s)) (leb 320 n) (leb t 4000000000) (leb (s .clock .0) t)
+    where
+      go : (a b c d e : Bool) → andThen (andThen (andThen (andThen none (a && b) 29) c 30) d 31) e 32 ≡ cond a (cond b (cond c (cond d (cond e none (some 32)) (some 31)) (some 30)) (some 29)) (some 29)
+      go false b c d e = refl
+      go true false c d e = refl
+      go true true false d e = refl
+      go true true true false e = refl
+      go true true true true e = refl
+
+  -- and 33, 34
+  pub slot-asked : (i : ℕ) → andThen (andThen (refusal s (record { time = t; room = n; what = tick })) (not (isSome (fires t (modelOf s)))) 33) (ltb i (length (modelOf s .slots))) 34 ≡ refusal s (record { time = t; room = n; what = onSlot i offHook })
+  unfolding refusal refusals
+  slot-asked i = go (recordsKeep s) (sound (configOf s) (modelOf s)) (leb 320 n) (leb t 4000000000) (leb (modelOf s .clock) t) (not (isSome (fires t (modelOf s)))) (ltb i (length (modelOf s .slots)))
+    where
+      go : (a b c d e f g : Bool) → andThen (andThen (cond a (cond b (cond c (cond d (cond e none (some 32)) (some 31)) (some 30)) (some 29)) (some 29)) f 33) g 34 ≡ cond a (cond b (cond c (cond d (cond e (cond f (cond g none (some 34)) (some 33)) (some 32)) (some 31)) (some 30)) (some 29)) (some 29)
+      go false b c d e f g = refl
+      go true false c d e f g = refl
+      go true true false d e f g = refl
+      go true true true false e f g = refl
+      go true true true true false f g = refl
+      go true true true true true false g = refl
+      go true true true true true true g = refl
+
+  -- the same for what else happens on a slot and is never barred
+  pub up-asked : (i : ℕ) → refusal s (record { time = t; room = n; what = onSlot i offHook }) ≡ refusal s (record { time = t; room = n; what = onSlot i carrierUp })
+  unfolding refusal refusals
+  up-asked i = refl
+
+  pub down-asked : (i : ℕ) → refusal s (record { time = t; room = n; what = onSlot i offHook }) ≡ refusal s (record { time = t; room = n; what = onSlot i carrierDown })
+  unfolding refusal refusals
+  down-asked i = refl
+
+  pub hook-asked : (i : ℕ) → refusal s (record { time = t; room = n; what = onSlot i offHook }) ≡ refusal s (record { time = t; room = n; what = onSlot i onHook })
+  unfolding refusal refusals
+  hook-asked i = refl
+
+  -- and the event's own: 11 to 20, 35
+  pub more-asked : (i : ℕ) (h : Happened) → andThen (andThen (refusal s (record { time = t; room = n; what = onSlot i offHook })) (isDone (readOn h)) (answerNumber (readOn h))) (not (barredOn (getD (modelOf s .slots) i free) h)) 35 ≡ refusal s (record { time = t; room = n; what = onSlot i h })
+  unfolding refusal refusals
+  more-asked i h = go (recordsKeep s) (sound (configOf s) (modelOf s)) (leb 320 n) (leb t 4000000000) (leb (modelOf s .clock) t) (not (isSome (fires t (modelOf s)))) (ltb i (length (modelOf s .slots))) (isDone (readOn h)) (not (barredOn (getD (modelOf s .slots) i free) h)) (answerNumber (readOn h))
+    where
+      go : (a b c d e f g x y : Bool) (k : ℕ) → andThen (andThen (cond a (cond b (cond c (cond d (cond e (cond f (cond g none (some 34)) (some 33)) (some 32)) (some 31)) (some 30)) (some 29)) (some 29)) x k) y 35 ≡ cond a (cond b (cond c (cond d (cond e (cond f (cond g (cond x (cond y none (some 35)) (some k)) (some 34)) (some 33)) (some 32)) (some 31)) (some 30)) (some 29)) (some 29)
+      go false b c d e f g x y k = refl
+      go true false c d e f g x y k = refl
+      go true true false d e f g x y k = refl
+      go true true true false e f g x y k = refl
+      go true true true true false f g x y k = refl
+      go true true true true true false g x y k = refl
+      go true true true true true true false x y k = refl
+      go true true true true true true true false y k = refl
+      go true true true true true true true true y k = refl
+
+-- what an accepted event has passed
+pub record Passed (s : Station) (e : Event) : Type 0 where
+  pub records : recordsKeep s ≡ true
+  pub sounds : sound (configOf s) (modelOf s) ≡ true
+  pub room : 320 ≤ e .room
+  pub time : e .time ≤ 4000000000
+  pub there : slotThere (length (modelOf s .slots)) (e .what) ≡ true
+  pub judged : verdict (configOf s) (modelOf s) e ≡ none
+
+one : (b : Bool) (n : ℕ) (x : Option ℕ) → none ≡ cond b x (some n) → (b ≡ true) × (none ≡ x)
+one true n x h = (refl, h)
+one false n x h = let k : _≡_ {A = Option ℕ} none (some n) = h in (cc, cc)
+
+pub passed : (s : Station) (e : Event) → none ≡ refusal s e → Passed s e
+unfolding refusal refusals verdict
+passed s e h =
+    let a = one (recordsKeep s) 29 _ h in
+    let b = one (sound (configOf s) (modelOf s)) 29 _ (a .1) in
+    let c = one (leb 320 (e .room)) 30 _ (b .1) in
+    let d = one (leb (e .time) 4000000000) 31 _ (c .1) in
+    let f = one (leb (modelOf s .clock) (e .time)) 32 _ (d .1) in
+    let g = one (not (overtaken (modelOf s) (e .time) (e .what))) 33 _ (f .1) in
+    let k = one (slotThere (length (modelOf s .slots)) (e .what)) 34 _ (g .1) in
+    record { records = a .0; sounds = b .0; room = leb-true 320 (e .room) (c .0); time = leb-true (e .time) 4000000000 (d .0); there = k .0; judged = sym (a .1) }
+
+-- a slot that is there has a number below 16
+pub slot-small : (s : Station) (n t i : ℕ) (h : Happened) → none ≡ refusal s (record { time = t; room = n; what = onSlot i h }) → i < 16
+unfolding recordsKeep modelOf
+slot-small s n t i h k =
+    let p = passed s (record { time = t; room = n; what = onSlot i h }) k in
+    let a = leb-true (s .count) 16 (and-true (leb (s .count) 16) _ (p .records) .0) in
+    let b = ltb-true i (length (modelOf s .slots)) (p .there) in
+    omega (arith, viewed-length slotView (s .count) (s .slots))
+
+-- the parts of soundness, in the order of the tests
+apart : (a b x y : Bool) → (a && (b && (x && y))) ≡ ((a && (b && y)) && x)
+apart false b x y = refl
+apart true false x y = refl
+apart true true true true = refl
+apart true true true false = refl
+apart true true false true = refl
+apart true true false false = refl
+
+pub sound-is : (s : Station) → soundly (s .identity) (s .clock) (s .count) (s .slots) (s .waiting) (s .queue) ≡ (recordsKeep s && sound (configOf s) (modelOf s))
+unfolding soundly recordsKeep configOf modelOf
+sound-is s =
+    apart (leb (s .count) 16) (leb (s .waiting) 32) (sound (configOf s) (modelOf s))
+    (all slotExact (viewed itself (s .count) (s .slots)) && all waitingExact (viewed itself (s .waiting) (s .queue)))

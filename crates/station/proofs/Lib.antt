@@ -1,0 +1,9 @@
+pub mod DraftLaws
+pub mod CallLaws
+pub mod GateLaws
+pub mod PlanLaws
+pub mod StepLaws
+pub mod TickLaws
+pub mod SetLaws
+pub mod ImageLaws
+pub mod Settled

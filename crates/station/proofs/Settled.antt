@@ -1,0 +1,48 @@
+-- Any two results that meet a contract are equal.
+use mathlib.Core.Path.{_≡_, sym, _∙_}
+use contract.Lifetimes.{Lfts}
+use Rattle.station.proofs.Station.next_due.Reads as Station-next-due
+use Rattle.station.proofs.Station.off_hook.Reads as Station-off-hook
+use Rattle.station.proofs.Station.carrier_up.Reads as Station-carrier-up
+use Rattle.station.proofs.Station.carrier_down.Reads as Station-carrier-down
+use Rattle.station.proofs.Station.take.Reads as Station-take
+use Rattle.station.proofs.Station.on_hook.Reads as Station-on-hook
+use Rattle.station.proofs.Station.give_back.Reads as Station-give-back
+use Rattle.station.proofs.Station.set_up.Reads as Station-set-up
+use Rattle.station.proofs.Station.tick.Reads as Station-tick
+
+pub Station-next-due-settled : (κs : Lfts 0) (a : _) (r r' : _) (s s' : _)
+    → Station-next-due.Post κs a r s → Station-next-due.Post κs a r' s' → r ≡ r'
+Station-next-due-settled κs a r r' s s' p q = p ∙ sym q
+
+pub Station-off-hook-settled : (κs : Lfts 1) (a : _) (r r' : _) (s s' : _)
+    → Station-off-hook.Post κs a r s → Station-off-hook.Post κs a r' s' → (r ≡ r') × (s .1 .1 .1 .0 .now ≡ s' .1 .1 .1 .0 .now)
+Station-off-hook-settled κs a r r' s s' p q = (p .0 ∙ sym (q .0), p .1 ∙ sym (q .1))
+
+pub Station-carrier-up-settled : (κs : Lfts 1) (a : _) (r r' : _) (s s' : _)
+    → Station-carrier-up.Post κs a r s → Station-carrier-up.Post κs a r' s' → (r ≡ r') × (s .1 .1 .1 .0 .now ≡ s' .1 .1 .1 .0 .now)
+Station-carrier-up-settled κs a r r' s s' p q = (p .0 ∙ sym (q .0), p .1 ∙ sym (q .1))
+
+pub Station-carrier-down-settled : (κs : Lfts 1) (a : _) (r r' : _) (s s' : _)
+    → Station-carrier-down.Post κs a r s → Station-carrier-down.Post κs a r' s' → (r ≡ r') × (s .1 .1 .1 .0 .now ≡ s' .1 .1 .1 .0 .now)
+Station-carrier-down-settled κs a r r' s s' p q = (p .0 ∙ sym (q .0), p .1 ∙ sym (q .1))
+
+pub Station-take-settled : (κs : Lfts 1) (a : _) (r r' : _) (s s' : _)
+    → Station-take.Post κs a r s → Station-take.Post κs a r' s' → (r ≡ r') × (s .1 .1 .1 .0 .now ≡ s' .1 .1 .1 .0 .now)
+Station-take-settled κs a r r' s s' p q = (p .0 ∙ sym (q .0), p .1 ∙ sym (q .1))
+
+pub Station-on-hook-settled : (κs : Lfts 1) (a : _) (r r' : _) (s s' : _)
+    → Station-on-hook.Post κs a r s → Station-on-hook.Post κs a r' s' → (r ≡ r') × (s .1 .1 .1 .0 .now ≡ s' .1 .1 .1 .0 .now)
+Station-on-hook-settled κs a r r' s s' p q = (p .0 ∙ sym (q .0), p .1 ∙ sym (q .1))
+
+pub Station-give-back-settled : (κs : Lfts 1) (a : _) (r r' : _) (s s' : _)
+    → Station-give-back.Post κs a r s → Station-give-back.Post κs a r' s' → (r ≡ r') × (s .1 .1 .1 .0 .now ≡ s' .1 .1 .1 .0 .now)
+Station-give-back-settled κs a r r' s s' p q = (p .0 ∙ sym (q .0), p .1 ∙ sym (q .1))
+
+pub Station-set-up-settled : (κs : Lfts 1) (a : _) (r r' : _) (s s' : _)
+    → Station-set-up.Post κs a r s → Station-set-up.Post κs a r' s' → r ≡ r'
+Station-set-up-settled κs a r r' s s' p q = p ∙ sym q
+
+pub Station-tick-settled : (κs : Lfts 1) (a : _) (r r' : _) (s s' : _)
+    → Station-tick.Post κs a r s → Station-tick.Post κs a r' s' → (r ≡ r') × (s .1 .1 .0 .now ≡ s' .1 .1 .0 .now)
+Station-tick-settled κs a r r' s s' p q = (p .0 ∙ sym (q .0), p .1 ∙ sym (q .1))

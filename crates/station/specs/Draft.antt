@@ -1,0 +1,128 @@
+-- A step in the making, and the words by which its pieces are put together; only the proofs need them.
+use Prim.Native.Nat.{ℕ}
+use mathlib.Core.Bool.{Bool, cond}
+use mathlib.Core.List.{List, [], _∷_, _++_, map}
+use mathlib.Core.Option.{Option, none, some}
+use lib.ListN.{getD}
+use Rattle.units.specs.declared.Told.{Told}
+use Rattle.rules.specs.Actions.{does, over, theCoast}
+use Rattle.rules.specs.Words.{carrierOff, releaseLine, Config, Request}
+use Rattle.rules.specs.Station as R
+use Rattle.rules.specs.Station.{free, taken, pending, busy, held, setSlot, setClock, setQueue, nextDue}
+use Rattle.rules.specs.Requests.{Out, also, freed}
+use Rattle.slots.specs.Views.{carrierOf}
+use Rattle.rules.specs.Waits.{Wait}
+use Rattle.rules.specs.Calls.{fire}
+use Rattle.slots.specs.declared.Slot.{Slot}
+use Rattle.slots.specs.Images.{slotImage}
+use Rattle.actions.specs.Blocks.{clip, handed, putCount, putRoom}
+use Rattle.actions.specs.Sent.{sentBlock}
+use Rattle.station.specs.declared.Plan.{Plan}
+use Rattle.station.specs.declared.Stepped.{Stepped}
+use Rattle.station.specs.declared.Verdict.{Verdict}
+use Rattle.station.specs.declared.Verdict.the-variants.{Accepted, Refused}
+use Rattle.station.specs.declared.Call.{Call}
+use Rattle.station.specs.declared.Call.the-variants.{NoCall, Dialling, Answered}
+use Rattle.station.specs.Model.{modelOf, configOf, imageOf}
+use Rattle.station.specs.Step.{dueImage}
+
+-- ── a verdict ────────────────────────────────────────────────────────────────
+
+abbrev pub verdictOf : Verdict → Option ℕ
+verdictOf Accepted = none
+verdictOf (Refused n) = some n
+
+-- one test more behind those that were passed
+abbrev pub andThen : Option ℕ → Bool → ℕ → Option ℕ
+andThen none b n = cond b none (some n)
+andThen (some k) b n = some k
+
+-- ── a call ───────────────────────────────────────────────────────────────────
+
+pub record Busy : Type 0 where
+  pub request : Request
+  pub stage : R.Stage
+  pub loss : Option ℕ
+
+abbrev pub busyIn : R.Slot → Option Busy
+busyIn free = none
+busyIn taken = none
+busyIn (pending k r d) = none
+busyIn (busy r g c) = some (record { request = r; stage = g; loss = c })
+busyIn (held r n d) = none
+
+abbrev pub busyOf : Call → Request → Option Busy
+busyOf NoCall r = none
+busyOf (Dialling t c) r = some (record { request = r; stage = R.dialling (t .0); loss = carrierOf c })
+busyOf (Answered t c) r = some (record { request = r; stage = R.answered (t .0); loss = carrierOf c })
+
+-- ── a draft ──────────────────────────────────────────────────────────────────
+
+pub record Draft : Type 0 where
+  pub answer : ℕ
+  pub config : Config
+  pub station : R.Station
+  pub blocks : List (List ℕ)
+
+unfoldable pub draftOf : Plan → Draft
+draftOf p = record { answer = p .answer; config = configOf (p .station); station = modelOf (p .station); blocks = handed (p .count) (p .actions) }
+
+-- a step at the time t, with nothing done yet
+unfoldable pub opening : ℕ → Config → R.Station → Draft
+opening t c m = record { answer = 0; config = c; station = setClock t m; blocks = [] }
+
+unfoldable pub answering : ℕ → Draft → Draft
+answering a d = record { answer = a; config = d .config; station = d .station; blocks = clip (d .blocks) }
+
+-- one block more
+unfoldable pub handing : List ℕ → Draft → Draft
+handing b d = record { answer = d .answer; config = d .config; station = d .station; blocks = clip (d .blocks ++ b ∷ []) }
+
+unfoldable pub placing : ℕ → R.Slot → Draft → Draft
+placing i s d = record { answer = d .answer; config = d .config; station = setSlot i s (d .station); blocks = d .blocks }
+
+unfoldable pub lining : List R.Waiting → Draft → Draft
+lining q d = record { answer = d .answer; config = d .config; station = setQueue q (d .station); blocks = d .blocks }
+
+-- a rule of the model, carried out
+unfoldable pub doing : (R.Station → Out) → Draft → Draft
+doing f d =
+    record {
+      answer = f (d .station) .answer;
+      config = d .config;
+      station = f (d .station) .next;
+      blocks = clip (d .blocks ++ map (sentBlock (d .config)) (f (d .station) .acts));
+    }
+
+-- a rule of one slot
+unfoldable pub onSlotBy : ℕ → (R.Station → R.Slot → Out) → R.Station → Out
+onSlotBy i g st = g st (getD (st .slots) i free)
+
+-- a wait that falls due
+unfoldable pub firing : Wait → R.Station → Out
+firing w st = fire st w
+
+-- the end of a call behind its charge
+unfoldable pub closing : ℕ → Request → Told → R.Station → Out
+closing i r n st = also (does (releaseLine i) ∷ over i theCoast r n ∷ does (carrierOff i) ∷ []) (freed i st)
+
+-- a step that is an outcome of the model
+unfoldable pub drafted : Config → Out → Draft
+drafted c o = record { answer = o .answer; config = c; station = o .next; blocks = clip (map (sentBlock c) (o .acts)) }
+
+-- what is handed back, and what the room then holds
+unfoldable pub finished : ℕ → Draft → Stepped
+finished size d =
+    record {
+      answer = d .answer;
+      count = putCount (d .blocks) size;
+      due = dueImage (nextDue (d .station));
+      station = imageOf (d .config) (d .station);
+    }
+
+unfoldable pub finishedRoom : Draft → List ℕ → List ℕ
+finishedRoom d room = putRoom (d .blocks) room
+
+-- a free slot on a channel
+unfoldable pub freeOn : ℕ → Slot
+freeOn n = slotImage (record { 0 = n }) free

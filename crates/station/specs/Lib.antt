@@ -1,0 +1,3 @@
+pub mod Model
+pub mod Step
+pub mod Draft

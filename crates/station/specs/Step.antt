@@ -1,0 +1,99 @@
+-- What an event does to the station of the rack and to the room, from the rules alone.
+use Prim.Native.Nat.{ℕ, _*_}
+use mathlib.Core.Bool.{Bool, _&&_}
+use mathlib.Core.List.{List, [], _∷_, _++_, map}
+use mathlib.Core.Option.{Option, none, some}
+use lib.Dec.{leb}
+use lib.ListN.{length, drop}
+use Rattle.units.specs.declared.Channel.{Channel}
+use Rattle.units.specs.declared.Tenths.{Tenths}
+use Rattle.units.specs.declared.SlotNumber.{SlotNumber}
+use Rattle.sequence.specs.Refusals.{firstRefusal}
+use Rattle.rules.specs.Places.{all}
+use Rattle.rules.specs.Words.{Config, Happened, tick, onChannel70, onSlot, Event}
+use Rattle.rules.specs.Station.{nextDue, fresh}
+use Rattle.rules.specs.Requests.{Out}
+use Rattle.rules.specs.Calls.{act}
+use Rattle.rules.specs.Verdict.{unless, refusals, setUpVerdict}
+use Rattle.rules.specs.Bytes.{blocks}
+use Rattle.requests.specs.Views.{viewed, itself}
+use Rattle.slots.specs.Images.{tenths}
+use Rattle.soundness.specs.Soundly.{slotExact, waitingExact}
+use Rattle.station.specs.declared.Station.{Station}
+use Rattle.station.specs.declared.NextDue.{NextDue}
+use Rattle.station.specs.declared.NextDue.the-variants.{Never, At}
+use Rattle.station.specs.declared.Stepped.{Stepped}
+use Rattle.station.specs.declared.SetUp.{SetUp}
+use Rattle.station.specs.Model.{modelOf, configOf, imageOf}
+
+-- ── the events ───────────────────────────────────────────────────────────────
+
+abbrev pub tickAt : Tenths → List ℕ → Event
+tickAt time room = record { time = time .0; room = length room; what = tick }
+
+abbrev pub heardAt : Tenths → List ℕ → List ℕ → Event
+heardAt time symbols room = record { time = time .0; room = length room; what = onChannel70 symbols }
+
+abbrev pub slotAt : Tenths → SlotNumber → Happened → List ℕ → Event
+slotAt time slot h room = record { time = time .0; room = length room; what = onSlot (slot .0) h }
+
+-- ── refusals ─────────────────────────────────────────────────────────────────
+
+-- what the model does not show: a count past its array, a stored number with more than its digits
+unfoldable pub recordsKeep : Station → Bool
+recordsKeep s =
+    leb (s .count) 16
+    && (leb (s .waiting) 32
+    && (all slotExact (viewed itself (s .count) (s .slots)) && all waitingExact (viewed itself (s .waiting) (s .queue))))
+
+-- the number of the refusal, if the event is refused
+unfoldable pub refusal : Station → Event → Option ℕ
+refusal s e = firstRefusal (unless (recordsKeep s) 29 ∷ refusals (configOf s) (modelOf s) e) none
+
+-- ── what is handed back ──────────────────────────────────────────────────────
+
+abbrev pub dueImage : Option ℕ → NextDue
+dueImage none = Never
+dueImage (some t) = At (tenths t)
+
+-- "A refusal returns its number and no value .. and hands back the station unchanged, clock included."
+abbrev pub steppedFor : Station → Out → Option ℕ → Stepped
+steppedFor s o none =
+    record {
+      answer = o .answer;
+      count = length (o .acts);
+      due = dueImage (nextDue (o .next));
+      station = imageOf (configOf s) (o .next);
+    }
+steppedFor s o (some n) = record { answer = n; count = 0; due = dueImage (nextDue (modelOf s)); station = s }
+
+unfoldable pub steppedBy : Station → Event → Stepped
+steppedBy s e = steppedFor s (act (configOf s) (modelOf s) e) (refusal s e)
+
+-- ".. leaves lent bytes untouched"; "Bytes after the last action stay."
+abbrev pub roomFor : Config → List ℕ → Out → Option ℕ → List ℕ
+roomFor c room o none = blocks c (o .acts) ++ drop (40 * length (o .acts)) room
+roomFor c room o (some n) = room
+
+unfoldable pub roomAfter : Station → List ℕ → Event → List ℕ
+roomAfter s room e = roomFor (configOf s) room (act (configOf s) (modelOf s) e) (refusal s e)
+
+-- ── set-up ───────────────────────────────────────────────────────────────────
+
+abbrev pub channelNumber : ℕ → Channel
+channelNumber n = record { 0 = n }
+
+-- "slots in the list's order"
+abbrev pub given : ℕ → List ℕ → Config
+given identity channels = record { identity = identity; channels = map channelNumber channels }
+
+-- beside a refusal, "no value"
+unfoldable pub blankStation : Station
+blankStation = imageOf (given 0 []) (fresh (given 0 []))
+
+abbrev pub setUpFor : Config → Option ℕ → SetUp
+setUpFor c none = record { answer = 0; station = imageOf c (fresh c) }
+setUpFor c (some n) = record { answer = n; station = blankStation }
+
+unfoldable pub setUpBy : ℕ → List ℕ → SetUp
+setUpBy identity channels = setUpFor (given identity channels) (setUpVerdict (given identity channels))

@@ -1,0 +1,64 @@
+// The station of the rack, by value: set-up, and one method for each kind of event.
+mod calls;
+mod ending;
+mod ends;
+mod gate;
+mod operator;
+mod pieces;
+mod setting;
+mod waits;
+
+use actions::Action;
+use slots::Carrier;
+use slots::Slot;
+use slots::Waiting;
+use units::Tenths;
+
+// One slot for each of `count` channels, and `waiting` ships, oldest first.
+pub struct Station {
+    pub clock: Tenths,
+    pub identity: u32,
+    pub count: u8,
+    pub waiting: u8,
+    pub slots: [Slot; 16],
+    pub queue: [Waiting; 32],
+}
+
+pub enum NextDue {
+    Never,
+    At(Tenths),
+}
+
+// What an event hands back: the answer's number, the count of actions, the next due time, the next station.
+pub struct Stepped {
+    pub answer: u8,
+    pub count: u8,
+    pub due: NextDue,
+    pub station: Station,
+}
+
+// What set-up hands back: the answer's number, and beside 36 the blank station.
+pub struct SetUp {
+    pub answer: u8,
+    pub station: Station,
+}
+
+// A step in the making: the answer, the station and the actions so far.
+struct Plan {
+    answer: u8,
+    count: u8,
+    station: Station,
+    actions: [Action; 8],
+}
+
+enum Verdict {
+    Accepted,
+    Refused(u8),
+}
+
+// The call of a slot.
+enum Call {
+    NoCall,
+    Dialling(Tenths, Carrier),
+    Answered(Tenths, Carrier),
+}

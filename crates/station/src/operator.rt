@@ -1,0 +1,81 @@
+// The operator's hand on a slot.
+ghost use mathlib.Core.Path.{_≡_};
+ghost use Prim.Native.Nat.{_≤_};
+ghost use Rattle.rules.specs.Words.{takes, givesBack};
+ghost use Rattle.rules.specs.Calls.{takeOn, giveOn};
+ghost use Rattle.station.specs.Step.{slotAt, steppedBy, roomAfter};
+ghost use Rattle.station.specs.Draft.{draftOf, doing, onSlotBy};
+use crate::Plan;
+use crate::Station;
+use crate::Stepped;
+use crate::Verdict;
+use crate::pieces::is_free;
+use crate::pieces::is_taken;
+use requests::blank_request;
+use slots::Phase;
+use units::SlotNumber;
+use units::Tenths;
+
+impl Plan {
+    // "takes a free slot"
+    pub(crate) fn take(self, i: u8) -> Plan
+        ensures { λ r. ⌜ draftOf r ≡ doing (onSlotBy i (takeOn i)) (draftOf self) ⌝ }
+    {
+        let s = self.station;
+        let x = s.slot_at(i);
+        if is_free(x) {
+            let b = blank_request();
+            return self.place(i, Phase::Taken, b).answering(0);
+        }
+        self.answering(1)
+    }
+
+    // "or gives it back (freed)"
+    pub(crate) fn give_back(self, i: u8) -> Plan
+        requires { ⌜ self .station .clock .0 ≤ 4_000_000_000 ⌝ }
+        ensures { λ r. ⌜ draftOf r ≡ doing (onSlotBy i (giveOn i)) (draftOf self) ⌝ }
+    {
+        let s = self.station;
+        let x = s.slot_at(i);
+        if is_taken(x) {
+            return self.freed(i);
+        }
+        self.answering(1)
+    }
+}
+
+impl Station {
+    // The operator takes a free slot.
+    pub fn take(self, time: Tenths, slot: SlotNumber, room: &mut [u8]) -> Stepped
+        ensures { λ r. ⌜ r ≡ steppedBy self (slotAt time slot takes (now (room .entry))) ⌝ }
+        ensures { λ _. ⌜ now (room .exit) ≡ roomAfter self (now (room .entry)) (slotAt time slot takes (now (room .entry))) ⌝ }
+    {
+        let v = self.judge_take(room.len(), time, slot);
+        match v {
+            Verdict::Refused(n) => self.refused(n),
+            Verdict::Accepted => {
+                let i = slot.0 as u8;
+                let p = self.opened(time);
+                let q = p.take(i);
+                q.finish(room)
+            }
+        }
+    }
+
+    // The operator gives back a taken slot.
+    pub fn give_back(self, time: Tenths, slot: SlotNumber, room: &mut [u8]) -> Stepped
+        ensures { λ r. ⌜ r ≡ steppedBy self (slotAt time slot givesBack (now (room .entry))) ⌝ }
+        ensures { λ _. ⌜ now (room .exit) ≡ roomAfter self (now (room .entry)) (slotAt time slot givesBack (now (room .entry))) ⌝ }
+    {
+        let v = self.judge_give(room.len(), time, slot);
+        match v {
+            Verdict::Refused(n) => self.refused(n),
+            Verdict::Accepted => {
+                let i = slot.0 as u8;
+                let p = self.opened(time);
+                let q = p.give_back(i);
+                q.finish(room)
+            }
+        }
+    }
+}
