@@ -100,6 +100,7 @@ impl Station {
         let k = i.0;
         self.judge(size, t).and_then(!late, 33).and_then(k < n, 34)
     }
+
     // 35 besides: "takes a slot not free".
     pub(crate) fn judge_take(self, size: usize, t: Tenths, i: SlotNumber) -> Verdict
         ensures { λ r. ⌜ verdictOf r ≡ refusal self (record { time = t .0; room = size; what = onSlot (i .0) takes }) ⌝ }
