@@ -109,8 +109,7 @@ impl Station {
         match v {
             Verdict::Refused(n) => Verdict::Refused(n),
             Verdict::Accepted => {
-                let k = i.0 as u8;
-                let x = self.slot_at(k);
+                let x = self.slot_at(i);
                 Verdict::Accepted.and_then(is_free(x), 35)
             }
         }
@@ -124,8 +123,7 @@ impl Station {
         match v {
             Verdict::Refused(n) => Verdict::Refused(n),
             Verdict::Accepted => {
-                let k = i.0 as u8;
-                let x = self.slot_at(k);
+                let x = self.slot_at(i);
                 Verdict::Accepted.and_then(is_taken(x), 35)
             }
         }
