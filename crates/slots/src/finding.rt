@@ -54,7 +54,7 @@ pub fn first_free(a: [Slot; 16], n: u8) -> Found
     Found::Nothing
 }
 
-// The lowest slot, from a place on, that works on the channel c.
+// The lowest slot, from a number on, that works on the channel c.
 pub fn channel_from(a: [Slot; 16], n: u8, from: SlotNumber, c: Channel) -> Found
     ensures { λ r. ⌜ foundView r ≡ lowestFrom (sameChannel c) (from .0) (left channelOf n a (from .0)) ⌝ }
 {
@@ -118,7 +118,7 @@ fn is_of(s: Slot, ship: u32, station: u32) -> bool
     false
 }
 
-// The lowest slot, from a place on, that is the ship's.
+// The lowest slot, from a number on, that is the ship's.
 pub fn slot_from(a: [Slot; 16], n: u8, from: SlotNumber, ship: u32, station: u32) -> Found
     ensures { λ r. ⌜ foundView r ≡ lowestFrom (owns (partyOf ship station)) (from .0) (left slotView n a (from .0)) ⌝ }
 {

@@ -57,11 +57,13 @@ pub enum Due {
     In(Tenths, Wait),
 }
 
+// A slot looked for.
 pub enum Found {
     At(SlotNumber),
     Nothing,
 }
 
+// A place in the queue looked for.
 pub enum Place {
     At(QueuePlace),
     Nothing,

@@ -105,7 +105,7 @@ fn queue_apart(b: [Waiting; 32], m: u8) -> bool
     true
 }
 
-// The ship stands in a slot, from a place on, or in the queue.
+// The ship stands in a slot, from a number on, or in the queue.
 fn stands_on(
     a: [Slot; 16],
     n: u8,
