@@ -37,7 +37,7 @@ pub both : (kind slot : ℕ) (p : List ℕ) (a : Action) → length p ≤ 36 →
 both kind slot p a h e = (e, ap actionBlock e ∙ shown kind slot p h)
 
 pub made : (kind slot n : ℕ) (p payload : List ℕ) → n ≡ length p → payload ≡ padded 0 36 p
-    → _≡_ {A = Action} (record { kind = kind; slot = slot; length = n; payload = payload }) (actionOf kind slot p)
+    → _≡_ {A = Action} (record { kind = kind; slot = record { 0 = slot }; length = n; payload = payload }) (actionOf kind slot p)
 unfolding actionOf
 made kind slot n p payload e f = rw (e, f)
 

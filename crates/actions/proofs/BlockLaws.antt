@@ -13,7 +13,7 @@ use Rattle.rules.specs.Bytes.{padded, block}
 use Rattle.requests.specs.Views.{viewed}
 use Rattle.requests.proofs.ArrayLaws.{padded-length, viewed-length, viewed-min, viewed-push}
 use Rattle.actions.specs.declared.Action.{Action}
-use Rattle.actions.specs.Blocks.{actionBlock, joined, clip, handed, holds, putCount, putRoom}
+use Rattle.actions.specs.Blocks.{actionBlock, inBytes, joined, clip, handed, holds, putCount, putRoom}
 
 padded-at : (n : ℕ) (l : List ℕ) (i : ℕ) → i < n → getD (padded 0 n l) i 0 ≡ getD l i 0
 unfolding padded
@@ -23,26 +23,26 @@ padded-at (suc n) [] (suc i) h = padded-at n [] i (le-of-suc-le-suc h)
 padded-at (suc n) (x ∷ l) zero h = refl
 padded-at (suc n) (x ∷ l) (suc i) h = padded-at n l i (le-of-suc-le-suc h)
 
-pub block-length : (a : Action) → length (actionBlock a) ≡ 40
+pub block-length : (a : Action) → length (inBytes (actionBlock a)) ≡ 40
 unfolding actionBlock block
 block-length a = let h = padded-length 0 36 (take (a .length) (a .payload)) in omega arith
 
 -- what stands in a block behind its first four bytes
-behind-four : (a : Action) (j : ℕ) → 4 ≤ j → j < 40 → getD (take (a .length) (a .payload)) (j - 4) 0 ≡ getD (actionBlock a) j 0
+behind-four : (a : Action) (j : ℕ) → 4 ≤ j → j < 40 → getD (take (a .length) (a .payload)) (j - 4) 0 ≡ getD (inBytes (actionBlock a)) j 0
 unfolding actionBlock block
 behind-four a j h l =
     let e : j ≡ suc (suc (suc (suc (j - 4)))) = omega arith in
-    sym (padded-at 36 (take (a .length) (a .payload)) (j - 4) (omega arith)) ∙ ap (λ (n : ℕ). getD (actionBlock a) n 0) (sym e)
+    sym (padded-at 36 (take (a .length) (a .payload)) (j - 4) (omega arith)) ∙ ap (λ (n : ℕ). getD (inBytes (actionBlock a)) n 0) (sym e)
 
-pub in-payload : (a : Action) (j : ℕ) → 4 ≤ j → j < 40 → j - 4 < a .length → getD (a .payload) (j - 4) 0 ≡ getD (actionBlock a) j 0
+pub in-payload : (a : Action) (j : ℕ) → 4 ≤ j → j < 40 → j - 4 < a .length → getD (a .payload) (j - 4) 0 ≡ getD (inBytes (actionBlock a)) j 0
 in-payload a j h l k = sym (getD-take (a .length) (a .payload) (j - 4) 0 k) ∙ behind-four a j h l
 
-pub past-payload : (a : Action) (j : ℕ) → 4 ≤ j → j < 40 → a .length ≤ j - 4 → 0 ≡ getD (actionBlock a) j 0
+pub past-payload : (a : Action) (j : ℕ) → 4 ≤ j → j < 40 → a .length ≤ j - 4 → 0 ≡ getD (inBytes (actionBlock a)) j 0
 past-payload a j h l k =
     sym (List·getD-eq-default (take (a .length) (a .payload)) 0 {n = j - 4} (simp length-take (omega arith))) ∙ behind-four a j h l
 
-pub past-block : (a : Action) (j : ℕ) → 40 ≤ j → 0 ≡ getD (actionBlock a) j 0
-past-block a j h = sym (List·getD-eq-default (actionBlock a) 0 {n = j} (omega (arith, block-length a)))
+pub past-block : (a : Action) (j : ℕ) → 40 ≤ j → 0 ≡ getD (inBytes (actionBlock a)) j 0
+past-block a j h = sym (List·getD-eq-default (inBytes (actionBlock a)) 0 {n = j} (omega (arith, block-length a)))
 
 joined-length : (l : List Action) → length (joined (map actionBlock l)) ≡ 40 * length l
 joined-length [] = refl
@@ -52,25 +52,25 @@ joined-length (a ∷ l) =
     simp length-append (omega arith)
 
 joined-at : (l : List Action) (i : ℕ) (d : Action) → i < 40 * length l
-    → getD (actionBlock (getD l (i / 40) d)) (i % 40) 0 ≡ getD (joined (map actionBlock l)) i 0
+    → getD (inBytes (actionBlock (getD l (i / 40) d))) (i % 40) 0 ≡ getD (joined (map actionBlock l)) i 0
 joined-at [] i d h = absurd (omega arith)
 joined-at (a ∷ l) i d h = go (leb 40 i) refl (joined-at l (i - 40) d)
   where
     go : (b : Bool) → leb 40 i ≡ b
-        → (i - 40 < 40 * length l → getD (actionBlock (getD l ((i - 40) / 40) d)) ((i - 40) % 40) 0 ≡ getD (joined (map actionBlock l)) (i - 40) 0)
-        → getD (actionBlock (getD (a ∷ l) (i / 40) d)) (i % 40) 0 ≡ getD (actionBlock a ++ joined (map actionBlock l)) i 0
+        → (i - 40 < 40 * length l → getD (inBytes (actionBlock (getD l ((i - 40) / 40) d))) ((i - 40) % 40) 0 ≡ getD (joined (map actionBlock l)) (i - 40) 0)
+        → getD (inBytes (actionBlock (getD (a ∷ l) (i / 40) d))) (i % 40) 0 ≡ getD (inBytes (actionBlock a) ++ joined (map actionBlock l)) i 0
     go true p more =
         let le = leb-true 40 i p in
         let q : i / 40 ≡ suc ((i - 40) / 40) = omega arith in
         let r : i % 40 ≡ (i - 40) % 40 = omega arith in
         let k = block-length a in
-        let e : length (actionBlock a) + (i - 40) ≡ i = omega arith in
-        rw (q, r) (more (omega arith) ∙ (rw e at (sym (getD-append-add (actionBlock a) (joined (map actionBlock l)) (i - 40) 0))))
+        let e : length (inBytes (actionBlock a)) + (i - 40) ≡ i = omega arith in
+        rw (q, r) (more (omega arith) ∙ (rw e at (sym (getD-append-add (inBytes (actionBlock a)) (joined (map actionBlock l)) (i - 40) 0))))
     go false p more =
         let lt = leb-false 40 i p in
         let q : i / 40 ≡ 0 = omega arith in
         let r : i % 40 ≡ i = omega arith in
-        rw (q, r) (sym (List·getD-append (actionBlock a) (joined (map actionBlock l)) 0 i (omega (arith, block-length a))))
+        rw (q, r) (sym (List·getD-append (inBytes (actionBlock a)) (joined (map actionBlock l)) 0 i (omega (arith, block-length a))))
 
 -- the blocks of the first n actions
 module _ (n : ℕ) (l : List Action) where
@@ -78,7 +78,7 @@ module _ (n : ℕ) (l : List Action) where
   unfolding viewed
   laid-length = let h = length-take n l in rw (joined-length (take n l), h)
 
-  pub laid-at : (i : ℕ) (d : Action) → i < 40 * min n (length l) → getD (actionBlock (getD l (i / 40) d)) (i % 40) 0 ≡ getD (joined (viewed actionBlock n l)) i 0
+  pub laid-at : (i : ℕ) (d : Action) → i < 40 * min n (length l) → getD (inBytes (actionBlock (getD l (i / 40) d))) (i % 40) 0 ≡ getD (joined (viewed actionBlock n l)) i 0
   unfolding viewed
   laid-at i d h =
       let k = length-take n l in

@@ -33,7 +33,7 @@ use Rattle.rules.proofs.SentLaws.{unable-valid}
 use Rattle.rules.proofs.Stored.{Stored, clock-stored}
 use Rattle.rules.proofs.Accepted.{accepted, Sound, sounds}
 use Rattle.actions.specs.Blocks.{joined}
-use Rattle.actions.specs.Sent.{sentBlock}
+use Rattle.actions.specs.Sent.{sentBlock, speaks}
 use Rattle.actions.proofs.Speaking.{Speaks, coast, sent-blocks}
 use Rattle.actions.proofs.Saying.{Says, requested-says, bq-says, happened-says, ticked-says}
 
@@ -52,18 +52,18 @@ module _ (c : Config) (good : configKeeps c ≡ true) where
   data-speaks m v e =
       let p = parts m v in
       let k : isCoast (m .address) ≡ true = rw e (coast c good) in
-      unable-valid 109 (sentBy m) (digitsIn (m .number)) (from-ship (m .address) (m .sender) k (p .identities)) k refl (number-keeps (m .number) (p .number))
+      (unable-valid 109 (sentBy m) (digitsIn (m .number)) (from-ship (m .address) (m .sender) k (p .identities)) k refl (number-keeps (m .number) (p .number)), omega arith)
 
   heard-data : (s : List ℕ) → valid (readingOf s .meaning) ≡ true → (x : Party) (n : List ℕ) → meaning c s ≡ dataRequest x n → Speaks c (does (unable 109 x n))
   unfolding meaning OnlyThese
-  heard-data s v x n e = go (addressed c (readingOf s .meaning)) (only-these c (readingOf s .meaning)) e
+  heard-data s v x n e = (go (addressed c (readingOf s .meaning)) (only-these c (readingOf s .meaning)) e, omega arith)
     where
-      go : (h : Heard) → Means c (readingOf s .meaning) h → h ≡ dataRequest x n → Speaks c (does (unable 109 x n))
+      go : (h : Heard) → Means c (readingOf s .meaning) h → h ≡ dataRequest x n → speaks c (does (unable 109 x n)) ≡ true
       go _ (asCallRequest w p) e = cc
       go _ (asDataRequest p) e =
           let y : sentBy (readingOf s .meaning) ≡ x = cc in
           let z : digitsIn (readingOf s .meaning .number) ≡ n = cc in
-          rw (← y, ← z) (data-speaks (readingOf s .meaning) v (p .to-this))
+          rw (← y, ← z) (data-speaks (readingOf s .meaning) v (p .to-this) .0)
       go _ (asWorkingCall w p) e = cc
       go _ (asEndOfCall p) e = cc
       go _ (asBq w n i a b k d f) e = cc

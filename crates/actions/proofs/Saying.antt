@@ -20,7 +20,7 @@ use Rattle.rules.specs.Requests.{Out, ignored, rungBack, freedFor, freed, laste
 use Rattle.rules.specs.Calls.{dialNow, workingKind, workingOn, agreed, bqKind, bqFor, offHookStage, offHookOn, downOn, upOn, shipEnd, sayAgain, shipEndOn, endOn, takeOn, giveOn, offerDue, ringAgain, pendingDue, replyDue, mainOn, fire, ticked, heardOn, happenedOn}
 use Rattle.rules.proofs.PlaceLaws.{lowest-is, all-at, each-append}
 use Rattle.rules.proofs.Stored.{Stored, clock-stored, stored-closed, lasted-keeps}
-use Rattle.actions.proofs.Speaking.{Speaks, acknowledge-speaks, ringBack-speaks, unable-speaks, over-speaks}
+use Rattle.actions.proofs.Speaking.{Speaks, small, acknowledge-speaks, ringBack-speaks, unable-speaks, over-speaks}
 
 -- ── places ───────────────────────────────────────────────────────────────────
 
@@ -43,9 +43,9 @@ module _ (c : Config) (good : configKeeps c ≡ true) where
   says-if true x y p q = p
   says-if false x y p q = q
 
-  end-says : (i : ℕ) (e : Ender) (r : Request) (g : Stage) (t : ℕ) → requestKeeps c r ≡ true → Each (Speaks c) (endActs i e r g t)
-  end-says i e r (dialling d) t k = (refl, (over-speaks c good r k i e (lasted (dialling d) t) (lasted-keeps (dialling d) t), (refl, tt)))
-  end-says i e r (answered b) t k = (refl, (refl, (over-speaks c good r k i e (lasted (answered b) t) (lasted-keeps (answered b) t), (refl, tt))))
+  end-says : (i : ℕ) → i < length (c .channels) → (e : Ender) (r : Request) (g : Stage) (t : ℕ) → requestKeeps c r ≡ true → Each (Speaks c) (endActs i e r g t)
+  end-says i h e r (dialling d) t k = let b = small c good i h in ((refl, b), (over-speaks c good r k i h e (lasted (dialling d) t) (lasted-keeps (dialling d) t), ((refl, b), tt)))
+  end-says i h e r (answered a) t k = let b = small c good i h in ((refl, b), ((refl, b), (over-speaks c good r k i h e (lasted (answered a) t) (lasted-keeps (answered a) t), ((refl, b), tt))))
 
   -- a stored request
   module _ (st : Station) (s : Stored c st) where
@@ -62,7 +62,7 @@ module _ (c : Config) (good : configKeeps c ≡ true) where
       freedFor-says : (q : List Waiting) → all (waitingKeeps c) q ≡ true → Says c (freedFor i st q)
       unfolding freedFor rungBack
       freedFor-says [] h = tt
-      freedFor-says (w ∷ q) h = (refl, (ringBack-speaks c good (w .request) (both-true (waitingKeeps c w) (all (waitingKeeps c) q) h .0) i there, tt))
+      freedFor-says (w ∷ q) h = ((refl, small c good i there), (ringBack-speaks c good (w .request) (both-true (waitingKeeps c w) (all (waitingKeeps c) q) h .0) i there, tt))
 
       freed-says : Says c (freed i st)
       unfolding freed
@@ -70,11 +70,11 @@ module _ (c : Config) (good : configKeeps c ≡ true) where
 
       coastEnd-says : (r : Request) (g : Stage) → requestKeeps c r ≡ true → Says c (coastEnd i r g st)
       unfolding coastEnd
-      coastEnd-says r g k = each-append (Speaks c) (endActs i theCoast r g (st .clock)) (freed i st .acts) (end-says i theCoast r g (st .clock) k) freed-says
+      coastEnd-says r g k = each-append (Speaks c) (endActs i theCoast r g (st .clock)) (freed i st .acts) (end-says i there theCoast r g (st .clock) k) freed-says
 
       offerDue-says : Says c (offerDue i st)
       unfolding offerDue
-      offerDue-says = (refl, freed-says)
+      offerDue-says = ((refl, small c good i there), freed-says)
 
   -- ── a request that keeps the rules ─────────────────────────────────────────
 
@@ -94,7 +94,9 @@ module _ (c : Config) (good : configKeeps c ≡ true) where
     module _ (st : Station) (s : Stored c st) where
       eToG-says : (o : Option ℕ) → lowest isFree (st .slots) ≡ o → Says c (eToG st r o)
       unfolding eToG offer afresh ruleF ruleG
-      eToG-says (some i) e = (refl, (acknowledge-speaks c good r kept i (known st s i (in-range isFree taken refl (st .slots) i (lowest-is taken isFree (st .slots) i e))), tt))
+      eToG-says (some i) e =
+          let h = known st s i (in-range isFree taken refl (st .slots) i (lowest-is taken isFree (st .slots) i e)) in
+          ((refl, small c good i h), (acknowledge-speaks c good r kept i h, tt))
       eToG-says none e = says-if (ltb (length (st .queue)) queueRoom) (ruleF st r) (ruleG st r) (queued, tt) (full, tt)
 
       dToG-says : (k : Option ℕ) → Says c (dToG st r k)
@@ -148,33 +150,35 @@ module _ (c : Config) (good : configKeeps c ≡ true) where
     bq-says x (busy r g l) = tt
     bq-says x (held r n d) = tt
 
-    working-says : (x : Party) (p : Slot) → Says c (workingOn i x st p)
+    working-says : (x : Party) (p : Slot) → getD (st .slots) i free ≡ p → Says c (workingOn i x st p)
     unfolding workingOn workingKind dialNow
-    working-says x free = tt
-    working-says x taken = tt
-    working-says x (pending offered r d) = says-if (is x (r .who)) (dialNow i r st) (ignored st) (refl, tt) tt
-    working-says x (pending firstRing r d) = says-if (is x (r .who)) (ignored st) (ignored st) tt tt
-    working-says x (pending secondRing r d) = says-if (is x (r .who)) (ignored st) (ignored st) tt tt
-    working-says x (pending acknowledged r d) = says-if (is x (r .who)) (dialNow i r st) (ignored st) (refl, tt) tt
-    working-says x (busy r g l) = tt
-    working-says x (held r n d) = tt
+    working-says x free e = tt
+    working-says x taken e = tt
+    working-says x (pending offered r d) e = says-if (is x (r .who)) (dialNow i r st) (ignored st) ((refl, small c good i (placed st s i (pending offered r d) e refl)), tt) tt
+    working-says x (pending firstRing r d) e = says-if (is x (r .who)) (ignored st) (ignored st) tt tt
+    working-says x (pending secondRing r d) e = says-if (is x (r .who)) (ignored st) (ignored st) tt tt
+    working-says x (pending acknowledged r d) e = says-if (is x (r .who)) (dialNow i r st) (ignored st) ((refl, small c good i (placed st s i (pending acknowledged r d) e refl)), tt) tt
+    working-says x (busy r g l) e = tt
+    working-says x (held r n d) e = tt
 
     shipEnd-says : (x : Party) (p : Slot) → getD (st .slots) i free ≡ p → Says c (shipEndOn i x st p)
     unfolding shipEndOn shipEnd sayAgain
     shipEnd-says x free e = tt
     shipEnd-says x taken e = tt
     shipEnd-says x (pending k r d) e = tt
-    shipEnd-says x (busy r g l) e = says-if (is x (r .who)) (shipEnd i r g st) (ignored st) (end-says i theShip r g (st .clock) (slot-keeps st s i (busy r g l) e)) tt
+    shipEnd-says x (busy r g l) e = says-if (is x (r .who)) (shipEnd i r g st) (ignored st) (end-says i (placed st s i (busy r g l) e refl) theShip r g (st .clock) (slot-keeps st s i (busy r g l) e)) tt
     shipEnd-says x (held r n d) e =
         let k = both-true (requestKeeps c r) (durationKeeps n) (slot-keeps st s i (held r n d) e) in
-        says-if (is x (r .who)) (sayAgain i r n st) (ignored st) (refl, (over-speaks c good r (k .0) i theShip n (k .1), (refl, tt))) tt
+        let h = placed st s i (held r n d) e refl in
+        let b = small c good i h in
+        says-if (is x (r .who)) (sayAgain i r n st) (ignored st) ((refl, b), (over-speaks c good r (k .0) i h theShip n (k .1), ((refl, b), tt))) tt
 
     heard-says : (p : Slot) → getD (st .slots) i free ≡ p → (m : Heard) → Says c (heardOn i st p m)
     unfolding heardOn
     heard-says p e (callRequest r) = tt
     heard-says p e (dataRequest x n) = tt
     heard-says p e (bq j x) = tt
-    heard-says p e (workingCall x) = working-says x p
+    heard-says p e (workingCall x) = working-says x p e
     heard-says p e (endOfCall x) = shipEnd-says x p e
     heard-says p e nothing = tt
 

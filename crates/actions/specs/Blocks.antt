@@ -1,5 +1,5 @@
 -- An action of the rack, its block of 40 bytes, and what a room holds once the blocks are laid.
-use Prim.Native.Nat.{ℕ, _-_, _*_}
+use Prim.Native.Nat.{ℕ, _-_, _*_, min}
 use mathlib.Core.Bool.{Bool, cond}
 use mathlib.Core.List.{List, [], _++_, _∷_}
 use lib.Dec.{leb}
@@ -12,10 +12,10 @@ use Rattle.actions.specs.declared.Action.{Action}
 
 -- an action as it is laid out: its payload, and zeros
 unfoldable pub actionOf : ℕ → ℕ → List ℕ → Action
-actionOf kind slot payload = record { kind = kind; slot = slot; length = length payload; payload = padded 0 36 payload }
+actionOf kind slot payload = record { kind = kind; slot = record { 0 = slot }; length = length payload; payload = padded 0 36 payload }
 
 unfoldable pub actionBlock : Action → List ℕ
-actionBlock a = block (a .kind) (a .slot) (take (a .length) (a .payload))
+actionBlock a = block (a .kind) (a .slot .0) (take (a .length) (a .payload))
 
 unfoldable pub blankAction : Action
 blankAction = actionOf 0 0 []
@@ -36,10 +36,16 @@ clip l = take 8 l
 unfoldable pub handed : ℕ → List Action → List (List ℕ)
 handed n a = clip (viewed actionBlock n a)
 
+-- a block in bytes: a slot's number past a byte is 255, which no slot has
+abbrev pub inBytes : List ℕ → List ℕ
+inBytes [] = []
+inBytes (kind ∷ []) = kind ∷ []
+inBytes (kind ∷ slot ∷ more) = kind ∷ min slot 255 ∷ more
+
 -- one block after the other
 abbrev pub joined : List (List ℕ) → List ℕ
 joined [] = []
-joined (b ∷ bs) = b ++ joined bs
+joined (b ∷ bs) = inBytes b ++ joined bs
 
 -- a room holds the blocks
 unfoldable pub holds : List (List ℕ) → ℕ → Bool

@@ -4,9 +4,10 @@ ghost use mathlib.Core.List.{[], _∷_, _++_};
 ghost use Prim.Native.Nat.{_+_, min};
 ghost use lib.ListN.{getD, length, set, replicate};
 ghost use Rattle.requests.specs.Views.{viewed};
-ghost use Rattle.actions.specs.Blocks.{actionBlock, blankAction, clip, handed, putCount, putRoom};
+ghost use Rattle.actions.specs.Blocks.{actionBlock, blankAction, clip, handed, inBytes, putCount, putRoom};
 use crate::Action;
 use requests::least;
+use units::SlotNumber;
 
 // "At most 8 a step": none of them yet.
 pub fn no_actions() -> [Action; 8]
@@ -14,7 +15,7 @@ pub fn no_actions() -> [Action; 8]
 {
     let blank = Action {
         kind: 0,
-        slot: 0,
+        slot: SlotNumber(0),
         length: 0,
         payload: [0u8; 36],
     };
@@ -40,15 +41,26 @@ pub fn one_more(n: u8) -> u8
     least(n, 7) + 1
 }
 
+// A slot's number in its block's byte; 255, which no slot has, for one past it.
+fn slot_byte(i: SlotNumber) -> u8
+    ensures { λ r. ⌜ r ≡ min (i .0) 255 ⌝ }
+{
+    if i.0 <= 255 {
+        return i.0 as u8;
+    }
+    255
+}
+
 // "kind, slot .., payload length, 0, payload, zeros"
 fn block_byte(a: Action, j: usize) -> u8
-    ensures { λ r. ⌜ r ≡ getD (actionBlock a) j 0 ⌝ }
+    ensures { λ r. ⌜ r ≡ getD (inBytes (actionBlock a)) j 0 ⌝ }
 {
     if j == 0 {
         return a.kind;
     }
     if j == 1 {
-        return a.slot;
+        let i = a.slot;
+        return slot_byte(i);
     }
     if j == 2 {
         return least(a.length, 36);

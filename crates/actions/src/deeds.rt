@@ -9,11 +9,12 @@ ghost use Rattle.actions.specs.Blocks.{actionOf, actionBlock, chargeByte
 use crate::Action;
 use requests::least;
 use sequence::Number;
+use units::SlotNumber;
 use units::Tenths;
 use units::Told;
 
-fn plain(kind: u8, i: u8) -> Action
-    ensures { λ r. ⌜ r ≡ actionOf kind i [] ⌝ }
+fn plain(kind: u8, i: SlotNumber) -> Action
+    ensures { λ r. ⌜ r ≡ actionOf kind (i .0) [] ⌝ }
 {
     Action {
         kind: kind,
@@ -23,31 +24,31 @@ fn plain(kind: u8, i: u8) -> Action
     }
 }
 
-pub fn carrier_on(i: u8) -> Action
-    ensures { λ r. ⌜ r ≡ actionOf 1 i [] ⌝ }
-    ensures { λ r. ⌜ actionBlock r ≡ block 1 i [] ⌝ }
+pub fn carrier_on(i: SlotNumber) -> Action
+    ensures { λ r. ⌜ r ≡ actionOf 1 (i .0) [] ⌝ }
+    ensures { λ r. ⌜ actionBlock r ≡ block 1 (i .0) [] ⌝ }
 {
     plain(1, i)
 }
 
-pub fn carrier_off(i: u8) -> Action
-    ensures { λ r. ⌜ r ≡ actionOf 2 i [] ⌝ }
-    ensures { λ r. ⌜ actionBlock r ≡ block 2 i [] ⌝ }
+pub fn carrier_off(i: SlotNumber) -> Action
+    ensures { λ r. ⌜ r ≡ actionOf 2 (i .0) [] ⌝ }
+    ensures { λ r. ⌜ actionBlock r ≡ block 2 (i .0) [] ⌝ }
 {
     plain(2, i)
 }
 
-pub fn release_line(i: u8) -> Action
-    ensures { λ r. ⌜ r ≡ actionOf 6 i [] ⌝ }
-    ensures { λ r. ⌜ actionBlock r ≡ block 6 i [] ⌝ }
+pub fn release_line(i: SlotNumber) -> Action
+    ensures { λ r. ⌜ r ≡ actionOf 6 (i .0) [] ⌝ }
+    ensures { λ r. ⌜ actionBlock r ≡ block 6 (i .0) [] ⌝ }
 {
     plain(6, i)
 }
 
 // "digits, one a byte"
-pub fn dial(i: u8, number: Number) -> Action
-    ensures { λ r. ⌜ r ≡ actionOf 5 i (digitsOf number) ⌝ }
-    ensures { λ r. ⌜ actionBlock r ≡ block 5 i (digitsOf number) ⌝ }
+pub fn dial(i: SlotNumber, number: Number) -> Action
+    ensures { λ r. ⌜ r ≡ actionOf 5 (i .0) (digitsOf number) ⌝ }
+    ensures { λ r. ⌜ actionBlock r ≡ block 5 (i .0) (digitsOf number) ⌝ }
 {
     let count = least(number.count, 16);
     let n = count as usize;
@@ -86,9 +87,9 @@ pub fn lasted(start: Tenths, stop: Tenths) -> Told
 }
 
 // "ship, start, stop, seconds; four bytes each, low first"
-pub fn charge(i: u8, ship: u32, start: Tenths, stop: Tenths) -> Action
-    ensures { λ r. ⌜ r ≡ actionOf 7 i (chargeBytes ship start stop) ⌝ }
-    ensures { λ r. ⌜ actionBlock r ≡ block 7 i (chargeBytes ship start stop) ⌝ }
+pub fn charge(i: SlotNumber, ship: u32, start: Tenths, stop: Tenths) -> Action
+    ensures { λ r. ⌜ r ≡ actionOf 7 (i .0) (chargeBytes ship start stop) ⌝ }
+    ensures { λ r. ⌜ actionBlock r ≡ block 7 (i .0) (chargeBytes ship start stop) ⌝ }
 {
     let s = span_of(start, stop);
     let seconds = s.whole_seconds();

@@ -3,10 +3,12 @@ pub mod blocks;
 pub mod deeds;
 pub mod sequences;
 
+use units::SlotNumber;
+
 // One action: its kind, its slot, how much of its payload counts, and the payload.
 pub struct Action {
     pub kind: u8,
-    pub slot: u8,
+    pub slot: SlotNumber,
     pub length: u8,
     pub payload: [u8; 36],
 }

@@ -14,6 +14,7 @@ use sequence::Field;
 use sequence::Meaning;
 use sequence::Number;
 use units::Channel;
+use units::SlotNumber;
 use units::Told;
 use writing::write;
 
@@ -37,8 +38,8 @@ fn tidied(n: Number) -> Number
 }
 
 // The sequence of a valid meaning; nothing for another.
-fn send(kind: u8, i: u8, m: Meaning) -> Action
-    ensures { λ r. ⌜ r ≡ actionOf kind i (sent m) ⌝ }
+fn send(kind: u8, i: SlotNumber, m: Meaning) -> Action
+    ensures { λ r. ⌜ r ≡ actionOf kind (i .0) (sent m) ⌝ }
 {
     let mut payload = [0u8; 36];
     let w = write(m, &mut payload);
@@ -60,8 +61,8 @@ fn first_of(m: Mode) -> u8
 }
 
 // "Answers repeat the request with identities exchanged", here with the channel of its slot.
-fn able(i: u8, channel: Channel, end: u8, q: Request) -> Action
-    ensures { λ r. ⌜ r ≡ actionOf 3 i (sent (ableSaid channel end (requestOf q))) ⌝ }
+fn able(i: SlotNumber, channel: Channel, end: u8, q: Request) -> Action
+    ensures { λ r. ⌜ r ≡ actionOf 3 (i .0) (sent (ableSaid channel end (requestOf q))) ⌝ }
 {
     let stored = q.number;
     let number = tidied(stored);
@@ -80,17 +81,17 @@ fn able(i: u8, channel: Channel, end: u8, q: Request) -> Action
 }
 
 // "acknowledgement with the channel and BQ"
-pub fn acknowledgement(i: u8, channel: Channel, q: Request) -> Action
-    ensures { λ r. ⌜ r ≡ actionOf 3 i (sent (ableSaid channel 122 (requestOf q))) ⌝ }
-    ensures { λ r. ⌜ actionBlock r ≡ block 3 i (sent (ableSaid channel 122 (requestOf q))) ⌝ }
+pub fn acknowledgement(i: SlotNumber, channel: Channel, q: Request) -> Action
+    ensures { λ r. ⌜ r ≡ actionOf 3 (i .0) (sent (ableSaid channel 122 (requestOf q))) ⌝ }
+    ensures { λ r. ⌜ actionBlock r ≡ block 3 (i .0) (sent (ableSaid channel 122 (requestOf q))) ⌝ }
 {
     able(i, channel, 122, q)
 }
 
 // "the able answer but with RQ"
-pub fn ring_back(i: u8, channel: Channel, q: Request) -> Action
-    ensures { λ r. ⌜ r ≡ actionOf 3 i (sent (ableSaid channel 117 (requestOf q))) ⌝ }
-    ensures { λ r. ⌜ actionBlock r ≡ block 3 i (sent (ableSaid channel 117 (requestOf q))) ⌝ }
+pub fn ring_back(i: SlotNumber, channel: Channel, q: Request) -> Action
+    ensures { λ r. ⌜ r ≡ actionOf 3 (i .0) (sent (ableSaid channel 117 (requestOf q))) ⌝ }
+    ensures { λ r. ⌜ actionBlock r ≡ block 3 (i .0) (sent (ableSaid channel 117 (requestOf q))) ⌝ }
 {
     able(i, channel, 117, q)
 }
@@ -110,7 +111,7 @@ pub fn unable(second: u8, ship: u32, station: u32, number: Number) -> Action
         number: n,
         end: 122,
     };
-    send(3, 255, m)
+    send(3, SlotNumber(255), m)
 }
 
 // The same answer to a stored request.
@@ -142,9 +143,9 @@ fn end_of(by: Ender) -> u8
 }
 
 // "send 105/126 .. and the duration"; "the number sent is the stored request's"
-pub fn over(i: u8, by: Ender, q: Request, told: Told) -> Action
-    ensures { λ r. ⌜ r ≡ actionOf 4 i (sent (overSaid (enderOf by) (requestOf q) told)) ⌝ }
-    ensures { λ r. ⌜ actionBlock r ≡ block 4 i (sent (overSaid (enderOf by) (requestOf q) told)) ⌝ }
+pub fn over(i: SlotNumber, by: Ender, q: Request, told: Told) -> Action
+    ensures { λ r. ⌜ r ≡ actionOf 4 (i .0) (sent (overSaid (enderOf by) (requestOf q) told)) ⌝ }
+    ensures { λ r. ⌜ actionBlock r ≡ block 4 (i .0) (sent (overSaid (enderOf by) (requestOf q) told)) ⌝ }
 {
     let stored = q.number;
     let number = tidied(stored);

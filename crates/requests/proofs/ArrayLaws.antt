@@ -112,10 +112,6 @@ viewed-itself (suc n) [] h = refl
 viewed-itself zero (x ∷ l) h = absurd (not-suc-le-zero h)
 viewed-itself (suc n) (x ∷ l) h = ap (λ r. x ∷ r) (viewed-itself n l (le-of-suc-le-suc h))
 
-pub next-length : {A : Type 0} (l : List A) (n : ℕ) → length l ≡ suc n → length (drop 1 l) ≡ n
-next-length [] n e = absurd (omega arith)
-next-length (x ∷ l) n e = omega arith
-
 pub modAt-past : {A : Type 0} (f : A → A) (i : ℕ) (l : List A) → length l ≤ i → modAt f i l ≡ l
 modAt-past f i [] h = refl
 modAt-past f zero (x ∷ l) h = absurd (not-suc-le-zero h)

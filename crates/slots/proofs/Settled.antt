@@ -1,7 +1,7 @@
 -- Any two results that meet a contract are equal.
 use mathlib.Core.Path.{_≡_, sym, ap, _∙_}
 use contract.Lifetimes.{Lfts}
-use Rattle.slots.proofs.ViewLaws.{found-one, due-one, standing-one}
+use Rattle.slots.proofs.ViewLaws.{found-one, place-one, due-one, standing-one}
 use Rattle.slots.proofs.dues.carrier_wait.Reads as carrier-wait
 use Rattle.slots.proofs.dues.due_after.Reads as due-after
 use Rattle.slots.proofs.dues.earliest_due.Reads as earliest-due
@@ -59,10 +59,10 @@ pub slot-from-settled : (κs : Lfts 0) (a : _) (r r' : _) (s s' : _) → slot-fr
 slot-from-settled κs a r r' s s' p q = found-one _ _ (p ∙ sym q)
 
 pub place-from-settled : (κs : Lfts 0) (a : _) (r r' : _) (s s' : _) → place-from.Post κs a r s → place-from.Post κs a r' s' → r ≡ r'
-place-from-settled κs a r r' s s' p q = found-one _ _ (p ∙ sym q)
+place-from-settled κs a r r' s s' p q = place-one _ _ (p ∙ sym q)
 
 pub place-of-settled : (κs : Lfts 0) (a : _) (r r' : _) (s s' : _) → place-of.Post κs a r s → place-of.Post κs a r' s' → r ≡ r'
-place-of-settled κs a r r' s s' p q = found-one _ _ (p ∙ sym q)
+place-of-settled κs a r r' s s' p q = place-one _ _ (p ∙ sym q)
 
 pub standing-settled : (κs : Lfts 0) (a : _) (r r' : _) (s s' : _) → standing.Post κs a r s → standing.Post κs a r' s' → r ≡ r'
 standing-settled κs a r r' s s' p q = standing-one _ _ (p ∙ sym q)

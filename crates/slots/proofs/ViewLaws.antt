@@ -2,6 +2,7 @@
 use mathlib.Core.Bool.{false, cond}
 use mathlib.Core.List.{List, _∷_}
 use mathlib.Core.Path.{_≡_, refl, ap}
+use Rattle.units.specs.declared.SlotNumber.{SlotNumber}
 use Rattle.rules.specs.Words as W
 use Rattle.rules.specs.Words.{is, Party}
 use Rattle.rules.specs.Waits as T
@@ -15,15 +16,18 @@ use Rattle.slots.specs.declared.Carrier.{Carrier}
 use Rattle.slots.specs.declared.Carrier.the-variants.{Present, Lost}
 use Rattle.slots.specs.declared.Phase.{Phase}
 use Rattle.slots.specs.declared.Phase.the-variants.{Free, Offered, RingBack, RingAgain, Acknowledged, Dialling, Answered, Hold, Taken}
+use Rattle.slots.specs.declared.QueuePlace.{QueuePlace}
 use Rattle.slots.specs.declared.Wait.{Wait}
 use Rattle.slots.specs.declared.Wait.the-variants.{Entry, Loss, Main}
 use Rattle.slots.specs.declared.Due.{Due}
 use Rattle.slots.specs.declared.Due.the-variants.{Never, In}
 use Rattle.slots.specs.declared.Found.{Found}
 use Rattle.slots.specs.declared.Found.the-variants.{At, Nothing}
+use Rattle.slots.specs.declared.Place.{Place}
+use Rattle.slots.specs.declared.Place.the-variants as P
 use Rattle.slots.specs.declared.Standing.{Standing}
 use Rattle.slots.specs.declared.Standing.the-variants.{Nowhere, Holds, Waits}
-use Rattle.slots.specs.Views.{carrierOf, phaseView, waitView, dueView, foundView, standingView, stored, owned}
+use Rattle.slots.specs.Views.{carrierOf, phaseView, waitView, dueView, foundView, placeView, standingView, stored, owned}
 use Rattle.slots.specs.Images.{carrierImage, phaseImage, storedImage}
 
 -- ── a phase laid out again is the phase, and its request is kept where the phase stores one ──
@@ -84,33 +88,45 @@ owner-view Taken r l = refl
 
 -- ── two records that stand for one thing are one ──
 
+slot-number : (i j : SlotNumber) → i .0 ≡ j .0 → i ≡ j
+slot-number i j e = ap (λ n. record { 0 = n }) e
+
+place-number : (i j : QueuePlace) → i .0 ≡ j .0 → i ≡ j
+place-number i j e = ap (λ n. record { 0 = n }) e
+
 pub found-one : (a b : Found) → foundView a ≡ foundView b → a ≡ b
-found-one (At i) (At j) e = cc
+found-one (At i) (At j) e = ap At (slot-number i j cc)
 found-one (At i) Nothing e = cc
 found-one Nothing (At j) e = cc
 found-one Nothing Nothing e = refl
+
+pub place-one : (a b : Place) → placeView a ≡ placeView b → a ≡ b
+place-one (P.At i) (P.At j) e = ap P.At (place-number i j cc)
+place-one (P.At i) P.Nothing e = cc
+place-one P.Nothing (P.At j) e = cc
+place-one P.Nothing P.Nothing e = refl
 
 pub standing-one : (a b : Standing) → standingView a ≡ standingView b → a ≡ b
 standing-one Nowhere Nowhere e = refl
 standing-one Nowhere (Holds j) e = cc
 standing-one Nowhere (Waits j) e = cc
 standing-one (Holds i) Nowhere e = cc
-standing-one (Holds i) (Holds j) e = cc
+standing-one (Holds i) (Holds j) e = ap Holds (slot-number i j cc)
 standing-one (Holds i) (Waits j) e = cc
 standing-one (Waits i) Nowhere e = cc
 standing-one (Waits i) (Holds j) e = cc
-standing-one (Waits i) (Waits j) e = cc
+standing-one (Waits i) (Waits j) e = ap Waits (place-number i j cc)
 
 wait-one : (a b : Wait) → waitView a ≡ waitView b → a ≡ b
-wait-one (Entry i) (Entry j) e = cc
+wait-one (Entry i) (Entry j) e = ap Entry (place-number i j cc)
 wait-one (Entry i) (Loss j) e = cc
 wait-one (Entry i) (Main j) e = cc
 wait-one (Loss i) (Entry j) e = cc
-wait-one (Loss i) (Loss j) e = cc
+wait-one (Loss i) (Loss j) e = ap Loss (slot-number i j cc)
 wait-one (Loss i) (Main j) e = cc
 wait-one (Main i) (Entry j) e = cc
 wait-one (Main i) (Loss j) e = cc
-wait-one (Main i) (Main j) e = cc
+wait-one (Main i) (Main j) e = ap Main (slot-number i j cc)
 
 pub due-one : (a b : Due) → dueView a ≡ dueView b → a ≡ b
 due-one Never Never e = refl

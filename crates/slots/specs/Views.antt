@@ -26,6 +26,8 @@ use Rattle.slots.specs.declared.Due.{Due}
 use Rattle.slots.specs.declared.Due.the-variants.{Never, In}
 use Rattle.slots.specs.declared.Found.{Found}
 use Rattle.slots.specs.declared.Found.the-variants.{At, Nothing}
+use Rattle.slots.specs.declared.Place.{Place}
+use Rattle.slots.specs.declared.Place.the-variants as P
 use Rattle.slots.specs.declared.Standing.{Standing}
 use Rattle.slots.specs.declared.Standing.the-variants.{Nowhere, Holds, Waits}
 
@@ -60,22 +62,26 @@ abbrev pub partyOf : ℕ → ℕ → W.Party
 partyOf ship station = record { ship = ship; station = station }
 
 abbrev pub waitView : Wait → T.Wait
-waitView (Entry k) = ofQueue k
-waitView (Loss i) = loss i
-waitView (Main i) = main i
+waitView (Entry k) = ofQueue (k .0)
+waitView (Loss i) = loss (i .0)
+waitView (Main i) = main (i .0)
 
 abbrev pub dueView : Due → Option T.Due
 dueView Never = none
 dueView (In t w) = some (record { what = waitView w; at = t .0 })
 
 abbrev pub foundView : Found → Option ℕ
-foundView (At i) = some i
+foundView (At i) = some (i .0)
 foundView Nothing = none
+
+abbrev pub placeView : Place → Option ℕ
+placeView (P.At k) = some (k .0)
+placeView P.Nothing = none
 
 abbrev pub standingView : Standing → Q.Standing
 standingView Nowhere = nowhere
-standingView (Holds i) = holds i
-standingView (Waits k) = waits k
+standingView (Holds i) = holds (i .0)
+standingView (Waits k) = waits (k .0)
 
 -- a phase that stores a request
 abbrev pub stored : Phase → Bool

@@ -10,11 +10,13 @@ ghost use Rattle.slots.specs.Changes.{joinDue, queueJoined};
 use crate::Carrier;
 use crate::Due;
 use crate::Phase;
+use crate::QueuePlace;
 use crate::Slot;
 use crate::Wait;
 use crate::Waiting;
 use requests::Mode;
 use requests::least;
+use units::SlotNumber;
 use units::Tenths;
 
 // "a wait of 50 duplex, 450 simplex"
@@ -48,8 +50,8 @@ fn sooner_of(t: Tenths, w: Wait, d: Due) -> Due
     }
 }
 
-fn carrier_due(c: Carrier, i: u8, d: Due) -> Due
-    ensures { λ r. ⌜ dueView r ≡ joinDue (loss i) (carrierOf c) (dueView d) ⌝ }
+fn carrier_due(c: Carrier, i: SlotNumber, d: Due) -> Due
+    ensures { λ r. ⌜ dueView r ≡ joinDue (loss (i .0)) (carrierOf c) (dueView d) ⌝ }
 {
     match c {
         Carrier::Present => d,
@@ -57,8 +59,8 @@ fn carrier_due(c: Carrier, i: u8, d: Due) -> Due
     }
 }
 
-fn loss_due(s: Slot, i: u8, d: Due) -> Due
-    ensures { λ r. ⌜ dueView r ≡ joinDue (loss i) (lossDue (slotView s)) (dueView d) ⌝ }
+fn loss_due(s: Slot, i: SlotNumber, d: Due) -> Due
+    ensures { λ r. ⌜ dueView r ≡ joinDue (loss (i .0)) (lossDue (slotView s)) (dueView d) ⌝ }
 {
     let p = s.phase;
     match p {
@@ -74,8 +76,8 @@ fn loss_due(s: Slot, i: u8, d: Due) -> Due
     }
 }
 
-fn main_due(s: Slot, i: u8, d: Due) -> Due
-    ensures { λ r. ⌜ dueView r ≡ joinDue (main i) (mainDue (slotView s)) (dueView d) ⌝ }
+fn main_due(s: Slot, i: SlotNumber, d: Due) -> Due
+    ensures { λ r. ⌜ dueView r ≡ joinDue (main (i .0)) (mainDue (slotView s)) (dueView d) ⌝ }
 {
     let p = s.phase;
     match p {
@@ -96,12 +98,12 @@ fn slots_due(a: [Slot; 16], n: u8) -> Due
     ensures { λ r. ⌜ dueView r ≡ earliest (slotTable 0 (viewed slotView n a)) ⌝ }
 {
     let mut d = Due::Never;
-    let mut i = least(n, 16);
+    let mut i = least(n, 16) as u32;
     while 0 < i {
         i -= 1;
         let s = a[i as usize];
-        let m = main_due(s, i, d);
-        d = loss_due(s, i, m);
+        let m = main_due(s, SlotNumber(i), d);
+        d = loss_due(s, SlotNumber(i), m);
     }
     d
 }
@@ -116,7 +118,7 @@ fn queue_due(a: [Waiting; 32], n: u8, d: Due) -> Due
         k -= 1;
         let w = a[k as usize];
         let t = w.due;
-        e = sooner_of(t, Wait::Entry(k), e);
+        e = sooner_of(t, Wait::Entry(QueuePlace(k)), e);
     }
     e
 }

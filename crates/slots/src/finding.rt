@@ -7,16 +7,19 @@ ghost use Rattle.rules.specs.Places.{lowest};
 ghost use Rattle.rules.specs.Heard.{sameChannel};
 ghost use Rattle.rules.specs.Requests.{owns, waitsFor, isFree, standsAt};
 ghost use Rattle.requests.specs.Views.{viewed, left, requestOf};
-ghost use Rattle.slots.specs.Views.{slotView, waitingView, channelOf, foundView, standingView, partyOf, owned};
+ghost use Rattle.slots.specs.Views.{slotView, waitingView, channelOf, foundView, placeView, standingView, partyOf, owned};
 ghost use Rattle.slots.specs.Changes.{lowestFrom};
 use crate::Found;
 use crate::Phase;
+use crate::Place;
+use crate::QueuePlace;
 use crate::Slot;
 use crate::Standing;
 use crate::Waiting;
 use requests::Request;
 use requests::least;
 use units::Channel;
+use units::SlotNumber;
 
 fn is_free(s: Slot) -> bool
     ensures { λ r. ⌜ r ≡ isFree (slotView s) ⌝ }
@@ -39,29 +42,29 @@ fn is_free(s: Slot) -> bool
 pub fn first_free(a: [Slot; 16], n: u8) -> Found
     ensures { λ r. ⌜ foundView r ≡ lowest isFree (viewed slotView n a) ⌝ }
 {
-    let m = least(n, 16);
-    let mut i: u8 = 0;
+    let m = least(n, 16) as u32;
+    let mut i: u32 = 0;
     while i < m {
         let s = a[i as usize];
         if is_free(s) {
-            return Found::At(i);
+            return Found::At(SlotNumber(i));
         }
         i += 1;
     }
     Found::Nothing
 }
 
-// The lowest slot, from a place on, that works on the channel c.
-pub fn channel_from(a: [Slot; 16], n: u8, from: u8, c: Channel) -> Found
-    ensures { λ r. ⌜ foundView r ≡ lowestFrom (sameChannel c) from (left channelOf n a from) ⌝ }
+// The lowest slot, from a number on, that works on the channel c.
+pub fn channel_from(a: [Slot; 16], n: u8, from: SlotNumber, c: Channel) -> Found
+    ensures { λ r. ⌜ foundView r ≡ lowestFrom (sameChannel c) (from .0) (left channelOf n a (from .0)) ⌝ }
 {
-    let m = least(n, 16);
-    let mut i = from;
+    let m = least(n, 16) as u32;
+    let mut i = from.0;
     while i < m {
         let s = a[i as usize];
         let d = s.channel;
         if c.0 == d.0 {
-            return Found::At(i);
+            return Found::At(SlotNumber(i));
         }
         i += 1;
     }
@@ -72,7 +75,7 @@ pub fn channel_from(a: [Slot; 16], n: u8, from: u8, c: Channel) -> Found
 pub fn slot_named(a: [Slot; 16], n: u8, c: Channel) -> Found
     ensures { λ r. ⌜ foundView r ≡ lowest (sameChannel c) (viewed channelOf n a) ⌝ }
 {
-    channel_from(a, n, 0, c)
+    channel_from(a, n, SlotNumber(0), c)
 }
 
 // The request is of this ship, at this station.
@@ -115,16 +118,16 @@ fn is_of(s: Slot, ship: u32, station: u32) -> bool
     false
 }
 
-// The lowest slot, from a place on, that is the ship's.
-pub fn slot_from(a: [Slot; 16], n: u8, from: u8, ship: u32, station: u32) -> Found
-    ensures { λ r. ⌜ foundView r ≡ lowestFrom (owns (partyOf ship station)) from (left slotView n a from) ⌝ }
+// The lowest slot, from a number on, that is the ship's.
+pub fn slot_from(a: [Slot; 16], n: u8, from: SlotNumber, ship: u32, station: u32) -> Found
+    ensures { λ r. ⌜ foundView r ≡ lowestFrom (owns (partyOf ship station)) (from .0) (left slotView n a (from .0)) ⌝ }
 {
-    let m = least(n, 16);
-    let mut i = from;
+    let m = least(n, 16) as u32;
+    let mut i = from.0;
     while i < m {
         let s = a[i as usize];
         if is_of(s, ship, station) {
-            return Found::At(i);
+            return Found::At(SlotNumber(i));
         }
         i += 1;
     }
@@ -132,36 +135,36 @@ pub fn slot_from(a: [Slot; 16], n: u8, from: u8, ship: u32, station: u32) -> Fou
 }
 
 // The first place of the queue, from a place on, where the ship waits.
-pub fn place_from(b: [Waiting; 32], m: u8, from: u8, ship: u32, station: u32) -> Found
-    ensures { λ r. ⌜ foundView r ≡ lowestFrom (waitsFor (partyOf ship station)) from (left waitingView m b from) ⌝ }
+pub fn place_from(b: [Waiting; 32], m: u8, from: QueuePlace, ship: u32, station: u32) -> Place
+    ensures { λ r. ⌜ placeView r ≡ lowestFrom (waitsFor (partyOf ship station)) (from .0) (left waitingView m b (from .0)) ⌝ }
 {
     let n = least(m, 32);
-    let mut k = from;
+    let mut k = from.0;
     while k < n {
         let w = b[k as usize];
         let q = w.request;
         if is_by(q, ship, station) {
-            return Found::At(k);
+            return Place::At(QueuePlace(k));
         }
         k += 1;
     }
-    Found::Nothing
+    Place::Nothing
 }
 
 // The ship's place in the queue.
-pub fn place_of(b: [Waiting; 32], m: u8, ship: u32, station: u32) -> Found
-    ensures { λ r. ⌜ foundView r ≡ lowest (waitsFor (partyOf ship station)) (viewed waitingView m b) ⌝ }
+pub fn place_of(b: [Waiting; 32], m: u8, ship: u32, station: u32) -> Place
+    ensures { λ r. ⌜ placeView r ≡ lowest (waitsFor (partyOf ship station)) (viewed waitingView m b) ⌝ }
 {
-    place_from(b, m, 0, ship, station)
+    place_from(b, m, QueuePlace(0), ship, station)
 }
 
 // Where a ship stands that has no slot.
-fn waiting_at(k: Found) -> Standing
-    ensures { λ r. ⌜ standingView r ≡ standsAt none (foundView k) ⌝ }
+fn waiting_at(k: Place) -> Standing
+    ensures { λ r. ⌜ standingView r ≡ standsAt none (placeView k) ⌝ }
 {
     match k {
-        Found::At(j) => Standing::Waits(j),
-        Found::Nothing => Standing::Nowhere,
+        Place::At(j) => Standing::Waits(j),
+        Place::Nothing => Standing::Nowhere,
     }
 }
 
@@ -170,7 +173,7 @@ pub fn standing(a: [Slot; 16], n: u8, b: [Waiting; 32], m: u8, ship: u32, statio
     ensures { λ r. ⌜ standingView r ≡ standsAt (lowest (owns (partyOf ship station)) (viewed slotView n a)) (lowest (waitsFor (partyOf ship station)) (viewed waitingView m b)) ⌝ }
 {
     let k = place_of(b, m, ship, station);
-    let s = slot_from(a, n, 0, ship, station);
+    let s = slot_from(a, n, SlotNumber(0), ship, station);
     match s {
         Found::At(i) => Standing::Holds(i),
         Found::Nothing => waiting_at(k),

@@ -8,6 +8,7 @@ pub mod sameness;
 
 use requests::Request;
 use units::Channel;
+use units::SlotNumber;
 use units::Tenths;
 use units::Told;
 
@@ -41,11 +42,14 @@ pub struct Waiting {
     pub request: Request,
 }
 
+// A place in the queue, 0 the oldest's.
+pub struct QueuePlace(pub u8);
+
 // Which wait falls due: a place in the queue, a slot's carrier loss, a slot's other wait.
 pub enum Wait {
-    Entry(u8),
-    Loss(u8),
-    Main(u8),
+    Entry(QueuePlace),
+    Loss(SlotNumber),
+    Main(SlotNumber),
 }
 
 pub enum Due {
@@ -53,14 +57,21 @@ pub enum Due {
     In(Tenths, Wait),
 }
 
+// A slot looked for.
 pub enum Found {
-    At(u8),
+    At(SlotNumber),
+    Nothing,
+}
+
+// A place in the queue looked for.
+pub enum Place {
+    At(QueuePlace),
     Nothing,
 }
 
 // Where a ship stands: in a slot, or at a place in the queue.
 pub enum Standing {
     Nowhere,
-    Holds(u8),
-    Waits(u8),
+    Holds(SlotNumber),
+    Waits(QueuePlace),
 }

@@ -8,6 +8,7 @@ ghost use Rattle.slots.specs.Views.{slotView, phaseView, waitingView, ch
 ghost use Rattle.slots.specs.Images.{blankSlot, blankWaiting};
 ghost use Rattle.slots.specs.Changes.{putIn};
 use crate::Phase;
+use crate::QueuePlace;
 use crate::Slot;
 use crate::Waiting;
 use crate::laying::blank_slot;
@@ -15,43 +16,44 @@ use crate::laying::blank_waiting;
 use requests::Request;
 use requests::least;
 use units::Channel;
+use units::SlotNumber;
 
 // The slot i of n.
-pub fn slot_in(a: [Slot; 16], n: u8, i: u8) -> Slot
-    ensures { λ r. ⌜ r ≡ getD (viewed itself n a) i blankSlot ⌝ }
-    ensures { λ r. ⌜ slotView r ≡ getD (viewed slotView n a) i free ⌝ }
+pub fn slot_in(a: [Slot; 16], n: u8, i: SlotNumber) -> Slot
+    ensures { λ r. ⌜ r ≡ getD (viewed itself n a) (i .0) blankSlot ⌝ }
+    ensures { λ r. ⌜ slotView r ≡ getD (viewed slotView n a) (i .0) free ⌝ }
 {
-    let m = least(n, 16);
-    if m <= i {
+    let m = least(n, 16) as u32;
+    if m <= i.0 {
         return blank_slot();
     }
-    a[i as usize]
+    a[i.0 as usize]
 }
 
 // The channel of the slot i of n.
-pub fn channel_in(a: [Slot; 16], n: u8, i: u8) -> Channel
-    ensures { λ r. ⌜ r ≡ getD (viewed channelOf n a) i (record { 0 = 0 }) ⌝ }
+pub fn channel_in(a: [Slot; 16], n: u8, i: SlotNumber) -> Channel
+    ensures { λ r. ⌜ r ≡ getD (viewed channelOf n a) (i .0) (record { 0 = 0 }) ⌝ }
 {
-    let m = least(n, 16);
-    if m <= i {
+    let m = least(n, 16) as u32;
+    if m <= i.0 {
         return Channel(0);
     }
-    let s = a[i as usize];
+    let s = a[i.0 as usize];
     s.channel
 }
 
 // The slots with another phase and request at i, its channel kept.
-pub fn put_in(mut a: [Slot; 16], n: u8, i: u8, p: Phase, q: Request) -> [Slot; 16]
-    ensures { λ r. ⌜ r ≡ putIn a i p q ⌝ }
-    ensures { λ r. ⌜ viewed slotView n r ≡ modAt (λ y. phaseView p (requestOf q)) i (viewed slotView n a) ⌝ }
+pub fn put_in(mut a: [Slot; 16], n: u8, i: SlotNumber, p: Phase, q: Request) -> [Slot; 16]
+    ensures { λ r. ⌜ r ≡ putIn a (i .0) p q ⌝ }
+    ensures { λ r. ⌜ viewed slotView n r ≡ modAt (λ y. phaseView p (requestOf q)) (i .0) (viewed slotView n a) ⌝ }
     ensures { λ r. ⌜ viewed channelOf n r ≡ viewed channelOf n a ⌝ }
 {
-    if 16 <= i {
+    if 16 <= i.0 {
         return a;
     }
-    let s = a[i as usize];
+    let s = a[i.0 as usize];
     let c = s.channel;
-    a[i as usize] = Slot {
+    a[i.0 as usize] = Slot {
         phase: p,
         channel: c,
         request: q,
@@ -67,15 +69,15 @@ pub fn held(a: [Slot; 16], n: u8) -> u8
 }
 
 // The waiting ship at k of n.
-fn waiting_in(a: [Waiting; 32], n: u8, k: u8) -> Waiting
-    ensures { λ r. ⌜ r ≡ getD (viewed itself n a) k blankWaiting ⌝ }
-    ensures { λ r. ⌜ waitingView r ≡ getD (viewed waitingView n a) k (waitingView blankWaiting) ⌝ }
+fn waiting_in(a: [Waiting; 32], n: u8, k: QueuePlace) -> Waiting
+    ensures { λ r. ⌜ r ≡ getD (viewed itself n a) (k .0) blankWaiting ⌝ }
+    ensures { λ r. ⌜ waitingView r ≡ getD (viewed waitingView n a) (k .0) (waitingView blankWaiting) ⌝ }
 {
     let m = least(n, 32);
-    if m <= k {
+    if m <= k.0 {
         return blank_waiting();
     }
-    a[k as usize]
+    a[k.0 as usize]
 }
 
 // The ship that has waited longest: "oldest first".
@@ -83,7 +85,7 @@ pub fn oldest(a: [Waiting; 32], n: u8) -> Waiting
     ensures { λ r. ⌜ r ≡ getD (viewed itself n a) 0 blankWaiting ⌝ }
     ensures { λ r. ⌜ waitingView r ≡ getD (viewed waitingView n a) 0 (waitingView blankWaiting) ⌝ }
 {
-    waiting_in(a, n, 0)
+    waiting_in(a, n, QueuePlace(0))
 }
 
 // The count of waiting ships.

@@ -8,6 +8,7 @@ ghost use Rattle.requests.specs.Views.{viewed, requestOf};
 ghost use Rattle.slots.specs.Views.{waitingView};
 ghost use Rattle.slots.specs.Images.{blankWaiting};
 ghost use Rattle.slots.specs.Changes.{without, cutIn, cutLine, replaceIn};
+use crate::QueuePlace;
 use crate::Waiting;
 use crate::laying::blank_waiting;
 use requests::Request;
@@ -30,26 +31,26 @@ fn closed_up(mut a: [Waiting; 32], k: usize) -> [Waiting; 32]
 }
 
 // The count of waiting ships once that at k is gone.
-pub fn cut_count(n: u8, k: u8) -> u8
-    ensures { λ r. ⌜ r ≡ cutLine n k ⌝ }
+pub fn cut_count(n: u8, k: QueuePlace) -> u8
+    ensures { λ r. ⌜ r ≡ cutLine n (k .0) ⌝ }
 {
     let m = least(n, 32);
-    if m <= k {
+    if m <= k.0 {
         return n;
     }
     m - 1
 }
 
 // The waiting ships without that at k, where there is one.
-pub fn cut_in(a: [Waiting; 32], n: u8, k: u8) -> [Waiting; 32]
-    ensures { λ r. ⌜ r ≡ cutIn a n k ⌝ }
-    ensures { λ r. ⌜ viewed waitingView (cutLine n k) r ≡ dropAt k (viewed waitingView n a) ⌝ }
+pub fn cut_in(a: [Waiting; 32], n: u8, k: QueuePlace) -> [Waiting; 32]
+    ensures { λ r. ⌜ r ≡ cutIn a n (k .0) ⌝ }
+    ensures { λ r. ⌜ viewed waitingView (cutLine n (k .0)) r ≡ dropAt (k .0) (viewed waitingView n a) ⌝ }
 {
     let m = least(n, 32);
-    if m <= k {
+    if m <= k.0 {
         return a;
     }
-    closed_up(a, k as usize)
+    closed_up(a, k.0 as usize)
 }
 
 // The n waiting ships with one more at the end, where there is room.
@@ -65,15 +66,15 @@ pub fn join_in(mut a: [Waiting; 32], n: u8, w: Waiting) -> [Waiting; 32]
 }
 
 // Rule d: the waiting ship at k asks for q, its place and due time kept.
-pub fn replace_in(mut a: [Waiting; 32], n: u8, k: u8, q: Request) -> [Waiting; 32]
-    ensures { λ r. ⌜ r ≡ replaceIn a k q ⌝ }
-    ensures { λ r. ⌜ viewed waitingView n r ≡ modAt (λ w. record { request = requestOf q; due = w .due }) k (viewed waitingView n a) ⌝ }
+pub fn replace_in(mut a: [Waiting; 32], n: u8, k: QueuePlace, q: Request) -> [Waiting; 32]
+    ensures { λ r. ⌜ r ≡ replaceIn a (k .0) q ⌝ }
+    ensures { λ r. ⌜ viewed waitingView n r ≡ modAt (λ w. record { request = requestOf q; due = w .due }) (k .0) (viewed waitingView n a) ⌝ }
 {
-    if 32 <= k {
+    if 32 <= k.0 {
         return a;
     }
-    let w = a[k as usize];
+    let w = a[k.0 as usize];
     let t = w.due;
-    a[k as usize] = Waiting { due: t, request: q };
+    a[k.0 as usize] = Waiting { due: t, request: q };
     a
 }

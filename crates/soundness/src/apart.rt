@@ -9,17 +9,20 @@ ghost use Rattle.rules.specs.Places.{all, elem, distinct, isSome};
 ghost use Rattle.rules.specs.Heard.{sameChannel};
 ghost use Rattle.rules.specs.Sound.{channelsKeep, owners};
 ghost use Rattle.requests.specs.Views.{viewed, left, requestOf};
-ghost use Rattle.slots.specs.Views.{slotView, waitingView, channelOf, foundView, partyOf, owned};
+ghost use Rattle.slots.specs.Views.{slotView, waitingView, channelOf, foundView, placeView, partyOf, owned};
 ghost use Rattle.soundness.specs.Soundly.{whoOf};
 use requests::least;
 use sequence::parts::channel_ok;
 use slots::Found;
+use slots::Place;
+use slots::QueuePlace;
 use slots::Slot;
 use slots::Waiting;
 use slots::finding::channel_from;
 use slots::finding::has_ship;
 use slots::finding::place_from;
 use slots::finding::slot_from;
+use units::SlotNumber;
 
 fn is_found(f: Found) -> bool
     ensures { λ r. ⌜ r ≡ isSome (foundView f) ⌝ }
@@ -27,6 +30,15 @@ fn is_found(f: Found) -> bool
     match f {
         Found::At(_) => true,
         Found::Nothing => false,
+    }
+}
+
+fn is_waiting(k: Place) -> bool
+    ensures { λ r. ⌜ r ≡ isSome (placeView k) ⌝ }
+{
+    match k {
+        Place::At(_) => true,
+        Place::Nothing => false,
     }
 }
 
@@ -54,7 +66,7 @@ fn channels_apart(a: [Slot; 16], n: u8) -> bool
     while i < m {
         let s = a[i as usize];
         let c = s.channel;
-        let f = channel_from(a, n, i + 1, c);
+        let f = channel_from(a, n, SlotNumber(i as u32 + 1), c);
         if is_found(f) {
             return false;
         }
@@ -84,8 +96,8 @@ fn queue_apart(b: [Waiting; 32], m: u8) -> bool
     while k < n {
         let w = b[k as usize];
         let q = w.request;
-        let f = place_from(b, m, k + 1, q.ship, q.station);
-        if is_found(f) {
+        let f = place_from(b, m, QueuePlace(k + 1), q.ship, q.station);
+        if is_waiting(f) {
             return false;
         }
         k += 1;
@@ -93,29 +105,29 @@ fn queue_apart(b: [Waiting; 32], m: u8) -> bool
     true
 }
 
-// The ship stands in a slot, from a place on, or in the queue.
+// The ship stands in a slot, from a number on, or in the queue.
 fn stands_on(
     a: [Slot; 16],
     n: u8,
-    from: u8,
+    from: SlotNumber,
     b: [Waiting; 32],
     m: u8,
     ship: u32,
     station: u32,
 ) -> bool
-    ensures { λ r. ⌜ r ≡ elem is (partyOf ship station) (owners (left slotView n a from) (map whoOf (viewed waitingView m b))) ⌝ }
+    ensures { λ r. ⌜ r ≡ elem is (partyOf ship station) (owners (left slotView n a (from .0)) (map whoOf (viewed waitingView m b))) ⌝ }
 {
     let f = slot_from(a, n, from, ship, station);
     if is_found(f) {
         return true;
     }
-    let g = place_from(b, m, 0, ship, station);
-    is_found(g)
+    let g = place_from(b, m, QueuePlace(0), ship, station);
+    is_waiting(g)
 }
 
 // The slot is a ship's that stands once more.
-fn stands_again(s: Slot, a: [Slot; 16], n: u8, from: u8, b: [Waiting; 32], m: u8) -> bool
-    ensures { λ r. ⌜ r ≡ cond (owned (s .phase)) (elem is (requestOf (s .request) .who) (owners (left slotView n a from) (map whoOf (viewed waitingView m b)))) false ⌝ }
+fn stands_again(s: Slot, a: [Slot; 16], n: u8, from: SlotNumber, b: [Waiting; 32], m: u8) -> bool
+    ensures { λ r. ⌜ r ≡ cond (owned (s .phase)) (elem is (requestOf (s .request) .who) (owners (left slotView n a (from .0)) (map whoOf (viewed waitingView m b)))) false ⌝ }
 {
     let p = s.phase;
     let q = s.request;
@@ -133,7 +145,7 @@ pub(crate) fn no_ship_twice(a: [Slot; 16], n: u8, b: [Waiting; 32], m: u8) -> bo
     let mut i: u8 = 0;
     while i < k {
         let s = a[i as usize];
-        if stands_again(s, a, n, i + 1, b, m) {
+        if stands_again(s, a, n, SlotNumber(i as u32 + 1), b, m) {
             return false;
         }
         i += 1;

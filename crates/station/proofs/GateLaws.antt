@@ -1,24 +1,20 @@
 -- The tests of an event one behind the other, and what an accepted event has passed.
-use Prim.Native.Nat.{ℕ, _≤_, _<_}
+use Prim.Native.Nat.{ℕ, _≤_}
 use mathlib.Core.Bool.{Bool, true, false, cond, not, _&&_}
 use mathlib.Core.List.{List}
 use mathlib.Core.Option.{Option, none, some}
 use mathlib.Core.Path.{_≡_, refl, sym, _∙_}
 use lib.Dec.{leb, ltb}
 use lib.ListN.{length, getD}
-use native.Mathlib.Omega.{arith}
-use borrow.Author.Tests.{leb-true, ltb-true}
+use borrow.Author.Tests.{leb-true}
 use Rattle.sequence.specs.Answers.{answerNumber, isDone}
 use Rattle.rules.specs.Places.{isSome, all}
 use Rattle.rules.specs.Words.{Happened, heard, offHook, onHook, carrierUp, carrierDown, tick, onChannel70, onSlot, Event}
 use Rattle.rules.specs.Station.{free, fires}
 use Rattle.rules.specs.Sound.{sound}
-use Rattle.rules.proofs.PlaceLaws.{and-true}
-use Rattle.requests.proofs.ArrayLaws.{viewed-length}
 use Rattle.requests.specs.Views.{viewed, itself}
-use Rattle.slots.specs.Views.{slotView}
 use Rattle.soundness.specs.Soundly.{slotExact, waitingExact, soundly}
-use Rattle.rules.specs.Verdict.{overtaken, slotThere, readerSays, readOn, barredOn, refusals, verdict}
+use Rattle.rules.specs.Verdict.{readerSays, readOn, barredOn, refusals, verdict}
 use Rattle.station.specs.declared.Station.{Station}
 use Rattle.station.specs.Model.{modelOf, configOf}
 use Rattle.station.specs.Step.{recordsKeep, refusal}
@@ -112,11 +108,9 @@ module _ (s : Station) (n t : ℕ) where
 
 -- what an accepted event has passed
 pub record Passed (s : Station) (e : Event) : Type 0 where
-  pub records : recordsKeep s ≡ true
   pub sounds : sound (configOf s) (modelOf s) ≡ true
   pub room : 320 ≤ e .room
   pub time : e .time ≤ 4000000000
-  pub there : slotThere (length (modelOf s .slots)) (e .what) ≡ true
   pub judged : verdict (configOf s) (modelOf s) e ≡ none
 
 one : (b : Bool) (n : ℕ) (x : Option ℕ) → none ≡ cond b x (some n) → (b ≡ true) × (none ≡ x)
@@ -130,19 +124,7 @@ passed s e h =
     let b = one (sound (configOf s) (modelOf s)) 29 _ (a .1) in
     let c = one (leb 320 (e .room)) 30 _ (b .1) in
     let d = one (leb (e .time) 4000000000) 31 _ (c .1) in
-    let f = one (leb (modelOf s .clock) (e .time)) 32 _ (d .1) in
-    let g = one (not (overtaken (modelOf s) (e .time) (e .what))) 33 _ (f .1) in
-    let k = one (slotThere (length (modelOf s .slots)) (e .what)) 34 _ (g .1) in
-    record { records = a .0; sounds = b .0; room = leb-true 320 (e .room) (c .0); time = leb-true (e .time) 4000000000 (d .0); there = k .0; judged = sym (a .1) }
-
--- a slot that is there has a number below 16
-pub slot-small : (s : Station) (n t i : ℕ) (h : Happened) → none ≡ refusal s (record { time = t; room = n; what = onSlot i h }) → i < 16
-unfolding recordsKeep modelOf
-slot-small s n t i h k =
-    let p = passed s (record { time = t; room = n; what = onSlot i h }) k in
-    let a = leb-true (s .count) 16 (and-true (leb (s .count) 16) _ (p .records) .0) in
-    let b = ltb-true i (length (modelOf s .slots)) (p .there) in
-    omega (arith, viewed-length slotView (s .count) (s .slots))
+    record { sounds = b .0; room = leb-true 320 (e .room) (c .0); time = leb-true (e .time) 4000000000 (d .0); judged = sym (a .1) }
 
 -- the parts of soundness, in the order of the tests
 apart : (a b x y : Bool) → (a && (b && (x && y))) ≡ ((a && (b && y)) && x)

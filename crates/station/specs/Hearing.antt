@@ -21,7 +21,7 @@ use Rattle.station.specs.Draft.{onSlotBy}
 abbrev pub heardAs : Kind → W.Request → H.Heard
 heardAs CallRequest r = callRequest r
 heardAs DataRequest r = dataRequest (r .who) (r .number)
-heardAs (Bq i) r = bq i (r .who)
+heardAs (Bq i) r = bq (i .0) (r .who)
 heardAs WorkingCall r = workingCall (r .who)
 heardAs EndOfCall r = endOfCall (r .who)
 heardAs Nothing r = nothing

@@ -19,6 +19,8 @@ use requests::Request;
 use slots::Carrier;
 use slots::Found;
 use slots::Phase;
+use slots::Place;
+use slots::QueuePlace;
 use slots::Standing;
 use slots::Waiting;
 use slots::finding::first_free;
@@ -28,6 +30,7 @@ use slots::places::in_line;
 use slots::queue::join_in;
 use slots::queue::replace_in;
 use slots::sameness::same_request;
+use units::SlotNumber;
 
 impl Plan {
     // a. "Data: answer 104/109."
@@ -38,8 +41,8 @@ impl Plan {
     }
 
     // b. "repeat the acknowledgement, the wait unchanged"
-    fn repeated(self, i: u8, q: Request) -> Plan
-        ensures { λ r. ⌜ draftOf r ≡ doing (λ st. repeated i st (requestOf q)) (draftOf self) ⌝ }
+    fn repeated(self, i: SlotNumber, q: Request) -> Plan
+        ensures { λ r. ⌜ draftOf r ≡ doing (λ st. repeated (i .0) st (requestOf q)) (draftOf self) ⌝ }
     {
         let s = self.station;
         let c = s.channel_at(i);
@@ -47,9 +50,9 @@ impl Plan {
     }
 
     // b. "new request stored, acknowledgement sent, no carrier action, wait 160 from now"
-    fn afresh(self, i: u8, q: Request) -> Plan
+    fn afresh(self, i: SlotNumber, q: Request) -> Plan
         requires { ⌜ self .station .clock .0 ≤ 4_000_000_000 ⌝ }
-        ensures { λ r. ⌜ draftOf r ≡ doing (λ st. afresh i st (requestOf q)) (draftOf self) ⌝ }
+        ensures { λ r. ⌜ draftOf r ≡ doing (λ st. afresh (i .0) st (requestOf q)) (draftOf self) ⌝ }
     {
         let s = self.station;
         let c = s.channel_at(i);
@@ -59,9 +62,9 @@ impl Plan {
     }
 
     // b. "offered a slot by an identical request .. If it differs"
-    fn offered_again(self, i: u8, stored: Request, q: Request) -> Plan
+    fn offered_again(self, i: SlotNumber, stored: Request, q: Request) -> Plan
         requires { ⌜ self .station .clock .0 ≤ 4_000_000_000 ⌝ }
-        ensures { λ r. ⌜ draftOf r ≡ doing (λ st. ruleB i R.offered (requestOf stored) st (requestOf q)) (draftOf self) ⌝ }
+        ensures { λ r. ⌜ draftOf r ≡ doing (λ st. ruleB (i .0) R.offered (requestOf stored) st (requestOf q)) (draftOf self) ⌝ }
     {
         if same_request(q, stored) {
             return self.repeated(i, q);
@@ -70,8 +73,8 @@ impl Plan {
     }
 
     // d. "replace its request, keep place and due time, answer 104/103"
-    fn rule_d(self, k: u8, q: Request) -> Plan
-        ensures { λ r. ⌜ draftOf r ≡ doing (λ st. ruleD k st (requestOf q)) (draftOf self) ⌝ }
+    fn rule_d(self, k: QueuePlace, q: Request) -> Plan
+        ensures { λ r. ⌜ draftOf r ≡ doing (λ st. ruleD (k .0) st (requestOf q)) (draftOf self) ⌝ }
     {
         let s = self.station;
         let b = s.queue;
@@ -81,9 +84,9 @@ impl Plan {
     }
 
     // e. "offer the lowest. Carrier on, acknowledgement with the channel and BQ; wait 160"
-    fn offer(self, i: u8, q: Request) -> Plan
+    fn offer(self, i: SlotNumber, q: Request) -> Plan
         requires { ⌜ self .station .clock .0 ≤ 4_000_000_000 ⌝ }
-        ensures { λ r. ⌜ draftOf r ≡ doing (λ st. offer i st (requestOf q)) (draftOf self) ⌝ }
+        ensures { λ r. ⌜ draftOf r ≡ doing (λ st. offer (i .0) st (requestOf q)) (draftOf self) ⌝ }
     {
         let p = self.say(carrier_on(i));
         p.afresh(i, q)
@@ -131,15 +134,15 @@ impl Plan {
         let b = s.queue;
         let f = place_of(b, s.waiting, q.ship, q.station);
         match f {
-            Found::At(k) => self.rule_d(k, q),
-            Found::Nothing => self.newcomer(q),
+            Place::At(k) => self.rule_d(k, q),
+            Place::Nothing => self.newcomer(q),
         }
     }
 
     // c. "If simplex with carrier absent, the coast ends that call .. then d to g apply"
-    fn rule_c(self, i: u8, m: Mode, c: Carrier, q: Request) -> Plan
+    fn rule_c(self, i: SlotNumber, m: Mode, c: Carrier, q: Request) -> Plan
         requires { ⌜ self .station .clock .0 ≤ 4_000_000_000 ⌝ }
-        ensures { λ r. ⌜ draftOf r ≡ doing (ruleCBy i (modeOf m) (carrierOf c) (requestOf q)) (draftOf self) ⌝ }
+        ensures { λ r. ⌜ draftOf r ≡ doing (ruleCBy (i .0) (modeOf m) (carrierOf c) (requestOf q)) (draftOf self) ⌝ }
     {
         match m {
             Mode::Duplex => self.answering(1),
@@ -151,9 +154,9 @@ impl Plan {
     }
 
     // b or c: the ship holds the slot i.
-    fn holder_asks(self, i: u8, q: Request) -> Plan
+    fn holder_asks(self, i: SlotNumber, q: Request) -> Plan
         requires { ⌜ self .station .clock .0 ≤ 4_000_000_000 ⌝ }
-        ensures { λ r. ⌜ draftOf r ≡ doing (onSlotBy i (λ st s. bOrC i s st (requestOf q))) (draftOf self) ⌝ }
+        ensures { λ r. ⌜ draftOf r ≡ doing (onSlotBy (i .0) (λ st s. bOrC (i .0) s st (requestOf q))) (draftOf self) ⌝ }
     {
         let s = self.station;
         let y = s.slot_at(i);

@@ -37,8 +37,8 @@ fn lost_from(c: Carrier, t: Tenths, m: Mode) -> Carrier
 
 impl Plan {
     // "while dialling: answered, the reply wait ends, a carrier wait runs on"
-    pub(crate) fn off_hook(self, i: u8) -> Plan
-        ensures { λ r. ⌜ draftOf r ≡ doing (onSlotBy i (offHookOn i)) (draftOf self) ⌝ }
+    pub(crate) fn off_hook(self, i: SlotNumber) -> Plan
+        ensures { λ r. ⌜ draftOf r ≡ doing (onSlotBy (i .0) (offHookOn (i .0))) (draftOf self) ⌝ }
     {
         let s = self.station;
         let t = s.clock;
@@ -53,8 +53,8 @@ impl Plan {
     }
 
     // "carrier up ends it"
-    pub(crate) fn carrier_up(self, i: u8) -> Plan
-        ensures { λ r. ⌜ draftOf r ≡ doing (onSlotBy i (upOn i)) (draftOf self) ⌝ }
+    pub(crate) fn carrier_up(self, i: SlotNumber) -> Plan
+        ensures { λ r. ⌜ draftOf r ≡ doing (onSlotBy (i .0) (upOn (i .0))) (draftOf self) ⌝ }
     {
         let s = self.station;
         let x = s.slot_at(i);
@@ -70,9 +70,9 @@ impl Plan {
     }
 
     // "starts a wait of 50 duplex, 450 simplex"
-    pub(crate) fn carrier_down(self, i: u8) -> Plan
+    pub(crate) fn carrier_down(self, i: SlotNumber) -> Plan
         requires { ⌜ self .station .clock .0 ≤ 4_000_000_000 ⌝ }
-        ensures { λ r. ⌜ draftOf r ≡ doing (onSlotBy i (downOn i)) (draftOf self) ⌝ }
+        ensures { λ r. ⌜ draftOf r ≡ doing (onSlotBy (i .0) (downOn (i .0))) (draftOf self) ⌝ }
     {
         let s = self.station;
         let t = s.clock;
@@ -104,9 +104,8 @@ impl Station {
         match v {
             Verdict::Refused(n) => self.refused(n),
             Verdict::Accepted => {
-                let i = slot.0 as u8;
                 let p = self.opened(time);
-                let q = p.off_hook(i);
+                let q = p.off_hook(slot);
                 q.finish(room)
             }
         }
@@ -121,9 +120,8 @@ impl Station {
         match v {
             Verdict::Refused(n) => self.refused(n),
             Verdict::Accepted => {
-                let i = slot.0 as u8;
                 let p = self.opened(time);
-                let q = p.carrier_up(i);
+                let q = p.carrier_up(slot);
                 q.finish(room)
             }
         }
@@ -138,9 +136,8 @@ impl Station {
         match v {
             Verdict::Refused(n) => self.refused(n),
             Verdict::Accepted => {
-                let i = slot.0 as u8;
                 let p = self.opened(time);
-                let q = p.carrier_down(i);
+                let q = p.carrier_down(slot);
                 q.finish(room)
             }
         }

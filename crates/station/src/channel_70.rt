@@ -20,6 +20,7 @@ use requests::Request;
 use slots::Phase;
 use slots::Slot;
 use slots::finding::is_by;
+use units::SlotNumber;
 use units::Tenths;
 
 fn is_rung(p: Phase) -> bool
@@ -52,9 +53,9 @@ fn rung(s: Slot, x: Request) -> bool
 
 impl Plan {
     // Ring-back acknowledged: "wait 160"
-    fn agreed(self, i: u8, x: Request) -> Plan
+    fn agreed(self, i: SlotNumber, x: Request) -> Plan
         requires { ⌜ self .station .clock .0 ≤ 4_000_000_000 ⌝ }
-        ensures { λ r. ⌜ draftOf r ≡ doing (onSlotBy i (bqFor i (requestOf x .who))) (draftOf self) ⌝ }
+        ensures { λ r. ⌜ draftOf r ≡ doing (onSlotBy (i .0) (bqFor (i .0) (requestOf x .who))) (draftOf self) ⌝ }
     {
         let s = self.station;
         let y = s.slot_at(i);

@@ -31,6 +31,7 @@ use actions::sequences::ring_back;
 use requests::Request;
 use requests::blank_request;
 use slots::Phase;
+use slots::QueuePlace;
 use slots::Waiting;
 use slots::places::channel_in;
 use slots::places::in_line;
@@ -44,8 +45,8 @@ use units::Told;
 
 impl Station {
     // The channel of the slot i.
-    pub(crate) fn channel_at(self, i: u8) -> Channel
-        ensures { λ r. ⌜ r ≡ channelAt (configOf self) i ⌝ }
+    pub(crate) fn channel_at(self, i: SlotNumber) -> Channel
+        ensures { λ r. ⌜ r ≡ channelAt (configOf self) (i .0) ⌝ }
     {
         let a = self.slots;
         channel_in(a, self.count, i)
@@ -70,8 +71,8 @@ impl Station {
 
 impl Plan {
     // The waiting ship at k dropped.
-    pub(crate) fn without(self, k: u8) -> Plan
-        ensures { λ r. ⌜ draftOf r ≡ lining (dropAt k (draftOf self .station .queue)) (draftOf self) ⌝ }
+    pub(crate) fn without(self, k: QueuePlace) -> Plan
+        ensures { λ r. ⌜ draftOf r ≡ lining (dropAt (k .0) (draftOf self .station .queue)) (draftOf self) ⌝ }
     {
         let s = self.station;
         let b = s.queue;
@@ -81,9 +82,9 @@ impl Plan {
     }
 
     // "Whenever a slot is freed and a ship waits, the same event takes the oldest"
-    pub(crate) fn freed(self, i: u8) -> Plan
+    pub(crate) fn freed(self, i: SlotNumber) -> Plan
         requires { ⌜ self .station .clock .0 ≤ 4_000_000_000 ⌝ }
-        ensures { λ r. ⌜ draftOf r ≡ doing (freed i) (draftOf self) ⌝ }
+        ensures { λ r. ⌜ draftOf r ≡ doing (freed (i .0)) (draftOf self) ⌝ }
     {
         let s = self.station;
         let n = s.line();
@@ -95,14 +96,14 @@ impl Plan {
         let q = w.request;
         let c = s.channel_at(i);
         let t = wait_from(s.clock, 50);
-        let p = self.without(0).place(i, Phase::RingBack(t), q);
+        let p = self.without(QueuePlace(0)).place(i, Phase::RingBack(t), q);
         p.say(carrier_on(i)).say(ring_back(i, c, q)).answering(0)
     }
 
     // "release line, send 105/126 with 127 and the duration, carrier off, slot freed at once"
-    pub(crate) fn closed(self, i: u8, q: Request, told: Told) -> Plan
+    pub(crate) fn closed(self, i: SlotNumber, q: Request, told: Told) -> Plan
         requires { ⌜ self .station .clock .0 ≤ 4_000_000_000 ⌝ }
-        ensures { λ r. ⌜ draftOf r ≡ doing (closing i (requestOf q) told) (draftOf self) ⌝ }
+        ensures { λ r. ⌜ draftOf r ≡ doing (closing (i .0) (requestOf q) told) (draftOf self) ⌝ }
     {
         let a = self.say(release_line(i));
         let b = a.say(over(i, Ender::Coast, q, told));
@@ -111,9 +112,9 @@ impl Plan {
     }
 
     // The coast ends the call of the slot i.
-    pub(crate) fn coast_end(self, i: u8) -> Plan
+    pub(crate) fn coast_end(self, i: SlotNumber) -> Plan
         requires { ⌜ self .station .clock .0 ≤ 4_000_000_000 ⌝ }
-        ensures { λ r. ⌜ draftOf r ≡ doing (onSlotBy i (endOn i)) (draftOf self) ⌝ }
+        ensures { λ r. ⌜ draftOf r ≡ doing (onSlotBy (i .0) (endOn (i .0))) (draftOf self) ⌝ }
     {
         let s = self.station;
         let now = s.clock;
@@ -141,9 +142,8 @@ impl Station {
         match v {
             Verdict::Refused(n) => self.refused(n),
             Verdict::Accepted => {
-                let i = slot.0 as u8;
                 let p = self.opened(time);
-                let q = p.coast_end(i);
+                let q = p.coast_end(slot);
                 q.finish(room)
             }
         }

@@ -126,8 +126,7 @@ impl Station {
         match v {
             Verdict::Refused(n) => Verdict::Refused(n),
             Verdict::Accepted => {
-                let k = i.0 as u8;
-                let x = self.slot_at(k);
+                let x = self.slot_at(i);
                 Verdict::Accepted.and_then(is_free(x), 35)
             }
         }
@@ -141,8 +140,7 @@ impl Station {
         match v {
             Verdict::Refused(n) => Verdict::Refused(n),
             Verdict::Accepted => {
-                let k = i.0 as u8;
-                let x = self.slot_at(k);
+                let x = self.slot_at(i);
                 Verdict::Accepted.and_then(is_taken(x), 35)
             }
         }

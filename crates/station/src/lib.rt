@@ -17,6 +17,7 @@ use requests::Request;
 use slots::Carrier;
 use slots::Slot;
 use slots::Waiting;
+use units::SlotNumber;
 use units::Tenths;
 
 // One slot for each of `count` channels, and `waiting` ships, oldest first.
@@ -72,7 +73,7 @@ enum Call {
 enum Kind {
     CallRequest,
     DataRequest,
-    Bq(u8),
+    Bq(SlotNumber),
     WorkingCall,
     EndOfCall,
     Nothing,

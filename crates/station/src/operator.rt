@@ -18,8 +18,8 @@ use units::Tenths;
 
 impl Plan {
     // "takes a free slot"
-    pub(crate) fn take(self, i: u8) -> Plan
-        ensures { λ r. ⌜ draftOf r ≡ doing (onSlotBy i (takeOn i)) (draftOf self) ⌝ }
+    pub(crate) fn take(self, i: SlotNumber) -> Plan
+        ensures { λ r. ⌜ draftOf r ≡ doing (onSlotBy (i .0) (takeOn (i .0))) (draftOf self) ⌝ }
     {
         let s = self.station;
         let x = s.slot_at(i);
@@ -31,9 +31,9 @@ impl Plan {
     }
 
     // "or gives it back (freed)"
-    pub(crate) fn give_back(self, i: u8) -> Plan
+    pub(crate) fn give_back(self, i: SlotNumber) -> Plan
         requires { ⌜ self .station .clock .0 ≤ 4_000_000_000 ⌝ }
-        ensures { λ r. ⌜ draftOf r ≡ doing (onSlotBy i (giveOn i)) (draftOf self) ⌝ }
+        ensures { λ r. ⌜ draftOf r ≡ doing (onSlotBy (i .0) (giveOn (i .0))) (draftOf self) ⌝ }
     {
         let s = self.station;
         let x = s.slot_at(i);
@@ -54,9 +54,8 @@ impl Station {
         match v {
             Verdict::Refused(n) => self.refused(n),
             Verdict::Accepted => {
-                let i = slot.0 as u8;
                 let p = self.opened(time);
-                let q = p.take(i);
+                let q = p.take(slot);
                 q.finish(room)
             }
         }
@@ -71,9 +70,8 @@ impl Station {
         match v {
             Verdict::Refused(n) => self.refused(n),
             Verdict::Accepted => {
-                let i = slot.0 as u8;
                 let p = self.opened(time);
-                let q = p.give_back(i);
+                let q = p.give_back(slot);
                 q.finish(room)
             }
         }

@@ -28,6 +28,7 @@ use slots::places::held;
 use slots::places::in_line;
 use slots::places::put_in;
 use slots::places::slot_in;
+use units::SlotNumber;
 use units::Tenths;
 
 // The call of a slot, where there is one.
@@ -113,8 +114,8 @@ impl Station {
     }
 
     // The slot i.
-    pub(crate) fn slot_at(self, i: u8) -> Slot
-        ensures { λ r. ⌜ slotView r ≡ getD (modelOf self .slots) i free ⌝ }
+    pub(crate) fn slot_at(self, i: SlotNumber) -> Slot
+        ensures { λ r. ⌜ slotView r ≡ getD (modelOf self .slots) (i .0) free ⌝ }
     {
         let a = self.slots;
         slot_in(a, self.count, i)
@@ -177,8 +178,8 @@ impl Plan {
     }
 
     // Another phase and request in the slot i.
-    pub(crate) fn place(self, i: u8, p: Phase, q: Request) -> Plan
-        ensures { λ r. ⌜ draftOf r ≡ placing i (phaseView p (requestOf q)) (draftOf self) ⌝ }
+    pub(crate) fn place(self, i: SlotNumber, p: Phase, q: Request) -> Plan
+        ensures { λ r. ⌜ draftOf r ≡ placing (i .0) (phaseView p (requestOf q)) (draftOf self) ⌝ }
     {
         let s = self.station;
         let a = self.actions;

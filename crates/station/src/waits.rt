@@ -20,6 +20,7 @@ use requests::Request;
 use slots::Due;
 use slots::Phase;
 use slots::Wait;
+use units::SlotNumber;
 use units::Tenths;
 use units::Told;
 
@@ -35,18 +36,18 @@ fn due_by(d: Due, t: Tenths) -> Due
 
 impl Plan {
     // "Offer due: carrier off, slot freed."
-    pub(crate) fn offer_due(self, i: u8) -> Plan
+    pub(crate) fn offer_due(self, i: SlotNumber) -> Plan
         requires { ⌜ self .station .clock .0 ≤ 4_000_000_000 ⌝ }
-        ensures { λ r. ⌜ draftOf r ≡ doing (offerDue i) (draftOf self) ⌝ }
+        ensures { λ r. ⌜ draftOf r ≡ doing (offerDue (i .0)) (draftOf self) ⌝ }
     {
         let p = self.say(carrier_off(i));
         p.freed(i)
     }
 
     // "send once more, wait 50"
-    pub(crate) fn ring_again(self, i: u8, q: Request) -> Plan
+    pub(crate) fn ring_again(self, i: SlotNumber, q: Request) -> Plan
         requires { ⌜ self .station .clock .0 ≤ 4_000_000_000 ⌝ }
-        ensures { λ r. ⌜ draftOf r ≡ doing (ringAgain i (requestOf q)) (draftOf self) ⌝ }
+        ensures { λ r. ⌜ draftOf r ≡ doing (ringAgain (i .0) (requestOf q)) (draftOf self) ⌝ }
     {
         let s = self.station;
         let c = s.channel_at(i);
@@ -56,9 +57,9 @@ impl Plan {
     }
 
     // The wait of the slot i other than its carrier's.
-    pub(crate) fn main_due(self, i: u8) -> Plan
+    pub(crate) fn main_due(self, i: SlotNumber) -> Plan
         requires { ⌜ self .station .clock .0 ≤ 4_000_000_000 ⌝ }
-        ensures { λ r. ⌜ draftOf r ≡ doing (onSlotBy i (mainOn i)) (draftOf self) ⌝ }
+        ensures { λ r. ⌜ draftOf r ≡ doing (onSlotBy (i .0) (mainOn (i .0))) (draftOf self) ⌝ }
     {
         let s = self.station;
         let x = s.slot_at(i);

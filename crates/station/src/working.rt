@@ -63,9 +63,9 @@ fn awaits(s: Slot, x: Request) -> bool
 
 impl Plan {
     // "dial the stored request's number .. Carrier counts as present; wait 600 for a reply"
-    pub(crate) fn dial_now(self, i: u8, q: Request) -> Plan
+    pub(crate) fn dial_now(self, i: SlotNumber, q: Request) -> Plan
         requires { ⌜ self .station .clock .0 ≤ 4_000_000_000 ⌝ }
-        ensures { λ r. ⌜ draftOf r ≡ doing (dialNow i (requestOf q)) (draftOf self) ⌝ }
+        ensures { λ r. ⌜ draftOf r ≡ doing (dialNow (i .0) (requestOf q)) (draftOf self) ⌝ }
     {
         let s = self.station;
         let n = q.number;
@@ -74,9 +74,9 @@ impl Plan {
         p.say(dial(i, n)).answering(0)
     }
 
-    pub(crate) fn working_call(self, i: u8, x: Request) -> Plan
+    pub(crate) fn working_call(self, i: SlotNumber, x: Request) -> Plan
         requires { ⌜ self .station .clock .0 ≤ 4_000_000_000 ⌝ }
-        ensures { λ r. ⌜ draftOf r ≡ doing (onSlotBy i (workingOn i (requestOf x .who))) (draftOf self) ⌝ }
+        ensures { λ r. ⌜ draftOf r ≡ doing (onSlotBy (i .0) (workingOn (i .0) (requestOf x .who))) (draftOf self) ⌝ }
     {
         let s = self.station;
         let y = s.slot_at(i);
@@ -88,9 +88,9 @@ impl Plan {
     }
 
     // "release line, send 105/126 with BQ and the duration, carrier off, hold for 40"
-    pub(crate) fn held(self, i: u8, q: Request, told: Told) -> Plan
+    pub(crate) fn held(self, i: SlotNumber, q: Request, told: Told) -> Plan
         requires { ⌜ self .station .clock .0 ≤ 4_000_000_000 ⌝ }
-        ensures { λ r. ⌜ draftOf r ≡ doing (holding i (requestOf q) told) (draftOf self) ⌝ }
+        ensures { λ r. ⌜ draftOf r ≡ doing (holding (i .0) (requestOf q) told) (draftOf self) ⌝ }
     {
         let s = self.station;
         let t = wait_from(s.clock, 40);
@@ -101,8 +101,8 @@ impl Plan {
     }
 
     // "in the hold: carrier on, the same answer sent, carrier off; the wait unchanged"
-    pub(crate) fn say_again(self, i: u8, q: Request, told: Told) -> Plan
-        ensures { λ r. ⌜ draftOf r ≡ doing (sayAgain i (requestOf q) told) (draftOf self) ⌝ }
+    pub(crate) fn say_again(self, i: SlotNumber, q: Request, told: Told) -> Plan
+        ensures { λ r. ⌜ draftOf r ≡ doing (sayAgain (i .0) (requestOf q) told) (draftOf self) ⌝ }
     {
         let a = self.say(carrier_on(i));
         let b = a.say(over(i, Ender::Ship, q, told));
@@ -110,9 +110,9 @@ impl Plan {
     }
 
     // The ship ends its call, or repeats its end in the hold.
-    pub(crate) fn ship_end(self, i: u8, x: Request) -> Plan
+    pub(crate) fn ship_end(self, i: SlotNumber, x: Request) -> Plan
         requires { ⌜ self .station .clock .0 ≤ 4_000_000_000 ⌝ }
-        ensures { λ r. ⌜ draftOf r ≡ doing (onSlotBy i (shipEndOn i (requestOf x .who))) (draftOf self) ⌝ }
+        ensures { λ r. ⌜ draftOf r ≡ doing (onSlotBy (i .0) (shipEndOn (i .0) (requestOf x .who))) (draftOf self) ⌝ }
     {
         let s = self.station;
         let now = s.clock;
@@ -139,9 +139,9 @@ impl Plan {
     }
 
     // What was heard on the working channel of the slot i.
-    pub(crate) fn hear_on(self, i: u8, h: Heard) -> Plan
+    pub(crate) fn hear_on(self, i: SlotNumber, h: Heard) -> Plan
         requires { ⌜ self .station .clock .0 ≤ 4_000_000_000 ⌝ }
-        ensures { λ r. ⌜ draftOf r ≡ doing (onSlotBy i (λ st s. heardOn i st s (heardOf h))) (draftOf self) ⌝ }
+        ensures { λ r. ⌜ draftOf r ≡ doing (onSlotBy (i .0) (λ st s. heardOn (i .0) st s (heardOf h))) (draftOf self) ⌝ }
     {
         let k = h.kind;
         let q = h.request;
@@ -175,10 +175,9 @@ impl Station {
         match v {
             Verdict::Refused(n) => self.refused(n),
             Verdict::Accepted => {
-                let i = slot.0 as u8;
                 let h = self.told_by(m);
                 let p = self.opened(time);
-                let q = p.hear_on(i, h);
+                let q = p.hear_on(slot, h);
                 q.finish(room)
             }
         }

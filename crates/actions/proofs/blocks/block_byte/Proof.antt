@@ -12,9 +12,12 @@ returns : tie.Need-returns
 unfolding actionBlock block
 returns c = rw (c .if1 .taken)
 
+slot-byte-requires : tie.Need-slot-byte-requires
+slot-byte-requires c κs = search needs
+
 returns-2 : tie.Need-returns-2
 unfolding actionBlock block
-returns-2 c = rw (c .if2 .taken)
+returns-2 c = rw (c .before .before .if2 .taken, c .slot-byte .ensures)
 
 least-requires : tie.Need-least-requires
 least-requires c κs = search needs
@@ -48,6 +51,7 @@ block-byte-spec =
     tie.close
     (tie.spec
     returns
+    slot-byte-requires
     returns-2
     least-requires
     returns-3

@@ -13,10 +13,10 @@ use Rattle.slots.proofs.finding.channel_from.Statement.{statement}
 use Rattle.slots.proofs.finding.channel_from.Tie as tie
 
 abbrev Inv-loop : tie.InvT-loop
-Inv-loop n from c a m i₀ i = (length a ≡ 16) × (m ≡ min n 16) × (lowestFrom (sameChannel c) from (left channelOf n a from) ≡ lowestFrom (sameChannel c) i (left channelOf n a i))
+Inv-loop n c a m i₀ i = (length a ≡ 16) × (m ≡ min n 16) × (lowestFrom (sameChannel c) i₀ (left channelOf n a i₀) ≡ lowestFrom (sameChannel c) i (left channelOf n a i))
 
 abbrev μ-loop : tie.MeasureT-loop
-μ-loop n from c a m i₀ i = m - i
+μ-loop n c a m i₀ i = m - i
 
 loop-holds : tie.Need-loop-holds Inv-loop μ-loop
 loop-holds c = (search needs, c .least .ensures, refl)
@@ -40,6 +40,7 @@ channel-from-spec =
     Inv-loop
     μ-loop
     (λ c κs. search needs)
+    (λ c. search needs)
     loop-holds
     (λ c. search needs)
     (λ c. search needs)

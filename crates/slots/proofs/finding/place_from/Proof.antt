@@ -12,10 +12,10 @@ use Rattle.slots.proofs.finding.place_from.Statement.{statement}
 use Rattle.slots.proofs.finding.place_from.Tie as tie
 
 abbrev Inv-loop : tie.InvT-loop
-Inv-loop m from ship station b n k₀ k = (length b ≡ 32) × (n ≡ min m 32) × (lowestFrom (waitsFor (partyOf ship station)) from (left waitingView m b from) ≡ lowestFrom (waitsFor (partyOf ship station)) k (left waitingView m b k))
+Inv-loop m ship station b n k₀ k = (length b ≡ 32) × (n ≡ min m 32) × (lowestFrom (waitsFor (partyOf ship station)) k₀ (left waitingView m b k₀) ≡ lowestFrom (waitsFor (partyOf ship station)) k (left waitingView m b k))
 
 abbrev μ-loop : tie.MeasureT-loop
-μ-loop m from ship station b n k₀ k = n - k
+μ-loop m ship station b n k₀ k = n - k
 
 loop-holds : tie.Need-loop-holds Inv-loop μ-loop
 loop-holds c = (search needs, c .least .ensures, refl)

@@ -12,10 +12,10 @@ use Rattle.slots.proofs.finding.slot_from.Statement.{statement}
 use Rattle.slots.proofs.finding.slot_from.Tie as tie
 
 abbrev Inv-loop : tie.InvT-loop
-Inv-loop n from ship station a m i₀ i = (length a ≡ 16) × (m ≡ min n 16) × (lowestFrom (owns (partyOf ship station)) from (left slotView n a from) ≡ lowestFrom (owns (partyOf ship station)) i (left slotView n a i))
+Inv-loop n ship station a m i₀ i = (length a ≡ 16) × (m ≡ min n 16) × (lowestFrom (owns (partyOf ship station)) i₀ (left slotView n a i₀) ≡ lowestFrom (owns (partyOf ship station)) i (left slotView n a i))
 
 abbrev μ-loop : tie.MeasureT-loop
-μ-loop n from ship station a m i₀ i = m - i
+μ-loop n ship station a m i₀ i = m - i
 
 loop-holds : tie.Need-loop-holds Inv-loop μ-loop
 loop-holds c = (search needs, c .least .ensures, refl)
@@ -39,6 +39,7 @@ slot-from-spec =
     Inv-loop
     μ-loop
     (λ c κs. search needs)
+    (λ c. search needs)
     loop-holds
     (λ c. search needs)
     (λ c. search needs)

@@ -12,11 +12,11 @@ use Rattle.slots.proofs.places.put_in.Tie as tie
 
 returns : tie.Need-returns
 unfolding putIn
-returns c = (let e : length (c .before .args .t1) ≡ 16 = search needs in sym (set-out (c .before .args .t1) (c .before .args .i) _ (omega arith)), (sym (modAt-past _ (c .before .args .i) (viewed slotView (c .before .args .n) (c .before .args .t1)) (let e : length (c .before .args .t1) ≡ 16 = search needs in omega (arith, viewed-length slotView (c .before .args .n) (c .before .args .t1)))), refl))
+returns c = (let e : length (c .before .before .args .t1) ≡ 16 = search needs in sym (set-out (c .before .before .args .t1) (c .before .before .args .i .0) _ (omega arith)), (sym (modAt-past _ (c .before .before .args .i .0) (viewed slotView (c .before .before .args .n) (c .before .before .args .t1)) (let e : length (c .before .before .args .t1) ≡ 16 = search needs in omega (arith, viewed-length slotView (c .before .before .args .n) (c .before .before .args .t1)))), refl))
 
 returns-2 : tie.Need-returns-2
 unfolding putIn
 returns-2 c = (refl, (viewed-set slotView _ _ _ _, viewed-same channelOf _ _ _ _ noSlot refl))
 
 pub put-in-spec : {M : Type 1} → statement M
-put-in-spec = tie.close (tie.spec returns (λ c. search needs) (λ c. search needs) (λ c. search needs) (λ c. search needs) returns-2)
+put-in-spec = tie.close (tie.spec returns (λ c. search needs) (λ c. search needs) (λ c. search needs) (λ c. search needs) (λ c. search needs) (λ c. search needs) returns-2)

@@ -12,20 +12,22 @@ use Rattle.slots.proofs.places.slot_in.Tie as tie
 
 returns : tie.Need-returns
 unfolding blankSlot slotImage
-returns c = let x = c .before .before .before .args in let e : length (x .t1) ≡ 16 = search needs in
-    rw (c .blank-slot .ensures) (sym (viewed-past itself (x .n) (x .t1) (x .i) blankSlot (omega arith)), sym (viewed-past slotView (x .n) (x .t1) (x .i) free (omega arith)))
+returns c = let x = c .before .before .before .before .args in let e : length (x .t1) ≡ 16 = search needs in
+    rw (c .blank-slot .ensures) (sym (viewed-past itself (x .n) (x .t1) (x .i .0) blankSlot (omega arith)), sym (viewed-past slotView (x .n) (x .t1) (x .i .0) free (omega arith)))
 
 returns-2 : tie.Need-returns-2
-returns-2 c = let x = c .before .before .before .args in let e : length (x .t1) ≡ 16 = search needs in
-    (sym (viewed-at itself (x .n) (x .t1) (x .i) noSlot blankSlot (omega arith) (omega arith)), sym (viewed-at slotView (x .n) (x .t1) (x .i) noSlot free (omega arith) (omega arith)))
+returns-2 c = let x = c .before .before .before .before .before .args in let e : length (x .t1) ≡ 16 = search needs in
+    (sym (viewed-at itself (x .n) (x .t1) (x .i .0) noSlot blankSlot (omega arith) (omega arith)), sym (viewed-at slotView (x .n) (x .t1) (x .i .0) noSlot free (omega arith) (omega arith)))
 
 pub slot-in-spec : {M : Type 1} → statement M
 slot-in-spec =
     tie.close
     (tie.spec
     (λ c κs. search needs)
+    (λ c. search needs)
     (λ c κs. search needs)
     returns
+    (λ c. search needs)
     (λ c. search needs)
     (λ c. search needs)
     returns-2)

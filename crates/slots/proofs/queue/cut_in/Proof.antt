@@ -16,17 +16,17 @@ use Rattle.slots.proofs.queue.cut_in.Tie as tie
 returns : tie.Need-returns
 unfolding cutLine cutIn
 returns c =
-    let x = c .before .before .args in
+    let x = c .before .before .before .args in
     let w : length (x .a) ≡ 32 = search needs in
-    rw (← c .before .least .ensures, le-leb _ _ (c .if1 .taken)) (refl, dropAt-past _ (viewed waitingView (x .n) (x .a)) (omega (arith, viewed-length waitingView (x .n) (x .a))))
+    rw (← c .before .before .least .ensures, le-leb _ _ (c .if1 .taken)) (refl, dropAt-past _ (viewed waitingView (x .n) (x .a)) (omega (arith, viewed-length waitingView (x .n) (x .a))))
 
 returns-2 : tie.Need-returns-2
 unfolding cutLine cutIn
 returns-2 c =
-    let x = c .before .before .before .args in
+    let x = c .before .before .before .before .before .args in
     let w : length (x .a) ≡ 32 = search needs in
-    let e : c .before .before .least .result ≡ min (x .n) (length (x .a)) = omega (arith, c .before .before .least .ensures) in
-    rw (c .closed-up .ensures, ← c .before .before .least .ensures, lt-leb _ _ (c .before .if1 .left)) (refl, rw e (viewed-cut waitingView blankWaiting (x .n) (x .k) (x .a) (omega arith)))
+    let e : c .before .before .before .before .least .result ≡ min (x .n) (length (x .a)) = omega (arith, c .before .before .before .before .least .ensures) in
+    rw (c .closed-up .ensures, ← c .before .before .before .before .least .ensures, lt-leb _ _ (c .before .before .if1 .left)) (refl, rw e (viewed-cut waitingView blankWaiting (x .n) (x .k .0) (x .a) (omega arith)))
 
 pub cut-in-spec : {M : Type 1} → statement M
-cut-in-spec = tie.close (tie.spec (λ c κs. search needs) returns (λ c κs. search needs) returns-2)
+cut-in-spec = tie.close (tie.spec (λ c κs. search needs) returns (λ c. search needs) (λ c κs. search needs) returns-2)

@@ -25,14 +25,14 @@ loop-holds c = (search needs, c .least .ensures, ap (λ l. distinct is (map whoO
 
 returns : tie.Need-returns Inv-loop μ-loop
 unfolding requestOf
-returns c = sym (c .before .before .before .before .before .before .loop .inv .2 ∙ line-off (c .before .before .before .before .before .before .before .before .args .m) (c .before .before .before .before .before .before .before .before .args .t1) (c .before .before .before .before .before .before .loop .k) (omega arith) (omega arith) (ap isSome (sym (c .before .before .place-from .ensures)) ∙ sym (c .before .is-found .ensures) ∙ c .if1 .taken))
+returns c = sym (c .before .before .before .before .before .before .loop .inv .2 ∙ line-off (c .before .before .before .before .before .before .before .before .args .m) (c .before .before .before .before .before .before .before .before .args .t1) (c .before .before .before .before .before .before .loop .k) (omega arith) (omega arith) (ap isSome (sym (c .before .before .place-from .ensures)) ∙ sym (c .before .is-waiting .ensures) ∙ c .if1 .taken))
 
 loop-less : tie.Need-loop-less Inv-loop μ-loop
 loop-less c = omega arith
 
 loop-again : tie.Need-loop-again Inv-loop μ-loop
 unfolding requestOf
-loop-again c = (search needs, c .before .before .before .before .before .before .loop .inv .1, c .before .before .before .before .before .before .loop .inv .2 ∙ line-on (c .before .before .before .before .before .before .before .before .args .m) (c .before .before .before .before .before .before .before .before .args .t1) (c .before .before .before .before .before .before .loop .k) (omega arith) (omega arith) (ap isSome (sym (c .before .before .place-from .ensures)) ∙ sym (c .before .is-found .ensures) ∙ c .if1 .left))
+loop-again c = (search needs, c .before .before .before .before .before .before .loop .inv .1, c .before .before .before .before .before .before .loop .inv .2 ∙ line-on (c .before .before .before .before .before .before .before .before .args .m) (c .before .before .before .before .before .before .before .before .args .t1) (c .before .before .before .before .before .before .loop .k) (omega arith) (omega arith) (ap isSome (sym (c .before .before .place-from .ensures)) ∙ sym (c .before .is-waiting .ensures) ∙ c .if1 .left))
 
 returns-2 : tie.Need-returns-2 Inv-loop μ-loop
 returns-2 c = sym (c .before .loop .inv .2 ∙ ap (λ l. distinct is (map whoOf l)) (left-none waitingView _ _ _ (omega arith)))

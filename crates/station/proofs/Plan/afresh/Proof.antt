@@ -12,7 +12,7 @@ wait-from-requires c κs = (c .before .before .pre, omega arith)
 
 returns : tie.Need-returns
 unfolding draftOf modelOf
-returns c = let a = c .before .before .before .before .before .before .before .args in rw (c .answering .ensures, c .before .say .ensures, c .before .before .before .place .ensures) (afresh-is (draftOf (a .self)) (requestOf (a .q)) (a .i) _ _ _ (c .before .before .before .before .wait-from .ensures) (c .before .before .before .before .before .channel-at .ensures) (c .before .before .acknowledgement .ensures .1))
+returns c = let a = c .before .before .before .before .before .before .before .args in rw (c .answering .ensures, c .before .say .ensures, c .before .before .before .place .ensures) (afresh-is (draftOf (a .self)) (requestOf (a .q)) (a .i .0) _ _ _ (c .before .before .before .before .wait-from .ensures) (c .before .before .before .before .before .channel-at .ensures) (c .before .before .acknowledgement .ensures .1))
 
 pub afresh-spec : {M : Type 1} → statement M
 afresh-spec =

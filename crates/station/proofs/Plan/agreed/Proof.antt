@@ -15,11 +15,11 @@ wait-from-requires c κs = (c .before .before .before .before .before .pre, omeg
 
 returns : tie.Need-returns
 unfolding draftOf modelOf
-returns c = let a = c .before .before .before .before .before .before .before .before .args in let y = c .before .before .before .before .before .before .slot-at .result in c .answering .ensures ∙ ap (answering 0) (c .before .place .ensures) ∙ slot-changed (a .i) (draftOf (a .self)) (bqFor (a .i) (requestOf (a .x) .who)) _ (c .before .before .before .before .before .before .slot-at .ensures) _ (rw (c .before .before .wait-from .ensures) (bq-yes (a .i) _ _ (requestOf (y .request)) (y .phase) (sym (c .before .before .before .before .rung .ensures) ∙ c .before .before .before .if1 .taken)))
+returns c = let a = c .before .before .before .before .before .before .before .before .args in let y = c .before .before .before .before .before .before .slot-at .result in c .answering .ensures ∙ ap (answering 0) (c .before .place .ensures) ∙ slot-changed (a .i .0) (draftOf (a .self)) (bqFor (a .i .0) (requestOf (a .x) .who)) _ (c .before .before .before .before .before .before .slot-at .ensures) _ (rw (c .before .before .wait-from .ensures) (bq-yes (a .i .0) _ _ (requestOf (y .request)) (y .phase) (sym (c .before .before .before .before .rung .ensures) ∙ c .before .before .before .if1 .taken)))
 
 returns-2 : tie.Need-returns-2
 unfolding draftOf
-returns-2 c = let a = c .before .before .before .before .before .before .args in let y = c .before .before .before .before .slot-at .result in c .answering2 .ensures ∙ slot-idle (a .i) (draftOf (a .self)) (bqFor (a .i) (requestOf (a .x) .who)) _ (c .before .before .before .before .slot-at .ensures) (bq-no (a .i) _ _ (requestOf (y .request)) (y .phase) (sym (c .before .before .rung .ensures) ∙ c .before .if1 .left))
+returns-2 c = let a = c .before .before .before .before .before .before .args in let y = c .before .before .before .before .slot-at .result in c .answering2 .ensures ∙ slot-idle (a .i .0) (draftOf (a .self)) (bqFor (a .i .0) (requestOf (a .x) .who)) _ (c .before .before .before .before .slot-at .ensures) (bq-no (a .i .0) _ _ (requestOf (y .request)) (y .phase) (sym (c .before .before .rung .ensures) ∙ c .before .if1 .left))
 
 pub agreed-spec : {M : Type 1} → statement M
 agreed-spec =

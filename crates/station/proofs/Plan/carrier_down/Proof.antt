@@ -17,15 +17,15 @@ lost-from-requires-2 c κs = c .before .before .before .before .before .before .
 
 returns : tie.Need-returns
 unfolding draftOf
-returns c = let i = c .before .before .before .before .before .before .before .before .args .i in let d = draftOf (c .before .before .before .before .before .before .before .before .args .self) in c .answering .ensures ∙ slot-idle i d (downOn i) _ (c .before .before .before .before .before .slot-at .ensures) (down-idle i (d .station) _ (rw (c .before .enum-told .given .1) at (c .before .before .before .call-of .ensures)))
+returns c = let i = c .before .before .before .before .before .before .before .before .args .i .0 in let d = draftOf (c .before .before .before .before .before .before .before .before .args .self) in c .answering .ensures ∙ slot-idle i d (downOn i) _ (c .before .before .before .before .before .slot-at .ensures) (down-idle i (d .station) _ (rw (c .before .enum-told .given .1) at (c .before .before .before .call-of .ensures)))
 
 returns-2 : tie.Need-returns-2
 unfolding draftOf modelOf downOn requestOf
-returns-2 c = let i = c .before .before .before .before .before .before .before .before .before .before .before .args .i in c .answering2 .ensures ∙ ap (answering 0) (c .before .place .ensures) ∙ slot-changed i (draftOf (c .before .before .before .before .before .before .before .before .before .before .before .args .self)) (downOn i) _ (call-is _ _ (rw (c .before .before .before .before .k .given .1) at (c .before .before .before .before .before .before .call-of .ensures)) ∙ c .before .before .before .before .before .before .before .before .slot-at .ensures) _ (rw (c .before .before .lost-from .ensures) refl)
+returns-2 c = let i = c .before .before .before .before .before .before .before .before .before .before .before .args .i .0 in c .answering2 .ensures ∙ ap (answering 0) (c .before .place .ensures) ∙ slot-changed i (draftOf (c .before .before .before .before .before .before .before .before .before .before .before .args .self)) (downOn i) _ (call-is _ _ (rw (c .before .before .before .before .k .given .1) at (c .before .before .before .before .before .before .call-of .ensures)) ∙ c .before .before .before .before .before .before .before .before .slot-at .ensures) _ (rw (c .before .before .lost-from .ensures) refl)
 
 returns-3 : tie.Need-returns-3
 unfolding draftOf modelOf downOn requestOf
-returns-3 c = let i = c .before .before .before .before .before .before .before .before .before .before .before .args .i in c .answering3 .ensures ∙ ap (answering 0) (c .before .place2 .ensures) ∙ slot-changed i (draftOf (c .before .before .before .before .before .before .before .before .before .before .before .args .self)) (downOn i) _ (call-is _ _ (rw (c .before .before .before .before .k2 .given .1) at (c .before .before .before .before .before .before .call-of .ensures)) ∙ c .before .before .before .before .before .before .before .before .slot-at .ensures) _ (rw (c .before .before .lost-from2 .ensures) refl)
+returns-3 c = let i = c .before .before .before .before .before .before .before .before .before .before .before .args .i .0 in c .answering3 .ensures ∙ ap (answering 0) (c .before .place2 .ensures) ∙ slot-changed i (draftOf (c .before .before .before .before .before .before .before .before .before .before .before .args .self)) (downOn i) _ (call-is _ _ (rw (c .before .before .before .before .k2 .given .1) at (c .before .before .before .before .before .before .call-of .ensures)) ∙ c .before .before .before .before .before .before .before .before .slot-at .ensures) _ (rw (c .before .before .lost-from2 .ensures) refl)
 
 pub carrier-down-spec : {M : Type 1} → statement M
 carrier-down-spec =

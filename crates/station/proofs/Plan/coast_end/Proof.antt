@@ -16,15 +16,15 @@ closed-requires-2 c κs = omega (arith, say-clock _ _ _ (c .say .ensures), c .be
 
 returns : tie.Need-returns
 unfolding draftOf
-returns c = let i = c .before .before .before .before .before .before .before .before .args .i in let d = draftOf (c .before .before .before .before .before .before .before .before .args .self) in c .answering .ensures ∙ slot-idle i d (endOn i) _ (c .before .before .before .before .before .slot-at .ensures) (end-idle i (d .station) _ (rw (c .before .enum-told .given .1) at (c .before .before .before .call-of .ensures)))
+returns c = let i = c .before .before .before .before .before .before .before .before .args .i .0 in let d = draftOf (c .before .before .before .before .before .before .before .before .args .self) in c .answering .ensures ∙ slot-idle i d (endOn i) _ (c .before .before .before .before .before .slot-at .ensures) (end-idle i (d .station) _ (rw (c .before .enum-told .given .1) at (c .before .before .before .call-of .ensures)))
 
 returns-2 : tie.Need-returns-2
 unfolding draftOf
-returns-2 c = c .closed .ensures ∙ end-dialling (c .before .before .before .before .before .before .before .before .args .i) (draftOf (c .before .before .before .before .before .before .before .before .args .self)) _ _ _ (call-is _ _ (rw (c .before .enum-told2 .given .1) at (c .before .before .before .call-of .ensures)) ∙ c .before .before .before .before .before .slot-at .ensures)
+returns-2 c = c .closed .ensures ∙ end-dialling (c .before .before .before .before .before .before .before .before .args .i .0) (draftOf (c .before .before .before .before .before .before .before .before .args .self)) _ _ _ (call-is _ _ (rw (c .before .enum-told2 .given .1) at (c .before .before .before .call-of .ensures)) ∙ c .before .before .before .before .before .slot-at .ensures)
 
 returns-3 : tie.Need-returns-3
 unfolding draftOf modelOf requestOf
-returns-3 c = rw (c .closed2 .ensures, c .before .say .ensures) (end-answered (c .before .before .before .before .before .before .before .before .before .before .before .before .args .i) (draftOf (c .before .before .before .before .before .before .before .before .before .before .before .before .args .self)) _ _ _ _ _ (call-is _ _ (rw (c .before .before .before .before .before .k .given .1) at (c .before .before .before .before .before .before .before .call-of .ensures)) ∙ c .before .before .before .before .before .before .before .before .before .slot-at .ensures) (c .before .before .before .lasted .ensures) (c .before .before .charge .ensures .1))
+returns-3 c = rw (c .closed2 .ensures, c .before .say .ensures) (end-answered (c .before .before .before .before .before .before .before .before .before .before .before .before .args .i .0) (draftOf (c .before .before .before .before .before .before .before .before .before .before .before .before .args .self)) _ _ _ _ _ (call-is _ _ (rw (c .before .before .before .before .before .k .given .1) at (c .before .before .before .before .before .before .before .call-of .ensures)) ∙ c .before .before .before .before .before .before .before .before .before .slot-at .ensures) (c .before .before .before .lasted .ensures) (c .before .before .charge .ensures .1))
 
 pub coast-end-spec : {M : Type 1} → statement M
 coast-end-spec =

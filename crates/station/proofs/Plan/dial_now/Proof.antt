@@ -12,7 +12,7 @@ wait-from-requires c κs = (c .before .before .pre, omega arith)
 
 returns : tie.Need-returns
 unfolding draftOf modelOf requestOf
-returns c = let a = c .before .before .before .before .before .before .before .args in rw (c .answering .ensures, c .before .say .ensures, c .before .before .before .place .ensures) (dialled-is (a .i) (draftOf (a .self)) (requestOf (a .q)) _ _ (c .before .before .before .before .wait-from .ensures) (c .before .before .dial .ensures .1))
+returns c = let a = c .before .before .before .before .before .before .before .args in rw (c .answering .ensures, c .before .say .ensures, c .before .before .before .place .ensures) (dialled-is (a .i .0) (draftOf (a .self)) (requestOf (a .q)) _ _ (c .before .before .before .before .wait-from .ensures) (c .before .before .dial .ensures .1))
 
 pub dial-now-spec : {M : Type 1} → statement M
 dial-now-spec =

@@ -10,11 +10,11 @@ use Rattle.station.proofs.Plan.give_back.Tie as tie
 
 returns : tie.Need-returns
 unfolding draftOf
-returns c = let i = c .before .before .before .before .before .args .i in let d = draftOf (c .before .before .before .before .before .args .self) in c .freed .ensures ∙ slot-is i d (giveOn i) _ (c .before .before .before .slot-at .ensures) (freed i) (sym (give-taken i (d .station) _ (sym (c .before .before .is-taken .ensures) ∙ c .before .if1 .taken)))
+returns c = let i = c .before .before .before .before .before .args .i .0 in let d = draftOf (c .before .before .before .before .before .args .self) in c .freed .ensures ∙ slot-is i d (giveOn i) _ (c .before .before .before .slot-at .ensures) (freed i) (sym (give-taken i (d .station) _ (sym (c .before .before .is-taken .ensures) ∙ c .before .if1 .taken)))
 
 returns-2 : tie.Need-returns-2
 unfolding draftOf
-returns-2 c = let i = c .before .before .before .before .before .args .i in let d = draftOf (c .before .before .before .before .before .args .self) in c .answering .ensures ∙ slot-idle i d (giveOn i) _ (c .before .before .before .slot-at .ensures) (give-idle i (d .station) _ (sym (c .before .before .is-taken .ensures) ∙ c .before .if1 .left))
+returns-2 c = let i = c .before .before .before .before .before .args .i .0 in let d = draftOf (c .before .before .before .before .before .args .self) in c .answering .ensures ∙ slot-idle i d (giveOn i) _ (c .before .before .before .slot-at .ensures) (give-idle i (d .station) _ (sym (c .before .before .is-taken .ensures) ∙ c .before .if1 .left))
 
 pub give-back-spec : {M : Type 1} → statement M
 give-back-spec =

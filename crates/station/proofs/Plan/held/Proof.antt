@@ -12,7 +12,7 @@ wait-from-requires c κs = (c .before .pre, omega arith)
 
 returns : tie.Need-returns
 unfolding draftOf modelOf
-returns c = let a = c .before .before .before .before .before .before .before .before .before .before .args in rw (c .answering .ensures, c .before .say3 .ensures, c .before .before .before .say2 .ensures, c .before .before .before .before .before .say .ensures, c .before .before .before .before .before .before .before .place .ensures) (held-is (a .i) (draftOf (a .self)) (requestOf (a .q)) (a .told) _ _ _ _ (c .before .before .before .before .before .before .before .before .wait-from .ensures) (c .before .before .before .before .before .before .release-line .ensures .1) (c .before .before .before .before .over .ensures .1) (c .before .before .carrier-off .ensures .1))
+returns c = let a = c .before .before .before .before .before .before .before .before .before .before .args in rw (c .answering .ensures, c .before .say3 .ensures, c .before .before .before .say2 .ensures, c .before .before .before .before .before .say .ensures, c .before .before .before .before .before .before .before .place .ensures) (held-is (a .i .0) (draftOf (a .self)) (requestOf (a .q)) (a .told) _ _ _ _ (c .before .before .before .before .before .before .before .before .wait-from .ensures) (c .before .before .before .before .before .before .release-line .ensures .1) (c .before .before .before .before .over .ensures .1) (c .before .before .carrier-off .ensures .1))
 
 pub held-spec : {M : Type 1} → statement M
 held-spec =

@@ -11,7 +11,7 @@ afresh-requires : tie.Need-afresh-requires
 afresh-requires c κs = omega (arith, say-clock _ _ _ (c .say .ensures), c .before .before .pre)
 
 returns : tie.Need-returns
-returns c = let a = c .before .before .before .args in rw (c .afresh .ensures, c .before .say .ensures) (e-is (draftOf (a .self)) (requestOf (a .q)) (a .i) _ (c .before .before .carrier-on .ensures .1))
+returns c = let a = c .before .before .before .args in rw (c .afresh .ensures, c .before .say .ensures) (e-is (draftOf (a .self)) (requestOf (a .q)) (a .i .0) _ (c .before .before .carrier-on .ensures .1))
 
 pub offer-spec : {M : Type 1} → statement M
 offer-spec = tie.close (tie.spec (λ c κs. search needs) (λ c κs. search needs) afresh-requires returns)

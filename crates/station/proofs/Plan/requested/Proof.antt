@@ -14,7 +14,7 @@ returns c = let a = c .before .before .before .before .before .before .before .a
 
 returns-2 : tie.Need-returns-2
 unfolding draftOf modelOf requestOf requested standing onSlotBy
-returns-2 c = let a = c .before .before .before .before .before .before .before .before .args in let i = c .before .before .w .given .0 .0 in c .holder-asks .ensures ∙ same-doing (draftOf (a .self)) (onSlotBy i (λ st s. bOrC i s st (requestOf (a .q)))) (λ st. requested st (requestOf (a .q)) (standing st (requestOf (a .q) .who))) (asked-at (draftOf (a .self) .station) (requestOf (a .q)) _ (rw (c .before .before .w .given .1) at (c .before .before .before .before .standing .ensures)))
+returns-2 c = let a = c .before .before .before .before .before .before .before .before .args in let i = c .before .before .w .given .0 .0 .0 in c .holder-asks .ensures ∙ same-doing (draftOf (a .self)) (onSlotBy i (λ st s. bOrC i s st (requestOf (a .q)))) (λ st. requested st (requestOf (a .q)) (standing st (requestOf (a .q) .who))) (asked-at (draftOf (a .self) .station) (requestOf (a .q)) _ (rw (c .before .before .w .given .1) at (c .before .before .before .before .standing .ensures)))
 
 returns-3 : tie.Need-returns-3
 unfolding draftOf modelOf requestOf requested standing

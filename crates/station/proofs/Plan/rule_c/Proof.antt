@@ -23,7 +23,7 @@ returns-2 c = rw (c .before .before .before .enum-told2 .given .1, c .before .en
 
 returns-3 : tie.Need-returns-3
 unfolding ruleCBy
-returns-3 c = let a = c .before .before .before .before .before .before .args in rw (c .before .before .before .before .enum-told2 .given .1, c .before .before .enum-told4 .given .1) (c .without-slot .ensures ∙ ap (doing (withoutSlot (requestOf (a .q)))) (c .before .coast-end .ensures) ∙ behind-is (draftOf (a .self)) (onSlotBy (a .i) (endOn (a .i))) (withoutSlot (requestOf (a .q))))
+returns-3 c = let a = c .before .before .before .before .before .before .args in rw (c .before .before .before .before .enum-told2 .given .1, c .before .before .enum-told4 .given .1) (c .without-slot .ensures ∙ ap (doing (withoutSlot (requestOf (a .q)))) (c .before .coast-end .ensures) ∙ behind-is (draftOf (a .self)) (onSlotBy (a .i .0) (endOn (a .i .0))) (withoutSlot (requestOf (a .q))))
 
 pub rule-c-spec : {M : Type 1} → statement M
 rule-c-spec =

@@ -8,7 +8,7 @@ use Rattle.station.proofs.Plan.rule_d.Tie as tie
 
 returns : tie.Need-returns
 unfolding draftOf modelOf
-returns c = let a = c .before .before .before .before .before .before .before .args in rw (c .answering .ensures, c .before .say .ensures, c .before .before .before .lined .ensures, c .before .before .before .before .replace-in .ensures .1) (d-is (draftOf (a .self)) (requestOf (a .q)) (a .k) _ (c .before .before .unable-to .ensures .1))
+returns c = let a = c .before .before .before .before .before .before .before .args in rw (c .answering .ensures, c .before .say .ensures, c .before .before .before .lined .ensures, c .before .before .before .before .replace-in .ensures .1) (d-is (draftOf (a .self)) (requestOf (a .q)) (a .k .0) _ (c .before .before .unable-to .ensures .1))
 
 pub rule-d-spec : {M : Type 1} → statement M
 rule-d-spec =

@@ -6,7 +6,7 @@ use Rattle.station.proofs.Plan.say_again.Statement.{statement}
 use Rattle.station.proofs.Plan.say_again.Tie as tie
 
 returns : tie.Need-returns
-returns c = let a = c .before .before .before .before .before .before .before .args in rw (c .answering .ensures, c .before .say3 .ensures, c .before .before .before .say2 .ensures, c .before .before .before .before .before .say .ensures) (again-said (a .i) (draftOf (a .self)) (requestOf (a .q)) (a .told) _ _ _ (c .before .before .before .before .before .before .carrier-on .ensures .1) (c .before .before .before .before .over .ensures .1) (c .before .before .carrier-off .ensures .1))
+returns c = let a = c .before .before .before .before .before .before .before .args in rw (c .answering .ensures, c .before .say3 .ensures, c .before .before .before .say2 .ensures, c .before .before .before .before .before .say .ensures) (again-said (a .i .0) (draftOf (a .self)) (requestOf (a .q)) (a .told) _ _ _ (c .before .before .before .before .before .before .carrier-on .ensures .1) (c .before .before .before .before .over .ensures .1) (c .before .before .carrier-off .ensures .1))
 
 pub say-again-spec : {M : Type 1} → statement M
 say-again-spec =

@@ -9,11 +9,11 @@ use Rattle.station.proofs.Plan.take.Tie as tie
 
 returns : tie.Need-returns
 unfolding draftOf
-returns c = let i = c .before .before .before .before .before .before .before .args .i in let d = draftOf (c .before .before .before .before .before .before .before .args .self) in c .answering .ensures ∙ ap (answering 0) (c .before .place .ensures) ∙ slot-changed i d (takeOn i) _ (c .before .before .before .before .before .slot-at .ensures) _ (take-free i (d .station) _ (sym (c .before .before .before .before .is-free .ensures) ∙ c .before .before .before .if1 .taken))
+returns c = let i = c .before .before .before .before .before .before .before .args .i .0 in let d = draftOf (c .before .before .before .before .before .before .before .args .self) in c .answering .ensures ∙ ap (answering 0) (c .before .place .ensures) ∙ slot-changed i d (takeOn i) _ (c .before .before .before .before .before .slot-at .ensures) _ (take-free i (d .station) _ (sym (c .before .before .before .before .is-free .ensures) ∙ c .before .before .before .if1 .taken))
 
 returns-2 : tie.Need-returns-2
 unfolding draftOf
-returns-2 c = let i = c .before .before .before .before .before .args .i in let d = draftOf (c .before .before .before .before .before .args .self) in c .answering2 .ensures ∙ slot-idle i d (takeOn i) _ (c .before .before .before .slot-at .ensures) (take-idle i (d .station) _ (sym (c .before .before .is-free .ensures) ∙ c .before .if1 .left))
+returns-2 c = let i = c .before .before .before .before .before .args .i .0 in let d = draftOf (c .before .before .before .before .before .args .self) in c .answering2 .ensures ∙ slot-idle i d (takeOn i) _ (c .before .before .before .slot-at .ensures) (take-idle i (d .station) _ (sym (c .before .before .is-free .ensures) ∙ c .before .if1 .left))
 
 pub take-spec : {M : Type 1} → statement M
 take-spec =

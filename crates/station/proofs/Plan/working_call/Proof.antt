@@ -10,11 +10,11 @@ use Rattle.station.proofs.Plan.working_call.Tie as tie
 
 returns : tie.Need-returns
 unfolding draftOf
-returns c = let a = c .before .before .before .before .before .before .args in let y = c .before .before .before .before .slot-at .result in c .dial-now .ensures ∙ slot-is (a .i) (draftOf (a .self)) (workingOn (a .i) (requestOf (a .x) .who)) _ (c .before .before .before .before .slot-at .ensures) (dialNow (a .i) (requestOf (y .request))) (sym (working-yes (a .i) _ _ (requestOf (y .request)) (y .phase) (sym (c .before .before .awaits .ensures) ∙ c .before .if1 .taken)))
+returns c = let a = c .before .before .before .before .before .before .args in let y = c .before .before .before .before .slot-at .result in c .dial-now .ensures ∙ slot-is (a .i .0) (draftOf (a .self)) (workingOn (a .i .0) (requestOf (a .x) .who)) _ (c .before .before .before .before .slot-at .ensures) (dialNow (a .i .0) (requestOf (y .request))) (sym (working-yes (a .i .0) _ _ (requestOf (y .request)) (y .phase) (sym (c .before .before .awaits .ensures) ∙ c .before .if1 .taken)))
 
 returns-2 : tie.Need-returns-2
 unfolding draftOf
-returns-2 c = let a = c .before .before .before .before .before .before .args in let y = c .before .before .before .before .slot-at .result in c .answering .ensures ∙ slot-idle (a .i) (draftOf (a .self)) (workingOn (a .i) (requestOf (a .x) .who)) _ (c .before .before .before .before .slot-at .ensures) (working-no (a .i) _ _ (requestOf (y .request)) (y .phase) (sym (c .before .before .awaits .ensures) ∙ c .before .if1 .left))
+returns-2 c = let a = c .before .before .before .before .before .before .args in let y = c .before .before .before .before .slot-at .result in c .answering .ensures ∙ slot-idle (a .i .0) (draftOf (a .self)) (workingOn (a .i .0) (requestOf (a .x) .who)) _ (c .before .before .before .before .slot-at .ensures) (working-no (a .i .0) _ _ (requestOf (y .request)) (y .phase) (sym (c .before .before .awaits .ensures) ∙ c .before .if1 .left))
 
 pub working-call-spec : {M : Type 1} → statement M
 working-call-spec =

@@ -1,25 +1,21 @@
 use mathlib.Core.Path.{refl}
-use native.Mathlib.Omega.{arith}
 use Rattle.rules.specs.Calls.{happenedOn, giveOn}
 use Rattle.rules.specs.Words.{givesBack}
 use Rattle.station.proofs.StepLaws.{refused-is, slot-event}
-use Rattle.station.proofs.GateLaws.{slot-small, passed}
+use Rattle.station.proofs.GateLaws.{passed}
 use borrow.Author.Needs.{needs}
 use Rattle.station.proofs.Station.give_back.Statement.{statement}
 use Rattle.station.proofs.Station.give_back.Tie as tie
 
-cast-i : tie.Need-cast-i
-cast-i c = let a = c .before .before .before .before .before .args in omega (arith, slot-small (a .self) _ (a .time .0) (a .slot .0) givesBack (rw (c .before .enum-told .given .1) at (c .before .before .before .judge-give .ensures)))
-
 give-back-requires : tie.Need-give-back-requires
-give-back-requires c κs = let h = rw (c .before .before .enum-told .given .1) at (c .before .before .before .before .judge-give .ensures) in rw (c .opened .ensures .1) (passed _ _ h .time)
+give-back-requires c κs = let h = rw (c .before .enum-told .given .1) at (c .before .before .before .judge-give .ensures) in rw (c .opened .ensures .1) (passed _ _ h .time)
 
 returns : tie.Need-returns
 returns c = rw (c .refused .ensures) (refused-is _ _ _ _ (rw (c .before .before .v .given .1) at (c .before .before .before .before .judge-give .ensures)))
 
 returns-2 : tie.Need-returns-2
 unfolding happenedOn
-returns-2 c = let a = c .before .before .before .before .before .before .before .before .before .before .before .args in let h = rw (c .before .before .before .before .before .before .before .enum-told .given .1) at (c .before .before .before .before .before .before .before .before .before .judge-give .ensures) in rw (c .before .before .finish .ensures .0, c .before .before .finish .ensures .1, c .before .before .before .before .give-back .ensures, c .before .before .before .before .before .opened .ensures .0) (slot-event (a .self) (a .room .now) (a .time .0) (a .slot .0) givesBack (giveOn (a .slot .0)) (λ st p. refl) h)
+returns-2 c = let a = c .before .before .before .before .before .before .before .before .before .before .args in let h = rw (c .before .before .before .before .before .before .enum-told .given .1) at (c .before .before .before .before .before .before .before .before .judge-give .ensures) in rw (c .before .before .finish .ensures .0, c .before .before .finish .ensures .1, c .before .before .before .before .give-back .ensures, c .before .before .before .before .before .opened .ensures .0) (slot-event (a .self) (a .room .now) (a .time .0) (a .slot .0) givesBack (giveOn (a .slot .0)) (λ st p. refl) h)
 
 pub give-back-spec : {M : Type 1} → statement M
 give-back-spec =
@@ -29,7 +25,6 @@ give-back-spec =
     (λ c. search needs)
     (λ c κs. search needs)
     (λ c. search needs)
-    cast-i
     (λ c κs. search needs)
     give-back-requires
     (λ c κs. search needs)
