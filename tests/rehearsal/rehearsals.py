@@ -1,0 +1,110 @@
+"""Scripts by their seeds, run by two programs; where these differ, the shortest script that still shows it."""
+import concurrent.futures, itertools, os, re, subprocess, tempfile, time
+
+ROOT = os.path.join(os.path.dirname(os.path.abspath(__file__)), '..', '..')
+FIRST_SEED = 1
+LINES = 200_000          # of the gate's run
+MOST_SECONDS = 60        # for one script; a program that takes longer has stopped answering
+SHRINKING_SECONDS = 60   # after this the script found so far must do
+PARTS = ['sequence', 'actions', 'queue', 'waits', 'calls', 'request', 'sound', 'station', 'script']
+
+
+class Room(tempfile.TemporaryDirectory):
+    """A folder with the generator and the second script program, built for this machine."""
+
+    def __enter__(self):
+        super().__enter__()
+        self.generator = os.path.join(self.name, 'generate')
+        self.second = self.build(os.path.join(ROOT, 'tests', 'second'), 'second')
+        subprocess.run([os.path.join(ROOT, 'tests', 'rehearsal', 'build'), self.generator], check=True)
+        return self
+
+    def build(self, folder, name):
+        """The script program of the second implementation, or of an edited copy of it."""
+        out = os.path.join(self.name, name)
+        sources = [os.path.join(folder, part + '.c') for part in PARTS]
+        subprocess.run([os.environ.get('CC', 'cc'), '-std=c11', '-O1', '-w', *sources, '-o', out], check=True)
+        return out
+
+    def script(self, seed):
+        """The script of a seed, and how often it reaches each situation."""
+        made = subprocess.run([self.generator, str(seed)], capture_output=True, check=True)
+        rows = (row.split('\t') for row in made.stderr.decode().splitlines())
+        return made.stdout, {words: int(times) for words, times in rows}
+
+
+def said(program, script):
+    """What a program prints for a script; where it does not end well, that stands behind it."""
+    try:
+        done = subprocess.run([program], input=script, capture_output=True, timeout=MOST_SECONDS)
+    except subprocess.TimeoutExpired as late:
+        return (late.stdout or b'') + b'(no end)'
+    return done.stdout if done.returncode == 0 else done.stdout + b'(status %d)' % done.returncode
+
+
+def lines_of(script):
+    return re.findall(rb'[^\n]*\n|[^\n]+', script)
+
+
+def answers_of(output):
+    """The answers, one a script line: the line of numbers with the lines of its actions."""
+    rows, answers = output.split(b'\n')[:-1], []
+    while rows:
+        count = 1 + int(rows[0].split()[2])
+        answers.append(rows[:count])
+        rows = rows[count:]
+    return answers
+
+
+class Difference:
+    """The first script line, by its number from 0, where the program does not print what the second one prints."""
+
+    def __init__(self, wanted, got):
+        self.wanted, self.got = b'(nothing more)', b'(nothing more)'
+        printed, place = got.split(b'\n'), 0
+        for self.line, answer in enumerate(answers_of(wanted)):
+            for self.wanted in answer:
+                self.got = printed[place] if place < len(printed) else b'(nothing more)'
+                if self.got != self.wanted:
+                    return
+                place += 1
+        self.wanted, self.got = b'(nothing more)', b'\n'.join(printed[place:])
+
+
+def difference(second, program, script):
+    wanted, got = said(second, script), said(program, script)
+    return None if wanted == got else Difference(wanted, got)
+
+
+def shortest(second, program, script):
+    """Drops stretches of lines, each half as long as before, as long as the two still differ."""
+    until = time.monotonic() + SHRINKING_SECONDS
+    found = difference(second, program, script)
+    lines = lines_of(script)[:found.line + 1]
+    length = len(lines) // 2
+    while length >= 1:
+        at, before = 0, len(lines)
+        while at < len(lines) and time.monotonic() < until:
+            fewer = lines[:at] + lines[at + length:]
+            still = difference(second, program, b''.join(fewer))
+            if still:
+                found, lines = still, fewer[:still.line + 1]
+            else:
+                at += length
+        again = length == 1 and len(lines) < before
+        length = length if again and time.monotonic() < until else length // 2
+    return lines, found
+
+
+def compared(seeds, one):
+    """What `one` gives for each seed, in the seeds' order, some of them at work at once."""
+    workers = os.cpu_count() or 1
+    with concurrent.futures.ThreadPoolExecutor(workers) as pool:
+        while True:
+            yield from pool.map(one, itertools.islice(seeds, 2 * workers))
+
+
+def shown(line):
+    """A script line that can be printed, whatever bytes it has."""
+    text = line.rstrip(b'\n').decode('latin-1').encode('unicode_escape').decode()
+    return text if len(text) <= 400 else f'{text[:80]}.. ({len(text)} characters)'
