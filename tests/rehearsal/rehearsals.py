@@ -1,11 +1,10 @@
-"""Scripts by their seeds, run by two programs; where these differ, the shortest script that still shows it."""
-import concurrent.futures, itertools, os, re, subprocess, tempfile, time
+"""Scripts by their seeds, run by two programs, and the first line where these differ."""
+import concurrent.futures, itertools, os, re, subprocess, tempfile
 
 ROOT = os.path.join(os.path.dirname(os.path.abspath(__file__)), '..', '..')
 FIRST_SEED = 1
 LINES = 200_000          # of the gate's run
 MOST_SECONDS = 60        # for one script; a program that takes longer has stopped answering
-SHRINKING_SECONDS = 60   # after this the script found so far must do
 PARTS = ['sequence', 'actions', 'queue', 'waits', 'calls', 'request', 'sound', 'station', 'script']
 
 
@@ -23,7 +22,7 @@ class Room(tempfile.TemporaryDirectory):
         """The script program of the second implementation, or of an edited copy of it."""
         out = os.path.join(self.name, name)
         sources = [os.path.join(folder, part + '.c') for part in PARTS]
-        subprocess.run([os.environ.get('CC', 'cc'), '-std=c11', '-O1', '-w', *sources, '-o', out], check=True)
+        subprocess.run([os.environ.get('CC', 'cc'), '-std=c11', '-O0', '-w', *sources, '-o', out], check=True)
         return out
 
     def script(self, seed):
@@ -74,26 +73,6 @@ class Difference:
 def difference(second, program, script):
     wanted, got = said(second, script), said(program, script)
     return None if wanted == got else Difference(wanted, got)
-
-
-def shortest(second, program, script):
-    """Drops stretches of lines, each half as long as before, as long as the two still differ."""
-    until = time.monotonic() + SHRINKING_SECONDS
-    found = difference(second, program, script)
-    lines = lines_of(script)[:found.line + 1]
-    length = len(lines) // 2
-    while length >= 1:
-        at, before = 0, len(lines)
-        while at < len(lines) and time.monotonic() < until:
-            fewer = lines[:at] + lines[at + length:]
-            still = difference(second, program, b''.join(fewer))
-            if still:
-                found, lines = still, fewer[:still.line + 1]
-            else:
-                at += length
-        again = length == 1 and len(lines) < before
-        length = length if again and time.monotonic() < until else length // 2
-    return lines, found
 
 
 def compared(seeds, one):
