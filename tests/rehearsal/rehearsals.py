@@ -2,6 +2,7 @@
 import concurrent.futures, itertools, os, re, subprocess, tempfile
 
 ROOT = os.path.join(os.path.dirname(os.path.abspath(__file__)), '..', '..')
+PROGRAM = os.path.join(ROOT, 'tools', 'rehearse')   # on trial
 FIRST_SEED = 1
 LINES = 200_000          # of the gate's run
 MOST_SECONDS = 60        # for one script; a program that takes longer has stopped answering
@@ -32,6 +33,11 @@ class Room(tempfile.TemporaryDirectory):
         return made.stdout, {words: int(times) for words, times in rows}
 
 
+def at_hand():
+    """Whether the program on trial is built; without it a test cannot run."""
+    return bool(os.environ.get('REHEARSE')) or os.path.exists(os.path.join(ROOT, 'target', 'bin', 'rehearse'))
+
+
 def said(program, script):
     """What a program prints for a script; where it does not end well, that stands behind it."""
     try:
@@ -59,8 +65,7 @@ class Difference:
     """The first script line, by its number from 0, where the program does not print what the second one prints."""
 
     def __init__(self, wanted, got):
-        self.wanted, self.got = b'(nothing more)', b'(nothing more)'
-        printed, place = got.split(b'\n'), 0
+        self.line, printed, place = 0, got.split(b'\n'), 0
         for self.line, answer in enumerate(answers_of(wanted)):
             for self.wanted in answer:
                 self.got = printed[place] if place < len(printed) else b'(nothing more)'
