@@ -1,5 +1,5 @@
 """Scripts by their seeds, run by two programs, and the first line where these differ."""
-import concurrent.futures, itertools, os, re, subprocess, tempfile
+import collections, concurrent.futures, itertools, os, re, subprocess, tempfile
 
 ROOT = os.path.join(os.path.dirname(os.path.abspath(__file__)), '..', '..')
 PROGRAM = os.path.join(ROOT, 'tools', 'rehearse')   # on trial
@@ -61,23 +61,24 @@ def answers_of(output):
     return answers
 
 
-class Difference:
-    """The first script line, by its number from 0, where the program does not print what the second one prints."""
+Difference = collections.namedtuple('Difference', 'line wanted got')
 
-    def __init__(self, wanted, got):
-        self.line, printed, place = 0, got.split(b'\n'), 0
-        for self.line, answer in enumerate(answers_of(wanted)):
-            for self.wanted in answer:
-                self.got = printed[place] if place < len(printed) else b'(nothing more)'
-                if self.got != self.wanted:
-                    return
-                place += 1
-        self.wanted, self.got = b'(nothing more)', b'\n'.join(printed[place:])
+
+def first_difference(wanted, got):
+    """The number from 0 of the script line where two outputs part, and what each prints there."""
+    line, printed, place = 0, got.split(b'\n'), 0
+    for line, answer in enumerate(answers_of(wanted)):
+        for row in answer:
+            other = printed[place] if place < len(printed) else b'(nothing more)'
+            if other != row:
+                return Difference(line, row, other)
+            place += 1
+    return Difference(line, b'(nothing more)', b'\n'.join(printed[place:]))
 
 
 def difference(second, program, script):
     wanted, got = said(second, script), said(program, script)
-    return None if wanted == got else Difference(wanted, got)
+    return None if wanted == got else first_difference(wanted, got)
 
 
 def compared(seeds, one):
