@@ -1,7 +1,7 @@
 """Scripts by their seeds, run by two programs, and the first line where these differ."""
 import collections, concurrent.futures, itertools, os, re, subprocess, tempfile
 
-ROOT = os.path.join(os.path.dirname(os.path.abspath(__file__)), '..', '..')
+ROOT = os.path.normpath(os.path.join(os.path.dirname(os.path.abspath(__file__)), '..', '..'))
 PROGRAM = os.path.join(ROOT, 'tools', 'rehearse')   # on trial
 FIRST_SEED = 1
 LINES = 200_000          # of the gate's run
