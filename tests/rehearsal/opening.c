@@ -56,7 +56,9 @@ static void choose_ships(const struct mood *mood) {
 /* An event that meets no station. */
 static void play_too_early(void) {
     static const char letters[] = "QWUDOHMFT";
-    struct event event = {.letter = letters[chance(9)], .time = chance(1000), .slot = chance(2)};
+    struct event event = {.letter = letters[chance(9)]};
+    event.time = chance(1000);
+    event.slot = chance(2);
     if (event.letter == 'Q' || event.letter == 'W')
         event.count = draw_sequence(event.symbols);
     if (one_in(3))

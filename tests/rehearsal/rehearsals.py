@@ -1,7 +1,8 @@
 """Scripts by their seeds, run by two programs, and the first line where these differ."""
-import collections, concurrent.futures, itertools, os, re, subprocess, tempfile
+import collections, concurrent.futures, filecmp, itertools, os, re, subprocess, tempfile
 
 ROOT = os.path.normpath(os.path.join(os.path.dirname(os.path.abspath(__file__)), '..', '..'))
+SECOND = os.path.join(ROOT, 'tests', 'second')
 PROGRAM = os.path.join(ROOT, 'tools', 'rehearse')   # on trial
 FIRST_SEED = 1
 LINES = 200_000          # of the gate's run
@@ -14,17 +15,29 @@ class Room(tempfile.TemporaryDirectory):
 
     def __enter__(self):
         super().__enter__()
-        self.generator = os.path.join(self.name, 'generate')
-        self.second = self.build(os.path.join(ROOT, 'tests', 'second'), 'second')
+        self.generator = self.path('generate')
         subprocess.run([os.path.join(ROOT, 'tests', 'rehearsal', 'build'), self.generator], check=True)
+        for part in PARTS:
+            self.compile('-c', os.path.join(SECOND, part + '.c'), '-o', self.path(part + '.o'))
+        self.second = self.build(SECOND, 'second')
         return self
 
+    def path(self, name):
+        return os.path.join(self.name, name)
+
+    def compile(self, *words):
+        subprocess.run([os.environ.get('CC', 'cc'), '-std=c11', '-O0', '-w', *words], check=True)
+
     def build(self, folder, name):
-        """The script program of the second implementation, or of an edited copy of it."""
-        out = os.path.join(self.name, name)
-        sources = [os.path.join(folder, part + '.c') for part in PARTS]
-        subprocess.run([os.environ.get('CC', 'cc'), '-std=c11', '-O0', '-w', *sources, '-o', out], check=True)
-        return out
+        """The script program of a copy of the second implementation; only what was changed there is compiled anew."""
+        changed = {file for file in os.listdir(SECOND) if file.endswith(('.c', '.h')) and
+                   not filecmp.cmp(os.path.join(SECOND, file), os.path.join(folder, file), shallow=False)}
+        every = any(file.endswith('.h') for file in changed)
+        anew = [part for part in PARTS if every or part + '.c' in changed]
+        sources = [os.path.join(folder, part + '.c') for part in anew]
+        objects = [self.path(part + '.o') for part in PARTS if part not in anew]
+        self.compile(*sources, *objects, '-o', self.path(name))
+        return self.path(name)
 
     def script(self, seed):
         """The script of a seed, and how often it reaches each situation."""
