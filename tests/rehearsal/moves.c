@@ -193,7 +193,10 @@ void make_move(const struct mood *mood) {
     } else if (move == NOISE) {
         event.letter = "UDOHMFT"[chance(7)];
         event.time = soon(OFFER_WAIT, 0);
-        play_unreadable(&event);
+        if (one_in(4))
+            play_odd();
+        else
+            play_unreadable(&event);
         return;
     } else {
         uint32_t wait = fillers[move](&event);

@@ -61,7 +61,9 @@ static void play_too_early(void) {
     event.slot = chance(2);
     if (event.letter == 'Q' || event.letter == 'W')
         event.count = draw_sequence(event.symbols);
-    if (one_in(3))
+    if (one_in(4))
+        play_odd();
+    else if (one_in(3))
         play_unreadable(&event);
     else
         play(&event);

@@ -1,22 +1,19 @@
 /* A line is written, and the station under way follows it. */
 #include <stdio.h>
+#include <string.h>
 
 #include "rehearsal.h"
 
 struct stage stage;
 static bool feed_owed; /* the last line's line feed is written with the next line, so that a script can end without one */
 
-static void write_line(const char *text, size_t length) {
+void write_text(const char *text, size_t length) {
     if (feed_owed)
         putchar('\n');
     fwrite(text, 1, length, stdout);
     feed_owed = true;
     if (stage.lines_left > 0u)
         stage.lines_left--;
-}
-
-void write_text(const char *text, size_t length) {
-    write_line(text, length);
 }
 
 /* Half of the scripts end without a line feed. */
@@ -40,13 +37,14 @@ size_t put_text(char *text, const struct event *event) {
     return length;
 }
 
-/* Zeros before the first number say nothing, up to a line of exactly 200 characters. */
+/* Zeros before a number say nothing, up to a line of exactly 200 characters. */
 static size_t put_zeros(char *text, size_t length) {
     size_t zeros = one_in(2) ? LINE_MOST - length : chance((uint32_t)(LINE_MOST - length) + 1u);
-    for (size_t i = length; i > 2u; i--)
-        text[i - 1u + zeros] = text[i - 1u];
-    for (size_t i = 0; i < zeros; i++)
-        text[2u + i] = '0';
+    size_t at = one_in(2) ? 2u : 2u + chance((uint32_t)length - 2u);
+    while (text[at - 1u] != ' ')
+        at--;
+    memmove(text + at + zeros, text + at, length - at);
+    memset(text + at, '0', zeros);
     return length + zeros;
 }
 
@@ -80,7 +78,7 @@ void play(const struct event *event) {
     struct station before = stage.station;
     struct step step;
     size_t length = put_text(text, event);
-    write_line(text, one_in(64) ? put_zeros(text, length) : length);
+    write_text(text, one_in(64) ? put_zeros(text, length) : length);
     if ((event->letter == 'S') == stage.stands)
         return; /* 41 */
     step = event->letter == 'S' ? set_up(event) : follow(event);

@@ -43,8 +43,9 @@ void write_text(const char *text, size_t length); /* a line that changes nothing
 size_t put_text(char *text, const struct event *event); /* at most LINE_MOST characters */
 void end_script(void);
 
-/* ---- unreadable.c: lines that get 40 ---- */
+/* ---- unreadable.c: lines that get 40; odd.c: readable lines that no station accepts ---- */
 void play_unreadable(const struct event *like);
+void play_odd(void);
 
 /* ---- opening.c: the S line, and lines before it ---- */
 void open_station(const struct mood *mood);

@@ -63,7 +63,8 @@ class Shrinking:
         """With the time that passes in them, if they cannot be dropped without it."""
         for at, length in self.stretches():
             fewer = self.lines[:at] + self.lines[at + length:]
-            if not self.try_with(fewer) and not self.try_with(without_time(fewer, at, at + 1)):
+            closed = without_time(fewer, at, at + 1)
+            if not self.try_with(fewer) and not (closed != fewer and self.try_with(closed)):
                 self.at += length
 
     def close_gaps(self):

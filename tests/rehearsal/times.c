@@ -77,7 +77,7 @@ uint32_t leap(void) {
     uint32_t clock = stage.station.clock, left = TIME_LIMIT - clock;
     uint32_t most = one_in(40) ? left : one_in(2) ? HUNDRED_HOURS + 100u : 20000u;
     const struct slot *slot = &stage.station.slots[chance(stage.station.channel_count)];
-    uint32_t length = HUNDRED_HOURS - 10u + chance(20);
+    uint32_t length = one_in(3) ? HUNDRED_HOURS - chance(HUNDRED_HOURS / 10u) : HUNDRED_HOURS - 10u + chance(20);
     if (slot->phase == PHASE_ANSWERED && one_in(2) && slot->start + length > clock && length <= TIME_LIMIT - slot->start)
         return slot->start + length;
     return clock + chance((most < left ? most : left) + 1u);
