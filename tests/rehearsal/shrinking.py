@@ -37,7 +37,7 @@ class Shrinking:
     def __init__(self, second, program, script):
         self.second, self.program = second, program
         self.until = time.monotonic() + MOST_SECONDS
-        self.lines = r.lines_of(script)
+        self.lines, self.found = r.lines_of(script), None
         self.try_with(self.lines)
 
     def try_with(self, lines):
@@ -77,7 +77,7 @@ class Shrinking:
 
 
 def shortest(second, program, script):
-    """The lines, and the difference that the last of them shows."""
+    """The lines, and the difference that the last of them shows; None where the second try shows no difference."""
     shrinking = Shrinking(second, program, script)
     shrinking.try_with(without_time(shrinking.lines, 0, len(shrinking.lines)))
     before = None
