@@ -81,7 +81,7 @@ def shortest(second, program, script):
     shrinking = Shrinking(second, program, script)
     shrinking.try_with(without_time(shrinking.lines, 0, len(shrinking.lines)))
     before = None
-    while before != shrinking.lines and shrinking.in_time():
+    while shrinking.found and before != shrinking.lines and shrinking.in_time():
         before = shrinking.lines
         shrinking.drop_lines()
         shrinking.close_gaps()
