@@ -24,8 +24,8 @@ extern struct tally reads, writes;
 bool reads_agree(const uint8_t *symbols, size_t count, size_t size);
 bool writes_agree(const uint8_t *meaning, size_t size, size_t room_size);
 
-/* ---- chance.c: numbers by chance, the same ones in every run ---- */
-void begin_chance(void);
+/* ---- chance.c: numbers by chance, the same ones for the same seed ---- */
+void begin_chance(uint64_t seed);
 uint32_t chance(uint32_t below);
 bool one_in(uint32_t many);
 uint8_t any_byte(void);       /* half of them near the edges of document 01's ranges */

@@ -7,6 +7,9 @@ extern int printf(const char *, ...);
 /* Fewer of an answer than this would say that the run no longer tries what it is for. */
 #define ENOUGH 1000u
 
+/* The same run every time. */
+#define SEED 689u
+
 /* Prints how often each answer was given; false where one of those wanted was given too seldom. */
 static bool report(const char *what, const struct tally *tally, const uint8_t *wanted, size_t count) {
     bool enough = true;
@@ -37,7 +40,7 @@ static bool agrees(const struct trial *trial) {
     static const uint8_t of_writes[] = {0, 15, 17, 18, 19, 20, 21, 22};
     on_trial = trial;
     reads = writes = (struct tally){0};
-    begin_chance();
+    begin_chance(SEED);
     if (!(run("P1 to P6, each symbol replaced", replace_each_symbol) &&
           run("lengths 0 to 40", try_each_length) &&
           run("P1 to P6 written, each byte replaced", write_checked) &&

@@ -1,0 +1,210 @@
+/* What the next line is: a ship, the person ashore, the operator or the host does something that fits, or nearly fits. */
+#include "rehearsal.h"
+
+#define NONE MOST_SLOTS
+
+static bool expects_ship(enum phase phase) {
+    return phase == PHASE_OFFERED || phase == PHASE_RING_BACK || phase == PHASE_RING_BACK_REPEATED ||
+           phase == PHASE_ACKNOWLEDGED;
+}
+
+static bool rings(enum phase phase) {
+    return phase == PHASE_RING_BACK || phase == PHASE_RING_BACK_REPEATED;
+}
+
+static bool talks(enum phase phase) {
+    return phase == PHASE_DIALLING || phase == PHASE_ANSWERED;
+}
+
+static bool ends(enum phase phase) {
+    return talks(phase) || phase == PHASE_HOLD;
+}
+
+static bool stores(enum phase phase) {
+    return phase != PHASE_FREE && phase != PHASE_TAKEN;
+}
+
+static bool is_free(enum phase phase) {
+    return phase == PHASE_FREE;
+}
+
+static bool is_taken(enum phase phase) {
+    return phase == PHASE_TAKEN;
+}
+
+/* A slot of that kind by chance, or none. */
+static uint32_t any_slot(bool (*wanted)(enum phase)) {
+    uint32_t count = stage.station.channel_count, from = chance(count);
+    for (uint32_t i = 0; i < count; i++)
+        if (wanted(stage.station.slots[(from + i) % count].phase))
+            return (from + i) % count;
+    return NONE;
+}
+
+/* ---- moves: each fills in the event, and hands back the wait that it begins ---- */
+
+static uint32_t call(struct event *event) {
+    struct meaning m = new_request(stage.ships[chance(stage.ship_count)]);
+    event->letter = 'Q';
+    if (one_in(20))
+        m = mistaken(m);
+    put_sequence(event, &m);
+    return one_in(4) ? QUEUE_WAIT : OFFER_WAIT;
+}
+
+/* A ship that stands somewhere calls once more. */
+static uint32_t call_again(struct event *event) {
+    uint32_t slot = any_slot(stores), waiting = stage.station.waiting_count;
+    bool queued = waiting > 0u && (slot == NONE || one_in(3));
+    struct meaning m;
+    if (!queued && slot == NONE)
+        return call(event);
+    m = queued ? stage.station.queue[chance(waiting)].request : stage.station.slots[slot].request;
+    if (one_in(2))
+        m = varied(m);
+    event->letter = 'Q';
+    put_sequence(event, &m);
+    return OFFER_WAIT;
+}
+
+/* The ship does what it was offered. */
+static uint32_t answer(struct event *event) {
+    uint32_t slot = any_slot(one_in(3) ? rings : expects_ship), named;
+    const struct slot *held;
+    struct meaning m;
+    bool ring;
+    if (slot == NONE)
+        return call(event);
+    held = &stage.station.slots[slot];
+    ring = rings(held->phase) ? !one_in(8) : one_in(12);
+    named = one_in(12) ? chance(stage.station.channel_count) : slot;
+    m = ring ? as_ring_back_answer(held->request, stage.station.channels[named]) : as_working_call(held->request);
+    if (one_in(12))
+        m = mistaken(m);
+    event->letter = ring != one_in(40) ? 'Q' : 'W';
+    event->slot = one_in(40) ? chance(stage.station.channel_count) : slot;
+    put_sequence(event, &m);
+    return ring ? OFFER_WAIT : REPLY_WAIT;
+}
+
+/* The handset ashore. */
+static uint32_t handset(struct event *event) {
+    uint32_t slot = any_slot(talks);
+    bool dialling = slot != NONE && stage.station.slots[slot].phase == PHASE_DIALLING;
+    event->slot = slot == NONE || one_in(20) ? chance(stage.station.channel_count) : slot;
+    event->letter = one_in(dialling ? 6u : 2u) ? 'H' : 'O';
+    return RING_BACK_WAIT;
+}
+
+/* The ship's carrier. */
+static uint32_t carrier(struct event *event) {
+    uint32_t slot = any_slot(talks);
+    bool duplex = slot != NONE && stage.station.slots[slot].request.first == DUPLEX;
+    event->slot = slot == NONE || one_in(20) ? chance(stage.station.channel_count) : slot;
+    event->letter = one_in(3) ? 'U' : 'D';
+    return duplex ? DUPLEX_CARRIER_WAIT : SIMPLEX_CARRIER_WAIT;
+}
+
+static uint32_t ships_end(struct event *event) {
+    uint32_t slot = any_slot(ends);
+    struct meaning m;
+    if (slot == NONE)
+        return call(event);
+    m = as_end(stage.station.slots[slot].request);
+    if (one_in(8))
+        m = mistaken(m);
+    event->letter = one_in(30) ? 'Q' : 'W';
+    event->slot = one_in(30) ? chance(stage.station.channel_count) : slot;
+    put_sequence(event, &m);
+    return HOLD_WAIT;
+}
+
+/* The operator. */
+static uint32_t hand(struct event *event) {
+    bool take = one_in(2);
+    uint32_t slot = any_slot(take ? is_free : is_taken);
+    event->letter = take ? 'M' : 'F';
+    event->slot = slot == NONE || one_in(8) ? chance(stage.station.channel_count) : slot;
+    return RING_BACK_WAIT;
+}
+
+static uint32_t stray(struct event *event) {
+    event->letter = one_in(2) ? 'Q' : 'W';
+    event->slot = chance(stage.station.channel_count);
+    put_stray(event);
+    return OFFER_WAIT;
+}
+
+typedef uint32_t filler(struct event *event);
+static filler *const fillers[MOVES] = {[CALL] = call, [AGAIN] = call_again, [ANSWER] = answer, [LINE] = handset,
+    [CARRIER] = carrier, [END] = ships_end, [HAND] = hand, [STRAY] = stray};
+
+/* ---- the whole line ---- */
+
+/* Time, slot and sequence, one of them or several at once, so that the refusals' order shows. */
+static void spoil(struct event *event) {
+    bool sequence = event->letter == 'Q' || event->letter == 'W';
+    if (one_in(3))
+        event->time = wrong_time();
+    if (event->letter != 'Q' && one_in(3))
+        event->slot = stage.station.channel_count + (one_in(2) ? 0u : chance(4294967295u - MOST_SLOTS));
+    if (sequence && !one_in(4))
+        spoil_sequence(event);
+}
+
+static enum move choose(const struct mood *mood) {
+    uint32_t all = 0, drawn;
+    for (uint32_t i = 0; i < MOVES; i++)
+        all += mood->weights[i];
+    drawn = chance(all);
+    for (uint32_t i = 0; i < MOVES; i++) {
+        if (drawn < mood->weights[i])
+            return (enum move)i;
+        drawn -= mood->weights[i];
+    }
+    return TICK;
+}
+
+/* A tick in time, exact or late, or none due. */
+static void tick(uint32_t time) {
+    struct event event = {.letter = 'T', .time = time};
+    uint32_t due = 0;
+    if (next_due(&due) && !one_in(6))
+        event.time = one_in(2) ? due : one_in(4) ? due - 1u : due + chance(700);
+    if (event.time < stage.station.clock || event.time > TIME_LIMIT)
+        event.time = stage.station.clock;
+    if (one_in(40))
+        event.time = wrong_time();
+    play(&event);
+}
+
+void make_move(const struct mood *mood) {
+    enum move move = choose(mood);
+    struct event event = {.letter = 'T'};
+    if (move == TICK) {
+        tick(soon(OFFER_WAIT, 0));
+        return;
+    }
+    if (move == LEAP) {
+        uint32_t time = leap();
+        catch_up(time);
+        fillers[one_in(2) ? CARRIER : one_in(2) ? LINE : END](&event);
+        event.time = time;
+    } else if (move == NOISE) {
+        event.letter = "UDOHMFT"[chance(7)];
+        event.time = soon(OFFER_WAIT, 0);
+        if (one_in(4))
+            play_odd();
+        else
+            play_unreadable(&event);
+        return;
+    } else {
+        uint32_t wait = fillers[move](&event);
+        event.time = soon(wait, event.slot);
+    }
+    if (one_in(mood->spoilt))
+        spoil(&event);
+    else if (!one_in(16))
+        catch_up(event.time);
+    play(&event);
+}

@@ -1,0 +1,255 @@
+/* What a script has reached: each situation that document 01 names, counted from the station before and after a step. */
+#include <stdio.h>
+
+#include "../second/inside.h"
+#include "rehearsal.h"
+
+#define SITUATIONS(X) \
+    X(A, "rule a") X(A_KNOWN, "rule a, the ship stands somewhere") \
+    X(B_SAME, "rule b, identical") X(B_OTHER, "rule b, offered, another request") \
+    X(B_RING, "rule b, first ring-back") X(B_RING_AGAIN, "rule b, second ring-back") X(B_AGREED, "rule b, acknowledged") \
+    X(C_DUPLEX, "rule c, duplex without carrier") X(C_PRESENT, "rule c, simplex with carrier") \
+    X(C_DIALLING, "rule c ends a call not answered") X(C_ANSWERED, "rule c ends an answered call") \
+    X(C_SEVEN, "rule c, charge, ring-back and answer, seven actions") X(C_OFFERED, "rule c, then offered a slot again") \
+    X(D, "rule d") X(E, "rule e") X(E_GAP, "rule e, a slot above slot 0") X(F, "rule f") X(F_LAST, "rule f, the 32nd place") \
+    X(G, "rule g") X(CALL_IN_HOLD, "request of a ship in its hold") \
+    X(DIAL, "working call, offered") X(DIAL_AGREED, "working call, acknowledged") X(DIAL_LAST, "working call in the last tenth") \
+    X(DIAL_OTHER_MODE, "working call of the other mode") X(WORKING_IN_RING, "working call in ring-back") \
+    X(BQ_FIRST, "BQ, first ring-back") X(BQ_SECOND, "BQ, second ring-back") X(BQ_CHANNEL, "BQ, another channel") \
+    X(BQ_TWICE, "BQ, acknowledged already") \
+    X(END_DIALLING, "ship's end, dialling") X(END_ANSWERED, "ship's end, answered") X(END_HOLD, "ship's end in the hold") \
+    X(END_HOLD_LAST, "ship's end in the hold's last tenth") X(END_OTHER, "end of call of another ship") \
+    X(END_FIELD, "end of call with a duration") \
+    X(LIFT, "off-hook, carrier present") X(LIFT_SILENT, "off-hook, carrier wait runs on") X(LIFT_AGAIN, "off-hook, answered") \
+    X(LAY_DIALLING, "on-hook, dialling") X(LAY_ANSWERED, "on-hook, answered") \
+    X(DOWN_SIMPLEX, "carrier down, simplex") X(DOWN_DUPLEX, "carrier down, duplex") X(DOWN_AGAIN, "carrier down once more") \
+    X(UP, "carrier up ends the wait") X(UP_AGAIN, "carrier up, present already") X(CARRIER_ELSE, "carrier without a call") \
+    X(DUE_OFFER, "offer due") X(DUE_AGREED, "acknowledged due") X(DUE_RING, "first ring-back due") \
+    X(DUE_RING_AGAIN, "second ring-back due") X(DUE_REPLY, "no reply") X(DUE_SIMPLEX, "carrier loss, simplex") \
+    X(DUE_DUPLEX, "carrier loss, duplex") X(DUE_ANSWERED, "carrier loss, answered") X(DUE_HOLD, "hold due") \
+    X(DUE_QUEUE, "queue entry due") X(NONE_DUE, "tick, none due") X(LATE, "late tick") X(LATE_CHARGE, "late tick that charges") \
+    X(TIE_QUEUE, "due together: two queue entries") X(TIE_QUEUE_SLOT, "due together: queue entry and slot") \
+    X(TIE_SLOTS, "due together: two slots") X(TIE_ONE_SLOT, "due together: carrier loss and no reply of one slot") \
+    X(RING_HIGH, "ring-back on a slot above slot 0") X(TAKE, "operator takes") \
+    X(GIVE_BACK, "operator gives back") X(GIVE_BACK_RING, "operator gives back, ring-back") \
+    X(HUNDRED_SHIP, "100 hours and over, ship's end") X(HUNDRED_COAST, "100 hours and over, coast's end") \
+    X(NINETY, "90 hours and more, under 100") X(AT_LIMIT, "accepted at the limit") X(PAST_LIMIT, "a due time past the limit") \
+    X(NOT_OURS, "sequence to another")
+
+enum situation {
+#define AS_NAME(name, words) SEEN_##name,
+    SITUATIONS(AS_NAME)
+#undef AS_NAME
+    SEEN_COUNT
+};
+
+static const char *const words[] = {
+#define AS_WORDS(name, words) words,
+    SITUATIONS(AS_WORDS)
+#undef AS_WORDS
+};
+static uint32_t times[SEEN_COUNT];
+
+static void note_if(bool so, enum situation situation) {
+    times[situation] += so ? 1u : 0u;
+}
+
+static uint32_t slot_of(const struct station *station, uint32_t ship, bool hold) {
+    for (uint32_t i = 0; i < station->channel_count; i++) {
+        enum phase phase = station->slots[i].phase;
+        if ((hold ? phase == PHASE_HOLD : holds_ship(phase)) && station->slots[i].request.self == ship)
+            return i;
+    }
+    return MOST_SLOTS;
+}
+
+/* Rules d to g: where the ship stands afterwards. */
+static void note_placed(const struct station *before, const struct meaning *m, const struct step *step) {
+    uint32_t slot = slot_of(&step->station, m->self, false), left = before->waiting_count;
+    bool waited = place_in_queue(before, m->self) < left;
+    bool waits = place_in_queue(&step->station, m->self) < step->station.waiting_count;
+    note_if(waited, SEEN_D);
+    note_if(slot != MOST_SLOTS, SEEN_E);
+    note_if(slot != MOST_SLOTS && slot > 0u, SEEN_E_GAP);
+    note_if(!waited && waits, SEEN_F);
+    note_if(!waited && waits && step->station.waiting_count == MOST_WAITING, SEEN_F_LAST);
+    note_if(slot == MOST_SLOTS && !waits, SEEN_G);
+    note_if(slot_of(before, m->self, true) != MOST_SLOTS, SEEN_CALL_IN_HOLD);
+}
+
+/* Rule b, by what the slot was. */
+static void note_asked_again(const struct slot *held, const struct step *step, uint32_t slot) {
+    bool same = step->station.slots[slot].due == held->due;
+    note_if(held->phase == PHASE_OFFERED && same, SEEN_B_SAME);
+    note_if(held->phase == PHASE_OFFERED && !same, SEEN_B_OTHER);
+    note_if(held->phase == PHASE_RING_BACK, SEEN_B_RING);
+    note_if(held->phase == PHASE_RING_BACK_REPEATED, SEEN_B_RING_AGAIN);
+    note_if(held->phase == PHASE_ACKNOWLEDGED, SEEN_B_AGREED);
+}
+
+/* Rule c, with what follows it. */
+static void note_in_call(const struct slot *held, const struct step *step, uint32_t slot) {
+    bool ended = step->answer == DONE;
+    note_if(held->request.first == DUPLEX && held->carrier == CARRIER_ABSENT, SEEN_C_DUPLEX);
+    note_if(held->request.first == SIMPLEX && held->carrier == CARRIER_PRESENT, SEEN_C_PRESENT);
+    note_if(ended && held->phase == PHASE_DIALLING, SEEN_C_DIALLING);
+    note_if(ended && held->phase == PHASE_ANSWERED, SEEN_C_ANSWERED);
+    note_if(ended && step->actions == 7u, SEEN_C_SEVEN);
+    note_if(ended && step->station.slots[slot].phase == PHASE_OFFERED, SEEN_C_OFFERED);
+}
+
+static void note_request(const struct station *before, const struct meaning *m, const struct step *step) {
+    uint32_t slot = slot_of(before, m->self, false);
+    bool stands = slot != MOST_SLOTS, known = stands || place_in_queue(before, m->self) < before->waiting_count;
+    if (m->first == DATA) {
+        note_if(true, SEEN_A);
+        note_if(known, SEEN_A_KNOWN);
+    } else if (stands && has_call(before->slots[slot].phase)) {
+        note_in_call(&before->slots[slot], step, slot);
+    } else if (stands) {
+        note_asked_again(&before->slots[slot], step, slot);
+    } else {
+        note_placed(before, m, step);
+    }
+}
+
+static void note_calling(const struct station *before, const struct event *event, const struct step *step) {
+    struct meaning m;
+    uint32_t slot;
+    enum phase phase;
+    if (second_read(event->symbols, event->count, &m) != 0)
+        return;
+    note_if(m.address != before->identity, SEEN_NOT_OURS);
+    if (m.address != before->identity || m.first == END_OF_CALL || m.first == UNABLE)
+        return;
+    if (m.end == RQ && m.kind == FIELD_NONE)
+        note_request(before, &m, step);
+    slot = slot_of(before, m.self, false);
+    if (m.end != BQ || m.kind != FIELD_CHANNEL || slot == MOST_SLOTS || m.first == DATA)
+        return;
+    phase = before->slots[slot].phase;
+    note_if(phase == PHASE_RING_BACK && step->answer == DONE, SEEN_BQ_FIRST);
+    note_if(phase == PHASE_RING_BACK_REPEATED && step->answer == DONE, SEEN_BQ_SECOND);
+    note_if(phase == PHASE_ACKNOWLEDGED, SEEN_BQ_TWICE);
+    note_if(phase == PHASE_RING_BACK && step->answer == IGNORED, SEEN_BQ_CHANNEL);
+}
+
+static void note_working(const struct station *before, const struct event *event, const struct step *step) {
+    const struct slot *held = &before->slots[event->slot];
+    enum phase phase = held->phase;
+    bool done = step->answer == DONE, call;
+    struct meaning m;
+    if (second_read(event->symbols, event->count, &m) != 0 || m.address != before->identity)
+        return;
+    call = m.end == OTHER_END && m.first != END_OF_CALL;
+    note_if(done && phase == PHASE_OFFERED, SEEN_DIAL);
+    note_if(done && phase == PHASE_ACKNOWLEDGED, SEEN_DIAL_AGREED);
+    note_if(done && call && event->time + 1u == held->due, SEEN_DIAL_LAST);
+    note_if(done && call && m.first != held->request.first, SEEN_DIAL_OTHER_MODE);
+    note_if(call && phase == PHASE_RING_BACK && m.self == held->request.self, SEEN_WORKING_IN_RING);
+    note_if(done && phase == PHASE_DIALLING, SEEN_END_DIALLING);
+    note_if(done && phase == PHASE_ANSWERED, SEEN_END_ANSWERED);
+    note_if(done && phase == PHASE_HOLD, SEEN_END_HOLD);
+    note_if(done && phase == PHASE_HOLD && event->time + 1u == held->due, SEEN_END_HOLD_LAST);
+    note_if(!done && has_call(phase) && m.first == END_OF_CALL && m.self != held->request.self, SEEN_END_OTHER);
+    note_if(!done && has_call(phase) && m.kind == FIELD_DURATION, SEEN_END_FIELD);
+}
+
+static void note_slot_event(const struct station *before, const struct event *event, const struct step *step) {
+    const struct slot *held = &before->slots[event->slot];
+    enum phase phase = held->phase;
+    bool dialling = phase == PHASE_DIALLING, answered = phase == PHASE_ANSWERED, present = held->carrier == CARRIER_PRESENT;
+    bool call = dialling || answered, down = event->letter == 'D', up = event->letter == 'U';
+    bool duplex = held->request.first == DUPLEX;
+    note_if(event->letter == 'O' && dialling && present, SEEN_LIFT);
+    note_if(event->letter == 'O' && dialling && !present, SEEN_LIFT_SILENT);
+    note_if(event->letter == 'O' && answered, SEEN_LIFT_AGAIN);
+    note_if(event->letter == 'H' && dialling, SEEN_LAY_DIALLING);
+    note_if(event->letter == 'H' && answered, SEEN_LAY_ANSWERED);
+    note_if(down && call && present && !duplex, SEEN_DOWN_SIMPLEX);
+    note_if(down && call && present && duplex, SEEN_DOWN_DUPLEX);
+    note_if(down && call && !present, SEEN_DOWN_AGAIN);
+    note_if(up && call && !present, SEEN_UP);
+    note_if(up && call && present, SEEN_UP_AGAIN);
+    note_if((up || down) && !call, SEEN_CARRIER_ELSE);
+    note_if(event->letter == 'M', SEEN_TAKE);
+    note_if(event->letter == 'F', SEEN_GIVE_BACK);
+    note_if(event->letter == 'F' && step->actions > 0u, SEEN_GIVE_BACK_RING);
+}
+
+/* The waits that fall due together with the first. */
+static void note_together(const struct station *before, uint32_t due) {
+    uint32_t queued = 0, slots = 0;
+    for (uint32_t i = 0; i < before->waiting_count; i++)
+        queued += before->queue[i].due == due ? 1u : 0u;
+    for (uint32_t i = 0; i < before->channel_count; i++) {
+        const struct slot *slot = &before->slots[i];
+        bool silent = has_call(slot->phase) && slot->carrier == CARRIER_ABSENT && slot->carrier_due == due;
+        bool own = has_slot_wait(slot->phase) && slot->due == due;
+        slots += silent || own ? 1u : 0u;
+        note_if(silent && own, SEEN_TIE_ONE_SLOT);
+    }
+    note_if(queued > 1u, SEEN_TIE_QUEUE);
+    note_if(queued > 0u && slots > 0u, SEEN_TIE_QUEUE_SLOT);
+    note_if(slots > 1u, SEEN_TIE_SLOTS);
+}
+
+static void note_fired(const struct station *before, const struct event *event, struct wait wait) {
+    const struct slot *held = &before->slots[wait.place];
+    bool own = wait.kind == WAIT_SLOT, silent = wait.kind == WAIT_CARRIER, duplex = held->request.first == DUPLEX;
+    bool answered = silent && held->phase == PHASE_ANSWERED, late = event->time > wait.due;
+    note_if(own && held->phase == PHASE_OFFERED, SEEN_DUE_OFFER);
+    note_if(own && held->phase == PHASE_ACKNOWLEDGED, SEEN_DUE_AGREED);
+    note_if(own && held->phase == PHASE_RING_BACK, SEEN_DUE_RING);
+    note_if(own && held->phase == PHASE_RING_BACK_REPEATED, SEEN_DUE_RING_AGAIN);
+    note_if(own && held->phase == PHASE_DIALLING, SEEN_DUE_REPLY);
+    note_if(own && held->phase == PHASE_HOLD, SEEN_DUE_HOLD);
+    note_if(silent && !duplex, SEEN_DUE_SIMPLEX);
+    note_if(silent && duplex, SEEN_DUE_DUPLEX);
+    note_if(answered, SEEN_DUE_ANSWERED);
+    note_if(answered && late, SEEN_LATE_CHARGE);
+    note_if(wait.kind == WAIT_QUEUE, SEEN_DUE_QUEUE);
+    note_if(late, SEEN_LATE);
+    note_together(before, wait.due);
+}
+
+static void note_tick(const struct station *before, const struct event *event) {
+    struct wait wait = earliest_wait(before);
+    bool fires = wait.kind != WAIT_NONE && wait.due <= event->time;
+    note_if(!fires, SEEN_NONE_DUE);
+    if (fires)
+        note_fired(before, event, wait);
+}
+
+/* Calls that this step ended, by their length, and slots that it rang back on. */
+static void note_changes(const struct station *before, const struct station *after) {
+    for (uint32_t i = 0; i < before->channel_count; i++) {
+        const struct slot *was = &before->slots[i], *is = &after->slots[i];
+        uint32_t seconds = was->phase == PHASE_ANSWERED ? charged_seconds(after->clock - was->start) : 0u;
+        bool stopped = was->phase == PHASE_ANSWERED && is->phase != PHASE_ANSWERED;
+        note_if(stopped && seconds >= 360000u && is->phase == PHASE_HOLD, SEEN_HUNDRED_SHIP);
+        note_if(stopped && seconds >= 360000u && is->phase != PHASE_HOLD, SEEN_HUNDRED_COAST);
+        note_if(stopped && seconds >= 324000u && seconds < 360000u, SEEN_NINETY);
+        note_if(i > 0u && is->phase == PHASE_RING_BACK && was->phase != PHASE_RING_BACK, SEEN_RING_HIGH);
+    }
+}
+
+void note_step(const struct station *before, const struct event *event, const struct step *step) {
+    uint32_t due = 0;
+    if (step->answer > IGNORED || event->letter == 'S')
+        return;
+    switch (event->letter) {
+    case 'Q': note_calling(before, event, step); break;
+    case 'W': note_working(before, event, step); break;
+    case 'T': note_tick(before, event); break;
+    default: note_slot_event(before, event, step); break;
+    }
+    note_changes(before, &step->station);
+    note_if(step->station.clock == TIME_LIMIT, SEEN_AT_LIMIT);
+    note_if(second_next_due(&step->station, &due) && due > TIME_LIMIT, SEEN_PAST_LIMIT);
+}
+
+void print_situations(void) {
+    for (size_t i = 0; i < SEEN_COUNT; i++)
+        fprintf(stderr, "%s\t%u\n", words[i], times[i]);
+}
