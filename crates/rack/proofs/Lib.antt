@@ -1,0 +1,5 @@
+pub mod ReadBack
+pub mod Laid
+pub mod Steps
+pub mod Traces
+pub mod Theorems

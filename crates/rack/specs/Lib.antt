@@ -1,0 +1,4 @@
+pub mod Rooms
+pub mod Steps
+pub mod Statement
+pub mod Sample
