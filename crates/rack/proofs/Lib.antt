@@ -3,3 +3,4 @@ pub mod Laid
 pub mod Steps
 pub mod Traces
 pub mod Theorems
+pub mod Sampled
