@@ -1,9 +1,8 @@
 -- A station that was laid out keeps its records, and holds as answered what its model does.
-use Prim.Native.Nat.{ℕ, zero, suc, _+_, _≤_}
+use Prim.Native.Nat.{ℕ, zero, suc, _≤_}
 use mathlib.Core.Path.{_≡_, refl, ap}
 use mathlib.Core.Bool.{Bool, true, _&&_}
 use mathlib.Core.List.{List, [], _∷_, map}
-use mathlib.Core.Option.{none, some}
 use lib.ListN.{length, take, drop}
 use borrow.Author.Tests.{le-leb}
 use Rattle.units.specs.declared.Channel.{Channel}
@@ -12,7 +11,7 @@ use Rattle.rules.specs.Words.{Request, Config, Event}
 use Rattle.rules.specs.Places.{all, Each}
 use Rattle.rules.specs.Station as R
 use Rattle.rules.specs.Station.{free, taken, pending, busy, held, offered, firstRing, secondRing, acknowledged, dialling, answered}
-use Rattle.rules.specs.Verdict.{verdict, refusals}
+use Rattle.rules.specs.Verdict.{verdict}
 use Rattle.rules.specs.Bytes.{padded, numberOf}
 use Rattle.rules.specs.Statement.{heldSlot, heldSlots, heldTenths}
 use Rattle.rules.proofs.PlaceLaws.{and-true}
@@ -25,7 +24,7 @@ use Rattle.slots.specs.Views.{phaseView, slotView}
 use Rattle.slots.specs.Images.{slotImage, waitingImage, blankSlot, blankWaiting, slotImages, Short, ShortSlot, Fits}
 use Rattle.soundness.specs.Soundly.{numberExact, slotExact, waitingExact}
 use Rattle.station.specs.declared.Station.{Station}
-use Rattle.station.specs.Model.{modelOf, configOf, imageOf}
+use Rattle.station.specs.Model.{modelOf, imageOf}
 use Rattle.station.specs.Step.{recordsKeep, refusal}
 use Rattle.station.proofs.ImageLaws.{model-back, config-back}
 use Rattle.rack.specs.Statement.{heldPhase, heldOn, heldBy}

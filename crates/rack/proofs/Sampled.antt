@@ -1,7 +1,6 @@
 -- Document 01's sample script: what the contracts force, and that no useless version meets them.
 use Prim.Native.Nat.{ℕ, _*_, _<_}
 use mathlib.Core.Path.{_≡_, refl, sym, ap, _∙_}
-use mathlib.Core.Bool.{false}
 use mathlib.Core.List.{List, [], _∷_, _++_}
 use native.Mathlib.Omega.{arith}
 use lib.ListN.{getD, drop}
@@ -9,14 +8,14 @@ use borrow.Author.Tests.{leb-false, lt-leb}
 use Rattle.rules.specs.Bytes.{padded, block}
 use Rattle.rules.specs.Station.{fresh}
 use Rattle.rules.specs.Runs.{station}
-use Rattle.rules.specs.Cases.{sample, sampleShows}
+use Rattle.rules.specs.Cases.{sampleShows}
 use Rattle.rules.proofs.Computed.{sample-computed}
 use Rattle.station.specs.declared.Station.{Station}
 use Rattle.station.specs.Model.{imageOf}
 use Rattle.rack.specs.Rooms.{shownIn}
 use Rattle.rack.specs.Steps.{Step, Allowed}
-use Rattle.rack.specs.Statement.{RefusalsLeaveAll, RackShows, RoomsStay, accepted, shownBy, allShown, laidOut}
-use Rattle.rack.specs.Sample.{Sampled, Forced, SampleForced, Useless, refuses-everything, has-one-fixed-reply, does-nothing, only-says-done-after-the-first, invents-the-count, moves-the-clock-at-a-refusal, writes-a-byte-at-a-refusal, NoneUseless}
+use Rattle.rack.specs.Statement.{RefusalsLeaveAll, RackShows, RoomsStay, allShown, laidOut}
+use Rattle.rack.specs.Sample.{Sampled, Forced, SampleForced, refuses-everything, has-one-fixed-reply, does-nothing, only-says-done-after-the-first, invents-the-count, moves-the-clock-at-a-refusal, writes-a-byte-at-a-refusal, NoneUseless}
 use Rattle.rack.proofs.Steps.{refusals-leave-all, rooms-stay}
 use Rattle.rack.proofs.Traces.{started}
 use Rattle.rack.proofs.Theorems.{rack-shows}

@@ -1,16 +1,13 @@
 -- What a step hands back, from its contract: the refusal, or what the rules say.
 use Prim.Native.Nat.{ℕ, _*_, _≤_}
-use mathlib.Core.Path.{_≡_, refl, sym, ap, _∙_}
-use mathlib.Core.Bool.{Bool, true, false}
-use mathlib.Core.List.{List, [], _++_, map}
+use mathlib.Core.Path.{_≡_, refl, sym, ap}
+use mathlib.Core.List.{List, _++_, map}
 use mathlib.Core.Option.{Option, none, some}
 use native.Mathlib.Omega.{arith}
-use lib.Dec.{leb}
 use lib.ListN.{length, drop}
 use borrow.Author.Tests.{leb-false}
 use Rattle.rules.specs.Words.{Config, Event}
 use Rattle.rules.specs.Station as R
-use Rattle.rules.specs.Requests.{Out}
 use Rattle.rules.specs.Calls.{act}
 use Rattle.rules.specs.Verdict.{verdict}
 use Rattle.rules.specs.Bytes.{blocks}
@@ -27,8 +24,7 @@ use Rattle.station.proofs.GateLaws.{passed}
 use Rattle.station.proofs.StepLaws.{reads}
 use Rattle.rack.specs.Rooms.{actionsIn, shownIn}
 use Rattle.rack.specs.Steps.{Step, Allowed, by-off-hook, by-on-hook, by-carrier-up, by-carrier-down, by-take-slot, by-give-back, by-tick}
-use Rattle.rack.specs.Statement as S
-use Rattle.rack.specs.Statement.{kept, BlocksTell, RefusalsLeaveAll, RoomsStay}
+use Rattle.rack.specs.Statement.{kept, laidOut, RefusalsLeaveAll, RoomsStay}
 use Rattle.rack.proofs.ReadBack.{actions-back, shown-back, laid-back}
 
 -- ── the contracts ────────────────────────────────────────────────────────────
@@ -90,7 +86,7 @@ pub rooms-stay : RoomsStay
 unfolding RoomsStay AtMostEight shownIn
 rooms-stay x a = go (refusal (x .before) (x .event)) refl
   where
-    go : (o : Option ℕ) → refusal (x .before) (x .event) ≡ o → S.roomStays x
+    go : (o : Option ℕ) → refusal (x .before) (x .event) ≡ o → x .left ≡ laidOut (shownIn (x .back .count) (x .left)) ++ drop (40 * x .back .count) (x .lent)
     go none e =
         let c = configOf (x .before) in
         let o = act (configOf (x .before)) (modelOf (x .before)) (x .event) in

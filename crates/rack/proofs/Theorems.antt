@@ -1,6 +1,5 @@
 -- The statements, proved.
-use Prim.Native.Nat.{ℕ}
-use mathlib.Core.Path.{_≡_, refl, ap, _∙_}
+use mathlib.Core.Path.{_≡_, ap, _∙_}
 use mathlib.Core.Bool.{true}
 use mathlib.Core.List.{List, [], append-nil}
 use mathlib.Core.Option.{none}
@@ -18,7 +17,7 @@ use Rattle.station.specs.declared.Station.{Station}
 use Rattle.station.specs.Model.{modelOf, imageOf}
 use Rattle.station.proofs.ImageLaws.{model-back, config-back, run-fits}
 use Rattle.rack.specs.Steps.{Step, Trace, lastOf, eventsIn}
-use Rattle.rack.specs.Statement.{BlocksTell, heldBy, RackObeys, RackStands, RackShows}
+use Rattle.rack.specs.Statement.{BlocksTell, RackObeys, RackStands, RackShows}
 use Rattle.rack.proofs.Laid.{held-is}
 use Rattle.rack.proofs.Steps as S
 use Rattle.rack.proofs.Traces.{started, IsRun, is-run, charged-kept, notes-kept}

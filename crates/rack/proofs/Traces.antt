@@ -1,11 +1,10 @@
 -- A trace is a run of the rules: the same entries, the same station, the same print.
-use Prim.Native.Nat.{ℕ, suc, _*_, _≤_}
-use mathlib.Core.Path.{_≡_, refl, sym, ap, _∙_}
+use Prim.Native.Nat.{ℕ, suc, _*_}
+use mathlib.Core.Path.{_≡_, refl, ap, _∙_}
 use mathlib.Core.Bool.{Bool, true, false, cond}
 use mathlib.Core.List.{List, [], _∷_, _++_, map}
 use mathlib.Core.Option.{Option, none, some}
 use native.Mathlib.Omega.{arith}
-use lib.Dec.{leb}
 use lib.ListN.{length, drop}
 use borrow.Author.Tests.{le-leb, lt-leb}
 use Rattle.rules.specs.Words.{Config, Event}
@@ -17,27 +16,26 @@ use Rattle.rules.specs.Calls.{act}
 use Rattle.rules.specs.Verdict.{verdict, setUpVerdict, step, Entry, play, final}
 use Rattle.rules.specs.Bytes.{blocks}
 use Rattle.rules.specs.Printed.{dueShown, lines, printed}
-use Rattle.rules.specs.Statement.{deedsOf, chargesOf, notes, charged, ChargesAreStops, TenthsAgree, AlwaysSound, ZeroOrOne, AtMostEight, stationAfter}
+use Rattle.rules.specs.Statement.{deedsOf, chargesOf, notes, charged, ZeroOrOne, AtMostEight}
 use Rattle.rules.proofs.Accepted.{accepted}
-use Rattle.rules.proofs.Run.{play-on, play-past, final-on, final-past, charges-are-stops}
-use Rattle.rules.proofs.Tenths.{tenths-agree}
-use Rattle.rules.proofs.Kept.{stays-sound, always-sound}
+use Rattle.rules.proofs.Run.{play-on, play-past, final-on, final-past}
+use Rattle.rules.proofs.Kept.{stays-sound}
 use Rattle.rules.proofs.Eight.{at-most-eight}
 use Rattle.rules.proofs.Answered.{zero-or-one}
-use Rattle.slots.specs.Images.{tenths, Fits}
+use Rattle.slots.specs.Images.{Fits}
 use Rattle.soundness.proofs.FitLaws.{sound-fits}
 use Rattle.station.specs.declared.SetUp.{SetUp}
 use Rattle.station.specs.declared.Stepped.{Stepped}
 use Rattle.station.specs.declared.Station.{Station}
 use Rattle.station.specs.Model.{modelOf, configOf, imageOf}
 use Rattle.station.specs.Step.{dueImage, refusal, given, setUpFor, setUpBy}
-use Rattle.station.proofs.ImageLaws.{model-back, config-back, run-fits}
+use Rattle.station.proofs.ImageLaws.{model-back, config-back}
 use Rattle.rack.specs.Rooms.{shownIn}
-use Rattle.rack.specs.Steps.{Step, Allowed, SetUpAs, by-set-up, HandsOn, Trace, lastOf, eventsIn}
+use Rattle.rack.specs.Steps.{Step, Allowed, SetUpAs, by-set-up, HandsOn, lastOf, eventsIn}
 use Rattle.rack.specs.Statement as S
-use Rattle.rack.specs.Statement.{kept, entriesIn, heldBy, RackObeys, RackStands, dueIn, shownBy, allShown, RackShows}
+use Rattle.rack.specs.Statement.{kept, entriesIn, dueIn, shownBy, allShown}
 use Rattle.rack.proofs.ReadBack.{shown-back}
-use Rattle.rack.proofs.Laid.{refusal-is, held-is}
+use Rattle.rack.proofs.Laid.{refusal-is}
 use Rattle.rack.proofs.Steps.{allowed-does, back-for, left-for, blocks-tell}
 
 -- ── what set-up hands back ───────────────────────────────────────────────────

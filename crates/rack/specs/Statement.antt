@@ -6,7 +6,6 @@ use mathlib.Core.List.{List, [], _∷_, _++_, map}
 use mathlib.Core.Option.{none}
 use lib.Dec.{leb}
 use lib.ListN.{length, take, drop, getD}
-use Rattle.rules.specs.Places.{Each}
 use Rattle.rules.specs.Words.{duplex, Config, Event}
 use Rattle.rules.specs.Actions.{Action, does, over, charge}
 use Rattle.rules.specs.Station as R
@@ -114,8 +113,6 @@ abbrev pub laidOut : List (List ℕ) → List ℕ
 laidOut [] = []
 laidOut (a ∷ more) = block (getD a 0 0) (getD a 1 0) (drop 2 a) ++ laidOut more
 
-abbrev pub roomStays : Step → Type 0
-roomStays x = x .left ≡ laidOut (shownIn (x .back .count) (x .left)) ++ drop (40 * x .back .count) (x .lent)
-
 unfoldable pub RoomsStay : Type 0
-RoomsStay = (x : Step) → Allowed x → roomStays x
+RoomsStay = (x : Step) → Allowed x
+    → x .left ≡ laidOut (shownIn (x .back .count) (x .left)) ++ drop (40 * x .back .count) (x .lent)
