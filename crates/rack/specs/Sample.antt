@@ -28,7 +28,7 @@ pub record Forced (q h u t : Step) : Type 0 where
 unfoldable pub SampleForced : Type 0
 SampleForced = (q h u t : Step) → Sampled q h u t → Forced q h u t
 
--- "Try these useless versions", each with the step at which it would differ; and the two refusals that are none
+-- "Try these useless versions": each by what it hands back at the step where it would differ; and two refusals that change something
 pub data Useless (q h u t : Step) : Type 0 where
   -- Q 100 is done
   refuses-everything : accepted q ≡ false → Useless q h u t
