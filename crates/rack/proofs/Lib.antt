@@ -4,3 +4,4 @@ pub mod Steps
 pub mod Traces
 pub mod Theorems
 pub mod Sampled
+pub mod Scripted

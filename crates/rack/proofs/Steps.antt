@@ -23,7 +23,7 @@ use Rattle.station.specs.Step.{refusal, steppedFor, steppedBy, roomFor, roomAft
 use Rattle.station.proofs.GateLaws.{passed}
 use Rattle.station.proofs.StepLaws.{reads}
 use Rattle.rack.specs.Rooms.{actionsIn, shownIn}
-use Rattle.rack.specs.Steps.{Step, Allowed, by-off-hook, by-on-hook, by-carrier-up, by-carrier-down, by-take-slot, by-give-back, by-tick}
+use Rattle.rack.specs.Steps.{Step, Allowed, by-heard-on-channel-70, by-heard-on-slot, by-off-hook, by-on-hook, by-carrier-up, by-carrier-down, by-take-slot, by-give-back, by-tick}
 use Rattle.rack.specs.Statement.{kept, laidOut, RefusalsLeaveAll, RoomsStay}
 use Rattle.rack.proofs.ReadBack.{actions-back, shown-back, laid-back}
 
@@ -34,6 +34,8 @@ pub record Does (x : Step) : Type 0 where
   pub left-is : x .left ≡ roomAfter (x .before) (x .lent) (x .event)
 
 pub allowed-does : (x : Step) → Allowed x → Does x
+allowed-does _ (by-heard-on-channel-70 κs a r s p) = record { back-is = p .0; left-is = p .1 }
+allowed-does _ (by-heard-on-slot κs a r s p) = record { back-is = p .0; left-is = p .1 }
 allowed-does _ (by-off-hook κs a r s p) = record { back-is = p .0; left-is = p .1 }
 allowed-does _ (by-on-hook κs a r s p) = record { back-is = p .0; left-is = p .1 }
 allowed-does _ (by-carrier-up κs a r s p) = record { back-is = p .0; left-is = p .1 }

@@ -3,11 +3,13 @@ use Prim.Native.Nat.{ℕ}
 use mathlib.Core.Path.{_≡_}
 use mathlib.Core.List.{List, [], _∷_}
 use contract.Lifetimes.{Lfts}
-use Rattle.rules.specs.Words.{Config, offHook, onHook, carrierUp, carrierDown, takes, givesBack, Event}
+use Rattle.rules.specs.Words.{Config, heard, offHook, onHook, carrierUp, carrierDown, takes, givesBack, Event}
 use Rattle.station.specs.declared.Station.{Station}
 use Rattle.station.specs.declared.Stepped.{Stepped}
-use Rattle.station.specs.Step.{tickAt, slotAt, given}
+use Rattle.station.specs.Step.{tickAt, channel70At, slotAt, given}
 use Rattle.station.proofs.Station.set_up.Reads as set-up
+use Rattle.station.proofs.Station.heard_on_channel_70.Reads as heard-on-channel-70
+use Rattle.station.proofs.Station.heard_on_slot.Reads as heard-on-slot
 use Rattle.station.proofs.Station.off_hook.Reads as off-hook
 use Rattle.station.proofs.Station.on_hook.Reads as on-hook
 use Rattle.station.proofs.Station.carrier_up.Reads as carrier-up
@@ -29,6 +31,10 @@ stepOf event before lent back left = record { event = event; before = before; le
 
 -- a method's contract allows it: `a` are the arguments, `r` is the result, `s` the parameters at exit
 pub data Allowed : Step → Type 0 where
+  by-heard-on-channel-70 : (κs : Lfts 2) (a : _) (r : _) (s : _) → heard-on-channel-70.Post κs a r s
+      → Allowed (stepOf (channel70At (a .1 .0) (a .1 .1 .0 .now) (a .1 .1 .1 .0 .now)) (a .0) (a .1 .1 .1 .0 .now) r (s .1 .1 .1 .0 .now))
+  by-heard-on-slot : (κs : Lfts 2) (a : _) (r : _) (s : _) → heard-on-slot.Post κs a r s
+      → Allowed (stepOf (slotAt (a .1 .0) (a .1 .1 .0) (heard (a .1 .1 .1 .0 .now)) (a .1 .1 .1 .1 .0 .now)) (a .0) (a .1 .1 .1 .1 .0 .now) r (s .1 .1 .1 .1 .0 .now))
   by-off-hook : (κs : Lfts 1) (a : _) (r : _) (s : _) → off-hook.Post κs a r s
       → Allowed (stepOf (slotAt (a .1 .0) (a .1 .1 .0) offHook (a .1 .1 .1 .0 .now)) (a .0) (a .1 .1 .1 .0 .now) r (s .1 .1 .1 .0 .now))
   by-on-hook : (κs : Lfts 1) (a : _) (r : _) (s : _) → on-hook.Post κs a r s
