@@ -22,7 +22,7 @@ use Rattle.actions.specs.declared.Action.{Action}
 use Rattle.actions.specs.Blocks.{actionOf, actionBlock}
 use Rattle.actions.specs.Sent.{sent}
 
-take-padded : (n : ℕ) (l : List ℕ) → length l ≤ n → take (length l) (padded 0 n l) ≡ l
+pub take-padded : (n : ℕ) (l : List ℕ) → length l ≤ n → take (length l) (padded 0 n l) ≡ l
 unfolding padded
 take-padded n [] h = refl
 take-padded zero (x ∷ l) h = absurd (not-suc-le-zero h)

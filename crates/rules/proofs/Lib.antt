@@ -16,6 +16,7 @@ pub mod WholeLater
 pub mod Stored
 pub mod Kept
 pub mod Order
+pub mod Stopped
 pub mod Orderly
 pub mod Laws
 pub mod Spoken
@@ -24,4 +25,6 @@ pub mod Idle
 pub mod Payloads
 pub mod SentLaws
 pub mod Eight
+pub mod Answered
+pub mod Charged
 pub mod Computed

@@ -1,87 +1,38 @@
 -- The clock goes on, a charge's beginning is not after its end, its end is the clock; and the two counts agree.
 use mathlib.Core.Path.{_≡_, refl, sym, ap, _∙_}
 use mathlib.Core.List.{List, [], _∷_, map}
-use mathlib.Core.Bool.{Bool, true, false, cond}
+use mathlib.Core.Bool.{true}
 use mathlib.Core.Option.{Option, none, some}
-use Prim.Native.Nat.{ℕ, zero, suc, _+_, _-_, _≤_}
+use Prim.Native.Nat.{ℕ, _+_, _-_, _≤_}
 use native.Mathlib.Omega.{arith}
-use lib.ListN.{getD}
 use borrow.Author.Tests.{leb-true}
 use Rattle.rules.specs.Places.{all, Each}
-use Rattle.rules.specs.Words.{Party, Config, Happened, heard, offHook, onHook, carrierUp, carrierDown, takes, givesBack, What, tick, onChannel70, onSlot, Event}
-use Rattle.rules.specs.Waits.{Wait, ofQueue, loss, main, Due}
-use Rattle.rules.specs.Heard.{Heard, callRequest, dataRequest, bq, workingCall, endOfCall, nothing, meaning}
+use Rattle.rules.specs.Words.{Config, What, Event}
+use Rattle.rules.specs.Waits.{Due}
 use Rattle.rules.specs.Station.{Slot, Station, fresh}
 use Rattle.rules.specs.Calls.{act}
 use Rattle.rules.specs.Verdict.{verdict, play, final}
-use Rattle.rules.specs.Book.{Stop, Call, quiet, dialled, talking, Line, Book, blank, blankBook, line, falling, moment, stopOf, callOf, stopsSaid, stopsOn, stopsDue, askedAgain, stopsAgain, stopsHeard, stopsAt}
+use Rattle.rules.specs.Book.{Stop, Call, quiet, dialled, talking, Book, blankBook, falling, moment, stopOf, stopsAt}
 use Rattle.rules.specs.Reading.{stopsIn, Numbered, stops, readAll, talkedBy, lengths, countedByCalls}
 use Rattle.rules.specs.Statement.{notes, owed, owedFor, ChargesAreStops, tenthsIn, heldTenths, TenthsAgree, CountsAgree, InOrder, ClockIsNow}
-use Rattle.rules.proofs.PlaceLaws.{and-true, each-append}
+use Rattle.rules.proofs.PlaceLaws.{and-true}
 use Rattle.rules.proofs.Base.{view, seen}
 use Rattle.rules.proofs.Accepted.{accepted, sounds, begunBy, begun-all}
 use Rattle.rules.proofs.Run.{noteOf, turn-is, stops-are, play-on, play-past, final-on, final-past, fresh-seen, charges-are-stops}
+use Rattle.rules.proofs.Stopped.{each-stop}
 use Rattle.rules.proofs.Tenths.{since, since-slot, moment-on, held-seen, clock-is, tenths-agree}
 
 -- ── the order of times ───────────────────────────────────────────────────────
 
 module _ (cfg : Config) (c t : ℕ) (h : c ≤ t) where
-  abbrev Good-stop : Stop → Type 0
-  Good-stop s = (s .start .0 ≤ s .stop .0) × (s .stop .0 ≡ t)
-
-  one-good : (i : ℕ) (k : Call) → since c k ≡ true → Each Good-stop (stopOf t i k)
+  one-good : (i : ℕ) (k : Call) → since c k ≡ true → Each (λ s. (s .start .0 ≤ s .stop .0) × (s .stop .0 ≡ t)) (stopOf t i k)
   one-good i quiet e = tt
   one-good i (dialled x m) e = tt
   one-good i (talking x m b) e = let a = leb-true b c e in ((omega arith, refl), tt)
 
-  if-good : (b : Bool) (ss : List Stop) → Each Good-stop ss → Each Good-stop (cond b ss [])
-  if-good true ss g = g
-  if-good false ss g = tt
-
-  again-good : (x : Party) (i : ℕ) (ls : List Line) → all (λ l. since c (l .call)) ls ≡ true → Each Good-stop (stopsAgain t x i ls)
-  again-good x i [] e = tt
-  again-good x i (l ∷ ls) e = let w = and-true (since c (l .call)) (all (λ l. since c (l .call)) ls) e in each-append Good-stop (cond (askedAgain x (l .call) (l .gone)) (stopOf t i (l .call)) []) (stopsAgain t x (suc i) ls) (if-good (askedAgain x (l .call) (l .gone)) (stopOf t i (l .call)) (one-good i (l .call) (w .0))) (again-good x (suc i) ls (w .1))
-
-  at-line : (i : ℕ) (ls : List Line) → all (λ l. since c (l .call)) ls ≡ true → since c (getD ls i blank .call) ≡ true
-  at-line i [] e = refl
-  at-line zero (l ∷ ls) e = and-true (since c (l .call)) (all (λ l. since c (l .call)) ls) e .0
-  at-line (suc i) (l ∷ ls) e = at-line i ls (and-true (since c (l .call)) (all (λ l. since c (l .call)) ls) e .1)
-
-  said-good : (i : ℕ) (k : Call) → since c k ≡ true → (m : Heard) → Each Good-stop (stopsSaid t i k m)
-  said-good i k e (callRequest r) = tt
-  said-good i k e (dataRequest x n) = tt
-  said-good i k e (bq j x) = tt
-  said-good i k e (workingCall x) = tt
-  said-good i k e (endOfCall x) = if-good (callOf x k) (stopOf t i k) (one-good i k e)
-  said-good i k e nothing = tt
-
-  on-good : (i : ℕ) (k : Call) → since c k ≡ true → (x : Happened) → Each Good-stop (stopsOn cfg t i k x)
-  on-good i k e (heard m) = said-good i k e (meaning cfg m)
-  on-good i k e offHook = tt
-  on-good i k e onHook = one-good i k e
-  on-good i k e carrierUp = tt
-  on-good i k e carrierDown = tt
-  on-good i k e takes = tt
-  on-good i k e givesBack = tt
-
-  heard-good : (ls : List Line) → all (λ l. since c (l .call)) ls ≡ true → (m : Heard) → Each Good-stop (stopsHeard t ls m)
-  heard-good ls e (callRequest r) = again-good (r .who) 0 ls e
-  heard-good ls e (dataRequest x n) = tt
-  heard-good ls e (bq i x) = tt
-  heard-good ls e (workingCall x) = tt
-  heard-good ls e (endOfCall x) = tt
-  heard-good ls e nothing = tt
-
-  all-good : (b : Book) → all (λ l. since c (l .call)) (b .lines) ≡ true → (o : Option Due) (w : What) → Each Good-stop (stopsAt cfg t b o w)
-  all-good b e none tick = tt
-  all-good b e (some p) tick = go (p .what)
-    where
-      go : (w : Wait) → Each Good-stop (stopsDue t b (some record { what = w; at = p .at }))
-      go (ofQueue k) = tt
-      go (loss i) = one-good i (line b i .call) (at-line i (b .lines) e)
-      go (main i) = tt
-  all-good b e o (onChannel70 m) = heard-good (b .lines) e (meaning cfg m)
-  all-good b e o (onSlot i x) = on-good i (line b i .call) (at-line i (b .lines) e) x
+  all-good : (b : Book) → all (λ l. since c (l .call)) (b .lines) ≡ true → (o : Option Due) (w : What)
+      → Each (λ s. (s .start .0 ≤ s .stop .0) × (s .stop .0 ≡ t)) (stopsAt cfg t b o w)
+  all-good b e o w = each-stop cfg t (λ s. (s .start .0 ≤ s .stop .0) × (s .stop .0 ≡ t)) (since c) refl one-good b e o w
 
 all-since : (c : ℕ) (ss : List Slot) → all (begunBy c) ss ≡ true → all (λ l. since c (l .call)) (map view ss) ≡ true
 all-since c [] h = refl

@@ -146,6 +146,16 @@ unfoldable pub AtMostEight : Type 0
 AtMostEight = (c : Config) (st : Station) (e : Event) → sound c st ≡ true
     → (length (act c st e .acts) ≤ 8) × Each (λ a. length (payloadOf c a) ≤ 36) (act c st e .acts)
 
+-- "0 done, 1 ignored": so every accepted event is answered, and no refused one
+unfoldable pub ZeroOrOne : Type 0
+ZeroOrOne = (c : Config) (st : Station) (e : Event)
+    → (verdict c st e ≡ none → act c st e .answer ≤ 1) × ((n : ℕ) → verdict c st e ≡ some n → 11 ≤ n)
+
+-- "four bytes each": every number of a charge fits them
+unfoldable pub ChargesFit : Type 0
+ChargesFit = (c : Config) (st : Station) (e : Event) → verdict c st e ≡ none
+    → Each (λ h. (h .ship < 4294967296) × ((h .start .0 < 4294967296) × ((h .stop .0 < 4294967296) × (h .seconds .0 < 4294967296)))) (chargesOf (act c st e .acts))
+
 -- a refused event changes nothing, and leaves no entry
 unfoldable pub RefusedLeavesAll : Type 0
 RefusedLeavesAll = (c : Config) (st : Station) (e : Event) (n : ℕ) → verdict c st e ≡ some n → (es : List Event)

@@ -41,7 +41,7 @@ unfolding clip
 few c o h = take-all 8 (map (sentBlock c) (o .acts)) (simp length-map h)
 
 -- what the reader accepts is valid
-reads : (m : List ℕ) → isDone (readingOf m .answer) ≡ true → valid (readingOf m .meaning) ≡ true
+pub reads : (m : List ℕ) → isDone (readingOf m .answer) ≡ true → valid (readingOf m .meaning) ≡ true
 unfolding readingOf
 reads m h = rw h (reads-valid m h)
 

@@ -1,0 +1,102 @@
+-- What a step hands back, from its contract: the refusal, or what the rules say.
+use Prim.Native.Nat.{ℕ, _*_, _≤_}
+use mathlib.Core.Path.{_≡_, refl, sym, ap}
+use mathlib.Core.List.{List, _++_, map}
+use mathlib.Core.Option.{Option, none, some}
+use native.Mathlib.Omega.{arith}
+use lib.ListN.{length, drop}
+use borrow.Author.Tests.{leb-false}
+use Rattle.rules.specs.Words.{Config, Event}
+use Rattle.rules.specs.Station as R
+use Rattle.rules.specs.Calls.{act}
+use Rattle.rules.specs.Verdict.{verdict}
+use Rattle.rules.specs.Bytes.{blocks}
+use Rattle.rules.specs.Statement.{ZeroOrOne, AtMostEight, ChargesFit}
+use Rattle.rules.proofs.Accepted.{accepted}
+use Rattle.rules.proofs.Eight.{at-most-eight}
+use Rattle.rules.proofs.Answered.{zero-or-one}
+use Rattle.rules.proofs.Charged.{charges-fit}
+use Rattle.actions.proofs.Handed.{act-says}
+use Rattle.station.specs.declared.Stepped.{Stepped}
+use Rattle.station.specs.Model.{modelOf, configOf}
+use Rattle.station.specs.Step.{refusal, steppedFor, steppedBy, roomFor, roomAfter}
+use Rattle.station.proofs.GateLaws.{passed}
+use Rattle.station.proofs.StepLaws.{reads}
+use Rattle.rack.specs.Rooms.{actionsIn, shownIn}
+use Rattle.rack.specs.Steps.{Step, Allowed, by-heard-on-channel-70, by-heard-on-slot, by-off-hook, by-on-hook, by-carrier-up, by-carrier-down, by-take-slot, by-give-back, by-tick}
+use Rattle.rack.specs.Statement.{kept, laidOut, RefusalsLeaveAll, RoomsStay}
+use Rattle.rack.proofs.ReadBack.{actions-back, shown-back, laid-back}
+
+-- ── the contracts ────────────────────────────────────────────────────────────
+
+pub record Does (x : Step) : Type 0 where
+  pub back-is : x .back ≡ steppedBy (x .before) (x .event)
+  pub left-is : x .left ≡ roomAfter (x .before) (x .lent) (x .event)
+
+pub allowed-does : (x : Step) → Allowed x → Does x
+allowed-does _ (by-heard-on-channel-70 κs a r s p) = record { back-is = p .0; left-is = p .1 }
+allowed-does _ (by-heard-on-slot κs a r s p) = record { back-is = p .0; left-is = p .1 }
+allowed-does _ (by-off-hook κs a r s p) = record { back-is = p .0; left-is = p .1 }
+allowed-does _ (by-on-hook κs a r s p) = record { back-is = p .0; left-is = p .1 }
+allowed-does _ (by-carrier-up κs a r s p) = record { back-is = p .0; left-is = p .1 }
+allowed-does _ (by-carrier-down κs a r s p) = record { back-is = p .0; left-is = p .1 }
+allowed-does _ (by-take-slot κs a r s p) = record { back-is = p .0; left-is = p .1 }
+allowed-does _ (by-give-back κs a r s p) = record { back-is = p .0; left-is = p .1 }
+allowed-does _ (by-tick κs a r s p) = record { back-is = p .0; left-is = p .1 }
+
+-- a refusal given or none, by what the step then is
+module _ (x : Step) (d : Does x) (o : Option ℕ) (e : refusal (x .before) (x .event) ≡ o) where
+  pub back-for : x .back ≡ steppedFor (x .before) (act (configOf (x .before)) (modelOf (x .before)) (x .event)) o
+  unfolding steppedBy
+  back-for = rw (← e) (d .back-is)
+
+  pub left-for : x .left ≡ roomFor (configOf (x .before)) (x .lent) (act (configOf (x .before)) (modelOf (x .before)) (x .event)) o
+  unfolding roomAfter
+  left-for = rw (← e) (d .left-is)
+
+-- ── the actions of an accepted event ─────────────────────────────────────────
+
+pub blocks-tell : (c : Config) (m : R.Station) (e : Event) → verdict c m e ≡ none → (rest : List ℕ)
+    → actionsIn (length (act c m e .acts)) (blocks c (act c m e .acts) ++ rest) ≡ map kept (act c m e .acts)
+unfolding AtMostEight ChargesFit
+blocks-tell c m e v rest =
+    let a = accepted c m e v in
+    actions-back c (act c m e .acts) (act-says reads c m (a .is-sound) e (a .readable)) (at-most-eight c m e (a .is-sound) .1) (charges-fit c m e v) rest
+
+pub answer-told : (c : Config) (m : R.Station) (e : Event) → verdict c m e ≡ none → act c m e .answer ≤ 1
+unfolding ZeroOrOne
+answer-told c m e v = zero-or-one c m e .0 v
+
+-- ── every step, in a trace or not ────────────────────────────────────────────
+
+-- "leaves lent bytes untouched, and hands back the station unchanged, clock included"
+pub refusals-leave-all : RefusalsLeaveAll
+unfolding RefusalsLeaveAll
+refusals-leave-all x a f = go (refusal (x .before) (x .event)) refl
+  where
+    go : (o : Option ℕ) → refusal (x .before) (x .event) ≡ o → (x .back .station ≡ x .before) × ((x .left ≡ x .lent) × (x .back .count ≡ 0))
+    go none e =
+        let b = back-for x (allowed-does x a) none e in
+        let n = answer-told (configOf (x .before)) (modelOf (x .before)) (x .event) (passed (x .before) (x .event) (sym e) .judged) in
+        let k : x .back .answer ≤ 1 = rw b n in
+        absurd (omega (arith, leb-false (x .back .answer) 1 f))
+    go (some n) e =
+        let b = back-for x (allowed-does x a) (some n) e in
+        (ap (λ (r : Stepped). r .station) b, (left-for x (allowed-does x a) (some n) e, ap (λ (r : Stepped). r .count) b))
+
+pub rooms-stay : RoomsStay
+unfolding RoomsStay AtMostEight shownIn
+rooms-stay x a = go (refusal (x .before) (x .event)) refl
+  where
+    go : (o : Option ℕ) → refusal (x .before) (x .event) ≡ o → x .left ≡ laidOut (shownIn (x .back .count) (x .left)) ++ drop (40 * x .back .count) (x .lent)
+    go none e =
+        let c = configOf (x .before) in
+        let o = act (configOf (x .before)) (modelOf (x .before)) (x .event) in
+        let slim = at-most-eight c (modelOf (x .before)) (x .event) (passed (x .before) (x .event) (sym e) .sounds) .1 in
+        let l = left-for x (allowed-does x a) none e in
+        let n : x .back .count ≡ length (o .acts) = ap (λ (r : Stepped). r .count) (back-for x (allowed-does x a) none e) in
+        rw (n, l, shown-back c (o .acts) slim (drop (40 * length (o .acts)) (x .lent)), laid-back c (o .acts)) refl
+    go (some k) e =
+        let l = left-for x (allowed-does x a) (some k) e in
+        let n : x .back .count ≡ 0 = ap (λ (r : Stepped). r .count) (back-for x (allowed-does x a) (some k) e) in
+        rw (n, l) refl

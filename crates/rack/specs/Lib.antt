@@ -1,0 +1,5 @@
+pub mod Rooms
+pub mod Steps
+pub mod Statement
+pub mod Scripts
+pub mod Sample

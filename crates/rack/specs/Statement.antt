@@ -1,0 +1,118 @@
+-- What is claimed of every trace: the theorem on charges, carried from the rules to the station as it runs.
+use Prim.Native.Nat.{ℕ, _+_, _-_, _*_}
+use mathlib.Core.Path.{_≡_}
+use mathlib.Core.Bool.{Bool, false, cond}
+use mathlib.Core.List.{List, [], _∷_, _++_, map}
+use mathlib.Core.Option.{none}
+use lib.Dec.{leb}
+use lib.ListN.{length, take, drop, getD}
+use Rattle.rules.specs.Words.{duplex, Config, Event}
+use Rattle.rules.specs.Actions.{Action, does, over, charge}
+use Rattle.rules.specs.Station as R
+use Rattle.rules.specs.Calls.{act}
+use Rattle.rules.specs.Verdict.{verdict, Entry}
+use Rattle.rules.specs.Bytes.{block, blocks}
+use Rattle.rules.specs.Book.{blankBook}
+use Rattle.rules.specs.Reading.{stops, counted}
+use Rattle.rules.specs.Printed.{printed}
+use Rattle.rules.specs.Statement.{notes, charged, owedFor, tenthsIn, stationAfter}
+use Rattle.slots.specs.declared.Phase.{Phase}
+use Rattle.slots.specs.declared.Phase.the-variants.{Free, Offered, RingBack, RingAgain, Acknowledged, Dialling, Answered, Hold, Taken}
+use Rattle.slots.specs.declared.Slot.{Slot}
+use Rattle.slots.specs.Images.{Fits}
+use Rattle.station.specs.declared.NextDue.{NextDue}
+use Rattle.station.specs.declared.NextDue.the-variants.{Never, At}
+use Rattle.station.specs.declared.Station.{Station}
+use Rattle.station.specs.Model.{modelOf, configOf}
+use Rattle.rack.specs.Rooms.{actionsIn, shownIn}
+use Rattle.rack.specs.Steps.{Step, Allowed, Trace, lastOf, eventsIn}
+
+-- ── the list: the accepted events with the actions in their rooms ────────────
+
+-- "0 done, 1 ignored"
+abbrev pub accepted : Step → Bool
+accepted x = leb (x .back .answer) 1
+
+abbrev pub entryIn : Step → Entry
+entryIn x = record { event = x .event; given = actionsIn (x .back .count) (x .left) }
+
+unfoldable pub entriesIn : List Step → List Entry
+entriesIn [] = []
+entriesIn (x ∷ xs) = cond (accepted x) (entryIn x ∷ entriesIn xs) (entriesIn xs)
+
+-- what the bytes keep of an action: all, but for the mode and second telecommand of a call that ends, in whose place stands 105 126
+abbrev pub kept : Action → Action
+kept (does d) = does d
+kept (over i e r n) = over i e (record { who = r .who; mode = duplex; second = 126; number = r .number }) n
+kept (charge h) = charge h
+
+-- the actions that an accepted event gives are read back from their blocks
+unfoldable pub BlocksTell : Type 0
+BlocksTell = (c : Config) (m : R.Station) (e : Event) → verdict c m e ≡ none
+    → actionsIn (length (act c m e .acts)) (blocks c (act c m e .acts)) ≡ map kept (act c m e .acts)
+
+-- ── the theorem on charges ───────────────────────────────────────────────────
+
+-- the calls that a station of the rack holds as answered, up to its clock
+abbrev pub heldPhase : ℕ → Phase → ℕ
+heldPhase t Free = 0
+heldPhase t (Offered d) = 0
+heldPhase t (RingBack d) = 0
+heldPhase t (RingAgain d) = 0
+heldPhase t (Acknowledged d) = 0
+heldPhase t (Dialling d l) = 0
+heldPhase t (Answered since l) = t - since .0
+heldPhase t (Hold d n) = 0
+heldPhase t Taken = 0
+
+abbrev pub heldOn : ℕ → List Slot → ℕ
+heldOn t [] = 0
+heldOn t (s ∷ ss) = heldPhase t (s .phase) + heldOn t ss
+
+unfoldable pub heldBy : Station → ℕ
+heldBy s = heldOn (s .clock .0) (take (s .count) (s .slots))
+
+-- every stopped call has one charge, given at its stop, and no other charge exists; charged and held tenths are those counted from the list
+unfoldable pub RackObeys : Type 0
+RackObeys = (c : Config) (xs : List Step) (t : Trace c xs)
+    → (charged 0 (entriesIn xs) ≡ owedFor (stops c 0 (notes (entriesIn xs)) (blankBook c)))
+    × (tenthsIn (charged 0 (entriesIn xs)) + heldBy (lastOf (t .first) xs) ≡ counted c (notes (entriesIn xs)) (blankBook c))
+
+-- ── beside it ────────────────────────────────────────────────────────────────
+
+-- every station handed back stands for the station of the rules' run, which fits its arrays
+unfoldable pub RackStands : Type 0
+RackStands = (c : Config) (xs : List Step) (t : Trace c xs)
+    → (configOf (lastOf (t .first) xs) ≡ c)
+    × ((modelOf (lastOf (t .first) xs) ≡ stationAfter c (eventsIn xs)) × Fits c (stationAfter c (eventsIn xs)))
+
+-- "hands back the station unchanged, clock included", "leaves lent bytes untouched": of every station, in a trace or not
+unfoldable pub RefusalsLeaveAll : Type 0
+RefusalsLeaveAll = (x : Step) → Allowed x → accepted x ≡ false
+    → (x .back .station ≡ x .before) × ((x .left ≡ x .lent) × (x .back .count ≡ 0))
+
+-- answer, clock, action count, next due time; then each action from the room's bytes
+abbrev pub dueIn : NextDue → List ℕ
+dueIn Never = []
+dueIn (At t) = t .0 ∷ []
+
+abbrev pub shownBy : Step → List (List ℕ)
+shownBy x =
+    (x .back .answer ∷ x .back .station .clock .0 ∷ x .back .count ∷ dueIn (x .back .due)) ∷ shownIn (x .back .count) (x .left)
+
+abbrev pub allShown : List Step → List (List (List ℕ))
+allShown [] = []
+allShown (x ∷ xs) = shownBy x ∷ allShown xs
+
+-- what any trace shows is what the rules print
+unfoldable pub RackShows : Type 0
+RackShows = (c : Config) (xs : List Step) → Trace c xs → allShown xs ≡ printed c (eventsIn xs) (R.fresh c)
+
+-- "Bytes after the last action stay": the room is the blocks of what is shown, then its own bytes
+abbrev pub laidOut : List (List ℕ) → List ℕ
+laidOut [] = []
+laidOut (a ∷ more) = block (getD a 0 0) (getD a 1 0) (drop 2 a) ++ laidOut more
+
+unfoldable pub RoomsStay : Type 0
+RoomsStay = (x : Step) → Allowed x
+    → x .left ≡ laidOut (shownIn (x .back .count) (x .left)) ++ drop (40 * x .back .count) (x .lent)

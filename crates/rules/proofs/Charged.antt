@@ -1,0 +1,84 @@
+-- Every number of a charge fits its four bytes.
+use mathlib.Core.Path.{_≡_, refl}
+use mathlib.Core.Bool.{Bool, true}
+use mathlib.Core.List.{List, [], _∷_, map}
+use mathlib.Core.Option.{none}
+use Prim.Native.Nat.{ℕ, _≤_, _<_}
+use native.Mathlib.Omega.{arith}
+use lib.Dec.{leb}
+use borrow.Author.Tests.{leb-true}
+use Rattle.sequence.specs.Identity.{isShip}
+use Rattle.rules.specs.Places.{all, Each}
+use Rattle.rules.specs.Words.{Request, Config, Event}
+use Rattle.rules.specs.Actions.{Charge}
+use Rattle.rules.specs.Station.{dialling, answered, Slot, free, taken, pending, busy, held, Station}
+use Rattle.rules.specs.Sound.{requestKeeps, slotKeeps, limit}
+use Rattle.rules.specs.Calls.{act}
+use Rattle.rules.specs.Verdict.{verdict}
+use Rattle.rules.specs.Book.{Stop, Call, quiet, dialled, talking, falling, moment, stopOf}
+use Rattle.rules.specs.Reading.{stopsIn}
+use Rattle.rules.specs.Statement.{owed, InOrder, ChargesFit}
+use Rattle.rules.proofs.PlaceLaws.{and-true}
+use Rattle.rules.proofs.Base.{view, seen}
+use Rattle.rules.proofs.Accepted.{accepted, sounds}
+use Rattle.rules.proofs.Run.{noteOf, stops-are}
+use Rattle.rules.proofs.Stopped.{each-stop}
+use Rattle.rules.proofs.Orderly.{in-order}
+use Rattle.rules.proofs.Kept.{stays-sound}
+
+-- ── the ship of a call is a ship ─────────────────────────────────────────────
+
+abbrev aShips : Call → Bool
+aShips quiet = true
+aShips (dialled x m) = true
+aShips (talking x m b) = leb (x .ship) 799999999
+
+ship-known : (c : Config) (r : Request) → requestKeeps c r ≡ true → leb (r .who .ship) 799999999 ≡ true
+unfolding requestKeeps isShip
+ship-known c r k = and-true (leb 200000000 (r .who .ship)) _ (and-true (isShip (r .who .ship)) _ k .0) .1
+
+slot-known : (c : Config) (s : Slot) → slotKeeps c s ≡ true → aShips (view s .call) ≡ true
+slot-known c free k = refl
+slot-known c taken k = refl
+slot-known c (pending j r d) k = refl
+slot-known c (busy r (dialling d) l) k = refl
+slot-known c (busy r (answered b) l) k = ship-known c r k
+slot-known c (held r n d) k = refl
+
+all-known : (c : Config) (ss : List Slot) → all (slotKeeps c) ss ≡ true → all (λ l. aShips (l .call)) (map view ss) ≡ true
+all-known c [] k = refl
+all-known c (s ∷ ss) k = let w = and-true (slotKeeps c s) (all (slotKeeps c) ss) k in rw (slot-known c s (w .0)) (all-known c ss (w .1))
+
+abbrev FromShip : Stop → Type 0
+FromShip s = s .ship ≤ 799999999
+
+one-known : (t i : ℕ) (k : Call) → aShips k ≡ true → Each FromShip (stopOf t i k)
+one-known t i quiet e = tt
+one-known t i (dialled x m) e = tt
+one-known t i (talking x m b) e = (leb-true (x .ship) 799999999 e, tt)
+
+stops-known : (c : Config) (st : Station) (e : Event) → verdict c st e ≡ none → Each FromShip (stopsIn c (seen st) (noteOf e (act c st e .acts)))
+unfolding stopsIn seen
+stops-known c st e v =
+    let s = sounds c st (accepted c st e v .is-sound) in
+    each-stop c (moment (seen st) e) FromShip aShips refl (one-known (moment (seen st) e)) (seen st) (all-known c (st .slots) (s .slots-keep)) (falling (seen st) e) (e .what)
+
+-- ── the four numbers ─────────────────────────────────────────────────────────
+
+abbrev FourBytes : Charge → Type 0
+FourBytes h = (h .ship < 4294967296) × ((h .start .0 < 4294967296) × ((h .stop .0 < 4294967296) × (h .seconds .0 < 4294967296)))
+
+owed-fits : (t : ℕ) → t ≤ 4000000000 → (ss : List Stop) → Each FromShip ss → Each (λ h. (h .start .0 ≤ h .stop .0) × (h .stop .0 ≡ t)) (map owed ss) → Each FourBytes (map owed ss)
+owed-fits t m [] f g = tt
+owed-fits t m (s ∷ ss) f g =
+    let a = f .0 in
+    let b = g .0 .0 in
+    let d = g .0 .1 in
+    ((omega arith, (omega arith, (omega arith, omega arith))), owed-fits t m ss (f .1) (g .1))
+
+pub charges-fit : ChargesFit
+unfolding ChargesFit InOrder
+charges-fit c st e v =
+    let next = act c st e .next in
+    let m = leb-true (next .clock) limit (sounds c next (stays-sound c st e v) .in-limit) in
+    rw (stops-are c st e v) (owed-fits (next .clock) m (stopsIn c (seen st) (noteOf e (act c st e .acts))) (stops-known c st e v) (rw (stops-are c st e v) at (in-order c st e v .1)))
