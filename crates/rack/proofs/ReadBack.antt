@@ -25,6 +25,7 @@ use Rattle.rules.specs.Printed.{shown}
 use Rattle.rules.specs.Statement.{chargesOf}
 use Rattle.rules.proofs.Payloads.{block-length, Slim}
 use Rattle.actions.proofs.ActionLaws.{take-padded}
+use Rattle.actions.specs.Sent.{speaks}
 use Rattle.actions.proofs.Speaking.{Speaks}
 use Rattle.rack.specs.Rooms.{modeIn, requestIn, answerIn, enderIn, toldIn, overIn, fourAt, chargeIn, payloadIn, actionAs, actionIn, actionsIn, shownIn}
 use Rattle.rack.specs.Statement.{kept, laidOut}
@@ -110,7 +111,7 @@ Fitting (does d) = Unit {0}
 Fitting (over i e r n) = Unit {0}
 Fitting (charge h) = FourBytes h
 
-action-back : (c : Config) (a : Action) → Speaks c a → Fitting a → actionAs (kindNumber a) (slotNumber a) (payloadOf c a) ≡ kept a ∷ []
+action-back : (c : Config) (a : Action) → speaks c a ≡ true → Fitting a → actionAs (kindNumber a) (slotNumber a) (payloadOf c a) ≡ kept a ∷ []
 unfolding actionAs payloadOf
 action-back c (does (carrierOn i)) v f = refl
 action-back c (does (carrierOff i)) v f = refl
@@ -143,7 +144,7 @@ unfolding actionsIn
 actions-back c [] v s f rest = refl
 actions-back c (a ∷ l) v s f rest =
     let g = split a l f in
-    let one : actionIn (blockOf c a) ≡ kept a ∷ [] = block-back c a (s .0) ∙ action-back c a (v .0) (g .0) in
+    let one : actionIn (blockOf c a) ≡ kept a ∷ [] = block-back c a (s .0) ∙ action-back c a (v .0 .0) (g .0) in
     rw (first-block c a l rest, behind-block c a l rest, one, actions-back c l (v .1) (s .1) (g .1) rest)
 
 pub shown-back : (c : Config) (l : List Action) → Each (Slim c) l → (rest : List ℕ) → shownIn (length l) (blocks c l ++ rest) ≡ map (shown c) l
