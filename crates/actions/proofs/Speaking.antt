@@ -47,7 +47,7 @@ sent-block c (does (ringBack i r)) h = rw h
 sent-block c (does (unable n x digits)) h = rw h
 sent-block c (does (dial i digits)) h = refl
 sent-block c (does (releaseLine i)) h = refl
-sent-block c (over i e r n) h = rw h
+sent-block c (over i e x digits n) h = rw h
 sent-block c (charge h) t = refl
 
 sent-bytes : (c : Config) (a : Action) → Speaks c a → inBytes (sentBlock c a) ≡ blockOf c a
@@ -103,5 +103,5 @@ module _ (c : Config) (keeps : configKeeps c ≡ true) where
         let d = both-true (within 100 126 (r .second)) (numberKeeps (r .number)) (b .1) in
         (unable-valid second (r .who) (r .number) (a .0) (rw (eqb-true (r .who .station) (c .identity) (b .0)) coast) u (d .1), omega arith)
 
-    pub over-speaks : (i : ℕ) → i < length (c .channels) → (e : Ender) (n : Told) → durationKeeps n ≡ true → Speaks c (over i e r n)
+    pub over-speaks : (i : ℕ) → i < length (c .channels) → (e : Ender) (n : Told) → durationKeeps n ≡ true → Speaks c (over i e (r .who) (r .number) n)
     over-speaks i l e n h = (over-valid c coast r kept e n h, small i l)

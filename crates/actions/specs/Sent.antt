@@ -30,7 +30,7 @@ sentPayload c (does (ringBack i r)) = sent (ableSaid (channelAt c i) 117 r)
 sentPayload c (does (unable n x digits)) = sent (unableSaid n x digits)
 sentPayload c (does (dial i digits)) = digits
 sentPayload c (does (releaseLine i)) = []
-sentPayload c (over i e r n) = sent (overSaid e r n)
+sentPayload c (over i e x digits n) = sent (overSaid e x digits n)
 sentPayload c (charge h) = payloadOf c (charge h)
 
 unfoldable pub sentBlock : Config → R.Action → List ℕ
@@ -45,5 +45,5 @@ speaks c (does (ringBack i r)) = valid (ableSaid (channelAt c i) 117 r)
 speaks c (does (unable n x digits)) = valid (unableSaid n x digits)
 speaks c (does (dial i digits)) = true
 speaks c (does (releaseLine i)) = true
-speaks c (over i e r n) = valid (overSaid e r n)
+speaks c (over i e x digits n) = valid (overSaid e x digits n)
 speaks c (charge h) = true

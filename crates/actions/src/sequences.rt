@@ -144,8 +144,8 @@ fn end_of(by: Ender) -> u8
 
 // "send 105/126 .. and the duration"; "the number sent is the stored request's"
 pub fn over(i: SlotNumber, by: Ender, q: Request, told: Told) -> Action
-    ensures { λ r. ⌜ r ≡ actionOf 4 (i .0) (sent (overSaid (enderOf by) (requestOf q) told)) ⌝ }
-    ensures { λ r. ⌜ actionBlock r ≡ block 4 (i .0) (sent (overSaid (enderOf by) (requestOf q) told)) ⌝ }
+    ensures { λ r. ⌜ r ≡ actionOf 4 (i .0) (sent (overSaid (enderOf by) (requestOf q .who) (requestOf q .number) told)) ⌝ }
+    ensures { λ r. ⌜ actionBlock r ≡ block 4 (i .0) (sent (overSaid (enderOf by) (requestOf q .who) (requestOf q .number) told)) ⌝ }
 {
     let stored = q.number;
     let number = tidied(stored);

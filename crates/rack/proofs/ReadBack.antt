@@ -28,7 +28,7 @@ use Rattle.actions.proofs.ActionLaws.{take-padded}
 use Rattle.actions.specs.Sent.{speaks}
 use Rattle.actions.proofs.Speaking.{Speaks}
 use Rattle.rack.specs.Rooms.{modeIn, requestIn, answerIn, enderIn, toldIn, overIn, fourAt, chargeIn, payloadIn, actionAs, actionIn, actionsIn, shownIn}
-use Rattle.rack.specs.Statement.{kept, laidOut}
+use Rattle.rack.specs.Statement.{laidOut}
 
 -- ── a sequence that was sent ─────────────────────────────────────────────────
 
@@ -67,9 +67,9 @@ told-back : (n : Told) → toldIn (toldField n) ≡ n
 told-back Nothing = refl
 told-back (Lasting d) = refl
 
-over-back : (i : ℕ) (e : Ender) (r : Request) (n : Told) → valid (overSaid e r n) ≡ true → overIn i (overSaid e r n) ≡ kept (over i e r n)
-unfolding overIn requestIn overSaid answerTo
-over-back i e r n v = rw (ender-back e, told-back n, digits-back (overSaid e r n) (r .number) v refl)
+over-back : (i : ℕ) (e : Ender) (x : Party) (l : List ℕ) (n : Told) → valid (overSaid e x l n) ≡ true → overIn i (overSaid e x l n) ≡ over i e x l n
+unfolding overIn overSaid answerTo
+over-back i e x l n v = rw (ender-back e, told-back n, digits-back (overSaid e x l n) l v refl)
 
 -- ── a charge ─────────────────────────────────────────────────────────────────
 
@@ -108,10 +108,10 @@ block-back c a h = ap (actionAs (kindNumber a) (slotNumber a)) (payload-back (ki
 -- what a charge asks, of any action
 abbrev Fitting : Action → Type 0
 Fitting (does d) = Unit {0}
-Fitting (over i e r n) = Unit {0}
+Fitting (over i e x digits n) = Unit {0}
 Fitting (charge h) = FourBytes h
 
-action-back : (c : Config) (a : Action) → speaks c a ≡ true → Fitting a → actionAs (kindNumber a) (slotNumber a) (payloadOf c a) ≡ kept a ∷ []
+action-back : (c : Config) (a : Action) → speaks c a ≡ true → Fitting a → actionAs (kindNumber a) (slotNumber a) (payloadOf c a) ≡ a ∷ []
 unfolding actionAs payloadOf
 action-back c (does (carrierOn i)) v f = refl
 action-back c (does (carrierOff i)) v f = refl
@@ -120,7 +120,7 @@ action-back c (does (ringBack i r)) v f = rw (meaning-back (ableSaid (channelAt 
 action-back c (does (unable n x l)) v f = rw (meaning-back (unableSaid n x l) v, unable-back 255 n x l v)
 action-back c (does (dial i l)) v f = refl
 action-back c (does (releaseLine i)) v f = refl
-action-back c (over i e r n) v f = rw (meaning-back (overSaid e r n) v, over-back i e r n v)
+action-back c (over i e x l n) v f = rw (meaning-back (overSaid e x l n) v, over-back i e x l n v)
 action-back c (charge h) v f = rw (charge-back h f)
 
 -- ── the blocks of a room ─────────────────────────────────────────────────────
@@ -135,16 +135,16 @@ module _ (c : Config) (a : Action) (more : List Action) (rest : List ℕ) where
 
 split : (a : Action) (l : List Action) → Each FourBytes (chargesOf (a ∷ l)) → Fitting a × Each FourBytes (chargesOf l)
 split (does d) l f = (tt, f)
-split (over i e r n) l f = (tt, f)
+split (over i e x digits n) l f = (tt, f)
 split (charge h) l f = f
 
 pub actions-back : (c : Config) (l : List Action) → Each (Speaks c) l → Each (Slim c) l → Each FourBytes (chargesOf l) → (rest : List ℕ)
-    → actionsIn (length l) (blocks c l ++ rest) ≡ map kept l
+    → actionsIn (length l) (blocks c l ++ rest) ≡ l
 unfolding actionsIn
 actions-back c [] v s f rest = refl
 actions-back c (a ∷ l) v s f rest =
     let g = split a l f in
-    let one : actionIn (blockOf c a) ≡ kept a ∷ [] = block-back c a (s .0) ∙ action-back c a (v .0 .0) (g .0) in
+    let one : actionIn (blockOf c a) ≡ a ∷ [] = block-back c a (s .0) ∙ action-back c a (v .0 .0) (g .0) in
     rw (first-block c a l rest, behind-block c a l rest, one, actions-back c l (v .1) (s .1) (g .1) rest)
 
 pub shown-back : (c : Config) (l : List Action) → Each (Slim c) l → (rest : List ℕ) → shownIn (length l) (blocks c l ++ rest) ≡ map (shown c) l

@@ -1,7 +1,7 @@
 -- What a step hands back, from its contract: the refusal, or what the rules say.
 use Prim.Native.Nat.{ℕ, _*_, _≤_}
 use mathlib.Core.Path.{_≡_, refl, sym, ap}
-use mathlib.Core.List.{List, _++_, map}
+use mathlib.Core.List.{List, _++_}
 use mathlib.Core.Option.{Option, none, some}
 use native.Mathlib.Omega.{arith}
 use lib.ListN.{length, drop}
@@ -24,7 +24,7 @@ use Rattle.station.proofs.GateLaws.{passed}
 use Rattle.station.proofs.StepLaws.{reads}
 use Rattle.rack.specs.Rooms.{actionsIn, shownIn}
 use Rattle.rack.specs.Steps.{Step, Allowed, by-heard-on-channel-70, by-heard-on-slot, by-off-hook, by-on-hook, by-carrier-up, by-carrier-down, by-take-slot, by-give-back, by-tick}
-use Rattle.rack.specs.Statement.{kept, laidOut, RefusalsLeaveAll, RoomsStay}
+use Rattle.rack.specs.Statement.{laidOut, RefusalsLeaveAll, RoomsStay}
 use Rattle.rack.proofs.ReadBack.{actions-back, shown-back, laid-back}
 
 -- ── the contracts ────────────────────────────────────────────────────────────
@@ -57,7 +57,7 @@ module _ (x : Step) (d : Does x) (o : Option ℕ) (e : refusal (x .before) (x .e
 -- ── the actions of an accepted event ─────────────────────────────────────────
 
 pub blocks-tell : (c : Config) (m : R.Station) (e : Event) → verdict c m e ≡ none → (rest : List ℕ)
-    → actionsIn (length (act c m e .acts)) (blocks c (act c m e .acts) ++ rest) ≡ map kept (act c m e .acts)
+    → actionsIn (length (act c m e .acts)) (blocks c (act c m e .acts) ++ rest) ≡ act c m e .acts
 unfolding AtMostEight ChargesFit
 blocks-tell c m e v rest =
     let a = accepted c m e v in

@@ -8,7 +8,7 @@ use Rattle.rules.specs.Station.{fresh}
 use Rattle.rules.specs.Sound.{sound}
 use Rattle.rules.specs.Calls.{act}
 use Rattle.rules.specs.Bytes.{blocks}
-use Rattle.rules.specs.Verdict.{setUpVerdict, final, play}
+use Rattle.rules.specs.Verdict.{setUpVerdict, final}
 use Rattle.rules.specs.Statement.{ChargesAreStops, TenthsAgree, AlwaysSound, stationAfter}
 use Rattle.rules.proofs.Run.{charges-are-stops}
 use Rattle.rules.proofs.Tenths.{tenths-agree}
@@ -20,7 +20,7 @@ use Rattle.rack.specs.Steps.{Step, Trace, lastOf, eventsIn}
 use Rattle.rack.specs.Statement.{BlocksTell, RackObeys, RackStands, RackShows}
 use Rattle.rack.proofs.Laid.{held-is}
 use Rattle.rack.proofs.Steps as S
-use Rattle.rack.proofs.Traces.{started, IsRun, is-run, charged-kept, notes-kept}
+use Rattle.rack.proofs.Traces.{started, IsRun, is-run}
 
 pub blocks-tell : BlocksTell
 unfolding BlocksTell
@@ -57,6 +57,5 @@ rack-shows c xs t = runs c xs t .print
 pub rack-obeys : RackObeys
 unfolding RackObeys ChargesAreStops TenthsAgree
 rack-obeys c xs t =
-    let l = play c (eventsIn xs) (fresh c) in
-    rw (runs c xs t .entries, charged-kept 0 l, notes-kept l, held-is (lastOf (t .first) xs), model-is c xs t)
+    rw (runs c xs t .entries, held-is (lastOf (t .first) xs), model-is c xs t)
     (charges-are-stops c (set-up c xs t) (eventsIn xs), tenths-agree c (set-up c xs t) (eventsIn xs))

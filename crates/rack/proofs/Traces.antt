@@ -1,22 +1,21 @@
 -- A trace is a run of the rules: the same entries, the same station, the same print.
-use Prim.Native.Nat.{ℕ, suc, _*_}
+use Prim.Native.Nat.{ℕ, _*_}
 use mathlib.Core.Path.{_≡_, refl, ap, _∙_}
 use mathlib.Core.Bool.{Bool, true, false, cond}
-use mathlib.Core.List.{List, [], _∷_, _++_, map}
+use mathlib.Core.List.{List, [], _∷_, _++_}
 use mathlib.Core.Option.{Option, none, some}
 use native.Mathlib.Omega.{arith}
 use lib.ListN.{length, drop}
 use borrow.Author.Tests.{le-leb, lt-leb}
 use Rattle.rules.specs.Words.{Config, Event}
-use Rattle.rules.specs.Actions.{Action, does, over, charge}
 use Rattle.rules.specs.Station as R
 use Rattle.rules.specs.Station.{fresh, nextDue}
 use Rattle.rules.specs.Sound.{sound, configKeeps}
 use Rattle.rules.specs.Calls.{act}
-use Rattle.rules.specs.Verdict.{verdict, setUpVerdict, step, Entry, play, final}
+use Rattle.rules.specs.Verdict.{verdict, setUpVerdict, step, play, final}
 use Rattle.rules.specs.Bytes.{blocks}
 use Rattle.rules.specs.Printed.{dueShown, lines, printed}
-use Rattle.rules.specs.Statement.{deedsOf, chargesOf, notes, charged, ZeroOrOne, AtMostEight}
+use Rattle.rules.specs.Statement.{ZeroOrOne, AtMostEight}
 use Rattle.rules.proofs.Accepted.{accepted}
 use Rattle.rules.proofs.Run.{play-on, play-past, final-on, final-past}
 use Rattle.rules.proofs.Kept.{stays-sound}
@@ -33,7 +32,7 @@ use Rattle.station.proofs.ImageLaws.{model-back, config-back}
 use Rattle.rack.specs.Rooms.{shownIn}
 use Rattle.rack.specs.Steps.{Step, Allowed, SetUpAs, by-set-up, HandsOn, lastOf, eventsIn}
 use Rattle.rack.specs.Statement as S
-use Rattle.rack.specs.Statement.{kept, entriesIn, dueIn, shownBy, allShown}
+use Rattle.rack.specs.Statement.{entriesIn, dueIn, shownBy, allShown}
 use Rattle.rack.proofs.ReadBack.{shown-back}
 use Rattle.rack.proofs.Laid.{refusal-is}
 use Rattle.rack.proofs.Steps.{allowed-does, back-for, left-for, blocks-tell}
@@ -109,9 +108,6 @@ step-past : (c : Config) (m : R.Station) (e : Event) (n : ℕ) → verdict c m e
 unfolding step
 step-past c m e n v = rw v
 
-unfoldable pub keptEntry : Entry → Entry
-keptEntry y = record { event = y .event; given = map kept (y .given) }
-
 module _ (c : Config) (m : R.Station) (good : sound c m ≡ true) (x : Step) (on : x .before ≡ imageOf c m) (allowed : Allowed x) where
   module _ (v : verdict c m (x .event) ≡ none) where
     next-station : x .back .station ≡ imageOf c (act c m (x .event) .next)
@@ -121,8 +117,7 @@ module _ (c : Config) (m : R.Station) (good : sound c m ≡ true) (x : Step) (on
     unfolding ZeroOrOne
     next-taken = rw (done-back c m good x on allowed v) (le-leb (act c m (x .event) .answer) 1 (zero-or-one c m (x .event) .0 v))
 
-    next-entry : S.entryIn x ≡ keptEntry (record { event = x .event; given = act c m (x .event) .acts })
-    unfolding keptEntry
+    next-entry : S.entryIn x ≡ record { event = x .event; given = act c m (x .event) .acts }
     next-entry =
         rw (done-back c m good x on allowed v, done-left c m good x on allowed v, blocks-tell c m (x .event) v (drop (40 * length (act c m (x .event) .acts)) (x .lent))) refl
 
@@ -148,7 +143,7 @@ module _ (c : Config) (m : R.Station) (good : sound c m ≡ true) (x : Step) (on
 -- ── the trace ────────────────────────────────────────────────────────────────
 
 pub record IsRun (c : Config) (m : R.Station) (xs : List Step) : Type 0 where
-  pub entries : entriesIn xs ≡ map keptEntry (play c (eventsIn xs) m)
+  pub entries : entriesIn xs ≡ play c (eventsIn xs) m
   pub last : lastOf (imageOf c m) xs ≡ imageOf c (final c (eventsIn xs) m)
   pub print : allShown xs ≡ printed c (eventsIn xs) m
 
@@ -175,27 +170,3 @@ is-run c (x ∷ xs) m good t = go (verdict c m (x .event)) refl (λ m good t. is
           last = rw (s, final-past c (x .event) (eventsIn xs) m n v) (w .last);
           print = rw (same-shown c m good x (t .0) (t .1 .0) n v, step-past c m (x .event) n v, w .print) refl;
         }
-
--- ── the list of what the bytes keep ──────────────────────────────────────────
-
-charges-kept : (l : List Action) → chargesOf (map kept l) ≡ chargesOf l
-charges-kept [] = refl
-charges-kept (does d ∷ l) = charges-kept l
-charges-kept (over i e r n ∷ l) = charges-kept l
-charges-kept (charge h ∷ l) = ap (λ r. h ∷ r) (charges-kept l)
-
-deeds-kept : (l : List Action) → deedsOf (map kept l) ≡ deedsOf l
-deeds-kept [] = refl
-deeds-kept (does d ∷ l) = ap (λ r. d ∷ r) (deeds-kept l)
-deeds-kept (over i e r n ∷ l) = deeds-kept l
-deeds-kept (charge h ∷ l) = deeds-kept l
-
-pub charged-kept : (k : ℕ) (l : List Entry) → charged k (map keptEntry l) ≡ charged k l
-unfolding charged keptEntry
-charged-kept k [] = refl
-charged-kept k (y ∷ l) = rw (charges-kept (y .given), charged-kept (suc k) l)
-
-pub notes-kept : (l : List Entry) → notes (map keptEntry l) ≡ notes l
-unfolding notes keptEntry
-notes-kept [] = refl
-notes-kept (y ∷ l) = rw (deeds-kept (y .given), notes-kept l)

@@ -20,7 +20,7 @@ use Rattle.rules.specs.Actions.{Charge, Ender, theShip, theCoast, Action, does,
 abbrev pub partyIn : Meaning → Party
 partyIn m = record { ship = m .address; station = m .sender }
 
--- 100 simplex; an end of call tells no mode, and is read as duplex
+-- "100 simplex, 101 duplex"
 abbrev pub modeIn : ℕ → Mode
 modeIn first = cond (eqb first 100) simplex duplex
 
@@ -43,7 +43,7 @@ toldIn (Channel n) = Nothing
 toldIn (Duration d) = Lasting d
 
 unfoldable pub overIn : ℕ → Meaning → Action
-overIn slot m = over slot (enderIn (m .end)) (requestIn m) (toldIn (m .field))
+overIn slot m = over slot (enderIn (m .end)) (partyIn m) (digitsIn (m .number)) (toldIn (m .field))
 
 -- ── a block, and the blocks of a room ────────────────────────────────────────
 

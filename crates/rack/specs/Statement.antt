@@ -2,12 +2,11 @@
 use Prim.Native.Nat.{ℕ, _+_, _-_, _*_}
 use mathlib.Core.Path.{_≡_}
 use mathlib.Core.Bool.{Bool, false, cond}
-use mathlib.Core.List.{List, [], _∷_, _++_, map}
+use mathlib.Core.List.{List, [], _∷_, _++_}
 use mathlib.Core.Option.{none}
 use lib.Dec.{leb}
 use lib.ListN.{length, take, drop, getD}
-use Rattle.rules.specs.Words.{duplex, Config, Event}
-use Rattle.rules.specs.Actions.{Action, does, over, charge}
+use Rattle.rules.specs.Words.{Config, Event}
 use Rattle.rules.specs.Station as R
 use Rattle.rules.specs.Calls.{act}
 use Rattle.rules.specs.Verdict.{verdict, Entry}
@@ -40,16 +39,10 @@ unfoldable pub entriesIn : List Step → List Entry
 entriesIn [] = []
 entriesIn (x ∷ xs) = cond (accepted x) (entryIn x ∷ entriesIn xs) (entriesIn xs)
 
--- what the bytes keep of an action: all, but for the mode and second telecommand of a call that ends, in whose place stands 105 126
-abbrev pub kept : Action → Action
-kept (does d) = does d
-kept (over i e r n) = over i e (record { who = r .who; mode = duplex; second = 126; number = r .number }) n
-kept (charge h) = charge h
-
 -- the actions that an accepted event gives are read back from their blocks
 unfoldable pub BlocksTell : Type 0
 BlocksTell = (c : Config) (m : R.Station) (e : Event) → verdict c m e ≡ none
-    → actionsIn (length (act c m e .acts)) (blocks c (act c m e .acts)) ≡ map kept (act c m e .acts)
+    → actionsIn (length (act c m e .acts)) (blocks c (act c m e .acts)) ≡ act c m e .acts
 
 -- ── the theorem on charges ───────────────────────────────────────────────────
 

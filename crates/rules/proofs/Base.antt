@@ -3,7 +3,7 @@ use mathlib.Core.Path.{_≡_, refl, ap, _∙_}
 use mathlib.Core.List.{List, [], _∷_, _++_, map}
 use mathlib.Core.Bool.{Bool, true, false, _&&_}
 use mathlib.Core.Option.{none, some}
-use Prim.Native.Nat.{ℕ, suc, _+_, _*_}
+use Prim.Native.Nat.{ℕ, suc, _*_}
 use lib.Dec.{eqb}
 use lib.ListN.{getD, List·getD-map}
 use borrow.Author.Tests.{eq-eqb, eqb-true}
@@ -82,13 +82,13 @@ silence-is duplex = refl
 pub deeds-append : (a b : List Action) → deedsOf (a ++ b) ≡ deedsOf a ++ deedsOf b
 deeds-append [] b = refl
 deeds-append (does d ∷ a) b = ap (λ r. d ∷ r) (deeds-append a b)
-deeds-append (over i e r n ∷ a) b = deeds-append a b
+deeds-append (over i e x digits n ∷ a) b = deeds-append a b
 deeds-append (charge c ∷ a) b = deeds-append a b
 
 pub charges-append : (a b : List Action) → chargesOf (a ++ b) ≡ chargesOf a ++ chargesOf b
 charges-append [] b = refl
 charges-append (does d ∷ a) b = charges-append a b
-charges-append (over i e r n ∷ a) b = charges-append a b
+charges-append (over i e x digits n ∷ a) b = charges-append a b
 charges-append (charge c ∷ a) b = ap (λ r. c ∷ r) (charges-append a b)
 
 pub reads-append : (t : ℕ) (a b : List Deed) (k : Book) → reads t (a ++ b) k ≡ reads t b (reads t a k)

@@ -62,7 +62,7 @@ module _ (cfg : Config) where
   freed-few i st = freedFor-few i st (st .queue)
 
   end-slim : (i : ℕ) (a : Ender) (r : Request) (g : Stage) (t : ℕ) → Each (Slim cfg) (endActs i a r g t)
-  end-slim i a r g t = each-append (Slim cfg) (bill i (r .who) g t) _ (bill-slim cfg i (r .who) g t) (release-slim cfg i, (over-slim cfg i a r (lasted g t), (off-slim cfg i, tt)))
+  end-slim i a r g t = each-append (Slim cfg) (bill i (r .who) g t) _ (bill-slim cfg i (r .who) g t) (release-slim cfg i, (over-slim cfg i a (r .who) (r .number) (lasted g t), (off-slim cfg i, tt)))
 
   end-few : (i : ℕ) (a : Ender) (r : Request) (g : Stage) (t : ℕ) → length (endActs i a r g t) ≤ 4
   end-few i a r (dialling d) t = omega arith
@@ -174,7 +174,7 @@ module _ (cfg : Config) where
   shipEnd-few i x st taken = none-few 8 st
   shipEnd-few i x st (pending k r d) = none-few 8 st
   shipEnd-few i x st (busy r g c) = few-if 8 (is x (r .who)) (shipEnd i r g st) (ignored st) (hold-few i r g st) (none-few 8 st)
-  shipEnd-few i x st (held r n d) = few-if 8 (is x (r .who)) (sayAgain i r n st) (ignored st) (record { many = omega arith; slim = (on-slim cfg i, (over-slim cfg i theShip r n, (off-slim cfg i, tt))); told = omega arith }) (none-few 8 st)
+  shipEnd-few i x st (held r n d) = few-if 8 (is x (r .who)) (sayAgain i r n st) (ignored st) (record { many = omega arith; slim = (on-slim cfg i, (over-slim cfg i theShip (r .who) (r .number) n, (off-slim cfg i, tt))); told = omega arith }) (none-few 8 st)
 
   said-few : (i : ℕ) (st : Station) (p : Slot) → slotKeeps cfg p ≡ true → (m : Heard) → Few cfg 8 (heardOn i st p m)
   unfolding heardOn

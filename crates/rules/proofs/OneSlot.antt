@@ -3,7 +3,7 @@ use mathlib.Core.Path.{_≡_, refl, ap, _∙_}
 use mathlib.Core.List.{List, [], _∷_, map}
 use mathlib.Core.Bool.{Bool, true, false, cond}
 use mathlib.Core.Option.{Option, none, some}
-use Prim.Native.Nat.{ℕ, zero, _-_}
+use Prim.Native.Nat.{ℕ, zero}
 use lib.ListN.{getD}
 use Rattle.rules.specs.Places.{lowest}
 use Rattle.rules.specs.Words.{Party, is, Request, Config, Happened, heard, offHook, onHook, carrierUp, carrierDown, takes, givesBack, carrierOff}

@@ -91,9 +91,9 @@ module _ (cfg : Config) where
   unfolding payloadOf unableSaid answerTo
   unable-slim n x digits = sent-length (unableSaid n x digits) digits refl
 
-  pub over-slim : (i : ℕ) (a : Ender) (r : Request) (n : Told) → Slim cfg (over i a r n)
+  pub over-slim : (i : ℕ) (a : Ender) (x : Party) (digits : List ℕ) (n : Told) → Slim cfg (over i a x digits n)
   unfolding payloadOf overSaid answerTo
-  over-slim i a r n = sent-length (overSaid a r n) (r .number) refl
+  over-slim i a x digits n = sent-length (overSaid a x digits n) digits refl
 
   pub bill-slim : (i : ℕ) (x : Party) (g : Stage) (t : ℕ) → Each (Slim cfg) (bill i x g t)
   unfolding payloadOf

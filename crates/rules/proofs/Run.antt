@@ -3,7 +3,7 @@ use mathlib.Core.Path.{_≡_, refl, ap}
 use mathlib.Core.List.{List, [], _∷_, map}
 use mathlib.Core.Bool.{true}
 use mathlib.Core.Option.{Option, none, some}
-use Prim.Native.Nat.{ℕ, zero, suc, _-_}
+use Prim.Native.Nat.{ℕ, zero, suc}
 use lib.ListN.{getD, length, replicate}
 use Rattle.rules.specs.Places.{dropAt, distinct}
 use Rattle.rules.specs.Words.{is, Config, What, tick, onChannel70, onSlot, Event}

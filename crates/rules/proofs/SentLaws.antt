@@ -1,11 +1,11 @@
 -- What is sent is valid: an answer to a request that keeps the rules, of a station that keeps them.
 use mathlib.Core.Path.{_≡_, refl}
 use mathlib.Core.List.{List, [], _∷_}
-use mathlib.Core.Bool.{Bool, true, false, cond, _&&_}
+use mathlib.Core.Bool.{true}
 use Prim.Native.Nat.{ℕ, zero, suc}
 use lib.Dec.{eqb, leb, leb·zero}
 use lib.ListN.{length, drop}
-use borrow.Author.Tests.{eq-eqb, eqb-true}
+use borrow.Author.Tests.{eqb-true}
 use Rattle.units.specs.declared.Channel.{Channel as ChannelNumber}
 use Rattle.units.specs.declared.Told.{Told}
 use Rattle.units.specs.declared.Told.the-variants.{Nothing, Lasting}
@@ -13,7 +13,7 @@ use Rattle.sequence.specs.declared.Field.{Field}
 use Rattle.sequence.specs.declared.Field.the-variants.{Blank, Channel}
 use Rattle.sequence.specs.Symbols.{within, allAtMost}
 use Rattle.sequence.specs.Identity.{isShip, isCoast, identitiesOk}
-use Rattle.sequence.specs.Field.{isCall, unableSecond, telecommandsOk, channelOk, durationOk, fieldOk}
+use Rattle.sequence.specs.Field.{isCall, unableSecond, telecommandsOk, channelOk, fieldOk}
 use Rattle.sequence.specs.Number.{numberOk}
 use Rattle.sequence.specs.Layout.{endOk, valid}
 use Rattle.rules.specs.Words.{Party, Mode, simplex, duplex, modeNumber, Request, Config}
@@ -102,6 +102,6 @@ module _ (cfg : Config) (coast : isCoast (cfg .identity) ≡ true) (r : Request)
   able-valid n h end e = answer-valid (r .who) (modeNumber (r .mode)) (r .second) (Channel n) (r .number) end (parts .ship) (parts .station) (mode-second (r .mode) (r .second) (parts .second)) (mode-field (r .mode) n h) (parts .number) e
 
   -- the end of a call
-  pub over-valid : (a : Ender) (n : Told) → durationKeeps n ≡ true → valid (overSaid a r n) ≡ true
+  pub over-valid : (a : Ender) (n : Told) → durationKeeps n ≡ true → valid (overSaid a (r .who) (r .number) n) ≡ true
   unfolding overSaid
   over-valid a n h = answer-valid (r .who) 105 126 (toldField n) (r .number) (endSymbol a) (parts .ship) (parts .station) over-telecommands (told-fits n h) (parts .number) (ender-ok a)

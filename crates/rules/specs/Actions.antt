@@ -1,9 +1,10 @@
 -- The actions handed out: the deeds, the end of a call with its duration, and the charge.
 use Prim.Native.Nat.{ℕ}
+use mathlib.Core.List.{List}
 use Rattle.units.specs.declared.Tenths.{Tenths}
 use Rattle.units.specs.declared.Seconds.{Seconds}
 use Rattle.units.specs.declared.Told.{Told}
-use Rattle.rules.specs.Words.{Request, Deed}
+use Rattle.rules.specs.Words.{Party, Deed}
 
 -- tenths and charged seconds are records of their own
 pub record Charge : Type 0 where
@@ -18,5 +19,5 @@ pub data Ender : Type 0 where
 
 pub data Action : Type 0 where
   does : Deed → Action
-  over : ℕ → Ender → Request → Told → Action  -- 105/126 on the working channel: slot, who ended, the request, the duration
+  over : ℕ → Ender → Party → List ℕ → Told → Action  -- 105/126 on the working channel: slot, who ended, the ship, its number, the duration
   charge : Charge → Action

@@ -47,8 +47,8 @@ endSymbol theShip = 122
 endSymbol theCoast = 127
 
 -- "send 105/126 .. and the duration"; "the number sent is the stored request's"
-unfoldable pub overSaid : Ender → Request → Told → Meaning
-overSaid e r n = answerTo (r .who) 105 126 (toldField n) (r .number) (endSymbol e)
+unfoldable pub overSaid : Ender → Party → List ℕ → Told → Meaning
+overSaid e x digits n = answerTo x 105 126 (toldField n) digits (endSymbol e)
 
 -- ── the bytes ────────────────────────────────────────────────────────────────
 
@@ -73,7 +73,7 @@ kindNumber (does (ringBack i r)) = 3
 kindNumber (does (unable n x digits)) = 3
 kindNumber (does (dial i digits)) = 5
 kindNumber (does (releaseLine i)) = 6
-kindNumber (over i e r n) = 4
+kindNumber (over i e x digits n) = 4
 kindNumber (charge h) = 7
 
 -- "slot (255 for the 104 answers)"
@@ -85,7 +85,7 @@ slotNumber (does (ringBack i r)) = i
 slotNumber (does (unable n x digits)) = 255
 slotNumber (does (dial i digits)) = i
 slotNumber (does (releaseLine i)) = i
-slotNumber (over i e r n) = i
+slotNumber (over i e x digits n) = i
 slotNumber (charge h) = h .slot
 
 -- sequences; "digits, one a byte"; "ship, start, stop, seconds"
@@ -97,7 +97,7 @@ payloadOf c (does (ringBack i r)) = layout (ableSaid (channelAt c i) 117 r)
 payloadOf c (does (unable n x digits)) = layout (unableSaid n x digits)
 payloadOf c (does (dial i digits)) = digits
 payloadOf c (does (releaseLine i)) = []
-payloadOf c (over i e r n) = layout (overSaid e r n)
+payloadOf c (over i e x digits n) = layout (overSaid e x digits n)
 payloadOf c (charge h) = four (h .ship) (four (h .start .0) (four (h .stop .0) (four (h .seconds .0) [])))
 
 unfoldable pub blockOf : Config → Action → List ℕ

@@ -107,7 +107,7 @@ shipEnd i r g st =
 
 -- "in the hold: carrier on, the same answer sent, carrier off; the wait unchanged"
 unfoldable pub sayAgain : ℕ → Request → Told → Station → Out
-sayAgain i r n st = record { answer = 0; next = st; acts = does (carrierOn i) ∷ over i theShip r n ∷ does (carrierOff i) ∷ [] }
+sayAgain i r n st = record { answer = 0; next = st; acts = does (carrierOn i) ∷ over i theShip (r .who) (r .number) n ∷ does (carrierOff i) ∷ [] }
 
 -- "while dialling or answered, same ship"
 unfoldable pub shipEndOn : ℕ → Party → Station → Slot → Out

@@ -76,7 +76,7 @@ lasted (answered b) t = durationOf (wholeSeconds (record { 0 = t - b }))
 
 -- "charge if answered, release line, send 105/126 with .. and the duration, carrier off"
 abbrev pub endActs : ℕ → Ender → Request → Stage → ℕ → List Action
-endActs i e r g t = bill i (r .who) g t ++ does (releaseLine i) ∷ over i e r (lasted g t) ∷ does (carrierOff i) ∷ []
+endActs i e r g t = bill i (r .who) g t ++ does (releaseLine i) ∷ over i e (r .who) (r .number) (lasted g t) ∷ does (carrierOff i) ∷ []
 
 -- coast's end: ".. slot freed at once"
 unfoldable pub coastEnd : ℕ → Request → Stage → Station → Out

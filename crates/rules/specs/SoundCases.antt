@@ -1,14 +1,14 @@
 -- Which station is sound and which is not: a case for each part of 01's sentence, and for each bound on both its sides.
-use mathlib.Core.List.{List, [], _∷_, _++_, map}
+use mathlib.Core.List.{List, [], _∷_, map}
 use mathlib.Core.Option.{Option, none, some}
-use Prim.Native.Nat.{ℕ, zero, suc, _+_}
+use Prim.Native.Nat.{ℕ}
 use lib.ListN.{replicate}
 use Rattle.units.specs.declared.Told.{Told}
 use Rattle.units.specs.declared.Told.the-variants.{Nothing, Lasting}
 use Rattle.rules.specs.Words.{Mode, simplex, duplex, Request, Config}
-use Rattle.rules.specs.Station.{Kind, offered, firstRing, secondRing, acknowledged, Stage, dialling, answered, Slot, free, taken, pending, busy, held, Waiting, Station}
+use Rattle.rules.specs.Station.{offered, firstRing, secondRing, acknowledged, dialling, answered, Slot, free, pending, busy, held, Waiting, Station}
 use Rattle.rules.specs.Verdict.{verdict, setUpVerdict}
-use Rattle.rules.specs.Runs.{channel, station, seven, eight, nine, usual, ticks}
+use Rattle.rules.specs.Runs.{channel, station, seven, usual, ticks}
 use Rattle.rules.specs.Scripts.{waits, waitingShips}
 
 -- ── how a case is written ────────────────────────────────────────────────────

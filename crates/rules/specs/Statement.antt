@@ -25,13 +25,13 @@ use Rattle.rules.specs.ThreeWords.{idle, wordAfter, wordOf}
 abbrev pub deedsOf : List Action → List Deed
 deedsOf [] = []
 deedsOf (does d ∷ a) = d ∷ deedsOf a
-deedsOf (over i e r n ∷ a) = deedsOf a
+deedsOf (over i e x digits n ∷ a) = deedsOf a
 deedsOf (charge h ∷ a) = deedsOf a
 
 abbrev pub chargesOf : List Action → List Charge
 chargesOf [] = []
 chargesOf (does d ∷ a) = chargesOf a
-chargesOf (over i e r n ∷ a) = chargesOf a
+chargesOf (over i e x digits n ∷ a) = chargesOf a
 chargesOf (charge h ∷ a) = h ∷ chargesOf a
 
 -- the list, with nothing that tells a length of time

@@ -92,10 +92,10 @@ module _ (i : ℕ) (d : Draft) where
   freed-some z w t ch b c h e p q x y =
       rw p (freed-one w (dropAt 0 (d .station .queue)) (first-and-rest (d .station .queue) z h ∙ ap (λ v. v ∷ dropAt 0 (d .station .queue)) (sym e)) b c x (rw q at y))
 
-  pub closed-is : (r : Request) (n : Told) (x y z : List ℕ) → x ≡ block 6 i [] → y ≡ block 4 i (sent (overSaid theCoast r n)) → z ≡ block 2 i []
+  pub closed-is : (r : Request) (n : Told) (x y z : List ℕ) → x ≡ block 6 i [] → y ≡ block 4 i (sent (overSaid theCoast (r .who) (r .number) n)) → z ≡ block 2 i []
       → doing (freed i) (handing z (handing y (handing x d))) ≡ doing (closing i r n) d
   unfolding handing doing closing sentBlock sentPayload
-  closed-is r n x y z p q s = rw (p, q, s, clip-on _ (block 2 i []) _, clip-on _ (block 4 i (sent (overSaid theCoast r n))) _, clip-on _ (block 6 i []) _)
+  closed-is r n x y z p q s = rw (p, q, s, clip-on _ (block 2 i []) _, clip-on _ (block 4 i (sent (overSaid theCoast (r .who) (r .number) n))) _, clip-on _ (block 6 i []) _)
 
   -- a call that was not answered
   pub end-dialling : (r : Request) (t : ℕ) (k : Option ℕ) → busy r (dialling t) k ≡ getD (d .station .slots) i free → doing (closing i r Nothing) d ≡ doing (onSlotBy i (endOn i)) d

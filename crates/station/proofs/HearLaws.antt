@@ -29,15 +29,15 @@ module _ (i : ℕ) (d : Draft) where
   dialled-is r t b p q = rw (q, p, clip-clip)
 
   pub held-is : (r : Request) (n : Told) (t : ℕ) (x y z : List ℕ) → t ≡ dueAfter (d .station .clock) 40
-      → x ≡ block 6 i [] → y ≡ block 4 i (sent (overSaid theShip r n)) → z ≡ block 2 i []
+      → x ≡ block 6 i [] → y ≡ block 4 i (sent (overSaid theShip (r .who) (r .number) n)) → z ≡ block 2 i []
       → answering 0 (handing z (handing y (handing x (placing i (held r n t) d)))) ≡ doing (holding i r n) d
   unfolding answering handing placing doing holding sentBlock sentPayload
-  held-is r n t x y z e p q s = rw (e, p, q, s, clip-clip, clip-on _ (block 4 i (sent (overSaid theShip r n))) _, clip-on _ (block 6 i []) _)
+  held-is r n t x y z e p q s = rw (e, p, q, s, clip-clip, clip-on _ (block 4 i (sent (overSaid theShip (r .who) (r .number) n))) _, clip-on _ (block 6 i []) _)
 
-  pub again-said : (r : Request) (n : Told) (x y z : List ℕ) → x ≡ block 1 i [] → y ≡ block 4 i (sent (overSaid theShip r n)) → z ≡ block 2 i []
+  pub again-said : (r : Request) (n : Told) (x y z : List ℕ) → x ≡ block 1 i [] → y ≡ block 4 i (sent (overSaid theShip (r .who) (r .number) n)) → z ≡ block 2 i []
       → answering 0 (handing z (handing y (handing x d))) ≡ doing (sayAgain i r n) d
   unfolding answering handing doing sayAgain sentBlock sentPayload
-  again-said r n x y z p q s = rw (p, q, s, clip-clip, clip-on _ (block 4 i (sent (overSaid theShip r n))) _, clip-on _ (block 1 i []) _)
+  again-said r n x y z p q s = rw (p, q, s, clip-clip, clip-on _ (block 4 i (sent (overSaid theShip (r .who) (r .number) n))) _, clip-on _ (block 1 i []) _)
 
   -- the ship ends a call that was not answered
   pub ship-dialling : (r : Request) (t : ℕ) → doing (holding i r Nothing) d ≡ doing (shipEnd i r (dialling t)) d

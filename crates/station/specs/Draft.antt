@@ -104,7 +104,7 @@ firing w st = fire st w
 
 -- the end of a call behind its charge
 unfoldable pub closing : ℕ → Request → Told → R.Station → Out
-closing i r n st = also (does (releaseLine i) ∷ over i theCoast r n ∷ does (carrierOff i) ∷ []) (freed i st)
+closing i r n st = also (does (releaseLine i) ∷ over i theCoast (r .who) (r .number) n ∷ does (carrierOff i) ∷ []) (freed i st)
 
 -- the ship's end of a call behind its charge
 unfoldable pub holding : ℕ → Request → Told → R.Station → Out
@@ -112,7 +112,7 @@ holding i r n st =
     record {
       answer = 0;
       next = setSlot i (held r n (dueAfter (st .clock) holdWait)) st;
-      acts = does (releaseLine i) ∷ over i theShip r n ∷ does (carrierOff i) ∷ [];
+      acts = does (releaseLine i) ∷ over i theShip (r .who) (r .number) n ∷ does (carrierOff i) ∷ [];
     }
 
 -- a step that is an outcome of the model
