@@ -1,6 +1,7 @@
 // The lines of a script: what one says.
 ghost use mathlib.Core.Path.{_≡_};
 ghost use mathlib.Core.Option.{none};
+ghost use Prim.Native.Nat.{_≤_};
 ghost use Rattle.lines.specs.Readable.{readsAs, lineImage};
 
 mod fields;
@@ -58,6 +59,7 @@ fn unreadable() -> Line
 // What a line says, without its line feed.
 pub fn read(text: &[u8]) -> Line
     ensures { λ r. ⌜ r ≡ lineImage (readsAs (now (text .entry))) ⌝ }
+    ensures { λ r. ⌜ r .count ≤ 99 ⌝ }
 {
     if 200 < text.len() {
         return unreadable();
