@@ -1,15 +1,16 @@
 -- The tests of an event one behind the other, and what an accepted event has passed.
 use Prim.Native.Nat.{ℕ, _≤_, _<_}
 use mathlib.Core.Bool.{Bool, true, false, cond, not, _&&_}
+use mathlib.Core.List.{List}
 use mathlib.Core.Option.{Option, none, some}
-use mathlib.Core.Path.{_≡_, refl, sym}
+use mathlib.Core.Path.{_≡_, refl, sym, _∙_}
 use lib.Dec.{leb, ltb}
 use lib.ListN.{length, getD}
 use native.Mathlib.Omega.{arith}
 use borrow.Author.Tests.{leb-true, ltb-true}
 use Rattle.sequence.specs.Answers.{answerNumber, isDone}
 use Rattle.rules.specs.Places.{isSome, all}
-use Rattle.rules.specs.Words.{Happened, offHook, onHook, carrierUp, carrierDown, tick, onSlot, Event}
+use Rattle.rules.specs.Words.{Happened, heard, offHook, onHook, carrierUp, carrierDown, tick, onChannel70, onSlot, Event}
 use Rattle.rules.specs.Station.{free, fires}
 use Rattle.rules.specs.Sound.{sound}
 use Rattle.rules.proofs.PlaceLaws.{and-true}
@@ -17,7 +18,7 @@ use Rattle.requests.proofs.ArrayLaws.{viewed-length}
 use Rattle.requests.specs.Views.{viewed, itself}
 use Rattle.slots.specs.Views.{slotView}
 use Rattle.soundness.specs.Soundly.{slotExact, waitingExact, soundly}
-use Rattle.rules.specs.Verdict.{overtaken, slotThere, readOn, barredOn, refusals, verdict}
+use Rattle.rules.specs.Verdict.{overtaken, slotThere, readerSays, readOn, barredOn, refusals, verdict}
 use Rattle.station.specs.declared.Station.{Station}
 use Rattle.station.specs.Model.{modelOf, configOf}
 use Rattle.station.specs.Step.{recordsKeep, refusal}
@@ -30,6 +31,10 @@ not-not false = refl
 pub some-if : {A : Type 0} (b : Bool) (a : A) → b ≡ isSome (cond b (some a) none)
 some-if true a = refl
 some-if false a = refl
+
+unbarred : (v : Option ℕ) → andThen v true 35 ≡ v
+unbarred none = refl
+unbarred (some k) = refl
 
 module _ (s : Station) (n t : ℕ) where
   -- 29 to 32
@@ -86,6 +91,24 @@ module _ (s : Station) (n t : ℕ) where
       go true true true true true true false x y k = refl
       go true true true true true true true false y k = refl
       go true true true true true true true true y k = refl
+
+  -- on channel 70: 33, and 11 to 20
+  pub channel-asked : (m : List ℕ) → andThen (andThen (refusal s (record { time = t; room = n; what = tick })) (not (isSome (fires t (modelOf s)))) 33) (isDone (readerSays m)) (answerNumber (readerSays m)) ≡ refusal s (record { time = t; room = n; what = onChannel70 m })
+  unfolding refusal refusals
+  channel-asked m = go (recordsKeep s) (sound (configOf s) (modelOf s)) (leb 320 n) (leb t 4000000000) (leb (modelOf s .clock) t) (not (isSome (fires t (modelOf s)))) (isDone (readerSays m)) (answerNumber (readerSays m))
+    where
+      go : (a b c d e f x : Bool) (k : ℕ) → andThen (andThen (cond a (cond b (cond c (cond d (cond e none (some 32)) (some 31)) (some 30)) (some 29)) (some 29)) f 33) x k ≡ cond a (cond b (cond c (cond d (cond e (cond f (cond x none (some k)) (some 33)) (some 32)) (some 31)) (some 30)) (some 29)) (some 29)
+      go false b c d e f x k = refl
+      go true false c d e f x k = refl
+      go true true false d e f x k = refl
+      go true true true false e f x k = refl
+      go true true true true false f x k = refl
+      go true true true true true false x k = refl
+      go true true true true true true x k = refl
+
+  -- on a working channel: what is heard is never barred
+  pub heard-asked : (i : ℕ) (m : List ℕ) → andThen (refusal s (record { time = t; room = n; what = onSlot i offHook })) (isDone (readerSays m)) (answerNumber (readerSays m)) ≡ refusal s (record { time = t; room = n; what = onSlot i (heard m) })
+  heard-asked i m = sym (unbarred _) ∙ more-asked i (heard m)
 
 -- what an accepted event has passed
 pub record Passed (s : Station) (e : Event) : Type 0 where

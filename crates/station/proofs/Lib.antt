@@ -1,5 +1,7 @@
 pub mod DraftLaws
 pub mod CallLaws
+pub mod HearLaws
+pub mod AskLaws
 pub mod GateLaws
 pub mod PlanLaws
 pub mod StepLaws

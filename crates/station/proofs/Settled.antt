@@ -2,6 +2,8 @@
 use mathlib.Core.Path.{_≡_, sym, _∙_}
 use contract.Lifetimes.{Lfts}
 use Rattle.station.proofs.Station.next_due.Reads as Station-next-due
+use Rattle.station.proofs.Station.heard_on_channel_70.Reads as Station-heard-on-channel-70
+use Rattle.station.proofs.Station.heard_on_slot.Reads as Station-heard-on-slot
 use Rattle.station.proofs.Station.off_hook.Reads as Station-off-hook
 use Rattle.station.proofs.Station.carrier_up.Reads as Station-carrier-up
 use Rattle.station.proofs.Station.carrier_down.Reads as Station-carrier-down
@@ -46,3 +48,11 @@ Station-set-up-settled κs a r r' s s' p q = p ∙ sym q
 pub Station-tick-settled : (κs : Lfts 1) (a : _) (r r' : _) (s s' : _)
     → Station-tick.Post κs a r s → Station-tick.Post κs a r' s' → (r ≡ r') × (s .1 .1 .0 .now ≡ s' .1 .1 .0 .now)
 Station-tick-settled κs a r r' s s' p q = (p .0 ∙ sym (q .0), p .1 ∙ sym (q .1))
+
+pub Station-heard-on-slot-settled : (κs : Lfts 2) (a : _) (r r' : _) (s s' : _)
+    → Station-heard-on-slot.Post κs a r s → Station-heard-on-slot.Post κs a r' s' → (r ≡ r') × (s .1 .1 .1 .1 .0 .now ≡ s' .1 .1 .1 .1 .0 .now)
+Station-heard-on-slot-settled κs a r r' s s' p q = (p .0 ∙ sym (q .0), p .1 ∙ sym (q .1))
+
+pub Station-heard-on-channel-70-settled : (κs : Lfts 2) (a : _) (r r' : _) (s s' : _)
+    → Station-heard-on-channel-70.Post κs a r s → Station-heard-on-channel-70.Post κs a r' s' → (r ≡ r') × (s .1 .1 .1 .0 .now ≡ s' .1 .1 .1 .0 .now)
+Station-heard-on-channel-70-settled κs a r r' s s' p q = (p .0 ∙ sym (q .0), p .1 ∙ sym (q .1))

@@ -12,11 +12,12 @@ use Rattle.sequence.specs.Answers.{isDone}
 use Rattle.sequence.specs.Layout.{valid}
 use Rattle.sequence.specs.Reading.{readingOf}
 use Rattle.meanings.proofs.RoundTrip.{reads-valid}
-use Rattle.rules.specs.Words.{Config, Happened, Event, onSlot}
+use Rattle.rules.specs.Words.{Config, Happened, Event, onChannel70, onSlot}
+use Rattle.rules.specs.Heard.{meaning}
 use Rattle.rules.specs.Station as R
 use Rattle.rules.specs.Station.{free, setClock, nextDue}
 use Rattle.rules.specs.Requests.{Out}
-use Rattle.rules.specs.Calls.{happenedOn, actAt, act}
+use Rattle.rules.specs.Calls.{heardOn70, happenedOn, actAt, act}
 use Rattle.rules.specs.Statement.{AtMostEight}
 use Rattle.rules.proofs.Eight.{at-most-eight}
 use Rattle.actions.specs.Blocks.{clip, holds, putCount, putRoom}
@@ -78,3 +79,14 @@ module _ (s : Station) (room : List ℕ) (t i : ℕ) (k : Happened) (g : R.Stati
       → (finished (length room) (doing (onSlotBy i g) (opening t (configOf s) (modelOf s))) ≡ steppedBy s (record { time = t; room = length room; what = onSlot i k }))
       × (finishedRoom (doing (onSlotBy i g) (opening t (configOf s) (modelOf s))) room ≡ roomAfter s room (record { time = t; room = length room; what = onSlot i k }))
   slot-event h = rw drawn (accepted-is s room (record { time = t; room = length room; what = onSlot i k }) refl h)
+
+-- what is heard on channel 70
+module _ (s : Station) (room m : List ℕ) (t : ℕ) where
+  heard-drawn : doing (λ st. heardOn70 st (meaning (configOf s) m)) (opening t (configOf s) (modelOf s)) ≡ drafted (configOf s) (act (configOf s) (modelOf s) (record { time = t; room = length room; what = onChannel70 m }))
+  unfolding doing opening drafted actAt
+  heard-drawn = refl
+
+  pub channel-event : none ≡ refusal s (record { time = t; room = length room; what = onChannel70 m })
+      → (finished (length room) (doing (λ st. heardOn70 st (meaning (configOf s) m)) (opening t (configOf s) (modelOf s))) ≡ steppedBy s (record { time = t; room = length room; what = onChannel70 m }))
+      × (finishedRoom (doing (λ st. heardOn70 st (meaning (configOf s) m)) (opening t (configOf s) (modelOf s))) room ≡ roomAfter s room (record { time = t; room = length room; what = onChannel70 m }))
+  channel-event h = rw heard-drawn (accepted-is s room (record { time = t; room = length room; what = onChannel70 m }) refl h)

@@ -5,10 +5,10 @@ use mathlib.Core.List.{List, [], _∷_, _++_, map}
 use mathlib.Core.Option.{Option, none, some}
 use lib.ListN.{getD}
 use Rattle.units.specs.declared.Told.{Told}
-use Rattle.rules.specs.Actions.{does, over, theCoast}
+use Rattle.rules.specs.Actions.{does, over, theCoast, theShip}
 use Rattle.rules.specs.Words.{carrierOff, releaseLine, Config, Request}
 use Rattle.rules.specs.Station as R
-use Rattle.rules.specs.Station.{free, taken, pending, busy, held, setSlot, setClock, setQueue, nextDue}
+use Rattle.rules.specs.Station.{free, taken, pending, busy, held, setSlot, setClock, setQueue, nextDue, dueAfter, holdWait}
 use Rattle.rules.specs.Requests.{Out, also, freed}
 use Rattle.slots.specs.Views.{carrierOf}
 use Rattle.rules.specs.Waits.{Wait}
@@ -105,6 +105,15 @@ firing w st = fire st w
 -- the end of a call behind its charge
 unfoldable pub closing : ℕ → Request → Told → R.Station → Out
 closing i r n st = also (does (releaseLine i) ∷ over i theCoast r n ∷ does (carrierOff i) ∷ []) (freed i st)
+
+-- the ship's end of a call behind its charge
+unfoldable pub holding : ℕ → Request → Told → R.Station → Out
+holding i r n st =
+    record {
+      answer = 0;
+      next = setSlot i (held r n (dueAfter (st .clock) holdWait)) st;
+      acts = does (releaseLine i) ∷ over i theShip r n ∷ does (carrierOff i) ∷ [];
+    }
 
 -- a step that is an outcome of the model
 unfoldable pub drafted : Config → Out → Draft

@@ -10,7 +10,7 @@ use Rattle.units.specs.declared.Tenths.{Tenths}
 use Rattle.units.specs.declared.SlotNumber.{SlotNumber}
 use Rattle.sequence.specs.Refusals.{firstRefusal}
 use Rattle.rules.specs.Places.{all}
-use Rattle.rules.specs.Words.{Config, Happened, tick, onSlot, Event}
+use Rattle.rules.specs.Words.{Config, Happened, tick, onChannel70, onSlot, Event}
 use Rattle.rules.specs.Station.{nextDue, fresh}
 use Rattle.rules.specs.Requests.{Out}
 use Rattle.rules.specs.Calls.{act}
@@ -30,6 +30,9 @@ use Rattle.station.specs.Model.{modelOf, configOf, imageOf}
 
 abbrev pub tickAt : Tenths → List ℕ → Event
 tickAt time room = record { time = time .0; room = length room; what = tick }
+
+abbrev pub channel70At : Tenths → List ℕ → List ℕ → Event
+channel70At time symbols room = record { time = time .0; room = length room; what = onChannel70 symbols }
 
 abbrev pub slotAt : Tenths → SlotNumber → Happened → List ℕ → Event
 slotAt time slot h room = record { time = time .0; room = length room; what = onSlot (slot .0) h }

@@ -74,27 +74,10 @@ impl Plan {
         ensures { λ r. ⌜ draftOf r ≡ lining (dropAt k (draftOf self .station .queue)) (draftOf self) ⌝ }
     {
         let s = self.station;
-        let a = self.actions;
-        let t = s.clock;
-        let x = s.slots;
-        let y = s.queue;
+        let b = s.queue;
         let n = s.waiting;
-        let z = cut_in(y, n, k);
-        let m = cut_count(n, k);
-        let next = Station {
-            clock: t,
-            identity: s.identity,
-            count: s.count,
-            waiting: m,
-            slots: x,
-            queue: z,
-        };
-        Plan {
-            answer: self.answer,
-            count: self.count,
-            station: next,
-            actions: a,
-        }
+        let z = cut_in(b, n, k);
+        self.lined(cut_count(n, k), z)
     }
 
     // "Whenever a slot is freed and a ship waits, the same event takes the oldest"

@@ -1,11 +1,12 @@
 // Which event is refused: the tests, in document 01's order.
 ghost use mathlib.Core.Path.{_≡_};
-ghost use mathlib.Core.Bool.{_&&_};
+ghost use mathlib.Core.Bool.{not, _&&_};
 ghost use Rattle.rules.specs.Waits.{earliest, ifDue};
 ghost use Rattle.rules.specs.Places.{isSome};
 ghost use Rattle.rules.specs.Words.{tick, offHook, takes, givesBack, onSlot};
 ghost use Rattle.rules.specs.Sound.{sound};
-ghost use Rattle.rules.specs.Station.{table, nextDue};
+ghost use Rattle.rules.specs.Station.{table, nextDue, fires};
+ghost use Rattle.sequence.specs.Answers.{answerNumber, isDone};
 ghost use Rattle.slots.specs.Views.{dueView};
 ghost use Rattle.station.specs.Model.{modelOf, configOf};
 ghost use Rattle.station.specs.Step.{recordsKeep, refusal, dueImage};
@@ -15,6 +16,7 @@ use crate::Station;
 use crate::Verdict;
 use crate::pieces::is_free;
 use crate::pieces::is_taken;
+use sequence::Answer;
 use slots::Due;
 use slots::dues::earliest_due;
 use slots::places::held;
@@ -44,6 +46,14 @@ impl Verdict {
                 Verdict::Refused(number)
             }
         }
+    }
+
+    // The reader's test: 11 to 20.
+    pub(crate) fn and_read(self, a: Answer) -> Verdict
+        ensures { λ r. ⌜ verdictOf r ≡ andThen (verdictOf self) (isDone a) (answerNumber a) ⌝ }
+    {
+        let n = a.number();
+        self.and_then(a.is_done(), n)
     }
 }
 
@@ -89,16 +99,23 @@ impl Station {
             .and_then(clock.0 <= t.0, 32)
     }
 
-    // What is asked of an event on a slot: 33 and 34 besides.
-    pub(crate) fn judge_slot(self, size: usize, t: Tenths, i: SlotNumber) -> Verdict
-        ensures { λ r. ⌜ verdictOf r ≡ refusal self (record { time = t .0; room = size; what = onSlot (i .0) offHook }) ⌝ }
+    // What is asked of every event but a tick: 33 besides.
+    pub(crate) fn judge_now(self, size: usize, t: Tenths) -> Verdict
+        ensures { λ r. ⌜ verdictOf r ≡ andThen (refusal self (record { time = t .0; room = size; what = tick })) (not (isSome (fires (t .0) (modelOf self)))) 33 ⌝ }
     {
         let d = self.first_due();
         let late = falls_due(d, t);
+        self.judge(size, t).and_then(!late, 33)
+    }
+
+    // What is asked of an event on a slot: 34 besides.
+    pub(crate) fn judge_slot(self, size: usize, t: Tenths, i: SlotNumber) -> Verdict
+        ensures { λ r. ⌜ verdictOf r ≡ refusal self (record { time = t .0; room = size; what = onSlot (i .0) offHook }) ⌝ }
+    {
         let a = self.slots;
         let n = held(a, self.count) as u32;
         let k = i.0;
-        self.judge(size, t).and_then(!late, 33).and_then(k < n, 34)
+        self.judge_now(size, t).and_then(k < n, 34)
     }
 
     // 35 besides: "takes a slot not free".

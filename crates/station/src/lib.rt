@@ -1,14 +1,19 @@
 // The station of the rack, by value: set-up, and one method for each kind of event.
+mod asking;
 mod calls;
+mod channel_70;
 mod ending;
 mod ends;
 mod gate;
+mod hearing;
 mod operator;
 mod pieces;
 mod setting;
 mod waits;
+mod working;
 
 use actions::Action;
+use requests::Request;
 use slots::Carrier;
 use slots::Slot;
 use slots::Waiting;
@@ -61,4 +66,20 @@ enum Call {
     NoCall,
     Dialling(Tenths, Carrier),
     Answered(Tenths, Carrier),
+}
+
+// Document 01's kinds of sequences; a BQ names the channel of a slot.
+enum Kind {
+    CallRequest,
+    DataRequest,
+    Bq(u8),
+    WorkingCall,
+    EndOfCall,
+    Nothing,
+}
+
+// What a sequence says to this station: its kind, and who asks for what.
+struct Heard {
+    kind: Kind,
+    request: Request,
 }

@@ -5,11 +5,11 @@ ghost use lib.ListN.{getD};
 ghost use Rattle.rules.specs.Station.{free, dueAfter};
 ghost use Rattle.rules.specs.Requests.{isFree};
 ghost use Rattle.rules.specs.Verdict.{isTaken};
-ghost use Rattle.requests.specs.Views.{requestOf};
-ghost use Rattle.slots.specs.Views.{phaseView, slotView};
+ghost use Rattle.requests.specs.Views.{viewed, requestOf};
+ghost use Rattle.slots.specs.Views.{phaseView, slotView, waitingView};
 ghost use Rattle.actions.specs.Blocks.{actionBlock};
 ghost use Rattle.station.specs.Model.{modelOf, configOf, imageOf};
-ghost use Rattle.station.specs.Draft.{draftOf, answering, handing, placing, opening, busyIn, busyOf};
+ghost use Rattle.station.specs.Draft.{draftOf, answering, handing, placing, lining, opening, busyIn, busyOf};
 use crate::Call;
 use crate::Plan;
 use crate::Station;
@@ -20,6 +20,7 @@ use actions::blocks::push_in;
 use requests::Request;
 use slots::Phase;
 use slots::Slot;
+use slots::Waiting;
 use slots::dues::due_after;
 use slots::laying::tidy_queue;
 use slots::laying::tidy_slots;
@@ -192,6 +193,30 @@ impl Plan {
             waiting: s.waiting,
             slots: z,
             queue: y,
+        };
+        Plan {
+            answer: self.answer,
+            count: self.count,
+            station: next,
+            actions: a,
+        }
+    }
+
+    // Other ships in the queue.
+    pub(crate) fn lined(self, n: u8, b: [Waiting; 32]) -> Plan
+        ensures { λ r. ⌜ draftOf r ≡ lining (viewed waitingView n b) (draftOf self) ⌝ }
+    {
+        let s = self.station;
+        let a = self.actions;
+        let t = s.clock;
+        let x = s.slots;
+        let next = Station {
+            clock: t,
+            identity: s.identity,
+            count: s.count,
+            waiting: n,
+            slots: x,
+            queue: b,
         };
         Plan {
             answer: self.answer,

@@ -1,0 +1,14 @@
+use Rattle.requests.specs.Views.{requestOf}
+use borrow.Author.Needs.{needs}
+use Rattle.station.proofs.working.awaits.Statement.{statement}
+use Rattle.station.proofs.working.awaits.Tie as tie
+
+returns : tie.Need-returns
+unfolding requestOf
+returns c = rw (← c .before .before .awaits-call .ensures, c .before .if1 .taken, c .is-by .ensures)
+
+returns-2 : tie.Need-returns-2
+returns-2 c = rw (← c .before .awaits-call .ensures, c .if1 .left)
+
+pub awaits-spec : {M : Type 1} → statement M
+awaits-spec = tie.close (tie.spec (λ c κs. search needs) (λ c κs. search needs) returns returns-2)

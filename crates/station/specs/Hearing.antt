@@ -1,0 +1,68 @@
+-- What was heard, and what of a slot decides what it does; only the proofs need them.
+use Prim.Native.Nat.{ℕ}
+use mathlib.Core.Bool.{Bool, true, false}
+use mathlib.Core.Option.{Option, none, some}
+use Rattle.rules.specs.Words as W
+use Rattle.rules.specs.Words.{simplex, duplex}
+use Rattle.rules.specs.Station as R
+use Rattle.rules.specs.Heard as H
+use Rattle.rules.specs.Heard.{callRequest, dataRequest, bq, workingCall, endOfCall, nothing}
+use Rattle.rules.specs.Requests.{Out, ignored, also, placeOf, dToG}
+use Rattle.rules.specs.Calls.{endOn}
+use Rattle.requests.specs.Views.{requestOf}
+use Rattle.slots.specs.declared.Phase.{Phase}
+use Rattle.slots.specs.declared.Phase.the-variants.{Free, Offered, RingBack, RingAgain, Acknowledged, Dialling, Answered, Hold, Taken}
+use Rattle.station.specs.declared.Kind.{Kind}
+use Rattle.station.specs.declared.Kind.the-variants.{CallRequest, DataRequest, Bq, WorkingCall, EndOfCall, Nothing}
+use Rattle.station.specs.declared.Heard.{Heard}
+use Rattle.station.specs.Draft.{onSlotBy}
+
+-- a kind, and who asks for what
+abbrev pub heardAs : Kind → W.Request → H.Heard
+heardAs CallRequest r = callRequest r
+heardAs DataRequest r = dataRequest (r .who) (r .number)
+heardAs (Bq i) r = bq i (r .who)
+heardAs WorkingCall r = workingCall (r .who)
+heardAs EndOfCall r = endOfCall (r .who)
+heardAs Nothing r = nothing
+
+abbrev pub heardOf : Heard → H.Heard
+heardOf h = heardAs (h .kind) (requestOf (h .request))
+
+-- "on an offered or acknowledged slot"
+abbrev pub awaitsCall : Phase → Bool
+awaitsCall Free = false
+awaitsCall (Offered t) = true
+awaitsCall (RingBack t) = false
+awaitsCall (RingAgain t) = false
+awaitsCall (Acknowledged t) = true
+awaitsCall (Dialling t c) = false
+awaitsCall (Answered t c) = false
+awaitsCall (Hold t n) = false
+awaitsCall Taken = false
+
+-- a ship is rung back
+abbrev pub rings : Phase → Bool
+rings Free = false
+rings (Offered t) = false
+rings (RingBack t) = true
+rings (RingAgain t) = true
+rings (Acknowledged t) = false
+rings (Dialling t c) = false
+rings (Answered t c) = false
+rings (Hold t n) = false
+rings Taken = false
+
+-- one rule, and another behind it
+unfoldable pub behind : (R.Station → Out) → (R.Station → Out) → R.Station → Out
+behind f g st = also (f st .acts) (g (f st .next))
+
+-- rules d to g, for a ship that has no slot
+unfoldable pub withoutSlot : W.Request → R.Station → Out
+withoutSlot r st = dToG st r (placeOf (r .who) st)
+
+-- rule c, by the mode and the carrier of the call in the slot
+unfoldable pub ruleCBy : ℕ → W.Mode → Option ℕ → W.Request → R.Station → Out
+ruleCBy i duplex c r = ignored
+ruleCBy i simplex none r = ignored
+ruleCBy i simplex (some d) r = behind (onSlotBy i (endOn i)) (withoutSlot r)

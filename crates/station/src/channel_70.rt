@@ -1,0 +1,107 @@
+// Heard on channel 70: a call request, or a ring-back acknowledged.
+ghost use mathlib.Core.Path.{_≡_};
+ghost use mathlib.Core.Bool.{_&&_};
+ghost use Prim.Native.Nat.{_≤_};
+ghost use Rattle.rules.specs.Words.{is};
+ghost use Rattle.rules.specs.Calls.{bqFor, heardOn70};
+ghost use Rattle.requests.specs.Views.{requestOf};
+ghost use Rattle.station.specs.Step.{channel70At, steppedBy, roomAfter};
+ghost use Rattle.station.specs.Draft.{draftOf, doing, onSlotBy};
+ghost use Rattle.station.specs.Hearing.{heardOf, rings};
+use crate::Heard;
+use crate::Kind;
+use crate::Plan;
+use crate::Station;
+use crate::Stepped;
+use crate::Verdict;
+use crate::pieces::wait_from;
+use reading::read;
+use requests::Request;
+use slots::Phase;
+use slots::Slot;
+use slots::finding::is_by;
+use units::Tenths;
+
+fn is_rung(p: Phase) -> bool
+    ensures { λ r. ⌜ r ≡ rings p ⌝ }
+{
+    match p {
+        Phase::Free => false,
+        Phase::Offered(_) => false,
+        Phase::RingBack(_) => true,
+        Phase::RingAgain(_) => true,
+        Phase::Acknowledged(_) => false,
+        Phase::Dialling(_, _) => false,
+        Phase::Answered(_, _) => false,
+        Phase::Hold(_, _) => false,
+        Phase::Taken => false,
+    }
+}
+
+// The ship is rung back on the slot.
+fn rung(s: Slot, x: Request) -> bool
+    ensures { λ r. ⌜ r ≡ (rings (s .phase) && is (requestOf x .who) (requestOf (s .request) .who)) ⌝ }
+{
+    let p = s.phase;
+    let q = s.request;
+    if is_rung(p) {
+        return is_by(q, x.ship, x.station);
+    }
+    false
+}
+
+impl Plan {
+    // Ring-back acknowledged: "wait 160"
+    fn agreed(self, i: u8, x: Request) -> Plan
+        requires { ⌜ self .station .clock .0 ≤ 4_000_000_000 ⌝ }
+        ensures { λ r. ⌜ draftOf r ≡ doing (onSlotBy i (bqFor i (requestOf x .who))) (draftOf self) ⌝ }
+    {
+        let s = self.station;
+        let y = s.slot_at(i);
+        let q = y.request;
+        if rung(y, x) {
+            let t = wait_from(s.clock, 160);
+            return self.place(i, Phase::Acknowledged(t), q).answering(0);
+        }
+        self.answering(1)
+    }
+
+    // What was heard on channel 70.
+    pub(crate) fn hear(self, h: Heard) -> Plan
+        requires { ⌜ self .station .clock .0 ≤ 4_000_000_000 ⌝ }
+        ensures { λ r. ⌜ draftOf r ≡ doing (λ st. heardOn70 st (heardOf h)) (draftOf self) ⌝ }
+    {
+        let k = h.kind;
+        let q = h.request;
+        match k {
+            Kind::CallRequest => self.requested(q),
+            Kind::DataRequest => self.rule_a(q),
+            Kind::Bq(i) => self.agreed(i, q),
+            Kind::WorkingCall => self.answering(1),
+            Kind::EndOfCall => self.answering(1),
+            Kind::Nothing => self.answering(1),
+        }
+    }
+}
+
+impl Station {
+    // Symbols heard on channel 70.
+    pub fn heard_on_channel_70(self, time: Tenths, symbols: &[u8], room: &mut [u8]) -> Stepped
+        ensures { λ r. ⌜ r ≡ steppedBy self (channel70At time (now (symbols .entry)) (now (room .entry))) ⌝ }
+        ensures { λ _. ⌜ now (room .exit) ≡ roomAfter self (now (room .entry)) (channel70At time (now (symbols .entry)) (now (room .entry))) ⌝ }
+    {
+        let x = read(symbols);
+        let a = x.answer;
+        let m = x.meaning;
+        let v = self.judge_now(room.len(), time).and_read(a);
+        match v {
+            Verdict::Refused(n) => self.refused(n),
+            Verdict::Accepted => {
+                let h = self.told_by(m);
+                let p = self.opened(time);
+                let q = p.hear(h);
+                q.finish(room)
+            }
+        }
+    }
+}
