@@ -58,7 +58,8 @@ fn on_working(station: Station, line: Line, room: &mut [u8]) -> Stepped
     let n = line.count;
     let symbols = symbols_of(numbers);
     let from = least_of(2, n);
-    station.heard_on_slot(Tenths(numbers[0]),
+    station.heard_on_slot(
+        Tenths(numbers[0]),
         SlotNumber(numbers[1]),
         &symbols[from..n],
         room,
