@@ -1,0 +1,58 @@
+-- Which fields a kind of line takes.
+use mathlib.Core.Bool.{Bool, true, false, _&&_, cond}
+use mathlib.Core.List.{List, [], _∷_}
+use mathlib.Core.Option.{none, some}
+use mathlib.Core.Path.{_≡_, refl, sym}
+use Prim.Native.Nat.{ℕ, _+_, _-_, _<_, _≤_}
+use lib.Dec.{leb, eqb}
+use native.Mathlib.Omega.{arith}
+use lib.ListN.{length, take, drop, getD, length-drop}
+use lib.Seq.{take-all}
+use borrow.Author.Tests.{le-leb, lt-leb, ne-eqb}
+use Rattle.rules.specs.Places.{all, isSome}
+use Rattle.rules.specs.Words.{Happened}
+use Rattle.sequence.proofs.Rest.{rest}
+use Rattle.lines.specs.Lines.{Said, isSymbol}
+use Rattle.lines.specs.Readable.{saysSetUp, saysChannel70, saysWorking, saysSlot, saysTick}
+
+module _ (s : List ℕ) (i : ℕ) (h : i < length s) where
+  pub symbol-here : getD s i 0 ≤ 255 → all isSymbol (drop (i + 1) s) ≡ all isSymbol (drop i s)
+  symbol-here k = rw (rest s i h, le-leb _ _ k)
+
+  pub no-symbol-here : 255 < getD s i 0 → all isSymbol (drop i s) ≡ false
+  no-symbol-here k = rw (rest s i h, lt-leb _ _ k)
+
+of-symbols : (b : Bool) (said : Said) → isSome (cond b (some said) none) ≡ b
+of-symbols true said = refl
+of-symbols false said = refl
+
+at-least : (n : ℕ) (ns : List ℕ) → n ≤ length ns → leb n (length ns) ≡ true
+at-least n ns h = le-leb n (length ns) h
+
+pub set-up-fits : (ns : List ℕ) → isSome (saysSetUp ns) ≡ leb 1 (length ns)
+set-up-fits [] = refl
+set-up-fits (i ∷ ns) = sym (at-least 1 (i ∷ ns) (omega arith))
+
+pub channel70-fits : (ns : List ℕ) → isSome (saysChannel70 ns) ≡ (leb 1 (length ns) && all isSymbol (drop 1 ns))
+channel70-fits [] = refl
+channel70-fits (t ∷ ns) = rw (at-least 1 (t ∷ ns) (omega arith)) (of-symbols (all isSymbol ns) _)
+
+pub working-fits : (ns : List ℕ) → isSome (saysWorking ns) ≡ (leb 2 (length ns) && all isSymbol (drop 2 ns))
+working-fits [] = refl
+working-fits (t ∷ []) = refl
+working-fits (t ∷ i ∷ ns) = rw (at-least 2 (t ∷ i ∷ ns) (omega arith)) (of-symbols (all isSymbol ns) _)
+
+pub slot-fits : (h : Happened) (ns : List ℕ) → isSome (saysSlot h ns) ≡ eqb (length ns) 2
+slot-fits h [] = refl
+slot-fits h (t ∷ []) = refl
+slot-fits h (t ∷ i ∷ []) = refl
+slot-fits h (t ∷ i ∷ x ∷ ns) = sym (ne-eqb (length (t ∷ i ∷ x ∷ ns)) 2 (λ e. omega arith))
+
+pub tick-fits : (ns : List ℕ) → isSome (saysTick ns) ≡ eqb (length ns) 1
+tick-fits [] = refl
+tick-fits (t ∷ []) = refl
+tick-fits (t ∷ x ∷ ns) = sym (ne-eqb (length (t ∷ x ∷ ns)) 1 (λ e. omega arith))
+
+-- the part of a list from a place on is all that is left there
+pub part-left : (s : List ℕ) (n : ℕ) → take (length s - n) (drop n s) ≡ drop n s
+part-left s n = take-all (length s - n) (drop n s) (omega (arith, length-drop n s))

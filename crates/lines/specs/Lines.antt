@@ -1,0 +1,86 @@
+-- The lines of an event: "S identity channels; Q time symbols; W time slot symbols; then time and slot: U up, D down, O off-hook,
+-- H on-hook, M take, F give back; T time".
+use mathlib.Core.Bool.{Bool, true, _&&_}
+use mathlib.Core.List.{List, [], _∷_, _++_, map}
+use mathlib.Core.Path.{_≡_}
+use Prim.Native.Nat.{ℕ}
+use lib.Dec.{leb}
+use Rattle.rules.specs.Places.{all}
+use Rattle.rules.specs.Words.{Happened, heard, offHook, onHook, carrierUp, carrierDown, takes, givesBack, What, tick, onChannel70, onSlot}
+use Rattle.lines.specs.Decimal.{isDecimal, valueOf}
+
+-- what a line says: a set-up with its identity and channels, or what happens at a time
+pub data Said : Type 0 where
+  setsUp : ℕ → List ℕ → Said
+  happens : ℕ → What → Said
+
+-- ── the letter ───────────────────────────────────────────────────────────────
+
+abbrev pub slotLetter : Happened → ℕ
+slotLetter (heard symbols) = 87
+slotLetter offHook = 79
+slotLetter onHook = 72
+slotLetter carrierUp = 85
+slotLetter carrierDown = 68
+slotLetter takes = 77
+slotLetter givesBack = 70
+
+abbrev pub whatLetter : What → ℕ
+whatLetter tick = 84
+whatLetter (onChannel70 symbols) = 81
+whatLetter (onSlot i h) = slotLetter h
+
+abbrev pub letterOf : Said → ℕ
+letterOf (setsUp identity channels) = 83
+letterOf (happens time what) = whatLetter what
+
+-- ── the fields ───────────────────────────────────────────────────────────────
+
+-- only a sequence has symbols; "a list may be empty"
+abbrev pub symbolsIn : Happened → List ℕ
+symbolsIn (heard symbols) = symbols
+symbolsIn offHook = []
+symbolsIn onHook = []
+symbolsIn carrierUp = []
+symbolsIn carrierDown = []
+symbolsIn takes = []
+symbolsIn givesBack = []
+
+abbrev pub whatNumbers : What → List ℕ
+whatNumbers tick = []
+whatNumbers (onChannel70 symbols) = symbols
+whatNumbers (onSlot i h) = i ∷ symbolsIn h
+
+abbrev pub numbersOf : Said → List ℕ
+numbersOf (setsUp identity channels) = identity ∷ channels
+numbersOf (happens time what) = time ∷ whatNumbers what
+
+-- "one space apart"
+abbrev pub spaced : List (List ℕ) → List ℕ
+spaced [] = []
+spaced (field ∷ fields) = 32 ∷ (field ++ spaced fields)
+
+pub record LineOf (said : Said) (text : List ℕ) : Type 0 where
+  pub fields : List (List ℕ)
+  pub decimals : all isDecimal fields ≡ true
+  pub numbers : map valueOf fields ≡ numbersOf said
+  pub written : text ≡ letterOf said ∷ spaced fields
+
+-- ── the ranges ───────────────────────────────────────────────────────────────
+
+-- "a symbol over 255"
+abbrev pub isSymbol : ℕ → Bool
+isSymbol n = leb n 255
+
+-- "another number over 4,294,967,295"
+abbrev pub isNumber : ℕ → Bool
+isNumber n = leb n 4294967295
+
+abbrev pub whatInRange : What → Bool
+whatInRange tick = true
+whatInRange (onChannel70 symbols) = all isSymbol symbols
+whatInRange (onSlot i h) = isNumber i && all isSymbol (symbolsIn h)
+
+unfoldable pub inRange : Said → Bool
+inRange (setsUp identity channels) = isNumber identity && all isNumber channels
+inRange (happens time what) = isNumber time && whatInRange what

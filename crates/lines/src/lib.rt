@@ -1,0 +1,85 @@
+// The lines of a script: what one says.
+ghost use mathlib.Core.Path.{_≡_};
+ghost use mathlib.Core.Option.{none};
+ghost use Prim.Native.Nat.{_≤_};
+ghost use Rattle.lines.specs.Readable.{readsAs, lineImage};
+
+mod fields;
+mod kinds;
+
+use crate::fields::numbers_in;
+use crate::kinds::fits;
+use crate::kinds::kind_of;
+
+// By its letter; a line that is no event's is unreadable.
+pub enum Kind {
+    Unreadable,
+    SetUp,
+    Channel70,
+    Working,
+    OffHook,
+    OnHook,
+    CarrierUp,
+    CarrierDown,
+    Take,
+    GiveBack,
+    Tick,
+}
+
+// What a line says: its kind, and so many numbers behind the letter.
+pub struct Line {
+    pub kind: Kind,
+    pub count: usize,
+    pub numbers: [u32; 100],
+}
+
+// Numbers one space apart, where they are that.
+struct Numbers {
+    readable: bool,
+    count: usize,
+    all: [u32; 100],
+}
+
+// A number with the place behind it.
+enum Field {
+    Nothing,
+    Number(u32, usize),
+}
+
+fn unreadable() -> Line
+    ensures { λ r. ⌜ r ≡ lineImage none ⌝ }
+{
+    Line {
+        kind: Kind::Unreadable,
+        count: 0,
+        numbers: [0u32; 100],
+    }
+}
+
+// What a line says, without its line feed.
+pub fn read(text: &[u8]) -> Line
+    ensures { λ r. ⌜ r ≡ lineImage (readsAs (now (text .entry))) ⌝ }
+    ensures { λ r. ⌜ r .count ≤ 99 ⌝ }
+{
+    if 200 < text.len() {
+        return unreadable();
+    }
+    if text.len() == 0 {
+        return unreadable();
+    }
+    let kind = kind_of(text[0]);
+    let found = numbers_in(&text[1..]);
+    let numbers = found.all;
+    let count = found.count;
+    if !found.readable {
+        return unreadable();
+    }
+    if !fits(kind, &numbers[..count]) {
+        return unreadable();
+    }
+    Line {
+        kind: kind,
+        count: count,
+        numbers: numbers,
+    }
+}

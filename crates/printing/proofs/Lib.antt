@@ -1,0 +1,3 @@
+pub mod PutLaws
+pub mod ReplyLaws
+pub mod Settled

@@ -1,0 +1,65 @@
+// The first line of a reply, and a line for each action.
+ghost use mathlib.Core.Path.{_≡_};
+ghost use Prim.Native.Nat.{_+_, _*_, _≤_};
+ghost use lib.ListN.{length};
+ghost use Rattle.printing.specs.Texts.{Put};
+ghost use Rattle.printing.specs.Replies.{dueText, headText, actionText, actionTexts};
+use crate::texts::put_byte;
+use crate::texts::put_field;
+use crate::texts::put_fields;
+use crate::texts::put_number;
+use requests::least;
+use station::NextDue;
+use units::Tenths;
+
+// "`-` if none"
+fn put_due(due: NextDue, out: &mut [u8], at: usize) -> usize
+    requires { ⌜ at + 11 ≤ length (now out) ⌝ }
+    ensures { λ r. ⌜ Put (now (out .entry)) (now (out .exit)) at r (dueText due) ⌝ }
+{
+    match due {
+        NextDue::Never => {
+            let next = put_byte(32, out, at);
+            put_byte(45, out, next)
+        }
+        NextDue::At(t) => put_field(t.0, out, at),
+    }
+}
+
+// "answer, clock, action count, next due time"
+pub(crate) fn put_head(answer: u8, clock: Tenths, count: u8, due: NextDue, out: &mut [u8]) -> usize
+    requires { ⌜ 44 ≤ length (now out) ⌝ }
+    ensures { λ r. ⌜ Put (now (out .entry)) (now (out .exit)) 0 r (headText answer (clock .0) count due) ⌝ }
+{
+    let a = put_number(answer as u32, out, 0);
+    let b = put_field(clock.0, out, a);
+    let c = put_field(count as u32, out, b);
+    let d = put_due(due, out, c);
+    put_byte(10, out, d)
+}
+
+// "kind, slot, payload bytes in decimal"
+fn put_action(block: &[u8], out: &mut [u8], at: usize) -> usize
+    requires { ⌜ (length (now block) ≡ 40) × (at + 418 ≤ length (now out)) ⌝ }
+    ensures { λ r. ⌜ Put (now (out .entry)) (now (out .exit)) at r (actionText (now (block .entry))) ⌝ }
+{
+    let n = least(block[2], 36) as usize;
+    let a = put_number(block[0] as u32, out, at);
+    let b = put_field(block[1] as u32, out, a);
+    let c = put_fields(&block[4..4 + n], out, b);
+    put_byte(10, out, c)
+}
+
+pub(crate) fn put_actions(blocks: &[u8], count: usize, out: &mut [u8], at: usize) -> usize
+    requires { ⌜ (length (now blocks) ≡ 320) × (count ≤ 8) × (at + 3344 ≤ length (now out)) ⌝ }
+    ensures { λ r. ⌜ Put (now (out .entry)) (now (out .exit)) at r (actionTexts count (now (blocks .entry))) ⌝ }
+{
+    let mut next = at;
+    let mut i: usize = 0;
+    while i < count {
+        let start = 40 * i;
+        next = put_action(&blocks[start..start + 40], out, next);
+        i += 1;
+    }
+    next
+}

@@ -1,0 +1,32 @@
+// What a script prints.
+ghost use mathlib.Core.Path.{_≡_};
+ghost use Rattle.printing.specs.Replies.{replyText, putText, putLength};
+
+mod actions;
+mod texts;
+
+use crate::actions::put_actions;
+use crate::actions::put_head;
+use requests::least;
+use station::NextDue;
+use units::Tenths;
+
+// The reply to a line at the front of a room of 4,096 bytes, and its length; a shorter room is left as it is.
+pub fn put_reply(
+    answer: u8,
+    clock: Tenths,
+    count: u8,
+    due: NextDue,
+    blocks: [u8; 320],
+    out: &mut [u8],
+) -> usize
+    ensures { λ r. ⌜ r ≡ putLength (now (out .entry)) (replyText answer (clock .0) count due blocks) ⌝ }
+    ensures { λ _. ⌜ now (out .exit) ≡ putText (now (out .entry)) (replyText answer (clock .0) count due blocks) ⌝ }
+{
+    if out.len() < 4096 {
+        return 0;
+    }
+    let k = least(count, 8);
+    let n = put_head(answer, clock, count, due, out);
+    put_actions(&blocks, k as usize, out, n)
+}

@@ -1,0 +1,5 @@
+pub mod LineLaws
+pub mod TextLaws
+pub mod SessionLaws
+pub mod TalkLaws
+pub mod Settled

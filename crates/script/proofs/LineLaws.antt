@@ -1,0 +1,132 @@
+-- From the record of a line to what the line says.
+use mathlib.Core.Bool.{Bool, true, false}
+use mathlib.Core.List.{List, [], _∷_, map}
+use mathlib.Core.Option.{Option, none, some}
+use mathlib.Core.Path.{_≡_, refl, _∙_, ap}
+use Prim.Native.Nat.{ℕ, zero, suc, _+_, _-_, _<_, _≤_, min}
+use native.Mathlib.Omega.{arith}
+use lib.ListN.{length, getD, set, replicate, length-map, List·getD-map}
+use lib.Seq.{paste}
+use borrow.Author.Tests.{leb-true, eq-eqb, ne-eqb}
+use Rattle.sequence.proofs.Paste.{front-turn}
+use Rattle.sequence.proofs.Tests.{both-true}
+use Rattle.rules.specs.Places.{all}
+use Rattle.rules.specs.Words.{heard, offHook, onHook, carrierUp, carrierDown, takes, givesBack, What, tick, onChannel70, onSlot}
+use Rattle.rules.specs.Bytes.{padded}
+use Rattle.lines.specs.declared.Kind.{Kind}
+use Rattle.lines.specs.declared.Line.{Line}
+use Rattle.lines.specs.Lines.{Said, setsUp, happens, whatLetter, numbersOf, isSymbol, isNumber, inRange}
+use Rattle.lines.specs.Readable.{kindOf, lineImage}
+use Rattle.lines.proofs.ReadLaws.{padded-front}
+use Rattle.station.specs.declared.Station.{Station}
+use Rattle.station.specs.declared.SetUp.{SetUp}
+use Rattle.script.specs.Answering.{desk, unchanged, afterSetUp, eventAt, handledFor, blocksFor}
+use Rattle.script.specs.Lining.{byteOf, part, kindWhat, isUnreadable, isSetUp, lineEvent, lineHandled, lineBlocks}
+
+-- ── the list behind the first numbers ────────────────────────────────────────
+
+behind-first : (x : ℕ) (l : List ℕ) → length l ≤ 98 → part 1 (length (x ∷ l)) (padded 0 100 (x ∷ l)) ≡ l
+unfolding padded
+behind-first x l h =
+    let e : min 1 (suc (length l)) ≡ 1 = omega arith in
+    let f : suc (length l) - 1 ≡ length l = omega arith in
+    rw (e, f) (padded-front 0 99 l (omega arith))
+
+behind-second : (x y : ℕ) (l : List ℕ) → length l ≤ 97 → part 2 (length (x ∷ y ∷ l)) (padded 0 100 (x ∷ y ∷ l)) ≡ l
+unfolding padded
+behind-second x y l h =
+    let e : min 2 (suc (suc (length l))) ≡ 2 = omega arith in
+    let f : suc (suc (length l)) - 2 ≡ length l = omega arith in
+    rw (e, f) (padded-front 0 98 l (omega arith))
+
+-- ── symbols as bytes ─────────────────────────────────────────────────────────
+
+pub narrow-turn : (ns s : List ℕ) (i v : ℕ) → length ns ≡ 100 → i < 100 → s ≡ paste (replicate 100 0) 0 (map byteOf ns) i → v ≡ byteOf (getD ns i 0)
+    → set s i v ≡ paste (replicate 100 0) 0 (map byteOf ns) (i + 1)
+narrow-turn ns s i v w h e f =
+    rw (e, f, ← List·getD-map byteOf ns i 0) (front-turn (replicate 100 0) (map byteOf ns) i h (omega (arith, length-map ns byteOf)))
+
+narrowed : (n : ℕ) (l : List ℕ) → map byteOf (padded 0 n l) ≡ padded 0 n (map byteOf l)
+unfolding padded
+narrowed zero l = refl
+narrowed (suc n) [] = ap (λ r. 0 ∷ r) (narrowed n [])
+narrowed (suc n) (x ∷ l) = ap (λ r. byteOf x ∷ r) (narrowed n l)
+
+same-bytes : (l : List ℕ) → all isSymbol l ≡ true → map byteOf l ≡ l
+same-bytes [] e = refl
+same-bytes (x ∷ l) e =
+    let h = both-true (isSymbol x) (all isSymbol l) e in
+    let q : byteOf x ≡ x = omega (arith, leb-true x 255 (h .0)) in
+    rw (q, same-bytes l (h .1))
+
+symbols-first : (x : ℕ) (l : List ℕ) → length l ≤ 98 → all isSymbol l ≡ true → part 1 (length (x ∷ l)) (map byteOf (padded 0 100 (x ∷ l))) ≡ l
+symbols-first x l h e =
+    rw (narrowed 100 (x ∷ l), ← length-map (x ∷ l) byteOf) (behind-first (byteOf x) (map byteOf l) (omega (arith, length-map l byteOf)) ∙ same-bytes l e)
+
+symbols-second : (x y : ℕ) (l : List ℕ) → length l ≤ 97 → all isSymbol l ≡ true → part 2 (length (x ∷ y ∷ l)) (map byteOf (padded 0 100 (x ∷ y ∷ l))) ≡ l
+symbols-second x y l h e =
+    rw (narrowed 100 (x ∷ y ∷ l), ← length-map (x ∷ y ∷ l) byteOf) (behind-second (byteOf x) (byteOf y) (map byteOf l) (omega (arith, length-map l byteOf)) ∙ same-bytes l e)
+
+-- ── what is said ─────────────────────────────────────────────────────────────
+
+event-as : (time : ℕ) (what : What) (room : List ℕ) → length (numbersOf (happens time what)) ≤ 99 → inRange (happens time what) ≡ true
+    → lineEvent (lineImage (some (happens time what))) room ≡ eventAt time what room
+unfolding lineEvent kindOf padded inRange
+event-as time tick room h e = refl
+event-as time (onChannel70 symbols) room h e =
+    let s = both-true (isNumber time) (all isSymbol symbols) e .1 in
+    ap (λ l. eventAt time (onChannel70 l) room) (symbols-first time symbols (omega arith) s)
+event-as time (onSlot i (heard symbols)) room h e =
+    let s = both-true (isNumber i) (all isSymbol symbols) (both-true (isNumber time) _ e .1) .1 in
+    ap (λ l. eventAt time (onSlot i (heard l)) room) (symbols-second time i symbols (omega arith) s)
+event-as time (onSlot i offHook) room h e = refl
+event-as time (onSlot i onHook) room h e = refl
+event-as time (onSlot i carrierUp) room h e = refl
+event-as time (onSlot i carrierDown) room h e = refl
+event-as time (onSlot i takes) room h e = refl
+event-as time (onSlot i givesBack) room h e = refl
+
+an-event : (what : What) → (isUnreadable (kindOf (whatLetter what)) ≡ false) × (isSetUp (kindOf (whatLetter what)) ≡ false)
+unfolding kindOf
+an-event tick = (refl, refl)
+an-event (onChannel70 symbols) = (refl, refl)
+an-event (onSlot i (heard symbols)) = (refl, refl)
+an-event (onSlot i offHook) = (refl, refl)
+an-event (onSlot i onHook) = (refl, refl)
+an-event (onSlot i carrierUp) = (refl, refl)
+an-event (onSlot i carrierDown) = (refl, refl)
+an-event (onSlot i takes) = (refl, refl)
+an-event (onSlot i givesBack) = (refl, refl)
+
+-- what an unreadable line says is in range too
+abbrev pub inRangeOf : Option Said → Bool
+inRangeOf none = true
+inRangeOf (some said) = inRange said
+
+module _ (stands : Bool) (station : Station) (room : List ℕ) where
+  pub handled-as : (o : Option Said) → lineImage o .count ≤ 99 → inRangeOf o ≡ true → lineHandled stands station (lineImage o) room ≡ handledFor (desk stands station) room o
+  unfolding lineHandled kindOf padded
+  handled-as none h e = refl
+  handled-as (some (setsUp identity channels)) h e = rw (behind-first identity channels (omega arith))
+  handled-as (some (happens time what)) h e =
+      rw (an-event what .0, an-event what .1, event-as time what room h e)
+
+  pub blocks-as : (o : Option Said) → lineImage o .count ≤ 99 → inRangeOf o ≡ true → lineBlocks stands station (lineImage o) room ≡ blocksFor (desk stands station) room o
+  unfolding lineBlocks kindOf
+  blocks-as none h e = refl
+  blocks-as (some (setsUp identity channels)) h e = refl
+  blocks-as (some (happens time what)) h e =
+      rw (an-event what .0, an-event what .1, event-as time what room h e)
+
+-- ── of a kind ────────────────────────────────────────────────────────────────
+
+pub event-by : (k : Kind) (line : Line) (room : List ℕ) → line .kind ≡ k → lineEvent line room ≡ eventAt (getD (line .numbers) 0 0) (kindWhat k line) room
+unfolding lineEvent
+event-by k line room e = ap (λ x. eventAt (getD (line .numbers) 0 0) (kindWhat x line) room) e
+
+module _ (station : Station) (u v : SetUp) (p : u ≡ v) where
+  pub set-as : u .answer ≡ 0 → unchanged (desk true (u .station)) 0 ≡ afterSetUp (desk false station) v
+  set-as e = rw (← p, eq-eqb (u .answer) 0 e)
+
+  pub set-not : (u .answer ≡ 0 → ⊥) → unchanged (desk false station) (u .answer) ≡ afterSetUp (desk false station) v
+  set-not e = rw (← p, ne-eqb (u .answer) 0 e)

@@ -1,0 +1,73 @@
+-- "40, tested first. No station yet, or an S when one stands: 41. Without a station the rest is `0 0 -`."
+use mathlib.Core.Bool.{Bool, true, cond}
+use mathlib.Core.List.{List}
+use mathlib.Core.Option.{Option, none, some}
+use Prim.Native.Nat.{ℕ}
+use lib.Dec.{eqb}
+use lib.ListN.{length, replicate}
+use Rattle.rules.specs.Words.{What, Event}
+use Rattle.rules.specs.Station.{nextDue}
+use Rattle.slots.specs.Images.{tenths}
+use Rattle.units.specs.declared.Tenths.{Tenths}
+use Rattle.lines.specs.Lines.{Said, setsUp, happens}
+use Rattle.station.specs.declared.NextDue.{NextDue}
+use Rattle.station.specs.declared.NextDue.the-variants.{Never}
+use Rattle.station.specs.declared.SetUp.{SetUp}
+use Rattle.station.specs.declared.Stepped.{Stepped}
+use Rattle.station.specs.declared.Station.{Station}
+use Rattle.station.specs.Model.{modelOf}
+use Rattle.station.specs.Step.{dueImage, steppedBy, roomAfter, setUpBy}
+use Rattle.printing.specs.Replies.{replyText}
+use Rattle.script.specs.declared.Desk.{Desk}
+use Rattle.script.specs.declared.Handled.{Handled}
+
+abbrev pub desk : Bool → Station → Desk
+desk stands station = record { stands = stands; station = station }
+
+-- ── what becomes of the station ──────────────────────────────────────────────
+
+abbrev pub unchanged : Desk → ℕ → Handled
+unchanged d answer = record { answer = answer; count = 0; desk = d }
+
+-- after a refused set-up no station stands
+abbrev pub afterSetUp : Desk → SetUp → Handled
+afterSetUp d u = cond (eqb (u .answer) 0) (record { answer = 0; count = 0; desk = desk true (u .station) }) (unchanged d (u .answer))
+
+abbrev pub afterEvent : Stepped → Handled
+afterEvent s = record { answer = s .answer; count = s .count; desk = desk true (s .station) }
+
+abbrev pub eventAt : ℕ → What → List ℕ → Event
+eventAt time what room = record { time = time; room = length room; what = what }
+
+abbrev pub handledFor : Desk → List ℕ → Option Said → Handled
+handledFor d room none = unchanged d 40
+handledFor d room (some (setsUp identity channels)) = cond (d .stands) (unchanged d 41) (afterSetUp d (setUpBy identity channels))
+handledFor d room (some (happens time what)) = cond (d .stands) (afterEvent (steppedBy (d .station) (eventAt time what room))) (unchanged d 41)
+
+-- ── the actions ──────────────────────────────────────────────────────────────
+
+abbrev pub blocksFor : Desk → List ℕ → Option Said → List ℕ
+blocksFor d room none = room
+blocksFor d room (some (setsUp identity channels)) = room
+blocksFor d room (some (happens time what)) = cond (d .stands) (roomAfter (d .station) room (eventAt time what room)) room
+
+-- ── what is printed ──────────────────────────────────────────────────────────
+
+abbrev pub clockOf : Desk → Tenths
+clockOf d = cond (d .stands) (d .station .clock) (tenths 0)
+
+abbrev pub dueOf : Desk → NextDue
+dueOf d = cond (d .stands) (dueImage (nextDue (modelOf (d .station)))) Never
+
+abbrev pub shownFor : Handled → List ℕ → List ℕ
+shownFor h blocks = replyText (h .answer) (clockOf (h .desk) .0) (h .count) (dueOf (h .desk)) blocks
+
+-- a room of 320 bytes, all zero, is lent to each event
+abbrev pub noBlocks : List ℕ
+noBlocks = replicate 320 0
+
+unfoldable pub deskAfter : Desk → Option Said → Desk
+deskAfter d said = handledFor d noBlocks said .desk
+
+unfoldable pub replyTo : Desk → Option Said → List ℕ
+replyTo d said = shownFor (handledFor d noBlocks said) (blocksFor d noBlocks said)

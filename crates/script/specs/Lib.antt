@@ -1,0 +1,4 @@
+pub mod Answering
+pub mod Lining
+pub mod Session
+pub mod Transcript

@@ -1,0 +1,54 @@
+-- "The script program reads standard input": what a whole script prints.
+use mathlib.Core.Bool.{cond}
+use mathlib.Core.List.{List, [], _∷_, _++_}
+use mathlib.Core.Path.{_≡_}
+use Prim.Native.Nat.{ℕ, _≤_}
+use lib.Dec.{eqb, ltb}
+use lib.ListN.{length, take, drop}
+use Rattle.lines.specs.Readable.{readsAs}
+use Rattle.script.specs.declared.Desk.{Desk}
+use Rattle.script.specs.Answering.{deskAfter, replyTo}
+use Rattle.script.specs.declared.Session.{Session}
+use Rattle.script.specs.Session.{noText, addBytes, beforeFeed, begun, fedWith, roomWith, ended, roomEnded}
+
+-- a last line without a line feed is answered; nothing after the last line feed is no line
+abbrev pub lastWords : Desk → List ℕ → List ℕ
+lastWords d [] = []
+lastWords d (b ∷ l) = replyTo d (readsAs (b ∷ l))
+
+-- with a line so far
+unfoldable pub talk : Desk → List ℕ → List ℕ → List ℕ
+talk d line [] = lastWords d line
+talk d line (b ∷ script) =
+    cond (eqb b 10)
+    (replyTo d (readsAs line) ++ talk (deskAfter d (readsAs line)) [] script)
+    (talk d (line ++ (b ∷ [])) script)
+
+unfoldable pub transcript : List ℕ → List ℕ
+transcript script = talk (begun .desk) [] script
+
+-- ── a session that is fed with a script prints its transcript ────────────────
+
+-- with a desk and a line so far
+abbrev pub sessionOf : Desk → List ℕ → Session
+sessionOf d line = record { desk = d; text = addBytes noText line }
+
+abbrev pub lineAfter : List ℕ → List ℕ → List ℕ
+lineAfter line bytes = cond (ltb (beforeFeed bytes) (length bytes)) [] (line ++ bytes)
+
+-- what is answered to some bytes, and then what is said to the rest
+abbrev pub Feeds : Type 0
+Feeds =
+    (d : Desk) (line bytes more room : List ℕ) → 4096 ≤ length room
+    → (talk d line (bytes ++ more)
+    ≡ take (fedWith (sessionOf d line) bytes room .count) (roomWith (sessionOf d line) bytes room)
+    ++ talk (fedWith (sessionOf d line) bytes room .session .desk) (lineAfter line bytes) (drop (fedWith (sessionOf d line) bytes room .used) bytes ++ more))
+    × (fedWith (sessionOf d line) bytes room .session ≡ sessionOf (fedWith (sessionOf d line) bytes room .session .desk) (lineAfter line bytes))
+
+-- at the end of the input
+abbrev pub Ends : Type 0
+Ends = (d : Desk) (line room : List ℕ) → 4096 ≤ length room → talk d line [] ≡ take (ended (sessionOf d line) room .count) (roomEnded (sessionOf d line) room)
+
+-- and a session begins with no line
+abbrev pub Begins : Type 0
+Begins = (script : List ℕ) → (transcript script ≡ talk (begun .desk) [] script) × (begun ≡ sessionOf (begun .desk) [])

@@ -1,0 +1,116 @@
+// A session is fed with bytes, and answers each line.
+ghost use mathlib.Core.Path.{_≡_};
+ghost use Rattle.printing.specs.Replies.{putText};
+ghost use Rattle.script.specs.Answering.{desk, replyTo};
+ghost use Rattle.script.specs.Session.{begun, saysText, answered, fedWith, roomWith, ended, roomEnded};
+use crate::Desk;
+use crate::Fed;
+use crate::Session;
+use crate::Text;
+use crate::desks::clock_of;
+use crate::desks::due_of;
+use crate::desks::handle;
+use crate::texts::before_feed;
+use crate::texts::line_of;
+use crate::texts::no_text;
+use crate::texts::with_bytes;
+use printing::put_reply;
+use station::Station;
+
+// The answer to a whole line, and a session that waits for the next one.
+fn answer(used: usize, stands: bool, station: Station, text: Text, out: &mut [u8]) -> Fed
+    ensures { λ r. ⌜ r ≡ answered used stands station text (now (out .entry)) ⌝ }
+    ensures { λ _. ⌜ now (out .exit) ≡ putText (now (out .entry)) (replyTo (desk stands station) (saysText text)) ⌝ }
+{
+    let mut blocks = [0u8; 320];
+    let line = line_of(text);
+    let h = handle(stands, station, line, &mut blocks);
+    let d = h.desk;
+    let b = d.stands;
+    let s = d.station;
+    let count = put_reply(h.answer, clock_of(b, s), h.count, due_of(b, s), blocks, out);
+    let t = no_text();
+    let session = Session { desk: d, text: t };
+    Fed {
+        used: used,
+        count: count,
+        session: session,
+    }
+}
+
+impl Session {
+    // "No station yet".
+    pub fn begin() -> Session
+        ensures { λ r. ⌜ r ≡ begun ⌝ }
+    {
+        let none = [0u32; 1];
+        let u = Station::set_up(0, &none[..0]);
+        let s = u.station;
+        let d = Desk {
+            stands: false,
+            station: s,
+        };
+        let t = no_text();
+        Session { desk: d, text: t }
+    }
+
+    // Takes bytes up to the first line feed and with it; a line that ends is answered into a room of 4,096 bytes. Nothing is
+    // taken where the room is shorter.
+    pub fn feed(self, bytes: &[u8], out: &mut [u8]) -> Fed
+        ensures { λ r. ⌜ r ≡ fedWith self (now (bytes .entry)) (now (out .entry)) ⌝ }
+        ensures { λ _. ⌜ now (out .exit) ≡ roomWith self (now (bytes .entry)) (now (out .entry)) ⌝ }
+    {
+        if out.len() < 4096 {
+            return Fed {
+                used: 0,
+                count: 0,
+                session: self,
+            };
+        }
+        let d = self.desk;
+        let t = self.text;
+        let k = before_feed(bytes);
+        let text = with_bytes(t, &bytes[..k]);
+        if k < bytes.len() {
+            let stands = d.stands;
+            let station = d.station;
+            return answer(k + 1, stands, station, text, out);
+        }
+        let session = Session {
+            desk: d,
+            text: text,
+        };
+        Fed {
+            used: k,
+            count: 0,
+            session: session,
+        }
+    }
+
+    // At the end of the input a last line without a line feed is answered.
+    pub fn finish(self, out: &mut [u8]) -> Fed
+        ensures { λ r. ⌜ r ≡ ended self (now (out .entry)) ⌝ }
+        ensures { λ _. ⌜ now (out .exit) ≡ roomEnded self (now (out .entry)) ⌝ }
+    {
+        if out.len() < 4096 {
+            return Fed {
+                used: 0,
+                count: 0,
+                session: self,
+            };
+        }
+        let d = self.desk;
+        let t = self.text;
+        let n = t.length;
+        if n == 0 {
+            return Fed {
+                used: 0,
+                count: 0,
+                session: self,
+            };
+        }
+        let stands = d.stands;
+        let station = d.station;
+        answer(0, stands, station, t, out)
+    }
+}
