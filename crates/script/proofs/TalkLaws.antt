@@ -20,10 +20,11 @@ use Rattle.printing.specs.Texts.{putAt}
 use Rattle.printing.specs.Replies.{putText, putLength}
 use Rattle.printing.proofs.ReplyLaws.{reply-length}
 use Rattle.script.specs.declared.Desk.{Desk}
+use Rattle.script.specs.declared.Session.{Session}
 use Rattle.script.specs.declared.Text.{Text}
 use Rattle.script.specs.Answering.{handledFor, blocksFor, clockOf, dueOf, noBlocks, deskAfter, replyTo}
 use Rattle.script.specs.Session.{noText, addByte, addBytes, saysText, beforeFeed, begun, fedFor, roomFor, fedWith, roomWith, ended, roomEnded}
-use Rattle.script.specs.Transcript.{talk, transcript, sessionOf, lineAfter, Feeds, Ends, Begins}
+use Rattle.script.specs.Transcript.{talk, transcript, sessionOf, lineAfter, Feeds, Ends, Begins, Prints, fed, over, PrintsTranscript}
 
 -- ── the line so far says what the line says ──────────────────────────────────
 
@@ -165,3 +166,16 @@ ends d (b ∷ l) room h =
 pub begins : Begins
 unfolding transcript begun
 begins script = (refl, refl)
+
+-- ── the whole ────────────────────────────────────────────────────────────────
+
+as-said : {s : Session} {script printed : List ℕ} → Prints s script printed → (d : Desk) (line : List ℕ) → s ≡ sessionOf d line → printed ≡ talk d line script
+as-said (fed s bytes more room rest h p) d line e =
+    let f = feeds d line bytes more room h in
+    let i : rest ≡ talk (fedWith s bytes room .session .desk) (lineAfter line bytes) (drop (fedWith s bytes room .used) bytes ++ more) =
+    as-said p (fedWith s bytes room .session .desk) (lineAfter line bytes) (rw e (f .1)) in
+    rw (i, e) (sym (f .0))
+as-said (over s room h) d line e = rw e (sym (ends d line room h))
+
+pub prints-transcript : PrintsTranscript
+prints-transcript script printed p = as-said p (begun .desk) [] (begins script .1) ∙ sym (begins script .0)

@@ -52,3 +52,13 @@ Ends = (d : Desk) (line room : List ℕ) → 4096 ≤ length room → talk d lin
 -- and a session begins with no line
 abbrev pub Begins : Type 0
 Begins = (script : List ℕ) → (transcript script ≡ talk (begun .desk) [] script) × (begun ≡ sessionOf (begun .desk) [])
+
+-- what a session prints of an input that comes in pieces, each fed into a room of its own
+pub data Prints : Session → List ℕ → List ℕ → Type 0 where
+  fed : (s : Session) (bytes more room rest : List ℕ) → 4096 ≤ length room → Prints (fedWith s bytes room .session) (drop (fedWith s bytes room .used) bytes ++ more) rest
+      → Prints s (bytes ++ more) (take (fedWith s bytes room .count) (roomWith s bytes room) ++ rest)
+  over : (s : Session) (room : List ℕ) → 4096 ≤ length room → Prints s [] (take (ended s room .count) (roomEnded s room))
+
+-- however the input is cut, that is its transcript
+abbrev pub PrintsTranscript : Type 0
+PrintsTranscript = (script printed : List ℕ) → Prints begun script printed → printed ≡ transcript script
