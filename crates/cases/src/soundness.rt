@@ -17,6 +17,7 @@ use slots::Carrier;
 use slots::Phase;
 use station::Station;
 use units::Tenths;
+use units::Told;
 
 fn try_records(tally: Tally) -> Tally {
     let t = tally.answered(b"a busy station made by hand is sound", ticked(busy()), 0);
@@ -28,12 +29,12 @@ fn try_records(tally: Tally) -> Tally {
     let t = t.answered(b"29 33 ships wait", ticked(with_counts(2, 33)), 29);
     let t = t.answered(
         b"29 a ship talks and waits",
-        ticked(with_waiting(200056789)),
+        ticked(with_waiting(200056789, 2000)),
         29,
     );
     t.answered(
         b"29 a coast station waits",
-        ticked(with_waiting(2001235)),
+        ticked(with_waiting(2001235, 2000)),
         29,
     )
 }
@@ -109,8 +110,48 @@ fn try_times(tally: Tally) -> Tally {
     )
 }
 
+fn try_waits(tally: Tally) -> Tally {
+    let ring = Phase::RingBack(Tenths(1052));
+    let again = Phase::RingAgain(Tenths(1052));
+    let agreed = Phase::Acknowledged(Tenths(1162));
+    let reply = Phase::Dialling(Tenths(1602), Carrier::Present);
+    let hold = Phase::Hold(Tenths(1042), Told::Nothing);
+    let t = tally.answered(
+        b"29 a ring-back is a tenth too long",
+        ticked(in_phase(ring)),
+        29,
+    );
+    let t = t.answered(
+        b"29 a second ring-back is a tenth too long",
+        ticked(in_phase(again)),
+        29,
+    );
+    let t = t.answered(
+        b"29 an acknowledged slot waits a tenth too long",
+        ticked(in_phase(agreed)),
+        29,
+    );
+    let t = t.answered(
+        b"29 a reply is awaited a tenth too long",
+        ticked(in_phase(reply)),
+        29,
+    );
+    let t = t.answered(b"29 a hold is a tenth too long", ticked(in_phase(hold)), 29);
+    let t = t.answered(
+        b"a ship that waits to 9001 after the clock is sound",
+        ticked(with_waiting(200056790, 10001)),
+        0,
+    );
+    t.answered(
+        b"29 a ship waits a tenth too long",
+        ticked(with_waiting(200056790, 10002)),
+        29,
+    )
+}
+
 pub(crate) fn try_soundness(tally: Tally) -> Tally {
     let t = try_records(tally);
     let t = try_stored(t);
-    try_times(t)
+    let t = try_times(t);
+    try_waits(t)
 }

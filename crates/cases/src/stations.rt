@@ -58,12 +58,16 @@ fn usual_slot() -> Slot {
     slot_of(26, usual_phase(), usual_request())
 }
 
-fn waiting_ship(ship: u32) -> Waiting {
+fn waiting(ship: u32, due: u32) -> Waiting {
     let request = request_of(ship, 2001234, number_of(7, 0));
     Waiting {
-        due: Tenths(2000),
+        due: Tenths(due),
         request: request,
     }
+}
+
+fn usual_waiting() -> Waiting {
+    waiting(200056790, 2000)
 }
 
 // Slots of channel 26, which is given, and 27, which is free; one ship given for the queue's first place.
@@ -86,13 +90,13 @@ fn made(clock: u32, identity: u32, count: u8, waiting: u8, slot: Slot, first: Wa
 }
 
 pub(crate) fn busy() -> Station {
-    made(1000, 2001234, 2, 1, usual_slot(), waiting_ship(200056790))
+    made(1000, 2001234, 2, 1, usual_slot(), usual_waiting())
 }
 
 // With nobody in a slot or waiting.
 fn idle(clock: u32, identity: u32) -> Station {
     let slot = slot_of(26, Phase::Free, usual_request());
-    made(clock, identity, 2, 0, slot, waiting_ship(200056790))
+    made(clock, identity, 2, 0, slot, usual_waiting())
 }
 
 pub(crate) fn at_clock(clock: u32) -> Station {
@@ -104,18 +108,11 @@ pub(crate) fn named(identity: u32) -> Station {
 }
 
 pub(crate) fn with_counts(count: u8, waiting: u8) -> Station {
-    made(
-        1000,
-        2001234,
-        count,
-        waiting,
-        usual_slot(),
-        waiting_ship(200056790),
-    )
+    made(1000, 2001234, count, waiting, usual_slot(), usual_waiting())
 }
 
 fn with_slot(slot: Slot) -> Station {
-    made(1000, 2001234, 2, 1, slot, waiting_ship(200056790))
+    made(1000, 2001234, 2, 1, slot, usual_waiting())
 }
 
 pub(crate) fn in_phase(phase: Phase) -> Station {
@@ -130,8 +127,8 @@ pub(crate) fn on_channel(channel: u32) -> Station {
     with_slot(slot_of(channel, usual_phase(), usual_request()))
 }
 
-pub(crate) fn with_waiting(ship: u32) -> Station {
-    made(1000, 2001234, 2, 1, usual_slot(), waiting_ship(ship))
+pub(crate) fn with_waiting(ship: u32, due: u32) -> Station {
+    made(1000, 2001234, 2, 1, usual_slot(), waiting(ship, due))
 }
 
 pub(crate) fn hold_of_sixty_minutes() -> Phase {
