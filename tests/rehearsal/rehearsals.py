@@ -1,5 +1,5 @@
 """Scripts by their seeds, run by two programs, and the first line where these differ."""
-import collections, concurrent.futures, filecmp, itertools, os, re, subprocess, tempfile
+import collections, concurrent.futures, filecmp, itertools, os, re, shutil, subprocess, tempfile
 
 ROOT = os.path.normpath(os.path.join(os.path.dirname(os.path.abspath(__file__)), '..', '..'))
 SECOND = os.path.join(ROOT, 'tests', 'second')
@@ -38,6 +38,14 @@ class Room(tempfile.TemporaryDirectory):
         objects = [self.path(part + '.o') for part in PARTS if part not in anew]
         self.compile(*sources, *objects, '-o', self.path(name))
         return self.path(name)
+
+    def edited(self, name, edit):
+        """The script program with an edit made in it; or None where the edit does not fit."""
+        folder = self.path(f'of-{name}')
+        shutil.copytree(SECOND, folder)
+        if edit and subprocess.run([os.path.join(ROOT, 'tests', 'edited'), edit, folder]).returncode != 0:
+            return None
+        return self.build(folder, name)
 
     def script(self, seed):
         """The script of a seed, and how often it reaches each situation."""

@@ -1,0 +1,90 @@
+// 30: a room under 320 bytes; and which bytes of a room stay as they were.
+use crate::Tally;
+use crate::stations::busy;
+use crate::stations::named;
+use check::same;
+use station::Station;
+use station::Stepped;
+use units::Tenths;
+
+// What a case gets in place of an answer where a byte was written that should have stayed.
+pub(crate) const CHANGED: u8 = 255;
+
+pub(crate) fn untouched_from(room: [u8; 320], from: usize) -> bool {
+    let before = [165u8; 320];
+    if 320 < from {
+        return false;
+    }
+    same(&room[from..], &before[from..])
+}
+
+fn tick_in_part(station: Station, time: u32, room: &mut [u8], n: usize) -> Stepped {
+    if n < room.len() {
+        return station.tick(Tenths(time), &mut room[0..n]);
+    }
+    station.tick(Tenths(time), room)
+}
+
+// The answer to a tick in the first n bytes of a room. A refusal has no action.
+fn ticked_in(station: Station, time: u32, n: usize) -> u8 {
+    let mut room = [165u8; 320];
+    let stepped = tick_in_part(station, time, &mut room, n);
+    if untouched_from(room, stepped.count as usize * 40) {
+        return stepped.answer;
+    }
+    CHANGED
+}
+
+// The answer to a tick at the station's own clock.
+pub(crate) fn ticked(station: Station) -> u8 {
+    let clock = station.clock;
+    ticked_in(station, clock.0, 320)
+}
+
+// How many actions rule c gives where a slot is free and a ship waits, which no run leads to.
+fn most_actions() -> u8 {
+    let symbols = [
+        123,
+        0,
+        20,
+        1,
+        23,
+        40,
+        100,
+        20,
+        0,
+        56,
+        78,
+        90,
+        100,
+        126,
+        126,
+        126,
+        126,
+        105,
+        5,
+        55,
+        12,
+        34,
+        117,
+        105u8,
+    ];
+    let mut room = [165u8; 320];
+    let stepped = busy().heard_on_channel_70(Tenths(1100), &symbols, &mut room);
+    stepped.count
+}
+
+pub(crate) fn try_rooms(tally: Tally) -> Tally {
+    let enough = ticked_in(busy(), 1000, 320);
+    let six = ticked_in(busy(), 1451, 320);
+    let unsound = ticked_in(named(200056789), 1000, 319);
+    let late = ticked_in(busy(), 4000000001, 319);
+    let t = tally.answered(b"30 a room of 319 bytes", ticked_in(busy(), 1000, 319), 30);
+    let t = t.answered(b"30 no room at all", ticked_in(busy(), 1000, 0), 30);
+    let t = t.answered(b"a room of 320 bytes is enough", enough, 0);
+    let t = t.answered(b"six actions, and the bytes after them stay", six, 0);
+    let t = t.answered(b"eight actions are the most: rule c", most_actions(), 8);
+    let t = t.answered(b"29 before 30", unsound, 29);
+    let t = t.answered(b"30 before 31", late, 30);
+    t.answered(b"30 before 32", ticked_in(busy(), 999, 319), 30)
+}

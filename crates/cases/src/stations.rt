@@ -1,0 +1,141 @@
+// Stations made by hand: one that is sound, and those that differ from it in one thing.
+use requests::Mode;
+use requests::Request;
+use sequence::Number;
+use slots::Carrier;
+use slots::Phase;
+use slots::Slot;
+use slots::Waiting;
+use station::Station;
+use units::Channel;
+use units::Duration;
+use units::Tenths;
+use units::Told;
+
+// A number that begins with 5551234, and the digit behind it.
+pub(crate) fn number_of(count: u8, eighth: u8) -> Number {
+    Number {
+        count: count,
+        digits: [5, 5, 5, 1, 2, 3, 4, eighth, 0, 0, 0, 0, 0, 0, 0, 0],
+    }
+}
+
+pub(crate) fn no_number() -> Number {
+    Number {
+        count: 0,
+        digits: [0u8; 16],
+    }
+}
+
+pub(crate) fn request_of(ship: u32, station: u32, number: Number) -> Request {
+    Request {
+        ship: ship,
+        station: station,
+        mode: Mode::Simplex,
+        second: 126,
+        number: number,
+    }
+}
+
+fn slot_of(channel: u32, phase: Phase, request: Request) -> Slot {
+    Slot {
+        phase: phase,
+        channel: Channel(channel),
+        request: request,
+    }
+}
+
+fn usual_request() -> Request {
+    request_of(200056789, 2001234, number_of(7, 0))
+}
+
+// Answered since 900; silent, due at 1451.
+fn usual_phase() -> Phase {
+    Phase::Answered(Tenths(900), Carrier::Lost(Tenths(1451)))
+}
+
+fn usual_slot() -> Slot {
+    slot_of(26, usual_phase(), usual_request())
+}
+
+fn waiting(ship: u32, due: u32) -> Waiting {
+    let request = request_of(ship, 2001234, number_of(7, 0));
+    Waiting {
+        due: Tenths(due),
+        request: request,
+    }
+}
+
+fn usual_waiting() -> Waiting {
+    waiting(200056790, 2000)
+}
+
+// Slots of channel 26, which is given, and 27, which is free; one ship given for the queue's first place.
+fn made(clock: u32, identity: u32, count: u8, waiting: u8, slot: Slot, first: Waiting) -> Station {
+    let channels = [26u32, 27];
+    let u = Station::set_up(2001234, &channels);
+    let fresh = u.station;
+    let mut slots = fresh.slots;
+    let mut queue = fresh.queue;
+    slots[0] = slot;
+    queue[0] = first;
+    Station {
+        clock: Tenths(clock),
+        identity: identity,
+        count: count,
+        waiting: waiting,
+        slots: slots,
+        queue: queue,
+    }
+}
+
+pub(crate) fn busy() -> Station {
+    made(1000, 2001234, 2, 1, usual_slot(), usual_waiting())
+}
+
+// With nobody in a slot or waiting.
+fn idle(clock: u32, identity: u32) -> Station {
+    let slot = slot_of(26, Phase::Free, usual_request());
+    made(clock, identity, 2, 0, slot, usual_waiting())
+}
+
+pub(crate) fn at_clock(clock: u32) -> Station {
+    idle(clock, 2001234)
+}
+
+pub(crate) fn named(identity: u32) -> Station {
+    idle(1000, identity)
+}
+
+pub(crate) fn with_counts(count: u8, waiting: u8) -> Station {
+    made(1000, 2001234, count, waiting, usual_slot(), usual_waiting())
+}
+
+fn with_slot(slot: Slot) -> Station {
+    made(1000, 2001234, 2, 1, slot, usual_waiting())
+}
+
+pub(crate) fn in_phase(phase: Phase) -> Station {
+    with_slot(slot_of(26, phase, usual_request()))
+}
+
+pub(crate) fn storing(request: Request) -> Station {
+    with_slot(slot_of(26, usual_phase(), request))
+}
+
+pub(crate) fn on_channel(channel: u32) -> Station {
+    with_slot(slot_of(channel, usual_phase(), usual_request()))
+}
+
+pub(crate) fn with_waiting(ship: u32, due: u32) -> Station {
+    made(1000, 2001234, 2, 1, usual_slot(), waiting(ship, due))
+}
+
+pub(crate) fn hold_of_sixty_minutes() -> Phase {
+    let d = Duration {
+        hours: 0,
+        minutes: 60,
+        seconds: 0,
+    };
+    Phase::Hold(Tenths(1041), Told::Lasting(d))
+}

@@ -1,0 +1,59 @@
+// Right and wrong cases are counted and told.
+use crate::Tally;
+use crate::saying::say;
+use crate::saying::say_number;
+
+pub(crate) fn one_more(n: u64) -> u64 {
+    if n == u64::MAX {
+        return n;
+    }
+    n + 1
+}
+
+impl Tally {
+    pub(crate) fn begin() -> Tally {
+        Tally { cases: 0, wrong: 0 }
+    }
+
+    pub(crate) fn right(self) -> Tally {
+        say(b"ok\n");
+        Tally {
+            cases: one_more(self.cases),
+            wrong: self.wrong,
+        }
+    }
+
+    // What went wrong was told already.
+    pub(crate) fn wrong(self) -> Tally {
+        Tally {
+            cases: one_more(self.cases),
+            wrong: one_more(self.wrong),
+        }
+    }
+
+    pub(crate) fn missing(self, path: &[u8]) -> Tally {
+        say(path);
+        say(b": WRONG, it cannot be read whole\n");
+        self.wrong()
+    }
+
+    // A case that is one answer: its title, and the number given beside the number wanted.
+    pub(crate) fn answered(self, title: &[u8], given: u8, wanted: u8) -> Tally {
+        say(title);
+        if given == wanted {
+            say(b": ");
+            return self.right();
+        }
+        say(b": WRONG, the answer was ");
+        say_number(given as u64);
+        say(b"\n");
+        self.wrong()
+    }
+
+    pub(crate) fn tell(self) {
+        say_number(self.cases);
+        say(b" cases, ");
+        say_number(self.wrong);
+        say(b" wrong\n");
+    }
+}
