@@ -91,9 +91,6 @@ module _ (c : Config) (m : R.Station) (good : sound c m ≡ true) (x : Step) (on
     pub refused-back : x .back ≡ record { answer = n; count = 0; due = dueImage (nextDue m); station = imageOf c m }
     refused-back = rw (model-is, on) at (back-for x (allowed-does x allowed) (some n) (judged ∙ v))
 
-    pub refused-left : x .left ≡ x .lent
-    refused-left = left-for x (allowed-does x allowed) (some n) (judged ∙ v)
-
 -- ── what it shows, and what it leaves in the list ────────────────────────────
 
 due-back : (o : Option ℕ) → dueIn (dueImage o) ≡ dueShown o
