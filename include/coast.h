@@ -1,8 +1,10 @@
-/* The coast station's library for C: reads and writes one channel 70 sequence. Link libexchange.a, built for x86-64.
+/* The coast station's library for C: the station with its events, and the reader and writer of one channel 70 sequence.
+ * Link libexchange.a, built for x86-64.
  *
- * Every input has an answer: any bytes, any lengths. Nothing is allocated, and nothing is kept from one call to the next,
- * so any thread may call at any time. A pointer must be good for the count of bytes given after it, and may be null where
- * that count is 0. The bytes that are read and the bytes that are written must not overlap. */
+ * Every input has an answer: any bytes, any lengths. Nothing is allocated, and nothing is kept from one call to the next:
+ * a station lives in bytes that the host lends, and any thread may call at any time with bytes of its own. A pointer must
+ * be good for the count of bytes given after it, and may be null where that count is 0. The bytes that are read and the
+ * bytes that are written, and two that are written, must not overlap. */
 #ifndef COAST_H
 #define COAST_H
 
@@ -49,6 +51,15 @@ extern "C" {
 #define COAST_BAD_END 20           /* the end of sequence is not 117, 122 or 127 */
 #define COAST_ROOM_SHORT 21        /* the room to write a sequence in is under 28 bytes */
 #define COAST_MEANING_SHORT 22     /* the meaning's bytes are fewer than 32 */
+#define COAST_IGNORED 1            /* an event that does nothing but move the clock on */
+#define COAST_NOT_SOUND 29         /* the station is not sound, or its bytes are not 1722 */
+#define COAST_ACTIONS_SHORT 30     /* the room for actions is under 320 bytes */
+#define COAST_TIME_TOO_LATE 31     /* the time is over 4,000,000,000 */
+#define COAST_TIME_BEFORE_CLOCK 32 /* the time is before the station's clock */
+#define COAST_WAIT_DUE 33          /* a wait is due by this time, and the event is no tick: hand in a tick first */
+#define COAST_NO_SLOT 34           /* there is no slot of this number */
+#define COAST_OPERATOR 35          /* takes a slot that is not free, or gives back one that is not taken */
+#define COAST_BAD_SET_UP 36        /* not a coast station's identity, or not 1 to 16 different working channels */
 
 /* Reads the sequence of `count` symbols into the `size` bytes at `meaning`.
  * Returns 0 and fills the first 32 of those bytes; or returns the first of 22, 11, 12, 13, 14, 15, 16, 17, 18, 19, 20
@@ -64,14 +75,107 @@ uint32_t coast_read_sequence(const uint8_t *symbols, size_t count, uint8_t *mean
  * refusal, stay as they were. The room must have 28 bytes even where the sequence is shorter. */
 uint32_t coast_write_sequence(const uint8_t *meaning, size_t size, uint8_t *room, size_t room_size);
 
-/* The answer in what coast_write_sequence returned. */
-static inline uint32_t coast_answer(uint32_t returned) {
-    return returned & 255u;
+/* A station lives in 1722 bytes that the host lends; nobody but the library needs to look inside. Numbers stand low byte
+ * first. `coast_set_up` fills them, and every event that is answered 0 or 1 leaves the next station there; beside any other
+ * answer not a byte changes. They may be copied, kept and handed in again, at any place. Bytes that the library did not
+ * leave are judged like any others.
+ *
+ *    0  4  clock, in tenths of a second          in each slot:
+ *    4  4  the station's identity                   0  1  phase: 0 free, 1 offered, 2 ring-back, 3 ring-back repeated,
+ *    8  1  count of slots                                 4 acknowledged, 5 dialling, 6 answered, 7 hold, 8 taken
+ *    9  1  count of waiting ships                   1  4  due time (1 to 5, 7), or the time since when (6)
+ *   10     16 slots of 45 bytes                     5  1  the ship's carrier (5, 6): 0 present, 1 lost
+ *  730     32 waiting ships of 31 bytes,            6  4  due time of a carrier that is lost
+ *          the oldest first                        10  1  what was told (7): 0 nothing, 1 a duration
+ *                                                  11  3  hours, minutes, seconds
+ *  in each stored request:                         14  4  channel
+ *    0  4  ship                                    18 27  request, in the phases 1 to 7
+ *    4  4  station called
+ *    8  1  mode: 0 simplex, 1 duplex             in each waiting ship:
+ *    9  1  second telecommand                       0  4  due time
+ *   10  1  count of digits                          4 27  request
+ *   11 16  digits, one a byte
+ *
+ * What the library leaves is 0 wherever nothing is named: in slots and waiting ships past the counts, and in the parts that
+ * a phase does not use. What stands there in bytes that are handed in is not looked at. A phase over 8, and a carrier, a
+ * duration's mark or a mode over 1 where it is looked at, is 29. */
+#define COAST_STATION_SIZE 1722
+
+/* Actions: an event lays at most eight at the front of the lent room, in the order in which they are to be done; coast_count
+ * of what it returned says how many. The room must have 320 bytes even where there are fewer. */
+#define COAST_ACTIONS_SIZE 320
+#define COAST_ACTION_SIZE 40
+#define COAST_AT_ACTION_KIND 0     /* one of the seven kinds below */
+#define COAST_AT_ACTION_SLOT 1     /* the slot's number, or 255 in an answer that gives no slot */
+#define COAST_AT_ACTION_LENGTH 2   /* count of the payload's bytes */
+#define COAST_AT_ACTION_PAYLOAD 4  /* the payload, at most 36 bytes; zeros behind it, and at byte 3 */
+
+#define COAST_CARRIER_ON 1
+#define COAST_CARRIER_OFF 2
+#define COAST_SEND_CHANNEL_70 3    /* payload: a sequence of 21 to 28 symbols, to send on channel 70 */
+#define COAST_SEND_WORKING 4       /* payload: a sequence, to send on the slot's working channel */
+#define COAST_DIAL 5               /* payload: the digits 0 to 9 to dial, one a byte */
+#define COAST_RELEASE_LINE 6
+#define COAST_CHARGE 7             /* payload: ship, start and stop in tenths, seconds; four bytes each, low byte first */
+
+/* What the entries below return is one number: coast_answer, coast_count, coast_waits and coast_due take it apart.
+ *
+ * Sets a station up in the `size` bytes at `station`, with a slot for each of the `count` channels, one a byte, in the
+ * list's order; all slots free, the clock at 0. Answers 0; or 29 where the size is not 1722, or else 36, and no byte
+ * changes. */
+uint64_t coast_set_up(uint32_t identity, const uint8_t *channels, size_t count, uint8_t *station, size_t size);
+
+/* When the station must be handed a tick, at the latest: coast_waits and coast_due of what is returned. Answers 0, or 29. */
+uint64_t coast_next_due(const uint8_t *station, size_t size);
+
+/* The events, each at a time in tenths of a second. Each answers 0 (done) or 1 (ignored), leaves the next station in
+ * place of the one that came in, and its actions at the front of the room; bytes behind the last action stay. Or it
+ * answers the first that fits of those told below, in the order told; then the count is 0, and not a byte of the station
+ * or of the room changes. coast_waits and coast_due tell the next due time of the station as it then stands, unless the
+ * size is not 1722. */
+
+/* The time has come: the earliest wait that is due fires, one a call, at its own due time; with none due the clock moves
+ * on. Hand in ticks until coast_due is past the time. Answers 0; or 29, 30, 31, 32. */
+uint64_t coast_tick(uint8_t *station, size_t size, uint32_t time, uint8_t *room, size_t room_size);
+
+/* A sequence was heard on channel 70. Answers 0, 1; or 29, 30, 31, 32, 33, 11 to 20. */
+uint64_t coast_heard_on_channel_70(uint8_t *station, size_t size, uint32_t time, const uint8_t *symbols, size_t count,
+                                   uint8_t *room, size_t room_size);
+
+/* A sequence was heard on a slot's working channel. Answers 0, 1; or 29, 30, 31, 32, 33, 34, 11 to 20. */
+uint64_t coast_heard_on_slot(uint8_t *station, size_t size, uint32_t time, uint32_t slot, const uint8_t *symbols,
+                             size_t count, uint8_t *room, size_t room_size);
+
+/* The ship's carrier on a slot's working channel comes, or goes. Answers 0, 1; or 29, 30, 31, 32, 33, 34. */
+uint64_t coast_carrier_up(uint8_t *station, size_t size, uint32_t time, uint32_t slot, uint8_t *room, size_t room_size);
+uint64_t coast_carrier_down(uint8_t *station, size_t size, uint32_t time, uint32_t slot, uint8_t *room, size_t room_size);
+
+/* Ashore the handset of a slot's line is lifted, or put down. Answers 0, 1; or 29, 30, 31, 32, 33, 34. */
+uint64_t coast_off_hook(uint8_t *station, size_t size, uint32_t time, uint32_t slot, uint8_t *room, size_t room_size);
+uint64_t coast_on_hook(uint8_t *station, size_t size, uint32_t time, uint32_t slot, uint8_t *room, size_t room_size);
+
+/* The operator takes a free slot, or gives a taken one back. Answers 0; or 29, 30, 31, 32, 33, 34, 35. */
+uint64_t coast_take(uint8_t *station, size_t size, uint32_t time, uint32_t slot, uint8_t *room, size_t room_size);
+uint64_t coast_give_back(uint8_t *station, size_t size, uint32_t time, uint32_t slot, uint8_t *room, size_t room_size);
+
+/* The answer in what an entry returned (coast_read_sequence returns nothing else). */
+static inline uint32_t coast_answer(uint64_t returned) {
+    return (uint32_t)(returned & 255u);
 }
 
-/* The count of symbols written in what coast_write_sequence returned. */
-static inline size_t coast_count(uint32_t returned) {
-    return returned >> 8;
+/* The count of actions laid, or of the symbols that coast_write_sequence wrote. */
+static inline size_t coast_count(uint64_t returned) {
+    return (size_t)(returned >> 8 & 255u);
+}
+
+/* Whether a wait runs: 1, or 0. */
+static inline int coast_waits(uint64_t returned) {
+    return (int)(returned >> 16 & 1u);
+}
+
+/* The time at which the next wait falls due, where one runs. */
+static inline uint32_t coast_due(uint64_t returned) {
+    return (uint32_t)(returned >> 32);
 }
 
 #ifdef __cplusplus
