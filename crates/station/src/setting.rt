@@ -46,29 +46,30 @@ fn listed(channels: &[u32]) -> [Slot; 16]
     a
 }
 
-fn blank_station() -> Station
-    ensures { λ r. ⌜ r ≡ blankStation ⌝ }
-{
-    let s = blank_slot();
-    let w = blank_waiting();
-    Station {
-        clock: Tenths(0),
-        identity: 0,
-        count: 0,
-        waiting: 0,
-        slots: [s; 16],
-        queue: [w; 32],
-    }
-}
-
 impl Station {
+    // The station that stands beside a refused set-up: no value.
+    pub fn blank() -> Station
+        ensures { λ r. ⌜ r ≡ blankStation ⌝ }
+    {
+        let s = blank_slot();
+        let w = blank_waiting();
+        Station {
+            clock: Tenths(0),
+            identity: 0,
+            count: 0,
+            waiting: 0,
+            slots: [s; 16],
+            queue: [w; 32],
+        }
+    }
+
     // "All slots begin free at clock 0."
     pub fn set_up(identity: u32, channels: &[u32]) -> SetUp
         ensures { λ r. ⌜ r ≡ setUpBy identity (now (channels .entry)) ⌝ }
     {
         let n = channels.len();
         if 16 < n {
-            let s = blank_station();
+            let s = Station::blank();
             return SetUp {
                 answer: 36,
                 station: s,
@@ -77,7 +78,7 @@ impl Station {
         let a = listed(channels);
         let k = n as u8;
         if !config_keeps(identity, a, k) {
-            let s = blank_station();
+            let s = Station::blank();
             return SetUp {
                 answer: 36,
                 station: s,

@@ -7,10 +7,10 @@ use Rattle.station.proofs.Station.set_up.Statement.{statement}
 use Rattle.station.proofs.Station.set_up.Tie as tie
 
 returns : tie.Need-returns
-returns c = let a = c .before .before .before .args in rw (c .blank-station .ensures) (set-up-refused (a .identity) (a .channels .now) (too-long (a .identity) (a .channels .now) (c .before .if1 .taken)))
+returns c = let a = c .before .before .before .args in rw (c .blank .ensures) (set-up-refused (a .identity) (a .channels .now) (too-long (a .identity) (a .channels .now) (c .before .if1 .taken)))
 
 returns-2 : tie.Need-returns-2
-returns-2 c = let a = c .before .before .before .before .before .before .args in rw (c .blank-station2 .ensures) (set-up-refused (a .identity) (a .channels .now) (sym (keeps-given (a .identity) (a .channels .now) _ (c .before .before .before .before .if1 .left) (c .before .before .before .listed .ensures)) ∙ sym (c .before .before .config-keeps .ensures) ∙ not-true _ (c .before .if2 .taken)))
+returns-2 c = let a = c .before .before .before .before .before .before .args in rw (c .blank2 .ensures) (set-up-refused (a .identity) (a .channels .now) (sym (keeps-given (a .identity) (a .channels .now) _ (c .before .before .before .before .if1 .left) (c .before .before .before .listed .ensures)) ∙ sym (c .before .before .config-keeps .ensures) ∙ not-true _ (c .before .if2 .taken)))
 
 returns-3 : tie.Need-returns-3
 unfolding padded

@@ -1,0 +1,98 @@
+-- What the pieces of a record leave in a room, and what its bytes are read as.
+use Prim.Native.Nat.{ℕ, zero, suc, _+_, _*_, _≤_}
+use mathlib.Core.Path.{_≡_, refl, sym, ap, _∙_}
+use mathlib.Core.List.{List, [], _∷_, _++_, flatMap, append-nil}
+use native.Mathlib.Omega.{arith}
+use native.Mathlib.Numerals.{add-one}
+use lib.ListN.{length, getD, set, take, drop}
+use lib.Seq.{drop-cons, drop-length, length-take-le, take-suc, take-suc-set}
+use Rattle.requests.specs.declared.Request.{Request}
+use Rattle.slots.specs.declared.Slot.{Slot}
+use Rattle.slots.specs.declared.Waiting.{Waiting}
+use Rattle.fields.specs.Fields.{lowFirst, numberAt, encode, decode, laid}
+use Rattle.fields.specs.Records.{shifted, recordsAt}
+use Rattle.fields.proofs.FieldLaws.{encode-length, laidAll, laid-all, laid-next}
+use Rattle.fields.proofs.RecordLaws.{encode-shifted, recordsAt-more, flatMap-more, flatMap-length}
+use Rattle.lent.specs.declared.phases.PhaseFields.{PhaseFields}
+use Rattle.lent.specs.Layout.{requestFields, slotFields, waitingFields}
+use Rattle.lent.specs.Numbers.{numbersFrom, modeMark, requestNumbers, phaseFields, phaseNumbers, slotNumbers, waitingNumbers}
+use Rattle.lent.specs.Stations.{slotBytes, waitingBytes}
+
+-- ── numbers ──────────────────────────────────────────────────────────────────
+
+pub four-bytes : (b : List ℕ) (i : ℕ)
+    → getD b i 0 + 256 * getD b (i + 1) 0 + 65536 * getD b (i + 2) 0 + 16777216 * getD b (i + 3) 0 ≡ numberAt b i 4
+four-bytes b i =
+    let second : i + 1 + 1 ≡ i + 2 = omega arith in
+    let third : i + 2 + 1 ≡ i + 3 = omega arith in
+    rw (second, third) (omega arith)
+
+rest-from : (k i : ℕ) (l : List ℕ) → i + k ≡ length l → numbersFrom k i l ≡ drop i l
+rest-from zero i l e = let f : i ≡ length l = omega arith in rw f (sym (drop-length l))
+rest-from (suc k) i l e =
+    rw (rest-from k (i + 1) l (omega arith), add-one i) (sym (drop-cons l i 0 (omega arith)))
+
+-- the digits of a stored number
+pub sixteen : (d : List ℕ) → length d ≡ 16 → numbersFrom 16 0 d ≡ d
+sixteen d e = rest-from 16 0 d (omega arith)
+
+-- ── a request, a slot, a waiting ship ────────────────────────────────────────
+
+pub request-laid : (q : Request) (room : List ℕ) (p : ℕ) → length (q .number .digits) ≡ 16 → p ≤ length room
+    → laidAll (laid room p (lowFirst 4 (q .ship))) p 4
+    (lowFirst 4 (q .station) ∷ (modeMark (q .mode) ∷ q .second ∷ q .number .count ∷ []) ∷ q .number .digits ∷ [])
+    ≡ laid room p (encode requestFields (requestNumbers q))
+unfolding requestFields requestNumbers
+request-laid q room p w h =
+    laid-all room p (lowFirst 4 (q .ship)) (lowFirst 4 (q .station) ∷ (modeMark (q .mode) ∷ q .second ∷ q .number .count ∷ []) ∷ q .number .digits ∷ []) h
+    ∙ (rw (append-nil (q .number .digits), sixteen (q .number .digits) w))
+
+pub phase-laid : (f : PhaseFields) (room : List ℕ) (p : ℕ) → p ≤ length room
+    → laidAll (laid room p (f .kind ∷ [])) p 1
+    (lowFirst 4 (f .time) ∷ (f .carrier .mark ∷ []) ∷ lowFirst 4 (f .carrier .due) ∷ (f .told .mark ∷ f .told .hours ∷ f .told .minutes ∷ f .told .seconds ∷ []) ∷ [])
+    ≡ laid room p (encode (take 8 slotFields) (phaseNumbers f []))
+unfolding slotFields
+phase-laid f room p h =
+    laid-all room p (f .kind ∷ [])
+    (lowFirst 4 (f .time) ∷ (f .carrier .mark ∷ []) ∷ lowFirst 4 (f .carrier .due) ∷ (f .told .mark ∷ f .told .hours ∷ f .told .minutes ∷ f .told .seconds ∷ []) ∷ []) h
+
+pub slot-laid : (s : Slot) (f : PhaseFields) (room : List ℕ) (p : ℕ) → f ≡ phaseFields (s .phase) → p ≤ length room
+    → laidAll (laid room p (encode (take 8 slotFields) (phaseNumbers f []))) p 14
+    (lowFirst 4 (s .channel .0) ∷ encode requestFields (requestNumbers (s .request)) ∷ [])
+    ≡ laid room p (slotBytes s)
+unfolding slotBytes slotFields slotNumbers
+slot-laid s f room p e h =
+    laid-all room p (encode (take 8 slotFields) (phaseNumbers f [])) (lowFirst 4 (s .channel .0) ∷ encode requestFields (requestNumbers (s .request)) ∷ []) h
+    ∙ (rw (append-nil (encode requestFields (requestNumbers (s .request))), e, encode-shifted 18 requestFields (requestNumbers (s .request))))
+
+pub waiting-laid : (w : Waiting) (room : List ℕ) (p : ℕ) → p ≤ length room
+    → laidAll (laid room p (lowFirst 4 (w .due .0))) p 4 (encode requestFields (requestNumbers (w .request)) ∷ []) ≡ laid room p (waitingBytes w)
+unfolding waitingBytes waitingFields waitingNumbers
+waiting-laid w room p h =
+    laid-all room p (lowFirst 4 (w .due .0)) (encode requestFields (requestNumbers (w .request)) ∷ []) h
+    ∙ (rw (append-nil (encode requestFields (requestNumbers (w .request))), encode-shifted 4 requestFields (requestNumbers (w .request))))
+
+pub slot-size : (s : Slot) → length (slotBytes s) ≡ 45
+unfolding slotBytes slotFields slotNumbers requestFields requestNumbers shifted
+slot-size s = refl
+
+pub waiting-size : (w : Waiting) → length (waitingBytes w) ≡ 31
+unfolding waitingBytes waitingFields waitingNumbers requestFields requestNumbers shifted
+waiting-size w = refl
+
+-- ── one record more ──────────────────────────────────────────────────────────
+
+module _ {A : Type 0} (f : A → List ℕ) (n : ℕ) (whole : (x : A) → length (f x) ≡ n) where
+  pub record-laid : (room : List ℕ) (p i : ℕ) (l : List A) (d : A) → i + 1 ≤ length l → p ≤ length room
+      → laid (laid room p (flatMap f (take i l))) (p + n * i) (f (getD l i d)) ≡ laid room p (flatMap f (take (i + 1) l))
+  unfolding flatMap
+  record-laid room p i l d h k =
+      let short : length (take i l) ≡ i = length-take-le i l (omega arith) in
+      let size : length (flatMap f (take i l)) ≡ n * i = flatMap-length f n whole (take i l) ∙ ap (λ j. n * j) short in
+      let one : take (i + 1) l ≡ take i l ++ (getD l i d ∷ []) = rw (add-one i) (take-suc l i d (omega arith)) in
+      rw (one, flatMap-more f (take i l) (getD l i d ∷ []), append-nil (f (getD l i d)), ← size) (laid-next room p (flatMap f (take i l)) (f (getD l i d)) k)
+
+pub record-read : {A : Type 0} (f : ℕ → A) (a : List A) (i size p : ℕ) → i + 1 ≤ length a → take i a ≡ recordsAt f i size p
+    → take (i + 1) (set a i (f (p + size * i))) ≡ recordsAt f (i + 1) size p
+record-read f a i size p h e =
+    rw (add-one i) (take-suc-set a i (f (p + size * i)) (omega arith) ∙ (rw e (sym (recordsAt-more f i size p))))

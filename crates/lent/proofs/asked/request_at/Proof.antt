@@ -1,0 +1,28 @@
+use native.Mathlib.Omega.{arith}
+use native.Mathlib.Nat.{add-zero}
+use borrow.Author.Tests.{eq-eqb, ne-eqb, lt-leb, le-leb}
+use Rattle.lent.specs.Layout.{requestFields}
+use Rattle.lent.specs.Numbers.{requestFrom}
+use borrow.Author.Needs.{needs}
+use Rattle.lent.proofs.asked.request_at.Statement.{statement}
+use Rattle.lent.proofs.asked.request_at.Tie as tie
+
+returns : tie.Need-returns
+unfolding requestFrom requestFields
+returns c = rw (lt-leb _ _ (c .before .if1 .taken)) (c .blank-request .ensures)
+
+digits-at-requires : tie.Need-digits-at-requires
+digits-at-requires c κs = omega arith
+
+four-at-requires : tie.Need-four-at-requires
+four-at-requires c κs = omega arith
+
+four-at-requires-2 : tie.Need-four-at-requires-2
+four-at-requires-2 c κs = omega arith
+
+returns-2 : tie.Need-returns-2
+unfolding requestFrom requestFields
+returns-2 c = rw (le-leb _ _ (c .before .before .before .before .before .before .if1 .left), add-zero (c .before .before .before .before .before .before .before .before .before .args .place), c .before .before .four-at2 .ensures, c .before .before .before .four-at .ensures, c .before .before .before .before .before .mode-from .ensures, c .before .before .before .before .digits-at .ensures)
+
+pub request-at-spec : {M : Type 1} → statement M
+request-at-spec = tie.close (tie.spec (λ c. search needs) (λ c. search needs) (λ c κs. search needs) returns (λ c κs. search needs) digits-at-requires four-at-requires (λ c. search needs) four-at-requires-2 (λ c. search needs) (λ c. search needs) (λ c. search needs) (λ c. search needs) returns-2)

@@ -1,0 +1,9 @@
+use borrow.Author.Needs.{needs}
+use Rattle.lent.proofs.phases.fields_of.Statement.{statement}
+use Rattle.lent.proofs.phases.fields_of.Tie as tie
+
+returns : tie.Need-returns
+returns c = rw (c .told-fields .ensures, c .before .carrier-fields .ensures)
+
+pub fields-of-spec : {M : Type 1} → statement M
+fields-of-spec = tie.close (tie.spec (λ c κs. search needs) (λ c κs. search needs) returns)

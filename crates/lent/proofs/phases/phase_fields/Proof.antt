@@ -1,0 +1,33 @@
+use borrow.Author.Needs.{needs}
+use Rattle.lent.proofs.phases.phase_fields.Statement.{statement}
+use Rattle.lent.proofs.phases.phase_fields.Tie as tie
+
+returns : tie.Need-returns
+returns c = rw (c .before .enum-told .given .1) (c .plain .ensures)
+
+returns-2 : tie.Need-returns-2
+returns-2 c = rw (c .before .before .p .given .1) (c .plain2 .ensures)
+
+returns-3 : tie.Need-returns-3
+returns-3 c = rw (c .before .before .p2 .given .1) (c .plain3 .ensures)
+
+returns-4 : tie.Need-returns-4
+returns-4 c = rw (c .before .before .p3 .given .1) (c .plain4 .ensures)
+
+returns-5 : tie.Need-returns-5
+returns-5 c = rw (c .before .before .p4 .given .1) (c .plain5 .ensures)
+
+returns-6 : tie.Need-returns-6
+returns-6 c = rw (c .before .before .p5 .given .1) (c .fields-of .ensures)
+
+returns-7 : tie.Need-returns-7
+returns-7 c = rw (c .before .before .p6 .given .1) (c .fields-of2 .ensures)
+
+returns-8 : tie.Need-returns-8
+returns-8 c = rw (c .before .before .p7 .given .1) (c .fields-of3 .ensures)
+
+returns-9 : tie.Need-returns-9
+returns-9 c = rw (c .before .enum-told2 .given .1) (c .plain6 .ensures)
+
+pub phase-fields-spec : {M : Type 1} → statement M
+phase-fields-spec = tie.close (tie.spec (λ c. search needs) (λ c κs. search needs) (λ c. search needs) (λ c κs. search needs) (λ c. search needs) (λ c κs. search needs) (λ c. search needs) (λ c κs. search needs) (λ c. search needs) (λ c κs. search needs) (λ c. search needs) (λ c κs. search needs) (λ c. search needs) (λ c κs. search needs) (λ c. search needs) (λ c κs. search needs) (λ c. search needs) (λ c κs. search needs) returns returns-2 returns-3 returns-4 returns-5 returns-6 returns-7 returns-8 returns-9)

@@ -1,0 +1,23 @@
+use native.Mathlib.Omega.{arith}
+use Rattle.lent.specs.Layout.{requestFields, slotFields}
+use Rattle.lent.specs.Numbers.{slotFrom}
+use Rattle.fields.proofs.RecordLaws.{decode-shifted}
+use borrow.Author.Needs.{needs}
+use Rattle.lent.proofs.records.slot_at.Statement.{statement}
+use Rattle.lent.proofs.records.slot_at.Tie as tie
+
+phase-at-requires : tie.Need-phase-at-requires
+phase-at-requires c κs = omega arith
+
+request-at-requires : tie.Need-request-at-requires
+request-at-requires c κs = omega arith
+
+four-at-requires : tie.Need-four-at-requires
+four-at-requires c κs = omega arith
+
+returns : tie.Need-returns
+unfolding slotFrom slotFields
+returns c = rw (decode-shifted 18 requestFields (c .before .before .before .before .before .args .bytes .now) (c .before .before .before .before .before .args .place), c .four-at .ensures, c .before .request-at .ensures, c .before .before .phase-from .ensures, c .before .before .before .phase-at .ensures)
+
+pub slot-at-spec : {M : Type 1} → statement M
+slot-at-spec = tie.close (tie.spec phase-at-requires (λ c κs. search needs) (λ c. search needs) request-at-requires (λ c. search needs) four-at-requires returns)

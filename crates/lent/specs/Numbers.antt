@@ -1,0 +1,153 @@
+-- The numbers of a slot, a waiting ship and a station, one for each field, and what so many numbers stand for.
+use Prim.Native.Nat.{ℕ, zero, suc, _+_}
+use mathlib.Core.Bool.{cond}
+use mathlib.Core.List.{List, [], _∷_, _++_, flatMap}
+use lib.Dec.{leb, eqb}
+use lib.ListN.{getD, drop}
+use Rattle.units.specs.declared.Told.{Told}
+use Rattle.units.specs.declared.Told.the-variants.{Nothing, Lasting}
+use Rattle.requests.specs.declared.Mode.{Mode}
+use Rattle.requests.specs.declared.Mode.the-variants.{Simplex, Duplex}
+use Rattle.requests.specs.declared.Request.{Request}
+use Rattle.requests.specs.Images.{blankRequest}
+use Rattle.slots.specs.declared.Carrier.{Carrier}
+use Rattle.slots.specs.declared.Carrier.the-variants.{Present, Lost}
+use Rattle.slots.specs.declared.Phase.{Phase}
+use Rattle.slots.specs.declared.Phase.the-variants.{Free, Offered, RingBack, RingAgain, Acknowledged, Dialling, Answered, Hold, Taken}
+use Rattle.slots.specs.declared.Slot.{Slot}
+use Rattle.slots.specs.declared.Waiting.{Waiting}
+use Rattle.slots.specs.Images.{tenths}
+use Rattle.station.specs.declared.Station.{Station}
+use Rattle.fields.specs.Records.{recordsIn}
+use Rattle.lent.specs.declared.phases.CarrierFields.{CarrierFields}
+use Rattle.lent.specs.declared.phases.ToldFields.{ToldFields}
+use Rattle.lent.specs.declared.phases.PhaseFields.{PhaseFields}
+
+-- ── a request ────────────────────────────────────────────────────────────────
+
+-- so many numbers of a list, from a place on
+abbrev pub numbersFrom : ℕ → ℕ → List ℕ → List ℕ
+numbersFrom zero i l = []
+numbersFrom (suc k) i l = getD l i 0 ∷ numbersFrom k (i + 1) l
+
+-- "0 simplex, 1 duplex"
+abbrev pub modeMark : Mode → ℕ
+modeMark Simplex = 0
+modeMark Duplex = 1
+
+unfoldable pub requestNumbers : Request → List ℕ
+requestNumbers q =
+    q .ship ∷ q .station ∷ modeMark (q .mode) ∷ q .second ∷ q .number .count ∷ numbersFrom 16 0 (q .number .digits)
+
+abbrev pub modeFrom : ℕ → Mode
+modeFrom mark = cond (eqb mark 0) Simplex Duplex
+
+-- a mode that is neither gives the blank request, which no station may store
+unfoldable pub requestFrom : List ℕ → Request
+requestFrom ns =
+    cond (leb (getD ns 2 0) 1)
+    (record {
+      ship = getD ns 0 0;
+      station = getD ns 1 0;
+      mode = modeFrom (getD ns 2 0);
+      second = getD ns 3 0;
+      number = record { count = getD ns 4 0; digits = drop 5 ns };
+    })
+    blankRequest
+
+-- ── a phase ──────────────────────────────────────────────────────────────────
+
+abbrev pub carrierFields : Carrier → CarrierFields
+carrierFields Present = record { mark = 0; due = 0 }
+carrierFields (Lost t) = record { mark = 1; due = t .0 }
+
+abbrev pub toldFields : Told → ToldFields
+toldFields Nothing = record { mark = 0; hours = 0; minutes = 0; seconds = 0 }
+toldFields (Lasting d) = record { mark = 1; hours = d .hours; minutes = d .minutes; seconds = d .seconds }
+
+abbrev pub fieldsOf : ℕ → ℕ → Carrier → Told → PhaseFields
+fieldsOf kind time c n = record { kind = kind; time = time; carrier = carrierFields c; told = toldFields n }
+
+-- every part that the phase does not use is 0
+abbrev pub phaseFields : Phase → PhaseFields
+phaseFields Free = fieldsOf 0 0 Present Nothing
+phaseFields (Offered t) = fieldsOf 1 (t .0) Present Nothing
+phaseFields (RingBack t) = fieldsOf 2 (t .0) Present Nothing
+phaseFields (RingAgain t) = fieldsOf 3 (t .0) Present Nothing
+phaseFields (Acknowledged t) = fieldsOf 4 (t .0) Present Nothing
+phaseFields (Dialling t c) = fieldsOf 5 (t .0) c Nothing
+phaseFields (Answered t c) = fieldsOf 6 (t .0) c Nothing
+phaseFields (Hold t n) = fieldsOf 7 (t .0) Present n
+phaseFields Taken = fieldsOf 8 0 Present Nothing
+
+-- marks that are none give a time and a duration that no station may have: 29
+unfoldable pub carrierFrom : CarrierFields → Carrier
+carrierFrom f = cond (eqb (f .mark) 0) Present (cond (eqb (f .mark) 1) (Lost (tenths (f .due))) (Lost (tenths 4294967295)))
+
+unfoldable pub toldFrom : ToldFields → Told
+toldFrom f =
+    cond (eqb (f .mark) 0) Nothing
+    (cond (eqb (f .mark) 1) (Lasting (record { hours = f .hours; minutes = f .minutes; seconds = f .seconds }))
+    (Lasting (record { hours = 255; minutes = 255; seconds = 255 })))
+
+unfoldable pub phaseFrom : PhaseFields → Phase
+phaseFrom f =
+    cond (eqb (f .kind) 0) Free
+    (cond (eqb (f .kind) 1) (Offered (tenths (f .time)))
+    (cond (eqb (f .kind) 2) (RingBack (tenths (f .time)))
+    (cond (eqb (f .kind) 3) (RingAgain (tenths (f .time)))
+    (cond (eqb (f .kind) 4) (Acknowledged (tenths (f .time)))
+    (cond (eqb (f .kind) 5) (Dialling (tenths (f .time)) (carrierFrom (f .carrier)))
+    (cond (eqb (f .kind) 6) (Answered (tenths (f .time)) (carrierFrom (f .carrier)))
+    (cond (eqb (f .kind) 7) (Hold (tenths (f .time)) (toldFrom (f .told)))
+    (cond (eqb (f .kind) 8) Taken (Offered (tenths 4294967295))))))))))
+
+-- ── a slot, a waiting ship, a station ────────────────────────────────────────
+
+abbrev pub phaseNumbers : PhaseFields → List ℕ → List ℕ
+phaseNumbers f l =
+    f .kind
+    ∷ f .time
+    ∷ f .carrier .mark
+    ∷ f .carrier .due
+    ∷ f .told .mark
+    ∷ f .told .hours
+    ∷ f .told .minutes
+    ∷ f .told .seconds
+    ∷ l
+
+unfoldable pub slotNumbers : Slot → List ℕ
+slotNumbers s = phaseNumbers (phaseFields (s .phase)) (s .channel .0 ∷ requestNumbers (s .request))
+
+unfoldable pub waitingNumbers : Waiting → List ℕ
+waitingNumbers w = w .due .0 ∷ requestNumbers (w .request)
+
+unfoldable pub stationNumbers : Station → List ℕ
+stationNumbers s =
+    (s .clock .0 ∷ s .identity ∷ s .count ∷ s .waiting ∷ []) ++ (flatMap slotNumbers (s .slots) ++ flatMap waitingNumbers (s .queue))
+
+abbrev pub phaseIn : List ℕ → PhaseFields
+phaseIn ns =
+    record {
+      kind = getD ns 0 0;
+      time = getD ns 1 0;
+      carrier = record { mark = getD ns 2 0; due = getD ns 3 0 };
+      told = record { mark = getD ns 4 0; hours = getD ns 5 0; minutes = getD ns 6 0; seconds = getD ns 7 0 };
+    }
+
+unfoldable pub slotFrom : List ℕ → Slot
+slotFrom ns = record { phase = phaseFrom (phaseIn ns); channel = record { 0 = getD ns 8 0 }; request = requestFrom (drop 9 ns) }
+
+unfoldable pub waitingFrom : List ℕ → Waiting
+waitingFrom ns = record { due = tenths (getD ns 0 0); request = requestFrom (drop 1 ns) }
+
+unfoldable pub stationIn : List ℕ → Station
+stationIn ns =
+    record {
+      clock = tenths (getD ns 0 0);
+      identity = getD ns 1 0;
+      count = getD ns 2 0;
+      waiting = getD ns 3 0;
+      slots = recordsIn slotFrom 16 30 (drop 4 ns);
+      queue = recordsIn waitingFrom 32 22 (drop 484 ns);
+    }

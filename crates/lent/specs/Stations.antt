@@ -1,0 +1,31 @@
+-- A station's bytes, and the station that bytes stand for.
+use Prim.Native.Nat.{ℕ}
+use mathlib.Core.Bool.{cond}
+use mathlib.Core.List.{List}
+use lib.Dec.{eqb}
+use lib.ListN.{length}
+use Rattle.slots.specs.declared.Slot.{Slot}
+use Rattle.slots.specs.declared.Waiting.{Waiting}
+use Rattle.station.specs.declared.Station.{Station}
+use Rattle.station.specs.Step.{blankStation}
+use Rattle.fields.specs.Fields.{encode, decode}
+use Rattle.lent.specs.Layout.{slotFields, waitingFields, stationFields}
+use Rattle.lent.specs.Numbers.{slotNumbers, waitingNumbers, stationNumbers, stationIn}
+
+unfoldable pub stationBytes : Station → List ℕ
+stationBytes s = encode stationFields (stationNumbers s)
+
+-- bytes of another size stand for the blank station, which is not sound: 29
+unfoldable pub stationFrom : List ℕ → Station
+stationFrom b = cond (eqb (length b) 1722) (stationIn (decode stationFields b 0)) blankStation
+
+-- lent bytes of another size stay as they are
+unfoldable pub stationLaid : Station → List ℕ → List ℕ
+stationLaid s b = cond (eqb (length b) 1722) (stationBytes s) b
+
+-- one slot's, and one waiting ship's
+unfoldable pub slotBytes : Slot → List ℕ
+slotBytes s = encode slotFields (slotNumbers s)
+
+unfoldable pub waitingBytes : Waiting → List ℕ
+waitingBytes w = encode waitingFields (waitingNumbers w)

@@ -1,0 +1,164 @@
+// A phase as its fields, and the phase that fields stand for.
+ghost use mathlib.Core.Path.{_≡_};
+ghost use Rattle.units.specs.declared.Told.the-variants.{Nothing};
+ghost use Rattle.slots.specs.declared.Carrier.the-variants.{Present};
+ghost use Rattle.lent.specs.Numbers.{carrierFields, toldFields, fieldsOf, phaseFields, carrierFrom, toldFrom, phaseFrom};
+use slots::Carrier;
+use slots::Phase;
+use units::Duration;
+use units::Tenths;
+use units::Told;
+
+pub(crate) struct CarrierFields {
+    pub mark: u8,
+    pub due: u32,
+}
+
+pub(crate) struct ToldFields {
+    pub mark: u8,
+    pub hours: u8,
+    pub minutes: u8,
+    pub seconds: u8,
+}
+
+pub(crate) struct PhaseFields {
+    pub kind: u8,
+    pub time: u32,
+    pub carrier: CarrierFields,
+    pub told: ToldFields,
+}
+
+fn carrier_fields(c: Carrier) -> CarrierFields
+    ensures { λ r. ⌜ r ≡ carrierFields c ⌝ }
+{
+    match c {
+        Carrier::Present => CarrierFields { mark: 0, due: 0 },
+        Carrier::Lost(t) => CarrierFields { mark: 1, due: t.0 },
+    }
+}
+
+fn told_fields(n: Told) -> ToldFields
+    ensures { λ r. ⌜ r ≡ toldFields n ⌝ }
+{
+    match n {
+        Told::Nothing => ToldFields {
+            mark: 0,
+            hours: 0,
+            minutes: 0,
+            seconds: 0,
+        },
+        Told::Lasting(d) => ToldFields {
+            mark: 1,
+            hours: d.hours,
+            minutes: d.minutes,
+            seconds: d.seconds,
+        },
+    }
+}
+
+fn fields_of(kind: u8, time: u32, c: Carrier, n: Told) -> PhaseFields
+    ensures { λ r. ⌜ r ≡ fieldsOf kind time c n ⌝ }
+{
+    let carrier = carrier_fields(c);
+    let told = told_fields(n);
+    PhaseFields {
+        kind: kind,
+        time: time,
+        carrier: carrier,
+        told: told,
+    }
+}
+
+// A phase that has neither a carrier nor a duration.
+fn plain(kind: u8, time: u32) -> PhaseFields
+    ensures { λ r. ⌜ r ≡ fieldsOf kind time Present Nothing ⌝ }
+{
+    fields_of(kind, time, Carrier::Present, Told::Nothing)
+}
+
+pub(crate) fn phase_fields(p: Phase) -> PhaseFields
+    ensures { λ r. ⌜ r ≡ phaseFields p ⌝ }
+{
+    match p {
+        Phase::Free => plain(0, 0),
+        Phase::Offered(t) => plain(1, t.0),
+        Phase::RingBack(t) => plain(2, t.0),
+        Phase::RingAgain(t) => plain(3, t.0),
+        Phase::Acknowledged(t) => plain(4, t.0),
+        Phase::Dialling(t, c) => fields_of(5, t.0, c, Told::Nothing),
+        Phase::Answered(t, c) => fields_of(6, t.0, c, Told::Nothing),
+        Phase::Hold(t, n) => fields_of(7, t.0, Carrier::Present, n),
+        Phase::Taken => plain(8, 0),
+    }
+}
+
+fn carrier_from(f: CarrierFields) -> Carrier
+    ensures { λ r. ⌜ r ≡ carrierFrom f ⌝ }
+{
+    if f.mark == 0 {
+        return Carrier::Present;
+    }
+    if f.mark == 1 {
+        return Carrier::Lost(Tenths(f.due));
+    }
+    Carrier::Lost(Tenths(4294967295))
+}
+
+fn told_from(f: ToldFields) -> Told
+    ensures { λ r. ⌜ r ≡ toldFrom f ⌝ }
+{
+    if f.mark == 0 {
+        return Told::Nothing;
+    }
+    if f.mark == 1 {
+        return Told::Lasting(Duration {
+            hours: f.hours,
+            minutes: f.minutes,
+            seconds: f.seconds,
+        });
+    }
+    Told::Lasting(Duration {
+        hours: 255,
+        minutes: 255,
+        seconds: 255,
+    })
+}
+
+pub(crate) fn phase_from(f: PhaseFields) -> Phase
+    ensures { λ r. ⌜ r ≡ phaseFrom f ⌝ }
+{
+    let kind = f.kind;
+    let carrier = f.carrier;
+    let told = f.told;
+    if kind == 0 {
+        return Phase::Free;
+    }
+    if kind == 1 {
+        return Phase::Offered(Tenths(f.time));
+    }
+    if kind == 2 {
+        return Phase::RingBack(Tenths(f.time));
+    }
+    if kind == 3 {
+        return Phase::RingAgain(Tenths(f.time));
+    }
+    if kind == 4 {
+        return Phase::Acknowledged(Tenths(f.time));
+    }
+    if kind == 5 {
+        let c = carrier_from(carrier);
+        return Phase::Dialling(Tenths(f.time), c);
+    }
+    if kind == 6 {
+        let c = carrier_from(carrier);
+        return Phase::Answered(Tenths(f.time), c);
+    }
+    if kind == 7 {
+        let n = told_from(told);
+        return Phase::Hold(Tenths(f.time), n);
+    }
+    if kind == 8 {
+        return Phase::Taken;
+    }
+    Phase::Offered(Tenths(4294967295))
+}
