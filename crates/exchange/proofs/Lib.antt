@@ -1,3 +1,3 @@
-pub mod MeaningLaws
-pub mod ThereAndBack
+pub mod WriteLaws
+pub mod SetUpLaws
 pub mod Settled

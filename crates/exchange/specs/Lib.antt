@@ -1,2 +1,2 @@
-pub mod Meanings
 pub mod Sequences
+pub mod Events

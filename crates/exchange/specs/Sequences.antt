@@ -1,21 +1,21 @@
 -- What the reader and the writer for a host in C answer, over the definitions of `sequence`.
 use Prim.Native.Nat.{ℕ, _+_, _*_}
 use mathlib.Core.Bool.{cond, _&&_}
-use mathlib.Core.List.{List, _++_}
+use mathlib.Core.List.{List}
 use lib.Dec.{leb, eqb}
-use lib.ListN.{length, drop}
+use lib.ListN.{length}
 use Rattle.sequence.specs.declared.Written.{Written}
 use Rattle.sequence.specs.Answers.{answerNumber}
 use Rattle.sequence.specs.Reading.{readingOf}
 use Rattle.sequence.specs.Writing.{writtenOf, roomAfter}
-use Rattle.exchange.specs.Meanings.{meaningBytes, meaningFrom}
+use Rattle.lent.specs.Meanings.{meaningFrom, meaningLaid}
 
 -- 22 where the room for the meaning is under 32 bytes, tested first
 unfoldable pub readAnswer : List ℕ → ℕ → ℕ
 readAnswer s size = cond (leb 32 size) (answerNumber (readingOf s .answer)) 22
 
 unfoldable pub meaningAfter : List ℕ → List ℕ → List ℕ
-meaningAfter s room = cond (eqb (readAnswer s (length room)) 0) (meaningBytes (readingOf s .meaning) ++ drop 32 room) room
+meaningAfter s room = cond (eqb (readAnswer s (length room)) 0) (meaningLaid (readingOf s .meaning) room) room
 
 -- 21 where the room is under 28 bytes, tested first; then 22 where the meaning has under 32; then the writer's answer and 256 times its count
 unfoldable pub answerAndCount : Written → ℕ

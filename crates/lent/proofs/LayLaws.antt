@@ -1,11 +1,14 @@
 -- What the pieces of a record leave in a room, and what its bytes are read as.
 use Prim.Native.Nat.{ℕ, zero, suc, _+_, _*_, _≤_}
+use Prim.Native.String.{String}
 use mathlib.Core.Path.{_≡_, refl, sym, ap, _∙_}
 use mathlib.Core.List.{List, [], _∷_, _++_, flatMap, append-nil}
 use native.Mathlib.Omega.{arith}
+use native.Mathlib.Nat.{add-zero}
 use native.Mathlib.Numerals.{add-one}
 use lib.ListN.{length, getD, set, take, drop}
 use lib.Seq.{drop-cons, drop-length, length-take-le, take-suc, take-suc-set}
+use Rattle.sequence.specs.declared.Meaning.{Meaning}
 use Rattle.requests.specs.declared.Request.{Request}
 use Rattle.slots.specs.declared.Slot.{Slot}
 use Rattle.slots.specs.declared.Waiting.{Waiting}
@@ -14,8 +17,10 @@ use Rattle.fields.specs.Records.{shifted, recordsAt}
 use Rattle.fields.proofs.FieldLaws.{encode-length, laidAll, laid-all, laid-next}
 use Rattle.fields.proofs.RecordLaws.{encode-shifted, recordsAt-more, flatMap-more, flatMap-length}
 use Rattle.lent.specs.declared.phases.PhaseFields.{PhaseFields}
-use Rattle.lent.specs.Layout.{requestFields, slotFields, waitingFields}
+use Rattle.lent.specs.declared.said.FieldBytes.{FieldBytes}
+use Rattle.lent.specs.Layout.{run, requestFields, slotFields, waitingFields}
 use Rattle.lent.specs.Numbers.{numbersFrom, modeMark, requestNumbers, phaseFields, phaseNumbers, slotNumbers, waitingNumbers}
+use Rattle.lent.specs.Meanings.{fieldBytes, meaningFields, meaningNumbers, meaningBytes}
 use Rattle.lent.specs.Stations.{slotBytes, waitingBytes}
 
 -- ── numbers ──────────────────────────────────────────────────────────────────
@@ -32,6 +37,31 @@ rest-from zero i l e = let f : i ≡ length l = omega arith in rw f (sym (drop-l
 rest-from (suc k) i l e =
     rw (rest-from k (i + 1) l (omega arith), add-one i) (sym (drop-cons l i 0 (omega arith)))
 
+pub numbers-more : (k p : ℕ) (b : List ℕ) → numbersFrom (suc k) p b ≡ numbersFrom k p b ++ (getD b (p + k) 0 ∷ [])
+numbers-more zero p b = ap (λ q. getD b q 0 ∷ []) (sym (add-zero p))
+numbers-more (suc k) p b =
+    let e : p + 1 + k ≡ p + suc k = omega arith in
+    ap (λ r. getD b p 0 ∷ r) (numbers-more k (p + 1) b ∙ (rw e))
+
+-- one turn of the loop that takes digits out
+pub digit-taken : (d b : List ℕ) (i p : ℕ) → i + 1 ≤ length d → take i d ≡ numbersFrom i p b → take (i + 1) (set d i (getD b (p + i) 0)) ≡ numbersFrom (i + 1) p b
+digit-taken d b i p h e =
+    rw (add-one i) (take-suc-set d i (getD b (p + i) 0) (omega arith) ∙ (rw e (sym (numbers-more i p b))))
+
+digits-read : (name : String) (n k : ℕ) (b : List ℕ) (p : ℕ) → decode (run name n k) b p ≡ numbersFrom n (p + k) b
+digits-read name zero k b p = refl
+digits-read name (suc n) k b p =
+    let e : p + (k + 1) ≡ p + k + 1 = omega arith in
+    ap (λ r. getD b (p + k) 0 ∷ r) (digits-read name n (k + 1) b p ∙ (rw e))
+
+pub request-digits : (b : List ℕ) (p : ℕ) → drop 5 (decode requestFields b p) ≡ numbersFrom 16 (p + 11) b
+unfolding requestFields
+request-digits b p = digits-read "digit" 16 11 b p
+
+pub meaning-digits : (b : List ℕ) → drop 10 (decode meaningFields b 0) ≡ numbersFrom 16 16 b
+unfolding meaningFields
+meaning-digits b = digits-read "digit" 16 16 b 0
+
 -- the digits of a stored number
 pub sixteen : (d : List ℕ) → length d ≡ 16 → numbersFrom 16 0 d ≡ d
 sixteen d e = rest-from 16 0 d (omega arith)
@@ -46,6 +76,20 @@ unfolding requestFields requestNumbers
 request-laid q room p w h =
     laid-all room p (lowFirst 4 (q .ship)) (lowFirst 4 (q .station) ∷ (modeMark (q .mode) ∷ q .second ∷ q .number .count ∷ []) ∷ q .number .digits ∷ []) h
     ∙ (rw (append-nil (q .number .digits), sixteen (q .number .digits) w))
+
+pub meaning-laid : (m : Meaning) (f : FieldBytes) (room : List ℕ) → length (m .number .digits) ≡ 16 → f ≡ fieldBytes (m .field)
+    → laidAll (laid room 0 (lowFirst 4 (m .address))) 0 4
+    (lowFirst 4 (m .sender)
+    ∷ (m .first ∷ m .second ∷ f .kind ∷ f .first ∷ f .second ∷ f .third ∷ m .number .count ∷ m .end ∷ [])
+    ∷ m .number .digits
+    ∷ [])
+    ≡ laid room 0 (meaningBytes m)
+unfolding meaningBytes meaningFields meaningNumbers
+meaning-laid m f room w e =
+    laid-all room 0 (lowFirst 4 (m .address))
+    (lowFirst 4 (m .sender) ∷ (m .first ∷ m .second ∷ f .kind ∷ f .first ∷ f .second ∷ f .third ∷ m .number .count ∷ m .end ∷ []) ∷ m .number .digits ∷ [])
+    (omega arith)
+    ∙ (rw (append-nil (m .number .digits), sixteen (m .number .digits) w, e))
 
 pub phase-laid : (f : PhaseFields) (room : List ℕ) (p : ℕ) → p ≤ length room
     → laidAll (laid room p (f .kind ∷ [])) p 1

@@ -1,2 +1,5 @@
 pub mod LayLaws
 pub mod StationLaws
+pub mod FoundAgain
+pub mod MeaningBack
+pub mod Settled

@@ -21,11 +21,11 @@ use Rattle.lent.proofs.LayLaws.{slot-size, waiting-size}
 
 -- ── how many fields, numbers and bytes ───────────────────────────────────────
 
-slot-fields : length slotFields ≡ 30
+pub slot-fields : length slotFields ≡ 30
 unfolding slotFields requestFields shifted
 slot-fields = refl
 
-waiting-fields : length waitingFields ≡ 22
+pub waiting-fields : length waitingFields ≡ 22
 unfolding waitingFields requestFields shifted
 waiting-fields = refl
 
@@ -85,7 +85,7 @@ station-read b =
 -- ── laid ─────────────────────────────────────────────────────────────────────
 
 module _ (s : Station) (slots16 : length (s .slots) ≡ 16) (queue32 : length (s .queue) ≡ 32) where
-  slots-numbers : length (flatMap slotNumbers (s .slots)) ≡ 480
+  pub slots-numbers : length (flatMap slotNumbers (s .slots)) ≡ 480
   slots-numbers = flatMap-length slotNumbers 30 (λ x. slot-numbers x ∙ slot-fields) (s .slots) ∙ ap (λ k. 30 * k) slots16
 
   queue-numbers : length (flatMap waitingNumbers (s .queue)) ≡ 704

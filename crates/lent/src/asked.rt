@@ -1,10 +1,11 @@
 // A stored request in 27 bytes.
 ghost use mathlib.Core.Path.{_≡_};
 ghost use Prim.Native.Nat.{_+_, _≤_};
-ghost use lib.ListN.{length, drop};
+ghost use lib.ListN.{length};
 ghost use Rattle.fields.specs.Fields.{encode, decode, laid};
 ghost use Rattle.lent.specs.Layout.{requestFields};
 ghost use Rattle.lent.specs.Numbers.{modeMark, modeFrom, requestNumbers, requestFrom};
+use crate::numbers::digits_at;
 use crate::numbers::four_at;
 use crate::numbers::lay;
 use crate::numbers::low_first;
@@ -31,30 +32,6 @@ fn mode_from(mark: u8) -> Mode
     Mode::Duplex
 }
 
-fn digits_at(bytes: &[u8], place: usize) -> [u8; 16]
-    requires { ⌜ place + 27 ≤ length (now bytes) ⌝ }
-    ensures { λ r. ⌜ r ≡ drop 5 (decode requestFields (now (bytes .entry)) place) ⌝ }
-{
-    [
-        bytes[place + 11],
-        bytes[place + 12],
-        bytes[place + 13],
-        bytes[place + 14],
-        bytes[place + 15],
-        bytes[place + 16],
-        bytes[place + 17],
-        bytes[place + 18],
-        bytes[place + 19],
-        bytes[place + 20],
-        bytes[place + 21],
-        bytes[place + 22],
-        bytes[place + 23],
-        bytes[place + 24],
-        bytes[place + 25],
-        bytes[place + 26],
-    ]
-}
-
 pub(crate) fn request_at(bytes: &[u8], place: usize) -> Request
     requires { ⌜ place + 27 ≤ length (now bytes) ⌝ }
     ensures { λ r. ⌜ r ≡ requestFrom (decode requestFields (now (bytes .entry)) place) ⌝ }
@@ -64,7 +41,7 @@ pub(crate) fn request_at(bytes: &[u8], place: usize) -> Request
         return blank_request();
     }
     let mode = mode_from(mark);
-    let digits = digits_at(bytes, place);
+    let digits = digits_at(bytes, place + 11);
     Request {
         ship: four_at(bytes, place),
         station: four_at(bytes, place + 4),

@@ -13,6 +13,7 @@ mod asked;
 mod numbers;
 mod phases;
 mod records;
+pub mod said;
 
 use numbers::four_at;
 use numbers::lay;

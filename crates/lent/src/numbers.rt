@@ -3,6 +3,7 @@ ghost use mathlib.Core.Path.{_≡_};
 ghost use Prim.Native.Nat.{_+_, _≤_};
 ghost use lib.ListN.{length};
 ghost use Rattle.fields.specs.Fields.{lowFirst, numberAt, laid};
+ghost use Rattle.lent.specs.Numbers.{numbersFrom};
 
 pub(crate) fn four_at(bytes: &[u8], i: usize) -> u32
     requires { ⌜ i + 4 ≤ length (now bytes) ⌝ }
@@ -12,6 +13,20 @@ pub(crate) fn four_at(bytes: &[u8], i: usize) -> u32
         + 256 * (bytes[i + 1] as u32)
         + 65536 * (bytes[i + 2] as u32)
         + 16777216 * (bytes[i + 3] as u32)
+}
+
+// Sixteen digits, one a byte.
+pub(crate) fn digits_at(bytes: &[u8], place: usize) -> [u8; 16]
+    requires { ⌜ place + 16 ≤ length (now bytes) ⌝ }
+    ensures { λ r. ⌜ r ≡ numbersFrom 16 place (now (bytes .entry)) ⌝ }
+{
+    let mut digits = [0u8; 16];
+    let mut i = 0;
+    while i < 16 {
+        digits[i] = bytes[place + i];
+        i += 1;
+    }
+    digits
 }
 
 pub(crate) fn low_first(n: u32) -> [u8; 4]

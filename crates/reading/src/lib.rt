@@ -84,7 +84,7 @@ fn meaning_of(s: &[u8]) -> Meaning
 }
 
 // The meaning beside a refusal.
-fn blank_meaning() -> Meaning
+pub fn blank_meaning() -> Meaning
     ensures { λ r. ⌜ r ≡ blankMeaning ⌝ }
 {
     let number = Number {

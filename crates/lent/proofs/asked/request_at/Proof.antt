@@ -1,8 +1,10 @@
+use mathlib.Core.Path.{_≡_, refl, sym, ap, _∙_}
 use native.Mathlib.Omega.{arith}
 use native.Mathlib.Nat.{add-zero}
 use borrow.Author.Tests.{eq-eqb, ne-eqb, lt-leb, le-leb}
 use Rattle.lent.specs.Layout.{requestFields}
 use Rattle.lent.specs.Numbers.{requestFrom}
+use Rattle.lent.proofs.LayLaws.{request-digits}
 use borrow.Author.Needs.{needs}
 use Rattle.lent.proofs.asked.request_at.Statement.{statement}
 use Rattle.lent.proofs.asked.request_at.Tie as tie
@@ -22,7 +24,7 @@ four-at-requires-2 c κs = omega arith
 
 returns-2 : tie.Need-returns-2
 unfolding requestFrom requestFields
-returns-2 c = rw (le-leb _ _ (c .before .before .before .before .before .before .if1 .left), add-zero (c .before .before .before .before .before .before .before .before .before .args .place), c .before .before .four-at2 .ensures, c .before .before .before .four-at .ensures, c .before .before .before .before .before .mode-from .ensures, c .before .before .before .before .digits-at .ensures)
+returns-2 c = rw (le-leb _ _ (c .before .before .before .before .before .before .if1 .left), add-zero (c .before .before .before .before .before .before .before .before .before .args .place), c .before .before .four-at2 .ensures, c .before .before .before .four-at .ensures, c .before .before .before .before .before .mode-from .ensures, c .before .before .before .before .digits-at .ensures ∙ sym (request-digits (c .before .before .before .before .before .before .before .before .before .args .bytes .now) (c .before .before .before .before .before .before .before .before .before .args .place)))
 
 pub request-at-spec : {M : Type 1} → statement M
-request-at-spec = tie.close (tie.spec (λ c. search needs) (λ c. search needs) (λ c κs. search needs) returns (λ c κs. search needs) digits-at-requires four-at-requires (λ c. search needs) four-at-requires-2 (λ c. search needs) (λ c. search needs) (λ c. search needs) (λ c. search needs) returns-2)
+request-at-spec = tie.close (tie.spec (λ c. search needs) (λ c. search needs) (λ c κs. search needs) returns (λ c κs. search needs) (λ c. search needs) digits-at-requires four-at-requires (λ c. search needs) four-at-requires-2 (λ c. search needs) (λ c. search needs) (λ c. search needs) (λ c. search needs) returns-2)

@@ -1,0 +1,162 @@
+// The events, each on a station in lent bytes.
+ghost use mathlib.Core.Path.{_≡_};
+ghost use Prim.Native.Nat.{_≤_};
+ghost use Rattle.rules.specs.Words.{heard, carrierUp, carrierDown, offHook, onHook, takes, givesBack};
+ghost use Rattle.exchange.specs.Events.{dueNumber, told, kept, tickIn, channel70In, slotIn, returned, stationAfter, roomLeft};
+use lent::lay_station;
+use lent::station_from;
+use station::NextDue;
+use station::Stepped;
+use units::SlotNumber;
+use units::Tenths;
+
+pub(crate) fn due_number(due: NextDue) -> u64
+    ensures { λ r. ⌜ r ≡ dueNumber due ⌝ }
+    ensures { λ r. ⌜ r ≤ 18446744069414649856 ⌝ }
+{
+    match due {
+        NextDue::Never => 0,
+        NextDue::At(t) => 65536 + 4294967296 * (t.0 as u64),
+    }
+}
+
+// What an event came to, as one number; the next station is laid where it was accepted.
+fn hand_back(r: Stepped, station: &mut [u8]) -> u64
+    ensures { λ n. ⌜ n ≡ told r ⌝ }
+    ensures { λ _. ⌜ now (station .exit) ≡ kept (now (station .entry)) r ⌝ }
+{
+    let answer = r.answer;
+    let count = r.count;
+    let due = r.due;
+    let next = r.station;
+    let number = (answer as u64) + 256 * (count as u64) + due_number(due);
+    if answer <= 1 {
+        lay_station(next, station);
+        return number;
+    }
+    number
+}
+
+// The time has come.
+#[no_mangle]
+pub extern "C" fn coast_tick(station: &mut [u8], time: u32, room: &mut [u8]) -> u64
+    ensures { λ r. ⌜ r ≡ returned (now (station .entry)) (tickIn time (now (room .entry))) ⌝ }
+    ensures { λ _. ⌜ now (station .exit) ≡ stationAfter (now (station .entry)) (tickIn time (now (room .entry))) ⌝ }
+    ensures { λ _. ⌜ now (room .exit) ≡ roomLeft (now (station .entry)) (now (room .entry)) (tickIn time (now (room .entry))) ⌝ }
+{
+    let s = station_from(station);
+    let r = s.tick(Tenths(time), room);
+    hand_back(r, station)
+}
+
+// A sequence was heard on channel 70.
+#[no_mangle]
+pub extern "C" fn coast_heard_on_channel_70(
+    station: &mut [u8],
+    time: u32,
+    symbols: &[u8],
+    room: &mut [u8],
+) -> u64
+    ensures { λ r. ⌜ r ≡ returned (now (station .entry)) (channel70In time (now (symbols .entry)) (now (room .entry))) ⌝ }
+    ensures { λ _. ⌜ now (station .exit) ≡ stationAfter (now (station .entry)) (channel70In time (now (symbols .entry)) (now (room .entry))) ⌝ }
+    ensures { λ _. ⌜ now (room .exit) ≡ roomLeft (now (station .entry)) (now (room .entry)) (channel70In time (now (symbols .entry)) (now (room .entry))) ⌝ }
+{
+    let s = station_from(station);
+    let r = s.heard_on_channel_70(Tenths(time), symbols, room);
+    hand_back(r, station)
+}
+
+// A sequence was heard on a slot's working channel.
+#[no_mangle]
+pub extern "C" fn coast_heard_on_slot(
+    station: &mut [u8],
+    time: u32,
+    slot: u32,
+    symbols: &[u8],
+    room: &mut [u8],
+) -> u64
+    ensures { λ r. ⌜ r ≡ returned (now (station .entry)) (slotIn time slot (heard (now (symbols .entry))) (now (room .entry))) ⌝ }
+    ensures { λ _. ⌜ now (station .exit) ≡ stationAfter (now (station .entry)) (slotIn time slot (heard (now (symbols .entry))) (now (room .entry))) ⌝ }
+    ensures { λ _. ⌜ now (room .exit) ≡ roomLeft (now (station .entry)) (now (room .entry)) (slotIn time slot (heard (now (symbols .entry))) (now (room .entry))) ⌝ }
+{
+    let s = station_from(station);
+    let r = s.heard_on_slot(Tenths(time), SlotNumber(slot), symbols, room);
+    hand_back(r, station)
+}
+
+// The ship's carrier comes.
+#[no_mangle]
+pub extern "C" fn coast_carrier_up(station: &mut [u8], time: u32, slot: u32, room: &mut [u8]) -> u64
+    ensures { λ r. ⌜ r ≡ returned (now (station .entry)) (slotIn time slot carrierUp (now (room .entry))) ⌝ }
+    ensures { λ _. ⌜ now (station .exit) ≡ stationAfter (now (station .entry)) (slotIn time slot carrierUp (now (room .entry))) ⌝ }
+    ensures { λ _. ⌜ now (room .exit) ≡ roomLeft (now (station .entry)) (now (room .entry)) (slotIn time slot carrierUp (now (room .entry))) ⌝ }
+{
+    let s = station_from(station);
+    let r = s.carrier_up(Tenths(time), SlotNumber(slot), room);
+    hand_back(r, station)
+}
+
+// The ship's carrier goes.
+#[no_mangle]
+pub extern "C" fn coast_carrier_down(
+    station: &mut [u8],
+    time: u32,
+    slot: u32,
+    room: &mut [u8],
+) -> u64
+    ensures { λ r. ⌜ r ≡ returned (now (station .entry)) (slotIn time slot carrierDown (now (room .entry))) ⌝ }
+    ensures { λ _. ⌜ now (station .exit) ≡ stationAfter (now (station .entry)) (slotIn time slot carrierDown (now (room .entry))) ⌝ }
+    ensures { λ _. ⌜ now (room .exit) ≡ roomLeft (now (station .entry)) (now (room .entry)) (slotIn time slot carrierDown (now (room .entry))) ⌝ }
+{
+    let s = station_from(station);
+    let r = s.carrier_down(Tenths(time), SlotNumber(slot), room);
+    hand_back(r, station)
+}
+
+// Ashore the handset is lifted.
+#[no_mangle]
+pub extern "C" fn coast_off_hook(station: &mut [u8], time: u32, slot: u32, room: &mut [u8]) -> u64
+    ensures { λ r. ⌜ r ≡ returned (now (station .entry)) (slotIn time slot offHook (now (room .entry))) ⌝ }
+    ensures { λ _. ⌜ now (station .exit) ≡ stationAfter (now (station .entry)) (slotIn time slot offHook (now (room .entry))) ⌝ }
+    ensures { λ _. ⌜ now (room .exit) ≡ roomLeft (now (station .entry)) (now (room .entry)) (slotIn time slot offHook (now (room .entry))) ⌝ }
+{
+    let s = station_from(station);
+    let r = s.off_hook(Tenths(time), SlotNumber(slot), room);
+    hand_back(r, station)
+}
+
+// Ashore it is put down.
+#[no_mangle]
+pub extern "C" fn coast_on_hook(station: &mut [u8], time: u32, slot: u32, room: &mut [u8]) -> u64
+    ensures { λ r. ⌜ r ≡ returned (now (station .entry)) (slotIn time slot onHook (now (room .entry))) ⌝ }
+    ensures { λ _. ⌜ now (station .exit) ≡ stationAfter (now (station .entry)) (slotIn time slot onHook (now (room .entry))) ⌝ }
+    ensures { λ _. ⌜ now (room .exit) ≡ roomLeft (now (station .entry)) (now (room .entry)) (slotIn time slot onHook (now (room .entry))) ⌝ }
+{
+    let s = station_from(station);
+    let r = s.on_hook(Tenths(time), SlotNumber(slot), room);
+    hand_back(r, station)
+}
+
+// The operator takes a free slot.
+#[no_mangle]
+pub extern "C" fn coast_take(station: &mut [u8], time: u32, slot: u32, room: &mut [u8]) -> u64
+    ensures { λ r. ⌜ r ≡ returned (now (station .entry)) (slotIn time slot takes (now (room .entry))) ⌝ }
+    ensures { λ _. ⌜ now (station .exit) ≡ stationAfter (now (station .entry)) (slotIn time slot takes (now (room .entry))) ⌝ }
+    ensures { λ _. ⌜ now (room .exit) ≡ roomLeft (now (station .entry)) (now (room .entry)) (slotIn time slot takes (now (room .entry))) ⌝ }
+{
+    let s = station_from(station);
+    let r = s.take(Tenths(time), SlotNumber(slot), room);
+    hand_back(r, station)
+}
+
+// The operator gives a taken slot back.
+#[no_mangle]
+pub extern "C" fn coast_give_back(station: &mut [u8], time: u32, slot: u32, room: &mut [u8]) -> u64
+    ensures { λ r. ⌜ r ≡ returned (now (station .entry)) (slotIn time slot givesBack (now (room .entry))) ⌝ }
+    ensures { λ _. ⌜ now (station .exit) ≡ stationAfter (now (station .entry)) (slotIn time slot givesBack (now (room .entry))) ⌝ }
+    ensures { λ _. ⌜ now (room .exit) ≡ roomLeft (now (station .entry)) (now (room .entry)) (slotIn time slot givesBack (now (room .entry))) ⌝ }
+{
+    let s = station_from(station);
+    let r = s.give_back(Tenths(time), SlotNumber(slot), room);
+    hand_back(r, station)
+}

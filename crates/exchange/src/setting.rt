@@ -1,0 +1,62 @@
+// Set-up in lent bytes, and the next due time of the station in them.
+ghost use mathlib.Core.Path.{_≡_};
+ghost use Prim.Native.Nat.{_≤_};
+ghost use lib.ListN.{length};
+ghost use Rattle.rules.specs.Bytes.{padded};
+ghost use Rattle.lent.specs.Stations.{stationFrom};
+ghost use Rattle.exchange.specs.Events.{setUpReturned, stationSetUp, dueReturned};
+use crate::events::due_number;
+use lent::lay_station;
+use lent::station_from;
+use station::Station;
+
+fn widened(channels: &[u8]) -> [u32; 16]
+    requires { ⌜ length (now channels) ≤ 16 ⌝ }
+    ensures { λ r. ⌜ r ≡ padded 0 16 (now (channels .entry)) ⌝ }
+{
+    let mut wide = [0u32; 16];
+    let n = channels.len();
+    let mut i = 0;
+    while i < n {
+        wide[i] = channels[i] as u32;
+        i += 1;
+    }
+    wide
+}
+
+// Sets a station up in 1722 lent bytes: a slot for each channel, one a byte, in the list's order.
+#[no_mangle]
+pub extern "C" fn coast_set_up(identity: u32, channels: &[u8], station: &mut [u8]) -> u64
+    ensures { λ r. ⌜ r ≡ setUpReturned identity (now (channels .entry)) (length (now (station .entry))) ⌝ }
+    ensures { λ _. ⌜ now (station .exit) ≡ stationSetUp identity (now (channels .entry)) (now (station .entry)) ⌝ }
+{
+    if station.len() != 1722 {
+        return 29;
+    }
+    let n = channels.len();
+    if 16 < n {
+        return 36;
+    }
+    let wide = widened(channels);
+    let all: &[u32] = &wide;
+    let u = Station::set_up(identity, &all[..n]);
+    let answer = u.answer;
+    let fresh = u.station;
+    if answer == 0 {
+        lay_station(fresh, station);
+        return 0;
+    }
+    answer as u64
+}
+
+// When the station must be handed a tick at the latest.
+#[no_mangle]
+pub extern "C" fn coast_next_due(station: &[u8]) -> u64
+    ensures { λ r. ⌜ r ≡ dueReturned (stationFrom (now (station .entry))) ⌝ }
+{
+    let s = station_from(station);
+    if !s.is_sound() {
+        return 29;
+    }
+    due_number(s.next_due())
+}

@@ -1,0 +1,201 @@
+-- Whatever is handed out is found again in its bytes.
+use Prim.Native.Nat.{ℕ, zero, suc}
+use mathlib.Core.Path.{_≡_, refl, sym, ap, _∙_}
+use mathlib.Core.Bool.{false}
+use mathlib.Core.List.{List, [], _∷_, _++_, map, flatMap, append-nil}
+use mathlib.Core.Option.{Option, none, some}
+use lib.ListN.{length, drop, length-replicate}
+use lib.Seq.{drop-at}
+use borrow.Author.Tests.{eq-eqb, ne-eqb}
+use Rattle.units.specs.declared.Channel.{Channel}
+use Rattle.units.specs.declared.Told.{Told}
+use Rattle.units.specs.declared.Told.the-variants.{Nothing, Lasting}
+use Rattle.sequence.specs.Identity.{isCoast}
+use Rattle.rules.specs.Places.{Each}
+use Rattle.rules.specs.Words.{Config, Event}
+use Rattle.rules.specs.Words as W
+use Rattle.rules.specs.Bytes.{padded}
+use Rattle.rules.specs.Station as R
+use Rattle.rules.specs.Station.{free, taken, pending, busy, held, fresh}
+use Rattle.rules.specs.Sound.{identityKeeps, configKeeps, sound}
+use Rattle.rules.specs.Verdict.{refusals, setUpVerdict}
+use Rattle.rules.specs.Calls.{act}
+use Rattle.requests.specs.declared.Mode.{Mode}
+use Rattle.requests.specs.declared.Mode.the-variants.{Simplex, Duplex}
+use Rattle.requests.specs.declared.Request.{Request}
+use Rattle.requests.specs.Images.{requestImage, blankRequest}
+use Rattle.requests.specs.Views.{viewed}
+use Rattle.requests.proofs.ArrayLaws.{padded-length}
+use Rattle.slots.specs.declared.Carrier.{Carrier}
+use Rattle.slots.specs.declared.Carrier.the-variants.{Present, Lost}
+use Rattle.slots.specs.declared.Phase.{Phase}
+use Rattle.slots.specs.declared.Phase.the-variants.{Free, Offered, RingBack, RingAgain, Acknowledged, Dialling, Answered, Hold, Taken}
+use Rattle.slots.specs.declared.Slot.{Slot}
+use Rattle.slots.specs.declared.Waiting.{Waiting}
+use Rattle.slots.specs.Images.{slotImage, slotImages, waitingImage, blankSlot, blankWaiting}
+use Rattle.station.specs.declared.Station.{Station}
+use Rattle.station.specs.Model.{imageOf, configOf, modelOf}
+use Rattle.station.specs.Step.{recordsKeep, refusal, steppedFor, steppedBy, blankStation, given, setUpFor, setUpBy}
+use Rattle.fields.specs.Fields.{encode, decode}
+use Rattle.fields.specs.Records.{recordsIn}
+use Rattle.fields.proofs.FieldLaws.{there-and-back}
+use Rattle.fields.proofs.RecordLaws.{records-told}
+use Rattle.lent.specs.Layout.{slotFields, waitingFields, stationFields}
+use Rattle.lent.specs.Numbers.{numbersFrom, requestNumbers, requestFrom, carrierFields, toldFields, carrierFrom, toldFrom, phaseFields, phaseFrom, slotNumbers, waitingNumbers, stationNumbers, slotFrom, waitingFrom, stationIn}
+use Rattle.lent.specs.Stations.{stationBytes, stationFrom}
+use Rattle.lent.specs.Statement.{FoundAgain, HandedOutIsFoundAgain, WrongSizeIsNotSound}
+use Rattle.lent.proofs.LayLaws.{sixteen}
+use Rattle.lent.proofs.StationLaws.{slot-fields, waiting-fields, slot-numbers, waiting-numbers, slots-numbers, fields-ordered, station-numbers, station-size}
+
+-- ── one record ───────────────────────────────────────────────────────────────
+
+abbrev Wide : Request → Type 0
+Wide q = length (q .number .digits) ≡ 16
+
+request-back : (q : Request) → Wide q → requestFrom (requestNumbers q) ≡ q
+unfolding requestFrom requestNumbers
+request-back q w = go (q .mode) refl
+  where
+    go : (m : Mode) → q .mode ≡ m → requestFrom (requestNumbers q) ≡ q
+    go Simplex e = rw (e, sixteen (q .number .digits) w)
+    go Duplex e = rw (e, sixteen (q .number .digits) w)
+
+carrier-back : (c : Carrier) → carrierFrom (carrierFields c) ≡ c
+unfolding carrierFrom
+carrier-back Present = refl
+carrier-back (Lost t) = refl
+
+told-back : (n : Told) → toldFrom (toldFields n) ≡ n
+unfolding toldFrom
+told-back Nothing = refl
+told-back (Lasting d) = refl
+
+phase-back : (p : Phase) → phaseFrom (phaseFields p) ≡ p
+unfolding phaseFrom
+phase-back Free = refl
+phase-back (Offered t) = refl
+phase-back (RingBack t) = refl
+phase-back (RingAgain t) = refl
+phase-back (Acknowledged t) = refl
+phase-back (Dialling t c) = ap (Dialling t) (carrier-back c)
+phase-back (Answered t c) = ap (Answered t) (carrier-back c)
+phase-back (Hold t n) = ap (Hold t) (told-back n)
+phase-back Taken = refl
+
+slot-back : (s : Slot) → Wide (s .request) → slotFrom (slotNumbers s) ≡ s
+unfolding slotFrom slotNumbers
+slot-back s w = rw (phase-back (s .phase), request-back (s .request) w)
+
+waiting-back : (w : Waiting) → Wide (w .request) → waitingFrom (waitingNumbers w) ≡ w
+unfolding waitingFrom waitingNumbers
+waiting-back w h = rw (request-back (w .request) h)
+
+-- ── a station whose arrays are as long as their types say ────────────────────
+
+record Whole (s : Station) : Type 0 where
+  slots16 : length (s .slots) ≡ 16
+  queue32 : length (s .queue) ≡ 32
+  slotsWide : Each (λ x. Wide (x .request)) (s .slots)
+  queueWide : Each (λ x. Wide (x .request)) (s .queue)
+
+same : {A : Type 0} (f : A → A) (P : A → Type 0) → ((x : A) → P x → f x ≡ x) → (l : List A) → Each P l → map f l ≡ l
+same f P h [] e = refl
+same f P h (x ∷ l) e = rw (h x (e .0), same f P h l (e .1))
+
+module _ (s : Station) (w : Whole s) where
+  slots-back : (rest : List ℕ) → recordsIn slotFrom 16 30 (flatMap slotNumbers (s .slots) ++ rest) ≡ s .slots
+  slots-back rest =
+      (rw (w .slots16, slot-fields) at (records-told slotNumbers slotFields slot-numbers slotFrom (s .slots) rest))
+      ∙ same (λ x. slotFrom (slotNumbers x)) (λ x. Wide (x .request)) slot-back (s .slots) (w .slotsWide)
+
+  queue-back : recordsIn waitingFrom 32 22 (flatMap waitingNumbers (s .queue)) ≡ s .queue
+  queue-back =
+      ap (recordsIn waitingFrom 32 22) (sym (append-nil (flatMap waitingNumbers (s .queue))))
+      ∙ (rw (w .queue32, waiting-fields) at (records-told waitingNumbers waitingFields waiting-numbers waitingFrom (s .queue) []))
+      ∙ same (λ x. waitingFrom (waitingNumbers x)) (λ x. Wide (x .request)) waiting-back (s .queue) (w .queueWide)
+
+  numbers-back : stationIn (stationNumbers s) ≡ s
+  unfolding stationIn stationNumbers
+  numbers-back =
+      let first = flatMap slotNumbers (s .slots) in
+      let second = flatMap waitingNumbers (s .queue) in
+      let behind : drop 480 (first ++ second) ≡ second = drop-at first second 480 (slots-numbers s (w .slots16) (w .queue32)) in
+      rw (behind, slots-back second, queue-back)
+
+  found-again : FoundAgain s
+  unfolding stationFrom
+  found-again =
+      let long = station-size s (w .slots16) (w .queue32) in
+      let decoded : decode stationFields (stationBytes s) 0 ≡ stationNumbers s =
+      unfold stationBytes in
+      ap (λ b. decode stationFields b 0) (sym (append-nil (encode stationFields (stationNumbers s))))
+      ∙ there-and-back stationFields (stationNumbers s) [] [] 0 0 (station-numbers s (w .slots16) (w .queue32)) fields-ordered refl in
+      (long, rw (eq-eqb _ _ long, decoded) numbers-back)
+
+-- ── what is handed out ───────────────────────────────────────────────────────
+
+each-padded : {A : Type 0} (P : A → Type 0) (b : A) → P b → (n : ℕ) (l : List A) → Each P l → Each P (padded b n l)
+unfolding padded
+each-padded P b h zero l e = tt
+each-padded P b h (suc n) [] e = (h, each-padded P b h n [] tt)
+each-padded P b h (suc n) (x ∷ l) e = (e .0, each-padded P b h n l (e .1))
+
+request-wide : (r : W.Request) → Wide (requestImage r)
+unfolding requestImage
+request-wide r = padded-length 0 16 (r .number)
+
+blank-wide : Wide blankRequest
+unfolding blankRequest
+blank-wide = refl
+
+slot-wide : (c : Channel) (s : R.Slot) → Wide (slotImage c s .request)
+unfolding slotImage
+slot-wide c free = blank-wide
+slot-wide c taken = blank-wide
+slot-wide c (pending k r t) = request-wide r
+slot-wide c (busy r g l) = request-wide r
+slot-wide c (held r n t) = request-wide r
+
+slots-wide : (cs : List Channel) (ss : List R.Slot) → Each (λ x. Wide (x .request)) (slotImages cs ss)
+slots-wide [] ss = tt
+slots-wide (c ∷ cs) [] = tt
+slots-wide (c ∷ cs) (s ∷ ss) = (slot-wide c s, slots-wide cs ss)
+
+queue-wide : (q : List R.Waiting) → Each (λ x. Wide (x .request)) (map waitingImage q)
+unfolding waitingImage
+queue-wide [] = tt
+queue-wide (w ∷ q) = (request-wide (w .request), queue-wide q)
+
+image-whole : (c : Config) (m : R.Station) → Whole (imageOf c m)
+unfolding imageOf blankSlot blankWaiting
+image-whole c m =
+    record {
+      slots16 = padded-length blankSlot 16 (slotImages (c .channels) (m .slots));
+      queue32 = padded-length blankWaiting 32 (map waitingImage (m .queue));
+      slotsWide = each-padded (λ x. Wide (x .request)) blankSlot (slot-wide _ free) 16 (slotImages (c .channels) (m .slots)) (slots-wide (c .channels) (m .slots));
+      queueWide = each-padded (λ x. Wide (x .request)) blankWaiting blank-wide 32 (map waitingImage (m .queue)) (queue-wide (m .queue));
+    }
+
+set-up-found : (c : Config) (v : Option ℕ) → FoundAgain (setUpFor c v .station)
+unfolding blankStation
+set-up-found c none = found-again (imageOf c (fresh c)) (image-whole c (fresh c))
+set-up-found c (some n) = found-again blankStation (image-whole (given 0 []) (fresh (given 0 [])))
+
+step-found : (s : Station) (e : Event) → refusal s e ≡ none → FoundAgain (steppedBy s e .station)
+unfolding steppedBy
+step-found s e h =
+    rw h (found-again (imageOf (configOf s) (act (configOf s) (modelOf s) e .next)) (image-whole (configOf s) (act (configOf s) (modelOf s) e .next)))
+
+pub handed-out-is-found-again : HandedOutIsFoundAgain
+unfolding setUpBy
+handed-out-is-found-again = (λ identity channels. set-up-found (given identity channels) (setUpVerdict (given identity channels)), step-found)
+
+-- ── bytes of another size ────────────────────────────────────────────────────
+
+blank-refused : (e : Event) → refusal blankStation e ≡ some 29
+unfolding refusal refusals recordsKeep viewed blankStation imageOf modelOf configOf sound configKeeps identityKeeps isCoast fresh padded
+blank-refused e = refl
+
+pub wrong-size-is-not-sound : WrongSizeIsNotSound
+unfolding stationFrom
+wrong-size-is-not-sound b h e = rw (ne-eqb (length b) 1722 h) (blank-refused e)

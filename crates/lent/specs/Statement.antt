@@ -1,0 +1,32 @@
+-- What is claimed of the lent bytes: whatever is handed out is found again in them.
+use Prim.Native.Nat.{ℕ}
+use mathlib.Core.Path.{_≡_}
+use mathlib.Core.Bool.{true}
+use mathlib.Core.List.{List, _++_}
+use mathlib.Core.Option.{none, some}
+use lib.ListN.{length}
+use Rattle.sequence.specs.declared.Meaning.{Meaning}
+use Rattle.sequence.specs.Layout.{valid}
+use Rattle.rules.specs.Words.{Event}
+use Rattle.station.specs.declared.Station.{Station}
+use Rattle.station.specs.Step.{refusal, steppedBy, setUpBy}
+use Rattle.lent.specs.Meanings.{meaningBytes, meaningFrom}
+use Rattle.lent.specs.Stations.{stationBytes, stationFrom}
+
+-- the 32 bytes of a valid meaning, whatever stands behind them
+abbrev pub MeaningIsFoundAgain : Type 0
+MeaningIsFoundAgain = (m : Meaning) (rest : List ℕ) → valid m ≡ true → meaningFrom (meaningBytes m ++ rest) ≡ m
+
+-- decoding what was encoded gives the station back, and it takes 1722 bytes
+abbrev pub FoundAgain : Station → Type 0
+FoundAgain s = (length (stationBytes s) ≡ 1722) × (stationFrom (stationBytes s) ≡ s)
+
+-- every station that set-up hands out, and every station that an accepted event does
+abbrev pub HandedOutIsFoundAgain : Type 0
+HandedOutIsFoundAgain =
+    ((identity : ℕ) (channels : List ℕ) → FoundAgain (setUpBy identity channels .station))
+    × ((s : Station) (e : Event) → refusal s e ≡ none → FoundAgain (steppedBy s e .station))
+
+-- bytes of another size stand for a station that every event refuses with 29
+abbrev pub WrongSizeIsNotSound : Type 0
+WrongSizeIsNotSound = (b : List ℕ) → (length b ≡ 1722 → ⊥) → (e : Event) → refusal (stationFrom b) e ≡ some 29
