@@ -162,8 +162,8 @@ static void put_slot(uint8_t *bytes, const struct slot *slot, uint8_t channel) {
 }
 
 static void put_station(uint8_t *bytes, const struct station *station) {
-    for (size_t i = 0; i < STATION_BYTES; i++)
-        bytes[i] = 0;
+    static const struct whole { uint8_t bytes[STATION_BYTES]; } zeros = {{0}};
+    *(struct whole *)bytes = zeros;
     put_four(bytes + CLOCK_AT, station->clock);
     put_four(bytes + IDENTITY_AT, station->identity);
     bytes[SLOT_COUNT_AT] = (uint8_t)station->channel_count;
