@@ -7,7 +7,7 @@ enum part { WHOLE_AT_CLOCK, WHOLE_OF_IDENTITY, STATION, SLOT, WAITING, SHIP_TWIC
 enum from { PLAINLY, FROM_CLOCK, FROM_IDENTITY };
 
 /* How the part is drawn before one of its fields is moved. */
-enum state { AS_DRAWN, FULL, LOST_SIMPLEX, LOST_DUPLEX, WITH_DURATION, ONE_DIGIT, FIFTEEN_DIGITS, SIXTEEN_DIGITS };
+enum state { AS_DRAWN, FULL, IDLE, LOST_SIMPLEX, LOST_DUPLEX, WITH_DURATION, ONE_DIGIT, FIFTEEN_DIGITS, SIXTEEN_DIGITS };
 
 #define ANY_PHASE 0u
 #define OF(phase) (1u << (phase))
@@ -47,12 +47,15 @@ static const struct field fields[] = {
      {4000000000, 4000000001, 4000000002}},
     {"identity, all requests with it", WHOLE_OF_IDENTITY, AS_DRAWN, ANY_PHASE, 0, 0, PLAINLY, 5,
      {1999999, 2000000, 7999999, 8000000, 200000000}},
+    {"identity of an idle station", WHOLE_OF_IDENTITY, IDLE, ANY_PHASE, 0, 0, PLAINLY, 5,
+     {1999999, 2000000, 7999999, 8000000, 200000000}},
     {"clock", STATION, AS_DRAWN, ANY_PHASE, CLOCK, 4, FROM_CLOCK, 2, {-1, 1}},
     {"identity", STATION, AS_DRAWN, ANY_PHASE, IDENTITY, 4, FROM_IDENTITY, 3, {-1, 0, 1}},
     {"count of slots", STATION, FULL, ANY_PHASE, SLOT_COUNT, 1, PLAINLY, 7, {0, 1, 15, 16, 17, 18, 255}},
     {"count of waiting ships", STATION, FULL, ANY_PHASE, WAITING_COUNT, 1, PLAINLY, 7, {0, 1, 31, 32, 33, 34, 255}},
     {"channel", SLOT, AS_DRAWN, ANY_PHASE, CHANNEL, 4, PLAINLY, 20,
-     {0, 1, 15, 16, 17, 28, 29, 59, 60, 69, 70, 71, 88, 89, 255, 256 + 26, 26 << 8, (1 << 16) + 26, (1 << 24) + 26, 26 << 24}},
+     {0, 1, 15, 16, 17, 28, 29, 59, 60, 69, 70, 71, 88, 89, 255, 256 + 26, 26 << 8, (1 << 16) + 26, (1 << 24) + 26,
+      26 << 24}},
     {"phase", SLOT, AS_DRAWN, ANY_PHASE, PHASE, 1, PLAINLY, 12, {0, 1, 2, 3, 4, 5, 6, 7, 8, 9, 10, 255}},
     {"offer's due time", SLOT, AS_DRAWN, OFFERS, TIME, 4, FROM_CLOCK, 4, {-1, 0, 161, 162}},
     {"ring-back's due time", SLOT, AS_DRAWN, RINGS, TIME, 4, FROM_CLOCK, 4, {-1, 0, 51, 52}},
@@ -112,12 +115,20 @@ static void bring_to(enum state state, struct slot *slot, struct meaning *reques
     }
 }
 
+static void draw_idle(void) {
+    for (uint32_t i = 0; i < stage.station.channel_count; i++)
+        draw_slot(i, one_in(2) ? PHASE_FREE : PHASE_TAKEN);
+    stage.station.waiting_count = 0;
+}
+
 /* Where the part begins that has the field. */
 static size_t draw_part(const struct field *field) {
     struct station *station = &stage.station;
     uint32_t slot = chance(station->channel_count), place = chance(station->waiting_count);
     if (field->state == FULL)
         draw_station_of(station->clock, station->identity, MOST_SLOTS, MOST_WAITING);
+    if (field->state == IDLE)
+        draw_idle();
     if (field->part == SLOT) {
         if (field->phases != ANY_PHASE)
             draw_slot(slot, one_of(field->phases));

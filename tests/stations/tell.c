@@ -15,7 +15,8 @@ static void tell_request(const uint8_t *bytes) {
 }
 
 static void tell_slot(uint32_t slot, const uint8_t *bytes) {
-    printf("  slot %u: phase %u, channel %u", (unsigned)slot, (unsigned)bytes[PHASE], (unsigned)number_at(bytes + CHANNEL, 4));
+    printf("  slot %u: phase %u, channel %u", (unsigned)slot, (unsigned)bytes[PHASE],
+           (unsigned)number_at(bytes + CHANNEL, 4));
     if (bytes[PHASE] == 0u || bytes[PHASE] >= 8u) {
         printf("\n");
         return;
