@@ -86,13 +86,15 @@ static void want_refused(const char *what, const struct event *event, const uint
                          uint32_t wanted) {
     size_t whole = size < COAST_STATION_SIZE ? size : COAST_STATION_SIZE;
     for (int end = 0; end < 2; end++) {
-        uint8_t *station = lend(FOR_STATION, size, end == 1, FILLING), *room = lend(FOR_ACTIONS, room_size, end == 1, FILLING);
+        uint8_t *station = lend(FOR_STATION, size, end == 1, FILLING);
+        uint8_t *room = lend(FOR_ACTIONS, room_size, end == 1, FILLING);
         struct lent_bytes lent = {size == 0u ? NULL : station, size, room_size == 0u ? NULL : room, room_size};
         copy(station, bytes, whole);
         uint64_t returned = hand_in(&library, event, &lent);
         want(what, coast_answer(returned), wanted);
         want("a refusal's actions", (uint32_t)coast_count(returned), 0);
-        want_true("a refusal leaves the station", equal(station, bytes, whole) && left_alone(FOR_STATION, station, whole, FILLING));
+        want_true("a refusal leaves the station",
+                  equal(station, bytes, whole) && left_alone(FOR_STATION, station, whole, FILLING));
         want_true("a refusal leaves the room", left_alone(FOR_ACTIONS, room, 0, FILLING));
         if (size == COAST_STATION_SIZE && wanted != COAST_NOT_SOUND && wanted != COAST_BAD_SET_UP)
             want_true("a refusal tells the due time", returned >> 16 == coast_next_due(station, size) >> 16);
@@ -115,6 +117,12 @@ static void try_sizes(void) {
     want("due in no bytes", coast_answer(coast_next_due(NULL, 0)), COAST_NOT_SOUND);
 }
 
+/* Fills the bytes of slots and waiting ships past the counts, which nobody may look at. */
+static void litter(struct own *own) {
+    for (size_t i = 10u + 2u * 45u; i < COAST_STATION_SIZE; i++)
+        own->station[i] = 255;
+}
+
 /* To the station of the course's first step, at clock 100 with a wait due at 261. */
 static void try_refusals(void) {
     static const uint8_t spoilt[CHECKED_LENGTH] = {128};
@@ -122,10 +130,12 @@ static void try_refusals(void) {
         {{'T', 4000000001u, 0, NULL, 0}, COAST_TIME_TOO_LATE, 0, 0}, {{'T', 99, 0, NULL, 0}, COAST_TIME_BEFORE_CLOCK, 0, 0},
         {{'Q', 261, 0, spoilt, CHECKED_LENGTH}, COAST_WAIT_DUE, 0, 0}, {{'W', 261, 9, P(4)}, COAST_WAIT_DUE, 0, 0},
         {{'W', 260, 2, spoilt, CHECKED_LENGTH}, COAST_NO_SLOT, 0, 0}, {{'O', 260, 4294967295u, NULL, 0}, COAST_NO_SLOT, 0, 0},
+        {{'W', 260, 65536, P(4)}, COAST_NO_SLOT, 0, 0}, {{'M', 260, 257, NULL, 0}, COAST_NO_SLOT, 0, 0},
         {{'Q', 260, 0, NULL, 0}, COAST_BAD_LENGTH, 0, 0}, {{'W', 260, 0, NULL, 0}, COAST_BAD_LENGTH, 0, 0},
         {{'Q', 260, 0, spoilt, CHECKED_LENGTH}, COAST_BAD_SYMBOL, 0, 0},
         {{'M', 260, 0, NULL, 0}, COAST_OPERATOR, 0, 0}, {{'F', 260, 1, NULL, 0}, COAST_OPERATOR, 0, 0}};
     struct own own = after(1);
+    litter(&own);
     for (size_t i = 0; i < sizeof refused / sizeof refused[0]; i++)
         want_refused("a refusal", &refused[i].event, own.station, COAST_STATION_SIZE, COAST_ACTIONS_SIZE, refused[i].answer);
 }
@@ -142,14 +152,16 @@ static void try_bad_set_ups(void) {
         want_refused("a set-up", &bad[i], own.station, COAST_STATION_SIZE, 0, COAST_BAD_SET_UP);
 }
 
-/* One byte made wrong in the station of the course's third step, which dials on slot 0. */
+/* One byte made wrong in the station after so many steps: 3 dials on slot 0, 5 lost the carrier there, 10 holds. */
 static void try_unsound(void) {
     static const struct {
-        size_t place;
+        size_t steps, place;
         uint8_t value;
-    } wrong[] = {{3, 255}, {7, 1}, {8, 0}, {8, 17}, {9, 33}, {10, 9}, {12, 255}, {15, 2}, {24, 16}, {31, 0}, {36, 2}, {38, 17}};
+    } wrong[] = {{3, 3, 255}, {3, 7, 1},   {3, 8, 0},   {3, 8, 17},  {3, 9, 33},   {3, 10, 9},
+                 {3, 10, 255}, {3, 12, 255}, {3, 24, 16}, {3, 25, 1},  {3, 31, 0},   {3, 36, 2},
+                 {3, 38, 17},  {5, 15, 2},   {5, 17, 255}, {10, 20, 2}, {10, 22, 60}};
     for (size_t i = 0; i < sizeof wrong / sizeof wrong[0]; i++) {
-        struct own own = after(3);
+        struct own own = after(wrong[i].steps);
         own.station[wrong[i].place] = wrong[i].value;
         for (size_t j = 0; j < STEPS; j++)
             want_refused("an unsound station", &course[j].event, own.station, COAST_STATION_SIZE, 0, COAST_NOT_SOUND);
@@ -177,12 +189,11 @@ static void try_side_by_side(void) {
     }
 }
 
-/* Bytes of slots and waiting ships past the counts: whatever stands there is not looked at, and 0 afterwards. */
+/* Whatever stands there changes nothing, and is 0 after an event. */
 static void try_unused_bytes(void) {
     for (size_t i = 0; i < STEPS; i++) {
         struct own clean = after(i), littered = clean;
-        for (size_t j = 10u + 2u * 45u; j < COAST_STATION_SIZE; j++)
-            littered.station[j] = 255;
+        litter(&littered);
         uint64_t returned = hand_in_own(&clean, &course[i].event);
         want_true("unused bytes", hand_in_own(&littered, &course[i].event) == returned);
         want_same("unused bytes are 0", &littered, &clean);
