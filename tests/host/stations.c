@@ -48,8 +48,12 @@ static struct own after(size_t steps) {
     return own;
 }
 
+static uint32_t due_of(uint64_t returned) {
+    return coast_waits(returned) ? coast_due(returned) : NONE;
+}
+
 static void want_due(const char *what, uint64_t returned, uint32_t due) {
-    want(what, coast_waits(returned) ? coast_due(returned) : NONE, due);
+    want(what, due_of(returned), due);
 }
 
 static void try_course(bool at_end) {
@@ -97,7 +101,7 @@ static void want_refused(const char *what, const struct event *event, const uint
                   equal(station, bytes, whole) && left_alone(FOR_STATION, station, whole, FILLING));
         want_true("a refusal leaves the room", left_alone(FOR_ACTIONS, room, 0, FILLING));
         if (size == COAST_STATION_SIZE && wanted != COAST_NOT_SOUND && wanted != COAST_BAD_SET_UP)
-            want_true("a refusal tells the due time", returned >> 16 == coast_next_due(station, size) >> 16);
+            want_due("a refusal tells the due time", returned, due_of(coast_next_due(station, size)));
     }
 }
 
