@@ -2,7 +2,6 @@
 #include "bench.h"
 #include "../include/coast.h"
 #include "../tests/host/event.h"
-#include "../tests/second/lent.h"
 
 extern int printf(const char *, ...);
 
@@ -12,10 +11,7 @@ static struct event events[MOST_EVENTS];
 static uint8_t lists[MOST_EVENTS][LIST_MOST];
 static uint32_t count;
 
-static const struct entries second = {
-    "second implementation", second_set_up_bytes, second_tick_bytes, second_heard_on_channel_70_bytes,
-    second_heard_on_slot_bytes, second_carrier_up_bytes, second_carrier_down_bytes, second_off_hook_bytes,
-    second_on_hook_bytes, second_take_bytes, second_give_back_bytes};
+extern const struct entries second; /* of tests/stations/second.c */
 
 static void record(void) {
     struct line line;

@@ -7,7 +7,7 @@ extern int getchar(void);
 #define NO_CHANNEL 255u /* what a channel becomes that no byte holds: as bad a one */
 
 const struct entries library = {
-    "library", coast_set_up, coast_tick, coast_heard_on_channel_70, coast_heard_on_slot,
+    "library", coast_set_up, coast_next_due, coast_tick, coast_heard_on_channel_70, coast_heard_on_slot,
     coast_carrier_up, coast_carrier_down, coast_off_hook, coast_on_hook, coast_take, coast_give_back};
 
 bool read_line(struct line *line) {
@@ -70,7 +70,7 @@ bool read_event(const struct line *line, struct event *event, uint8_t *list) {
     return at == line->length;
 }
 
-static slot_entry *slot_entry_of(const struct entries *to, char letter) {
+static on_slot_entry *on_slot_entry_of(const struct entries *to, char letter) {
     switch (letter) {
     case 'U': return to->carrier_up;
     case 'D': return to->carrier_down;
@@ -90,6 +90,6 @@ uint64_t hand_in(const struct entries *to, const struct event *event, const stru
     case 'Q': return to->heard_on_channel_70(station, size, time, event->list, event->count, room, room_size);
     case 'W': return to->heard_on_slot(station, size, time, event->slot, event->list, event->count, room, room_size);
     case 'T': return to->tick(station, size, time, room, room_size);
-    default: return slot_entry_of(to, event->letter)(station, size, time, event->slot, room, room_size);
+    default: return on_slot_entry_of(to, event->letter)(station, size, time, event->slot, room, room_size);
     }
 }
