@@ -127,8 +127,8 @@ int main(void) {
     struct order order;
     for (uint32_t number = 1; next_line(&line); number++) {
         if (says_nothing(&line))
-            continue;
-        if (read_order(&line, rack.identity, &order))
+            printf("%s\n", line.text);
+        else if (read_order(&line, rack.identity, &order))
             obey(&rack, &order, line.text);
         else
             printf("line %u is not understood: skipped\n", (unsigned)number);
