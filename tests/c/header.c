@@ -2,7 +2,8 @@
 #include "coast.h"
 #include "coast.h"
 
-#if COAST_SHORTEST_SEQUENCE != 21 || COAST_LONGEST_SEQUENCE != 28 || COAST_MEANING_SIZE != 32
+#if COAST_SHORTEST_SEQUENCE != 21 || COAST_LONGEST_SEQUENCE != 28 || COAST_MEANING_SIZE != 32 || \
+    COAST_STATION_SIZE != 1722 || COAST_ACTIONS_SIZE != 320 || COAST_ACTION_SIZE != 40
 #error "a size is wrong"
 #endif
 #if COAST_AT_ADDRESS != 0 || COAST_AT_SENDER != 4 || COAST_AT_FIRST != 8 || COAST_AT_SECOND != 9 || \
@@ -16,18 +17,52 @@
 #if COAST_DONE != 0 || COAST_BAD_LENGTH != 11 || COAST_BAD_SYMBOL != 12 || COAST_BAD_CHECK != 13 || \
     COAST_BAD_FORMAT != 14 || COAST_BAD_IDENTITIES != 15 || COAST_BAD_CATEGORY != 16 || COAST_BAD_TELECOMMANDS != 17 || \
     COAST_BAD_CHANNEL_FIELD != 18 || COAST_BAD_NUMBER != 19 || COAST_BAD_END != 20 || COAST_ROOM_SHORT != 21 || \
-    COAST_MEANING_SHORT != 22
+    COAST_MEANING_SHORT != 22 || COAST_IGNORED != 1 || COAST_NOT_SOUND != 29 || COAST_ACTIONS_SHORT != 30 || \
+    COAST_TIME_TOO_LATE != 31 || COAST_TIME_BEFORE_CLOCK != 32 || COAST_WAIT_DUE != 33 || COAST_NO_SLOT != 34 || \
+    COAST_OPERATOR != 35 || COAST_BAD_SET_UP != 36
 #error "an answer is wrong"
+#endif
+#if COAST_AT_ACTION_KIND != 0 || COAST_AT_ACTION_SLOT != 1 || COAST_AT_ACTION_LENGTH != 2 || COAST_AT_ACTION_PAYLOAD != 4
+#error "a place in an action is wrong"
+#endif
+#if COAST_CARRIER_ON != 1 || COAST_CARRIER_OFF != 2 || COAST_SEND_CHANNEL_70 != 3 || COAST_SEND_WORKING != 4 || \
+    COAST_DIAL != 5 || COAST_RELEASE_LINE != 6 || COAST_CHARGE != 7
+#error "a kind of action is wrong"
 #endif
 
 typedef uint32_t reader(const uint8_t *symbols, size_t count, uint8_t *meaning, size_t size);
 typedef uint32_t writer(const uint8_t *meaning, size_t size, uint8_t *room, size_t room_size);
+typedef uint64_t setter(uint32_t identity, const uint8_t *channels, size_t count, uint8_t *station, size_t size);
+typedef uint64_t due_teller(const uint8_t *station, size_t size);
+typedef uint64_t ticker(uint8_t *station, size_t size, uint32_t time, uint8_t *room, size_t room_size);
+typedef uint64_t hearer(uint8_t *station, size_t size, uint32_t time, const uint8_t *symbols, size_t count, uint8_t *room,
+                        size_t room_size);
+typedef uint64_t slot_hearer(uint8_t *station, size_t size, uint32_t time, uint32_t slot, const uint8_t *symbols,
+                             size_t count, uint8_t *room, size_t room_size);
+typedef uint64_t slot_event(uint8_t *station, size_t size, uint32_t time, uint32_t slot, uint8_t *room, size_t room_size);
+
+struct entries {
+    reader *reads;
+    writer *writes;
+    setter *sets_up;
+    due_teller *tells_due;
+    ticker *ticks;
+    hearer *hears;
+    slot_hearer *hears_on_slot;
+    slot_event *of_slots[6];
+    uint32_t (*answer)(uint64_t returned);
+    size_t (*count)(uint64_t returned);
+    int (*waits)(uint64_t returned);
+    uint32_t (*due)(uint64_t returned);
+};
 
 /* Refused by the compiler where an entry has another type. */
-extern reader *const reads;
-extern writer *const writes;
-reader *const reads = coast_read_sequence;
-writer *const writes = coast_write_sequence;
+extern const struct entries entries;
+const struct entries entries = {
+    coast_read_sequence, coast_write_sequence, coast_set_up, coast_next_due, coast_tick, coast_heard_on_channel_70,
+    coast_heard_on_slot,
+    {coast_carrier_up, coast_carrier_down, coast_off_hook, coast_on_hook, coast_take, coast_give_back},
+    coast_answer, coast_count, coast_waits, coast_due};
 
 int main(void) {
     uint8_t meaning[COAST_MEANING_SIZE] = {0}, room[COAST_LONGEST_SEQUENCE] = {0};

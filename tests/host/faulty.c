@@ -1,4 +1,4 @@
-/* Faulty on purpose, where told so: what tests/c_host tries the sanitizers on. Without a sanitizer it ends well. */
+/* Faulty on purpose, where told so: what tests/c/sanitizers tries them on. Without a sanitizer it ends well. */
 #include <stdint.h>
 
 static volatile uint8_t bytes[4];

@@ -1,35 +1,10 @@
 /* A host in C as the simulator's: calls the library through its header, and checks all that it hands back. */
 #include "../../include/coast.h"
 #include "../c/checked.h"
+#include "checks.h"
 #include "lent.h"
 
 extern int printf(const char *, ...);
-
-static uint32_t checks, failures;
-
-static void want(const char *what, uint32_t got, uint32_t wanted) {
-    checks++;
-    if (got == wanted)
-        return;
-    failures++;
-    printf("host: %s: got %u, wanted %u\n", what, (unsigned)got, (unsigned)wanted);
-}
-
-static void want_true(const char *what, bool got) {
-    want(what, got ? 1u : 0u, 1u);
-}
-
-static bool equal(const uint8_t *a, const uint8_t *b, size_t count) {
-    for (size_t i = 0; i < count; i++)
-        if (a[i] != b[i])
-            return false;
-    return true;
-}
-
-static void copy(uint8_t *to, const uint8_t *from, size_t count) {
-    for (size_t i = 0; i < count; i++)
-        to[i] = from[i];
-}
 
 static void put_check_right(uint8_t *symbols, size_t count) {
     symbols[count - 1u] = 0;
@@ -245,6 +220,6 @@ int main(void) {
     try_refusals_to_read();
     try_refusals_to_write();
     try_garbage();
-    printf("host: %u checks, %u failed\n", (unsigned)checks, (unsigned)failures);
-    return failures == 0u ? 0 : 1;
+    try_stations();
+    return all_as_wanted() ? 0 : 1;
 }

@@ -1,0 +1,215 @@
+/* Lines of the feed to orders. What a ship sends is written by the library from its meaning. */
+#include "../include/coast.h"
+#include "feed.h"
+
+extern int getchar(void);
+
+#define SIMPLEX 100u
+#define DUPLEX 101u
+#define END_OF_CALL 105u
+#define DATA 106u
+#define NOTHING_MORE 126u /* the second telecommand where there is nothing to say */
+#define RQ 117u
+#define BQ 122u
+#define NO_REPLY 127u
+
+bool next_line(struct line *line) {
+    size_t length = 0;
+    int c = getchar();
+    bool any = c >= 0;
+    line->readable = true;
+    for (; c >= 0 && c != '\n'; c = getchar()) {
+        line->readable = line->readable && length < LINE_MOST && c >= ' ' && c <= '~';
+        if (line->readable)
+            line->text[length++] = (char)c;
+    }
+    line->text[length] = '\0';
+    return any;
+}
+
+/* ---- words: each of these moves behind what it takes ---- */
+
+static void skip_spaces(const char **at) {
+    while (**at == ' ')
+        ++*at;
+}
+
+static bool is_digit(char c) {
+    return c >= '0' && c <= '9';
+}
+
+static bool ends_word(char c) {
+    return c == ' ' || c == '\0';
+}
+
+static bool take_word(const char **at, const char *word) {
+    const char *from = *at;
+    for (; *word != '\0'; word++, from++)
+        if (*from != *word)
+            return false;
+    if (!ends_word(*from))
+        return false;
+    *at = from;
+    skip_spaces(at);
+    return true;
+}
+
+static bool take_number(const char **at, uint32_t most, uint32_t *number) {
+    uint64_t value = 0;
+    const char *from = *at;
+    for (; is_digit(**at) && value <= most; ++*at)
+        value = value * 10u + (uint64_t)(**at - '0');
+    *number = (uint32_t)value;
+    return *at > from && value <= most;
+}
+
+static bool take_whole(const char **at, uint32_t most, uint32_t *number) {
+    bool taken = take_number(at, most, number) && ends_word(**at);
+    skip_spaces(at);
+    return taken;
+}
+
+/* Seconds, with a tenth or without, to tenths. */
+static bool take_time(const char **at, uint32_t *tenths) {
+    uint32_t seconds = 0, tenth = 0;
+    if (!take_number(at, UINT32_MAX / 10u - 1u, &seconds))
+        return false;
+    if (**at == '.') {
+        ++*at;
+        if (!take_number(at, 9, &tenth))
+            return false;
+    }
+    *tenths = seconds * 10u + tenth;
+    bool whole = ends_word(**at);
+    skip_spaces(at);
+    return whole;
+}
+
+/* All that is left of the line, a byte a number. */
+static bool take_bytes(const char **at, struct order *order) {
+    uint32_t byte = 0;
+    while (**at != '\0') {
+        if (!take_whole(at, UINT8_MAX, &byte))
+            return false;
+        order->bytes[order->count++] = (uint8_t)byte;
+    }
+    return true;
+}
+
+/* ---- what a ship sends ---- */
+
+static void put_identity(uint8_t *bytes, uint32_t identity) {
+    for (size_t i = 0; i < 4u; i++)
+        bytes[i] = (uint8_t)(identity >> 8u * i & 255u);
+}
+
+static bool take_mode(const char **at, uint8_t *meaning) {
+    uint8_t mode = 0;
+    if (take_word(at, "simplex"))
+        mode = SIMPLEX;
+    else if (take_word(at, "duplex"))
+        mode = DUPLEX;
+    else if (take_word(at, "data"))
+        mode = DATA;
+    meaning[COAST_AT_FIRST] = mode;
+    return mode != 0u;
+}
+
+static bool take_channel(const char **at, uint8_t *meaning) {
+    uint32_t channel = 0;
+    bool taken = take_whole(at, UINT8_MAX, &channel);
+    meaning[COAST_AT_FIELD_KIND] = COAST_FIELD_CHANNEL;
+    meaning[COAST_AT_FIELD] = (uint8_t)channel;
+    return taken;
+}
+
+/* What the ship says, as its telecommand, field and end of sequence. */
+static bool take_saying(const char **at, uint8_t *meaning) {
+    meaning[COAST_AT_SECOND] = NOTHING_MORE;
+    if (take_word(at, "asks")) {
+        meaning[COAST_AT_END] = RQ;
+        return take_mode(at, meaning);
+    }
+    if (take_word(at, "agrees")) {
+        meaning[COAST_AT_END] = BQ;
+        return take_channel(at, meaning) && take_mode(at, meaning);
+    }
+    if (take_word(at, "calls")) {
+        meaning[COAST_AT_END] = NO_REPLY;
+        return take_mode(at, meaning);
+    }
+    meaning[COAST_AT_FIRST] = END_OF_CALL;
+    meaning[COAST_AT_END] = RQ;
+    return take_word(at, "ends");
+}
+
+static bool take_digits(const char **at, uint8_t *meaning) {
+    uint8_t count = 0;
+    for (; is_digit(**at) && COAST_AT_DIGITS + count < COAST_MEANING_SIZE; ++*at)
+        meaning[COAST_AT_DIGITS + count++] = (uint8_t)(**at - '0');
+    meaning[COAST_AT_DIGIT_COUNT] = count;
+    return **at == '\0';
+}
+
+static bool take_sequence(const char **at, uint32_t identity, struct order *order) {
+    uint8_t meaning[COAST_MEANING_SIZE] = {0};
+    uint32_t ship = 0;
+    if (!take_whole(at, UINT32_MAX, &ship) || !take_saying(at, meaning) || !take_digits(at, meaning))
+        return false;
+    put_identity(meaning + COAST_AT_ADDRESS, identity);
+    put_identity(meaning + COAST_AT_SENDER, ship);
+    uint32_t returned = coast_write_sequence(meaning, sizeof meaning, order->bytes, sizeof order->bytes);
+    order->count = coast_count(returned);
+    return coast_answer(returned) == COAST_DONE;
+}
+
+/* ---- whole lines ---- */
+
+static bool take_heard(const char **at, uint32_t identity, struct order *order) {
+    order->kind = HEARD;
+    if (!take_whole(at, UINT32_MAX, &order->channel))
+        return false;
+    return take_word(at, "symbols") ? take_bytes(at, order) : take_sequence(at, identity, order);
+}
+
+static bool take_slot_event(const char **at, struct order *order) {
+    static const struct {
+        const char *word;
+        slot_event *event;
+    } events[] = {{"up", coast_carrier_up},     {"down", coast_carrier_down}, {"off-hook", coast_off_hook},
+                  {"on-hook", coast_on_hook},   {"take", coast_take},         {"give-back", coast_give_back}};
+    order->kind = ON_SLOT;
+    for (size_t i = 0; i < sizeof events / sizeof events[0]; i++)
+        if (take_word(at, events[i].word)) {
+            order->event = events[i].event;
+            return take_whole(at, UINT32_MAX, &order->channel) && **at == '\0';
+        }
+    return false;
+}
+
+bool says_nothing(const struct line *line) {
+    const char *at = line->text;
+    skip_spaces(&at);
+    return line->readable && (*at == '\0' || *at == '#');
+}
+
+bool read_order(const struct line *line, uint32_t identity, struct order *order) {
+    const char *at = line->text;
+    *order = (struct order){.kind = SET_UP};
+    skip_spaces(&at);
+    if (!line->readable)
+        return false;
+    if (take_word(&at, "station"))
+        return take_whole(&at, UINT32_MAX, &order->number) && take_word(&at, "on") && take_bytes(&at, order);
+    if (!take_time(&at, &order->time))
+        return false;
+    if (take_word(&at, "heard"))
+        return take_heard(&at, identity, order);
+    order->kind = TICK;
+    if (take_word(&at, "tick"))
+        return *at == '\0';
+    order->kind = LATE;
+    if (take_word(&at, "late"))
+        return take_time(&at, &order->number) && *at == '\0';
+    return take_slot_event(&at, order);
+}

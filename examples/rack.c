@@ -1,0 +1,138 @@
+/* A small host in C for the coast station: an event loop over a feed of lines (feed.h), with a timer for the waits.
+ *
+ * Its clock is the feed's: a line happens at its time, and the timer rings in between. The library decides all else; the host
+ * lends it bytes, does what the actions say (here: prints them), and sets its timer for the next due time. */
+#include "../include/coast.h"
+#include "feed.h"
+#include "words.h"
+
+extern int printf(const char *, ...);
+extern int fflush(void *);
+
+#define CALLING_CHANNEL 70u
+#define MOST_SLOTS 16u
+
+struct rack {
+    uint8_t station[COAST_STATION_SIZE], actions[COAST_ACTIONS_SIZE];
+    uint32_t identity;
+    uint8_t channels[MOST_SLOTS]; /* of the slots, in their order */
+    uint32_t slots;
+    bool timer_runs;
+    uint32_t timer; /* the time that it is set for */
+    uint32_t late;  /* how much later it rings */
+};
+
+static void set_timer(struct rack *rack, uint64_t returned) {
+    bool runs = coast_waits(returned), changed = runs != rack->timer_runs || coast_due(returned) != rack->timer;
+    rack->timer_runs = runs;
+    rack->timer = coast_due(returned);
+    if (changed && runs) {
+        printf("    timer set for ");
+        print_time(rack->timer);
+        printf("\n");
+    }
+    if (changed && !runs)
+        printf("    timer off\n");
+}
+
+/* Does what was answered; false where it is a refusal, which leaves everything as it was. */
+static bool follow(struct rack *rack, uint64_t returned) {
+    uint32_t answer = coast_answer(returned);
+    if (answer > COAST_IGNORED) {
+        printf("    refused, %u: %s\n", (unsigned)answer, answer_in_words(answer));
+        return false;
+    }
+    if (coast_count(returned) == 0u)
+        printf("    %s\n", answer_in_words(answer));
+    print_actions(rack->actions, coast_count(returned), rack->channels);
+    set_timer(rack, returned);
+    return true;
+}
+
+/* Hands in ticks until nothing is due at this time; false where the station refuses one. */
+static bool tick(struct rack *rack, uint32_t time) {
+    bool accepted;
+    do
+        accepted = follow(rack, coast_tick(rack->station, sizeof rack->station, time, rack->actions, sizeof rack->actions));
+    while (accepted && rack->timer_runs && rack->timer <= time);
+    return accepted;
+}
+
+/* Lets the timer ring, as late as it does, up to this time. */
+static void pass_time(struct rack *rack, uint32_t until) {
+    bool accepted = true;
+    while (accepted && rack->timer_runs && (uint64_t)rack->timer + rack->late <= until) {
+        uint32_t rings = rack->timer + rack->late;
+        printf("* ");
+        print_time(rings);
+        printf(" the timer rings\n");
+        accepted = tick(rack, rings);
+    }
+}
+
+/* The slot of a channel; one that is too high where no slot has it. */
+static uint32_t slot_of(const struct rack *rack, uint32_t channel) {
+    uint32_t slot = 0;
+    while (slot < rack->slots && rack->channels[slot] != channel)
+        slot++;
+    return slot;
+}
+
+static uint64_t hand_in(struct rack *rack, const struct order *order) {
+    uint8_t *station = rack->station, *room = rack->actions;
+    size_t size = sizeof rack->station, room_size = sizeof rack->actions;
+    uint32_t slot = slot_of(rack, order->channel);
+    if (order->kind == ON_SLOT)
+        return order->event(station, size, order->time, slot, room, room_size);
+    if (order->channel == CALLING_CHANNEL)
+        return coast_heard_on_channel_70(station, size, order->time, order->bytes, order->count, room, room_size);
+    return coast_heard_on_slot(station, size, order->time, slot, order->bytes, order->count, room, room_size);
+}
+
+/* Where a wait is due the timer is late: the ticks come first, and then the event once more. */
+static void happen(struct rack *rack, const struct order *order) {
+    uint64_t returned = hand_in(rack, order);
+    follow(rack, returned);
+    if (coast_answer(returned) == COAST_WAIT_DUE && tick(rack, order->time)) {
+        printf("    the event once more:\n");
+        follow(rack, hand_in(rack, order));
+    }
+}
+
+static void set_up(struct rack *rack, const struct order *order) {
+    uint64_t returned = coast_set_up(order->number, order->bytes, order->count, rack->station, sizeof rack->station);
+    if (!follow(rack, returned))
+        return;
+    rack->identity = order->number;
+    rack->slots = (uint32_t)order->count;
+    for (uint32_t i = 0; i < rack->slots; i++)
+        rack->channels[i] = order->bytes[i];
+}
+
+static void obey(struct rack *rack, const struct order *order, const char *text) {
+    if (order->kind != SET_UP)
+        pass_time(rack, order->time);
+    printf("> %s\n", text);
+    switch (order->kind) {
+    case SET_UP: set_up(rack, order); break;
+    case TICK: tick(rack, order->time); break;
+    case LATE: rack->late = order->number; break;
+    default: happen(rack, order);
+    }
+}
+
+int main(void) {
+    static struct rack rack;
+    struct line line;
+    struct order order;
+    for (uint32_t number = 1; next_line(&line); number++) {
+        if (says_nothing(&line))
+            printf("%s\n", line.text);
+        else if (read_order(&line, rack.identity, &order))
+            obey(&rack, &order, line.text);
+        else
+            printf("line %u is not understood: skipped\n", (unsigned)number);
+        fflush(NULL);
+    }
+    return 0;
+}

@@ -1,0 +1,48 @@
+/* A line of a script as an event, handed in through the calls of include/coast.h. */
+#ifndef EVENT_H
+#define EVENT_H
+
+#include <stdbool.h>
+#include <stddef.h>
+#include <stdint.h>
+
+#include "../stations/entries.h"
+
+#define LINE_MOST 200u
+#define LIST_MOST (LINE_MOST / 2u)
+
+struct line {
+    uint8_t text[LINE_MOST];
+    size_t length;
+    bool too_long;
+};
+
+struct event {
+    char letter;
+    uint32_t number; /* the time; for S the identity */
+    uint32_t slot;
+    const uint8_t *list; /* symbols; for S channels */
+    size_t count;
+};
+
+/* The next line of standard input; false at its end. */
+bool read_line(struct line *line);
+
+/* Reads a line, its list into a room of LIST_MOST bytes; false where document 01 has 40 for it. */
+bool read_event(const struct line *line, struct event *event, uint8_t *list);
+
+/* What is lent with an event. */
+struct lent_bytes {
+    uint8_t *station;
+    size_t size;
+    uint8_t *room;
+    size_t room_size;
+};
+
+/* The library's entries, through its header. */
+extern const struct entries library;
+
+/* Gives what the entry returned. */
+uint64_t hand_in(const struct entries *to, const struct event *event, const struct lent_bytes *lent);
+
+#endif

@@ -1,0 +1,280 @@
+/* The second implementation's station on lent bytes: lays a station out in 1722 bytes as include/coast.h says. */
+#include "lent.h"
+#include "inside.h"
+
+#define STATION_BYTES 1722u
+#define SLOT_BYTES 45u
+#define WAITING_BYTES 31u
+
+enum station_at { CLOCK_AT = 0, IDENTITY_AT = 4, SLOT_COUNT_AT = 8, WAITING_COUNT_AT = 9, SLOTS_AT = 10, QUEUE_AT = 730 };
+enum slot_at { PHASE_AT = 0, TIME_AT = 1, CARRIER_AT = 5, CARRIER_DUE_AT = 6, TOLD_AT = 10, HOURS_AT = 11, MINUTES_AT = 12,
+               SECONDS_AT = 13, CHANNEL_AT = 14, SLOT_REQUEST_AT = 18 };
+enum waiting_at { WAITING_DUE_AT = 0, WAITING_REQUEST_AT = 4 };
+enum request_at { SHIP_AT = 0, CALLED_AT = 4, MODE_AT = 8, SECOND_AT = 9, COUNT_AT = 10, DIGITS_AT = 11 };
+
+#define NOTHING_TOLD 0u
+#define DURATION_TOLD 1u
+
+#define PHASES 9u
+static const enum phase phases[PHASES] = {PHASE_FREE, PHASE_OFFERED, PHASE_RING_BACK, PHASE_RING_BACK_REPEATED,
+    PHASE_ACKNOWLEDGED, PHASE_DIALLING, PHASE_ANSWERED, PHASE_HOLD, PHASE_TAKEN};
+
+static void put_four(uint8_t *bytes, uint32_t number) {
+    for (size_t i = 0; i < 4u; i++)
+        bytes[i] = (uint8_t)(number >> (8u * i) & 255u);
+}
+
+static uint32_t get_four(const uint8_t *bytes) {
+    uint32_t number = 0;
+    for (size_t i = 4; i > 0u; i--)
+        number = number << 8 | bytes[i - 1u];
+    return number;
+}
+
+static bool stores_request(enum phase phase) {
+    return holds_ship(phase) || phase == PHASE_HOLD;
+}
+
+/* ---- from bytes: false where a mark is none that the layout names ---- */
+
+static bool get_request(const uint8_t *bytes, struct meaning *request) {
+    request->self = get_four(bytes + SHIP_AT);
+    request->address = get_four(bytes + CALLED_AT);
+    request->first = bytes[MODE_AT] == 0u ? SIMPLEX : DUPLEX;
+    request->second = bytes[SECOND_AT];
+    request->kind = FIELD_NONE;
+    request->count = bytes[COUNT_AT];
+    for (size_t i = 0; i < MOST_DIGITS; i++)
+        request->digits[i] = bytes[DIGITS_AT + i];
+    request->end = RQ;
+    return bytes[MODE_AT] <= 1u;
+}
+
+static bool get_carrier(const uint8_t *bytes, struct slot *slot) {
+    slot->carrier = bytes[CARRIER_AT] == 0u ? CARRIER_PRESENT : CARRIER_ABSENT;
+    if (slot->carrier == CARRIER_ABSENT)
+        slot->carrier_due = get_four(bytes + CARRIER_DUE_AT);
+    return bytes[CARRIER_AT] <= 1u;
+}
+
+static bool get_duration(const uint8_t *bytes, struct duration *duration) {
+    duration->kind = bytes[TOLD_AT] == NOTHING_TOLD ? FIELD_NONE : FIELD_DURATION;
+    if (duration->kind == FIELD_DURATION) {
+        duration->hours = bytes[HOURS_AT];
+        duration->minutes = bytes[MINUTES_AT];
+        duration->seconds = bytes[SECONDS_AT];
+    }
+    return bytes[TOLD_AT] <= DURATION_TOLD;
+}
+
+static bool get_slot(const uint8_t *bytes, struct slot *slot) {
+    bool known = bytes[PHASE_AT] < PHASES;
+    slot->phase = known ? phases[bytes[PHASE_AT]] : PHASE_FREE;
+    if (has_slot_wait(slot->phase))
+        slot->due = get_four(bytes + TIME_AT);
+    if (slot->phase == PHASE_ANSWERED)
+        slot->start = get_four(bytes + TIME_AT);
+    if (has_call(slot->phase))
+        known = get_carrier(bytes, slot) && known;
+    if (slot->phase == PHASE_HOLD)
+        known = get_duration(bytes, &slot->duration) && known;
+    if (stores_request(slot->phase))
+        known = get_request(bytes + SLOT_REQUEST_AT, &slot->request) && known;
+    return known;
+}
+
+/* A number past a byte is no channel, and neither is 0, which stands for it. */
+static uint8_t get_channel(const uint8_t *bytes) {
+    uint32_t channel = get_four(bytes + CHANNEL_AT);
+    return channel > 255u ? 0u : (uint8_t)channel;
+}
+
+static bool get_station(const uint8_t *bytes, struct station *station) {
+    bool known = true;
+    station->clock = get_four(bytes + CLOCK_AT);
+    station->identity = get_four(bytes + IDENTITY_AT);
+    station->channel_count = bytes[SLOT_COUNT_AT];
+    station->waiting_count = bytes[WAITING_COUNT_AT];
+    if (station->channel_count > MOST_SLOTS || station->waiting_count > MOST_WAITING)
+        return false;
+    for (uint32_t i = 0; i < station->channel_count; i++) {
+        const uint8_t *slot = bytes + SLOTS_AT + i * SLOT_BYTES;
+        station->channels[i] = get_channel(slot);
+        known = get_slot(slot, &station->slots[i]) && known;
+    }
+    for (uint32_t i = 0; i < station->waiting_count; i++) {
+        const uint8_t *waiting = bytes + QUEUE_AT + i * WAITING_BYTES;
+        station->queue[i].due = get_four(waiting + WAITING_DUE_AT);
+        known = get_request(waiting + WAITING_REQUEST_AT, &station->queue[i].request) && known;
+    }
+    return known;
+}
+
+/* False is 29 too. */
+static bool get_whole(const uint8_t *bytes, size_t size, struct station *station) {
+    static const struct station blank = {0};
+    *station = blank;
+    return size == STATION_BYTES && get_station(bytes, station);
+}
+
+/* ---- to bytes, which are all 0 before ---- */
+
+static void put_request(uint8_t *bytes, const struct meaning *request) {
+    put_four(bytes + SHIP_AT, request->self);
+    put_four(bytes + CALLED_AT, request->address);
+    bytes[MODE_AT] = (uint8_t)(request->first == SIMPLEX ? 0u : 1u);
+    bytes[SECOND_AT] = request->second;
+    bytes[COUNT_AT] = request->count;
+    for (size_t i = 0; i < request->count; i++)
+        bytes[DIGITS_AT + i] = request->digits[i];
+}
+
+static void put_carrier(uint8_t *bytes, const struct slot *slot) {
+    if (slot->carrier == CARRIER_PRESENT)
+        return;
+    bytes[CARRIER_AT] = 1;
+    put_four(bytes + CARRIER_DUE_AT, slot->carrier_due);
+}
+
+static void put_duration(uint8_t *bytes, const struct duration *duration) {
+    if (duration->kind == FIELD_NONE)
+        return;
+    bytes[TOLD_AT] = DURATION_TOLD;
+    bytes[HOURS_AT] = duration->hours;
+    bytes[MINUTES_AT] = duration->minutes;
+    bytes[SECONDS_AT] = duration->seconds;
+}
+
+static void put_slot(uint8_t *bytes, const struct slot *slot, uint8_t channel) {
+    while (phases[bytes[PHASE_AT]] != slot->phase)
+        bytes[PHASE_AT]++;
+    put_four(bytes + CHANNEL_AT, channel);
+    if (has_slot_wait(slot->phase))
+        put_four(bytes + TIME_AT, slot->due);
+    if (slot->phase == PHASE_ANSWERED)
+        put_four(bytes + TIME_AT, slot->start);
+    if (has_call(slot->phase))
+        put_carrier(bytes, slot);
+    if (slot->phase == PHASE_HOLD)
+        put_duration(bytes, &slot->duration);
+    if (stores_request(slot->phase))
+        put_request(bytes + SLOT_REQUEST_AT, &slot->request);
+}
+
+static void put_station(uint8_t *bytes, const struct station *station) {
+    static const struct whole { uint8_t bytes[STATION_BYTES]; } zeros = {{0}};
+    *(struct whole *)bytes = zeros;
+    put_four(bytes + CLOCK_AT, station->clock);
+    put_four(bytes + IDENTITY_AT, station->identity);
+    bytes[SLOT_COUNT_AT] = (uint8_t)station->channel_count;
+    bytes[WAITING_COUNT_AT] = (uint8_t)station->waiting_count;
+    for (uint32_t i = 0; i < station->channel_count; i++)
+        put_slot(bytes + SLOTS_AT + i * SLOT_BYTES, &station->slots[i], station->channels[i]);
+    for (uint32_t i = 0; i < station->waiting_count; i++) {
+        uint8_t *waiting = bytes + QUEUE_AT + i * WAITING_BYTES;
+        put_four(waiting + WAITING_DUE_AT, station->queue[i].due);
+        put_request(waiting + WAITING_REQUEST_AT, &station->queue[i].request);
+    }
+}
+
+/* ---- what is returned ---- */
+
+static uint64_t due_bits(const struct station *station) {
+    uint32_t due = 0;
+    return second_next_due(station, &due) ? (uint64_t)1u << 16 | (uint64_t)due << 32 : 0u;
+}
+
+/* The station that was handed back is laid down, unless the event was refused; an unsound one has no due time. */
+static uint64_t handed_back(const struct step *step, uint8_t *bytes) {
+    if (step->answer == NOT_SOUND)
+        return NOT_SOUND;
+    if (step->answer == DONE || step->answer == IGNORED)
+        put_station(bytes, &step->station);
+    return (uint64_t)step->answer | (uint64_t)step->actions << 8 | due_bits(&step->station);
+}
+
+uint64_t second_set_up_bytes(uint32_t identity, const uint8_t *channels, size_t count, uint8_t *station, size_t size) {
+    uint32_t numbers[MOST_SLOTS] = {0};
+    if (size != STATION_BYTES)
+        return NOT_SOUND;
+    for (size_t i = 0; i < count && i < MOST_SLOTS; i++)
+        numbers[i] = channels[i];
+    struct step step = second_set_up(identity, numbers, count);
+    return handed_back(&step, station);
+}
+
+uint64_t second_next_due_bytes(const uint8_t *station, size_t size) {
+    struct station before;
+    return get_whole(station, size, &before) && second_is_sound(&before) ? due_bits(&before) : NOT_SOUND;
+}
+
+/* ---- events ---- */
+
+uint64_t second_tick_bytes(uint8_t *station, size_t size, uint32_t time, uint8_t *room, size_t room_size) {
+    struct station before;
+    if (!get_whole(station, size, &before))
+        return NOT_SOUND;
+    struct step step = second_tick(before, time, (struct lent){room, room_size});
+    return handed_back(&step, station);
+}
+
+uint64_t second_heard_on_channel_70_bytes(uint8_t *station, size_t size, uint32_t time, const uint8_t *symbols,
+                                          size_t count, uint8_t *room, size_t room_size) {
+    struct station before;
+    if (!get_whole(station, size, &before))
+        return NOT_SOUND;
+    struct heard heard = {symbols, count};
+    struct step step = second_on_calling_channel(before, time, heard, (struct lent){room, room_size});
+    return handed_back(&step, station);
+}
+
+uint64_t second_heard_on_slot_bytes(uint8_t *station, size_t size, uint32_t time, uint32_t slot, const uint8_t *symbols,
+                                    size_t count, uint8_t *room, size_t room_size) {
+    struct station before;
+    if (!get_whole(station, size, &before))
+        return NOT_SOUND;
+    struct heard heard = {symbols, count};
+    struct step step = second_on_working_channel(before, time, slot, heard, (struct lent){room, room_size});
+    return handed_back(&step, station);
+}
+
+typedef struct step slot_event(struct station station, uint32_t time, uint32_t slot, struct lent room);
+
+static uint64_t on_slot(slot_event *event, uint8_t *station, size_t size, uint32_t time, uint32_t slot,
+                        struct lent room) {
+    struct station before;
+    if (!get_whole(station, size, &before))
+        return NOT_SOUND;
+    struct step step = event(before, time, slot, room);
+    return handed_back(&step, station);
+}
+
+uint64_t second_carrier_up_bytes(uint8_t *station, size_t size, uint32_t time, uint32_t slot, uint8_t *room,
+                                 size_t room_size) {
+    return on_slot(second_carrier_up, station, size, time, slot, (struct lent){room, room_size});
+}
+
+uint64_t second_carrier_down_bytes(uint8_t *station, size_t size, uint32_t time, uint32_t slot, uint8_t *room,
+                                   size_t room_size) {
+    return on_slot(second_carrier_down, station, size, time, slot, (struct lent){room, room_size});
+}
+
+uint64_t second_off_hook_bytes(uint8_t *station, size_t size, uint32_t time, uint32_t slot, uint8_t *room,
+                               size_t room_size) {
+    return on_slot(second_off_hook, station, size, time, slot, (struct lent){room, room_size});
+}
+
+uint64_t second_on_hook_bytes(uint8_t *station, size_t size, uint32_t time, uint32_t slot, uint8_t *room,
+                              size_t room_size) {
+    return on_slot(second_on_hook, station, size, time, slot, (struct lent){room, room_size});
+}
+
+uint64_t second_take_bytes(uint8_t *station, size_t size, uint32_t time, uint32_t slot, uint8_t *room,
+                           size_t room_size) {
+    return on_slot(second_operator_takes, station, size, time, slot, (struct lent){room, room_size});
+}
+
+uint64_t second_give_back_bytes(uint8_t *station, size_t size, uint32_t time, uint32_t slot, uint8_t *room,
+                                size_t room_size) {
+    return on_slot(second_operator_gives_back, station, size, time, slot, (struct lent){room, room_size});
+}

@@ -1,0 +1,197 @@
+/* A sound station with one field moved to a value just inside or just outside its rule, field by field of the layout. */
+#include "stations.h"
+
+extern int printf(const char *, ...);
+
+enum part { WHOLE_AT_CLOCK, WHOLE_OF_IDENTITY, STATION, SLOT, WAITING, SHIP_TWICE, CHANNEL_TWICE };
+enum from { PLAINLY, FROM_CLOCK, FROM_IDENTITY };
+
+/* How the part is drawn before one of its fields is moved. */
+enum state { AS_DRAWN, FULL, IDLE, LOST_SIMPLEX, LOST_DUPLEX, WITH_DURATION, ONE_DIGIT, FIFTEEN_DIGITS, SIXTEEN_DIGITS };
+
+#define ANY_PHASE 0u
+#define OF(phase) (1u << (phase))
+#define OFFERS (OF(PHASE_OFFERED) | OF(PHASE_ACKNOWLEDGED))
+#define RINGS (OF(PHASE_RING_BACK) | OF(PHASE_RING_BACK_REPEATED))
+#define CALLS (OF(PHASE_DIALLING) | OF(PHASE_ANSWERED))
+#define STORES (OFFERS | RINGS | CALLS | OF(PHASE_HOLD))
+
+#define MOST_VALUES 20u
+struct field {
+    const char *name;
+    enum part part;
+    enum state state;
+    uint32_t phases; /* of the slot */
+    size_t at, width;
+    enum from from;
+    uint32_t count;
+    int64_t values[MOST_VALUES];
+};
+
+/* The fields of a request, in a slot and in a waiting ship. */
+#define OF_REQUEST(where, part, phases, begins)                                                                             \
+    {where "ship", part, AS_DRAWN, phases, begins + SHIP, 4, PLAINLY, 6,                                                    \
+     {199999999, 200000000, 799999999, 800000000, 2000000, 4294967295}},                                                    \
+    {where "station called", part, AS_DRAWN, phases, begins + CALLED, 4, FROM_IDENTITY, 3, {-1, 0, 1}},                     \
+    {where "mode", part, AS_DRAWN, phases, begins + MODE, 1, PLAINLY, 4, {0, 1, 2, 255}},                                   \
+    {where "second telecommand", part, AS_DRAWN, phases, begins + SECOND, 1, PLAINLY, 6, {0, 99, 100, 126, 127, 255}},      \
+    {where "count of one digit", part, ONE_DIGIT, phases, begins + DIGIT_COUNT, 1, PLAINLY, 4, {0, 1, 2, 16}},              \
+    {where "count of fifteen digits", part, FIFTEEN_DIGITS, phases, begins + DIGIT_COUNT, 1, PLAINLY, 3, {14, 15, 16}},     \
+    {where "count of sixteen digits", part, SIXTEEN_DIGITS, phases, begins + DIGIT_COUNT, 1, PLAINLY, 4, {15, 16, 17, 255}}, \
+    {where "first digit", part, AS_DRAWN, phases, begins + DIGITS, 1, PLAINLY, 4, {0, 9, 10, 255}},                         \
+    {where "last digit", part, SIXTEEN_DIGITS, phases, begins + DIGITS + 15, 1, PLAINLY, 4, {0, 9, 10, 255}},               \
+    {where "unused digit", part, FIFTEEN_DIGITS, phases, begins + DIGITS + 15, 1, PLAINLY, 4, {0, 0, 1, 9}}
+
+static const struct field fields[] = {
+    {"clock, all due times with it", WHOLE_AT_CLOCK, AS_DRAWN, ANY_PHASE, 0, 0, PLAINLY, 3,
+     {4000000000, 4000000001, 4000000002}},
+    {"identity, all requests with it", WHOLE_OF_IDENTITY, AS_DRAWN, ANY_PHASE, 0, 0, PLAINLY, 5,
+     {1999999, 2000000, 7999999, 8000000, 200000000}},
+    {"identity of an idle station", WHOLE_OF_IDENTITY, IDLE, ANY_PHASE, 0, 0, PLAINLY, 5,
+     {1999999, 2000000, 7999999, 8000000, 200000000}},
+    {"clock", STATION, AS_DRAWN, ANY_PHASE, CLOCK, 4, FROM_CLOCK, 2, {-1, 1}},
+    {"identity", STATION, AS_DRAWN, ANY_PHASE, IDENTITY, 4, FROM_IDENTITY, 3, {-1, 0, 1}},
+    {"count of slots", STATION, FULL, ANY_PHASE, SLOT_COUNT, 1, PLAINLY, 7, {0, 1, 15, 16, 17, 18, 255}},
+    {"count of waiting ships", STATION, FULL, ANY_PHASE, WAITING_COUNT, 1, PLAINLY, 7, {0, 1, 31, 32, 33, 34, 255}},
+    {"channel", SLOT, AS_DRAWN, ANY_PHASE, CHANNEL, 4, PLAINLY, 20,
+     {0, 1, 15, 16, 17, 28, 29, 59, 60, 69, 70, 71, 88, 89, 255, 256 + 26, 26 << 8, (1 << 16) + 26, (1 << 24) + 26,
+      26 << 24}},
+    {"phase", SLOT, AS_DRAWN, ANY_PHASE, PHASE, 1, PLAINLY, 12, {0, 1, 2, 3, 4, 5, 6, 7, 8, 9, 10, 255}},
+    {"offer's due time", SLOT, AS_DRAWN, OFFERS, TIME, 4, FROM_CLOCK, 4, {-1, 0, 161, 162}},
+    {"ring-back's due time", SLOT, AS_DRAWN, RINGS, TIME, 4, FROM_CLOCK, 4, {-1, 0, 51, 52}},
+    {"reply's due time", SLOT, AS_DRAWN, OF(PHASE_DIALLING), TIME, 4, FROM_CLOCK, 4, {-1, 0, 601, 602}},
+    {"hold's due time", SLOT, AS_DRAWN, OF(PHASE_HOLD), TIME, 4, FROM_CLOCK, 4, {-1, 0, 41, 42}},
+    {"since", SLOT, AS_DRAWN, OF(PHASE_ANSWERED), TIME, 4, FROM_CLOCK, 2, {0, 1}},
+    {"carrier", SLOT, LOST_DUPLEX, CALLS, SHIPS_CARRIER, 1, PLAINLY, 4, {0, 1, 2, 255}},
+    {"simplex carrier's due time", SLOT, LOST_SIMPLEX, CALLS, CARRIER_DUE, 4, FROM_CLOCK, 4, {-1, 0, 451, 452}},
+    {"duplex carrier's due time", SLOT, LOST_DUPLEX, CALLS, CARRIER_DUE, 4, FROM_CLOCK, 4, {-1, 0, 51, 52}},
+    {"lost carrier's mode", SLOT, LOST_SIMPLEX, CALLS, SLOT_REQUEST + MODE, 1, PLAINLY, 2, {0, 1}},
+    {"told", SLOT, WITH_DURATION, OF(PHASE_HOLD), TOLD, 1, PLAINLY, 4, {0, 1, 2, 255}},
+    {"hours", SLOT, WITH_DURATION, OF(PHASE_HOLD), HOURS, 1, PLAINLY, 3, {99, 100, 255}},
+    {"minutes", SLOT, WITH_DURATION, OF(PHASE_HOLD), MINUTES, 1, PLAINLY, 3, {59, 60, 255}},
+    {"seconds", SLOT, WITH_DURATION, OF(PHASE_HOLD), SECONDS, 1, PLAINLY, 3, {59, 60, 255}},
+    OF_REQUEST("slot's ", SLOT, STORES, SLOT_REQUEST),
+    {"waiting ship's due time", WAITING, AS_DRAWN, ANY_PHASE, WAITING_DUE, 4, FROM_CLOCK, 4, {-1, 0, 9001, 9002}},
+    OF_REQUEST("waiting ship's ", WAITING, ANY_PHASE, WAITING_REQUEST),
+    {"a ship twice", SHIP_TWICE, AS_DRAWN, ANY_PHASE, 0, 0, PLAINLY, 1, {0}},
+    {"a channel twice", CHANNEL_TWICE, AS_DRAWN, ANY_PHASE, 0, 0, PLAINLY, 1, {0}},
+};
+#define FIELDS (sizeof fields / sizeof fields[0])
+
+static uint32_t sounds[FIELDS], unsounds[FIELDS];
+static size_t last;
+
+/* ---- the station before the move ---- */
+
+static enum phase one_of(uint32_t phases) {
+    uint32_t phase = chance(PHASE_HOLD + 1u);
+    while ((phases & OF(phase)) == 0u)
+        phase = chance(PHASE_HOLD + 1u);
+    return (enum phase)phase;
+}
+
+static void lose_carrier(struct slot *slot, uint8_t mode, uint32_t wait) {
+    slot->request.first = mode;
+    slot->carrier = CARRIER_ABSENT;
+    slot->carrier_due = stage.station.clock + 1u + chance(wait + 1u);
+}
+
+static void number_of_digits(struct meaning *request, uint8_t count) {
+    request->count = count;
+    for (size_t i = 0; i < MOST_DIGITS; i++)
+        request->digits[i] = i < count ? (uint8_t)chance(one_in(2) ? 10u : 1u) : 0u;
+}
+
+static void bring_to(enum state state, struct slot *slot, struct meaning *request) {
+    static const struct duration some = {FIELD_DURATION, 12, 34, 56};
+    switch (state) {
+    case LOST_SIMPLEX: lose_carrier(slot, SIMPLEX, SIMPLEX_CARRIER_WAIT); break;
+    case LOST_DUPLEX: lose_carrier(slot, DUPLEX, DUPLEX_CARRIER_WAIT); break;
+    case WITH_DURATION: slot->duration = some; break;
+    case ONE_DIGIT: number_of_digits(request, 1); break;
+    case FIFTEEN_DIGITS: number_of_digits(request, 15); break;
+    case SIXTEEN_DIGITS: number_of_digits(request, 16); break;
+    default: break;
+    }
+}
+
+static void draw_idle(void) {
+    for (uint32_t i = 0; i < stage.station.channel_count; i++)
+        draw_slot(i, one_in(2) ? PHASE_FREE : PHASE_TAKEN);
+    stage.station.waiting_count = 0;
+}
+
+/* Where the part begins that has the field. */
+static size_t draw_part(const struct field *field) {
+    struct station *station = &stage.station;
+    uint32_t slot = chance(station->channel_count), place = chance(station->waiting_count);
+    if (field->state == FULL)
+        draw_station_of(station->clock, station->identity, MOST_SLOTS, MOST_WAITING);
+    if (field->state == IDLE)
+        draw_idle();
+    if (field->part == SLOT) {
+        if (field->phases != ANY_PHASE)
+            draw_slot(slot, one_of(field->phases));
+        bring_to(field->state, &station->slots[slot], &station->slots[slot].request);
+        return slot_begins(slot);
+    }
+    if (field->part == WAITING) {
+        if (station->waiting_count == 0u)
+            draw_waiting(station->waiting_count++);
+        bring_to(field->state, NULL, &station->queue[place].request);
+        return waiting_begins(place);
+    }
+    return 0;
+}
+
+/* ---- the move ---- */
+
+/* A ship of a slot or of the queue stands in another place too, which may be a hold's or one that stores none. */
+static void put_ship_twice(uint8_t *bytes) {
+    const struct station *station = &stage.station;
+    uint32_t places = station->channel_count + station->waiting_count, from = chance(places), to = chance(places);
+    uint32_t slots = station->channel_count;
+    size_t source = from < slots ? slot_begins(from) + SLOT_REQUEST : waiting_begins(from - slots) + WAITING_REQUEST;
+    size_t target = to < slots ? slot_begins(to) + SLOT_REQUEST : waiting_begins(to - slots) + WAITING_REQUEST;
+    put_number(bytes + target + SHIP, number_at(bytes + source + SHIP, 4), 4);
+}
+
+static void put_channel_twice(uint8_t *bytes) {
+    uint32_t count = stage.station.channel_count;
+    size_t source = slot_begins(chance(count)), target = slot_begins(chance(count));
+    put_number(bytes + target + CHANNEL, number_at(bytes + source + CHANNEL, 4), 4);
+}
+
+void draw_moved(uint8_t *bytes) {
+    last = chance(FIELDS);
+    const struct field *field = &fields[last];
+    uint32_t value = (uint32_t)field->values[chance(field->count)];
+    draw_station(field->part == WHOLE_AT_CLOCK ? value : any_clock(), field->part == WHOLE_OF_IDENTITY ? value : any_coast());
+    size_t begins = draw_part(field);
+    value += field->from == FROM_CLOCK ? stage.station.clock : field->from == FROM_IDENTITY ? stage.station.identity : 0u;
+    lay_stage(bytes);
+    if (field->part == SHIP_TWICE)
+        put_ship_twice(bytes);
+    else if (field->part == CHANNEL_TWICE)
+        put_channel_twice(bytes);
+    else
+        put_number(bytes + begins + field->at, value, field->width);
+}
+
+void note_moved(bool sound) {
+    if (sound)
+        sounds[last]++;
+    else
+        unsounds[last]++;
+}
+
+bool each_field_moved(uint32_t enough) {
+    bool all = true;
+    for (size_t i = 0; i < FIELDS; i++)
+        if (sounds[i] < enough || unsounds[i] < enough) {
+            printf("stations: hardly tried: %s, %u times inside its rule and %u outside\n", fields[i].name,
+                   (unsigned)sounds[i], (unsigned)unsounds[i]);
+            all = false;
+        }
+    return all;
+}

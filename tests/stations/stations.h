@@ -1,0 +1,78 @@
+/* What the parts of the comparison of stations share. The generator of rehearsals draws the events: its stage holds the
+ * station that they are drawn for, which is always a sound one. */
+#ifndef STATIONS_H
+#define STATIONS_H
+
+#include "../rehearsal/rehearsal.h"
+#include "entries.h"
+
+/* ---- the layout of include/coast.h ---- */
+#define STATION_SIZE 1722u
+#define ROOM_SIZE 320u
+enum layout {
+    CLOCK = 0, IDENTITY = 4, SLOT_COUNT = 8, WAITING_COUNT = 9, SLOTS = 10, WAITING_SHIPS = 730,
+    /* in a slot */
+    PHASE = 0, TIME = 1, SHIPS_CARRIER = 5, CARRIER_DUE = 6, TOLD = 10, HOURS = 11, MINUTES = 12, SECONDS = 13, CHANNEL = 14,
+    SLOT_REQUEST = 18, SLOT_LENGTH = 45,
+    /* in a waiting ship */
+    WAITING_DUE = 0, WAITING_REQUEST = 4, WAITING_LENGTH = 31,
+    /* in a stored request */
+    SHIP = 0, CALLED = 4, MODE = 8, SECOND = 9, DIGIT_COUNT = 10, DIGITS = 11
+};
+
+/* ---- laid.c ---- */
+size_t slot_begins(uint32_t slot);
+size_t waiting_begins(uint32_t place);
+void put_number(uint8_t *bytes, uint32_t number, size_t width);
+uint32_t number_at(const uint8_t *bytes, size_t width);
+void lay_stage(uint8_t *bytes); /* the parts in use of the stage's station; the others stay */
+
+/* ---- drawn.c: sound stations that no run need reach, on the stage ---- */
+uint32_t any_clock(void);
+uint32_t any_coast(void);
+void draw_station(uint32_t clock, uint32_t identity);
+void draw_station_of(uint32_t clock, uint32_t identity, uint32_t slots, uint32_t waiting);
+void draw_slot(uint32_t slot, enum phase phase);
+void draw_waiting(uint32_t place);
+
+/* ---- moved.c: a sound station with one field moved to an edge of its rule ---- */
+void draw_moved(uint8_t *bytes);
+void note_moved(bool sound);  /* what the one drawn last turned out to be */
+bool each_field_moved(uint32_t enough); /* whether each field was both inside and outside so often */
+
+/* ---- events.c ---- */
+#define NEXT_DUE_LETTER 'N'
+#define LETTERS "QWUDOHMFTSN"
+struct event draw_event(void); /* one that fits the stage, or nearly */
+struct event draw_set_up(void);
+size_t any_room_size(void);
+
+/* ---- agree.c: one call of each, compared whole; where they differ it prints both and gives false ---- */
+#define MOST_STATION_SIZE 1800u
+#define MOST_ROOM_SIZE 400u
+struct call {
+    const struct event *event;
+    const uint8_t *station;
+    size_t size, room_size;
+};
+extern const struct entries *judged;
+void begin_noise(void);
+const uint8_t *noise(size_t length); /* so many bytes by chance */
+bool calls_agree(const struct call *call, uint64_t *returned);
+
+/* ---- tell.c ---- */
+struct outcome {
+    const char *who;
+    uint64_t returned;
+    const uint8_t *station, *room;
+};
+void tell_call(const struct call *call);
+void tell_outcomes(const struct call *call, const struct outcome *a, const struct outcome *b);
+
+/* ---- tally.c ---- */
+void begin_tally(void);
+void note_call(char letter, uint64_t returned, const uint8_t *room);
+void note_sound(uint64_t returned); /* an event on a sound station */
+bool tell_tally(uint32_t stations); /* prints it; false where something was hardly tried */
+
+#endif

@@ -1,0 +1,102 @@
+/* What was tried: each answer of each event, each kind of action, how many events sound stations accepted. */
+#include "stations.h"
+
+extern int printf(const char *, ...);
+
+#define MOST_ANSWERS 37u
+#define KINDS 11u       /* of events */
+#define ACTION_KINDS 8u /* from 1 on */
+
+/* Fewer than these would say that the run no longer tries what it is for. */
+#define ENOUGH_ANSWERS 30u
+#define ENOUGH_ACTIONS 1000u
+#define ENOUGH_MOVES 20u
+
+static struct counts {
+    uint32_t calls, answers[KINDS][MOST_ANSWERS], actions[ACTION_KINDS];
+    uint32_t on_sound, accepted;
+} tally;
+
+void begin_tally(void) {
+    static const struct counts none;
+    tally = none;
+}
+
+static size_t kind_of(char letter) {
+    size_t kind = 0;
+    while (kind < KINDS - 1u && LETTERS[kind] != letter)
+        kind++;
+    return kind;
+}
+
+void note_call(char letter, uint64_t returned, const uint8_t *room) {
+    uint32_t answer = (uint32_t)(returned & 255u);
+    tally.calls++;
+    if (answer < MOST_ANSWERS)
+        tally.answers[kind_of(letter)][answer]++;
+    for (size_t i = 0; i < (returned >> 8 & 255u); i++)
+        tally.actions[room[i * ACTION_BYTES] % ACTION_KINDS]++;
+}
+
+void note_sound(uint64_t returned) {
+    tally.on_sound++;
+    if ((returned & 255u) <= 1u)
+        tally.accepted++;
+}
+
+/* By include/coast.h; the ones before 29 behind a sequence only. */
+static bool may_answer(char letter, uint32_t answer) {
+    bool hears = letter == 'Q' || letter == 'W', hand = letter == 'M' || letter == 'F';
+    bool plain = letter == 'T' || letter == 'S' || letter == NEXT_DUE_LETTER;
+    switch (answer) {
+    case 0: case 29: return true;
+    case 1: return !plain && !hand;
+    case 30: case 31: case 32: return letter == 'T' || !plain;
+    case 33: return !plain;
+    case 34: return !plain && letter != 'Q';
+    case 35: return hand;
+    case 36: return letter == 'S';
+    default: return hears && answer >= 11u && answer <= 20u;
+    }
+}
+
+static bool enough_answers(void) {
+    bool all = true;
+    for (size_t kind = 0; kind < KINDS; kind++)
+        for (uint32_t answer = 0; answer < MOST_ANSWERS; answer++)
+            if (may_answer(LETTERS[kind], answer) && tally.answers[kind][answer] < ENOUGH_ANSWERS) {
+                printf("stations: hardly tried: %c answered %u, %u times\n", LETTERS[kind], (unsigned)answer,
+                       (unsigned)tally.answers[kind][answer]);
+                all = false;
+            }
+    for (uint32_t kind = 1; kind < ACTION_KINDS; kind++)
+        if (tally.actions[kind] < ENOUGH_ACTIONS) {
+            printf("stations: hardly tried: action %u, %u times\n", (unsigned)kind, (unsigned)tally.actions[kind]);
+            all = false;
+        }
+    return all;
+}
+
+static void tell_answers(void) {
+    for (uint32_t answer = 0; answer < MOST_ANSWERS; answer++) {
+        uint32_t times = 0;
+        for (size_t kind = 0; kind < KINDS; kind++)
+            times += tally.answers[kind][answer];
+        if (times > 0u)
+            printf("%s%u: %u", answer == 0u ? " " : ", ", (unsigned)answer, (unsigned)times);
+    }
+}
+
+bool tell_tally(uint32_t stations) {
+    bool often = 3u * (uint64_t)tally.accepted >= tally.on_sound;
+    printf("stations: %u calls on %u stations agree; answers", (unsigned)tally.calls, (unsigned)stations);
+    tell_answers();
+    printf("; actions");
+    for (uint32_t kind = 1; kind < ACTION_KINDS; kind++)
+        printf("%s%u: %u", kind == 1u ? " " : ", ", (unsigned)kind, (unsigned)tally.actions[kind]);
+    printf("; sound stations accepted %u of %u\n", (unsigned)tally.accepted, (unsigned)tally.on_sound);
+    if (!often)
+        printf("stations: hardly tried: events that a sound station accepts\n");
+    bool answered = enough_answers(), moved = each_field_moved(ENOUGH_MOVES);
+    return often && answered && moved;
+}
