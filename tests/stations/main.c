@@ -49,13 +49,20 @@ static bool try_sound(void) {
     return events_agree(3, STATION_SIZE, true) && (!one_in(4) || next_dues_agree(STATION_SIZE, &returned));
 }
 
-static bool try_moved(void) {
+static bool moved_agree(void) {
     uint64_t returned;
-    draw_moved(bytes);
     if (!next_dues_agree(STATION_SIZE, &returned))
         return false;
     note_moved((returned & 255u) == DONE);
     return !one_in(2) || events_agree(1, STATION_SIZE, false);
+}
+
+static bool try_moved(void) {
+    draw_moved(bytes);
+    bool agree = moved_agree();
+    if (!agree)
+        printf("  of a sound station this was moved: %s\n", field_moved());
+    return agree;
 }
 
 /* Other bytes in a part of a sound station, or all over. */

@@ -178,6 +178,10 @@ void draw_moved(uint8_t *bytes) {
         put_number(bytes + begins + field->at, value, field->width);
 }
 
+const char *field_moved(void) {
+    return fields[last].name;
+}
+
 void note_moved(bool sound) {
     if (sound)
         sounds[last]++;

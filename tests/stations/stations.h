@@ -37,7 +37,8 @@ void draw_waiting(uint32_t place);
 
 /* ---- moved.c: a sound station with one field moved to an edge of its rule ---- */
 void draw_moved(uint8_t *bytes);
-void note_moved(bool sound);  /* what the one drawn last turned out to be */
+const char *field_moved(void);          /* of the one drawn last */
+void note_moved(bool sound);            /* what it turned out to be */
 bool each_field_moved(uint32_t enough); /* whether each field was both inside and outside so often */
 
 /* ---- events.c ---- */
