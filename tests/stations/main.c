@@ -45,6 +45,7 @@ static bool events_agree(uint32_t count, size_t size, bool sound) {
 static bool try_sound(void) {
     uint64_t returned;
     draw_station(any_clock(), any_coast());
+    note_drawn();
     lay_stage(bytes);
     return events_agree(3, STATION_SIZE, true) && (!one_in(4) || next_dues_agree(STATION_SIZE, &returned));
 }

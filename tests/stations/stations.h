@@ -73,7 +73,8 @@ void tell_outcomes(const struct call *call, const struct outcome *a, const struc
 /* ---- tally.c ---- */
 void begin_tally(void);
 void note_call(char letter, uint64_t returned, const uint8_t *room);
-void note_sound(uint64_t returned); /* an event on a sound station */
+void note_drawn(void);              /* the sound station on the stage */
+void note_sound(uint64_t returned); /* an event on it */
 bool tell_tally(uint32_t stations); /* prints it; false where something was hardly tried */
 
 #endif
