@@ -30,6 +30,7 @@ void lay_stage(uint8_t *bytes); /* the parts in use of the stage's station; the 
 /* ---- drawn.c: sound stations that no run need reach, on the stage ---- */
 uint32_t any_clock(void);
 uint32_t any_coast(void);
+void draw_any_station(void);
 void draw_station(uint32_t clock, uint32_t identity);
 void draw_station_of(uint32_t clock, uint32_t identity, uint32_t slots, uint32_t waiting);
 void draw_slot(uint32_t slot, enum phase phase);
