@@ -56,8 +56,14 @@ static struct meaning any_stored(uint32_t ship) {
 }
 
 static struct duration any_duration(void) {
-    struct duration duration = {FIELD_DURATION, (uint8_t)chance(100), (uint8_t)chance(60), (uint8_t)chance(60)};
-    return one_in(3) ? (struct duration){FIELD_NONE, 0, 0, 0} : duration;
+    struct duration duration = {FIELD_NONE, 0, 0, 0};
+    if (one_in(3))
+        return duration;
+    duration.kind = FIELD_DURATION;
+    duration.hours = (uint8_t)chance(100);
+    duration.minutes = (uint8_t)chance(60);
+    duration.seconds = (uint8_t)chance(60);
+    return duration;
 }
 
 static uint32_t wait_of(enum phase phase) {
@@ -150,4 +156,9 @@ void draw_station(uint32_t clock, uint32_t identity) {
     uint32_t slots = one_in(12) ? MOST_SLOTS : 1u + chance(one_in(6) ? MOST_SLOTS : 4u);
     uint32_t waiting = one_in(12) ? MOST_WAITING : chance(one_in(6) ? MOST_WAITING : 4u);
     draw_station_of(clock, identity, slots, waiting);
+}
+
+void draw_any_station(void) {
+    uint32_t clock = any_clock(), identity = any_coast();
+    draw_station(clock, identity);
 }

@@ -44,18 +44,26 @@ static bool events_agree(uint32_t count, size_t size, bool sound) {
 
 static bool try_sound(void) {
     uint64_t returned;
-    draw_station(any_clock(), any_coast());
+    draw_any_station();
+    note_drawn();
     lay_stage(bytes);
     return events_agree(3, STATION_SIZE, true) && (!one_in(4) || next_dues_agree(STATION_SIZE, &returned));
 }
 
-static bool try_moved(void) {
+static bool moved_agree(void) {
     uint64_t returned;
-    draw_moved(bytes);
     if (!next_dues_agree(STATION_SIZE, &returned))
         return false;
     note_moved((returned & 255u) == DONE);
     return !one_in(2) || events_agree(1, STATION_SIZE, false);
+}
+
+static bool try_moved(void) {
+    draw_moved(bytes);
+    bool agree = moved_agree();
+    if (!agree)
+        printf("  of a sound station this was moved: %s\n", field_moved());
+    return agree;
 }
 
 /* Other bytes in a part of a sound station, or all over. */
@@ -78,7 +86,7 @@ static size_t wrong_size(void) {
 static bool try_garbage(void) {
     uint64_t returned;
     size_t size = one_in(3) ? wrong_size() : STATION_SIZE;
-    draw_station(any_clock(), any_coast());
+    draw_any_station();
     lay_stage(bytes);
     if (size == STATION_SIZE)
         spoil_bytes();

@@ -166,7 +166,8 @@ void draw_moved(uint8_t *bytes) {
     last = chance(FIELDS);
     const struct field *field = &fields[last];
     uint32_t value = (uint32_t)field->values[chance(field->count)];
-    draw_station(field->part == WHOLE_AT_CLOCK ? value : any_clock(), field->part == WHOLE_OF_IDENTITY ? value : any_coast());
+    uint32_t clock = any_clock(), identity = any_coast();
+    draw_station(field->part == WHOLE_AT_CLOCK ? value : clock, field->part == WHOLE_OF_IDENTITY ? value : identity);
     size_t begins = draw_part(field);
     value += field->from == FROM_CLOCK ? stage.station.clock : field->from == FROM_IDENTITY ? stage.station.identity : 0u;
     lay_stage(bytes);
@@ -176,6 +177,10 @@ void draw_moved(uint8_t *bytes) {
         put_channel_twice(bytes);
     else
         put_number(bytes + begins + field->at, value, field->width);
+}
+
+const char *field_moved(void) {
+    return fields[last].name;
 }
 
 void note_moved(bool sound) {

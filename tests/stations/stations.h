@@ -30,6 +30,7 @@ void lay_stage(uint8_t *bytes); /* the parts in use of the stage's station; the 
 /* ---- drawn.c: sound stations that no run need reach, on the stage ---- */
 uint32_t any_clock(void);
 uint32_t any_coast(void);
+void draw_any_station(void);
 void draw_station(uint32_t clock, uint32_t identity);
 void draw_station_of(uint32_t clock, uint32_t identity, uint32_t slots, uint32_t waiting);
 void draw_slot(uint32_t slot, enum phase phase);
@@ -37,7 +38,8 @@ void draw_waiting(uint32_t place);
 
 /* ---- moved.c: a sound station with one field moved to an edge of its rule ---- */
 void draw_moved(uint8_t *bytes);
-void note_moved(bool sound);  /* what the one drawn last turned out to be */
+const char *field_moved(void);          /* of the one drawn last */
+void note_moved(bool sound);            /* what it turned out to be */
 bool each_field_moved(uint32_t enough); /* whether each field was both inside and outside so often */
 
 /* ---- events.c ---- */
@@ -72,7 +74,8 @@ void tell_outcomes(const struct call *call, const struct outcome *a, const struc
 /* ---- tally.c ---- */
 void begin_tally(void);
 void note_call(char letter, uint64_t returned, const uint8_t *room);
-void note_sound(uint64_t returned); /* an event on a sound station */
+void note_drawn(void);              /* the sound station on the stage */
+void note_sound(uint64_t returned); /* an event on it */
 bool tell_tally(uint32_t stations); /* prints it; false where something was hardly tried */
 
 #endif

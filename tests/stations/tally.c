@@ -9,12 +9,12 @@ extern int printf(const char *, ...);
 
 /* Fewer than these would say that the run no longer tries what it is for. */
 #define ENOUGH_ANSWERS 30u
-#define ENOUGH_ACTIONS 1000u
+#define ENOUGH_ACTIONS 1000u /* and stations with a free slot beside waiting ships */
 #define ENOUGH_MOVES 20u
 
 static struct counts {
     uint32_t calls, answers[KINDS][MOST_ANSWERS], actions[ACTION_KINDS];
-    uint32_t on_sound, accepted;
+    uint32_t on_sound, accepted, idle_beside_waiting;
 } tally;
 
 void begin_tally(void) {
@@ -36,6 +36,14 @@ void note_call(char letter, uint64_t returned, const uint8_t *room) {
         tally.answers[kind_of(letter)][answer]++;
     for (size_t i = 0; i < (returned >> 8 & 255u); i++)
         tally.actions[room[i * ACTION_BYTES] % ACTION_KINDS]++;
+}
+
+void note_drawn(void) {
+    bool idle = false;
+    for (uint32_t i = 0; i < stage.station.channel_count; i++)
+        idle = idle || stage.station.slots[i].phase == PHASE_FREE;
+    if (idle && stage.station.waiting_count > 0u)
+        tally.idle_beside_waiting++;
 }
 
 void note_sound(uint64_t returned) {
@@ -88,15 +96,18 @@ static void tell_answers(void) {
 }
 
 bool tell_tally(uint32_t stations) {
-    bool often = 3u * (uint64_t)tally.accepted >= tally.on_sound;
+    bool often = 3u * (uint64_t)tally.accepted >= tally.on_sound, idle = tally.idle_beside_waiting >= ENOUGH_ACTIONS;
     printf("stations: %u calls on %u stations agree; answers", (unsigned)tally.calls, (unsigned)stations);
     tell_answers();
     printf("; actions");
     for (uint32_t kind = 1; kind < ACTION_KINDS; kind++)
         printf("%s%u: %u", kind == 1u ? " " : ", ", (unsigned)kind, (unsigned)tally.actions[kind]);
-    printf("; sound stations accepted %u of %u\n", (unsigned)tally.accepted, (unsigned)tally.on_sound);
+    printf("; sound stations accepted %u of %u, and %u had a free slot beside waiting ships\n", (unsigned)tally.accepted,
+           (unsigned)tally.on_sound, (unsigned)tally.idle_beside_waiting);
     if (!often)
         printf("stations: hardly tried: events that a sound station accepts\n");
+    if (!idle)
+        printf("stations: hardly tried: a free slot beside waiting ships\n");
     bool answered = enough_answers(), moved = each_field_moved(ENOUGH_MOVES);
-    return often && answered && moved;
+    return often && idle && answered && moved;
 }

@@ -5,25 +5,48 @@ extern int printf(const char *, ...);
 
 #define MOST_TOLD 24u /* differing bytes */
 
+/* The digits in use, and those past the count where one is not 0. */
 static void tell_request(const uint8_t *bytes) {
-    printf(" ship %u calls %u, mode %u, second %u, %u digits", (unsigned)number_at(bytes + SHIP, 4),
+    size_t told = MOST_DIGITS;
+    while (told > bytes[DIGIT_COUNT] && bytes[DIGITS + told - 1u] == 0u)
+        told--;
+    printf(" ship %u calls %u, mode %u, second %u, %u digits:", (unsigned)number_at(bytes + SHIP, 4),
            (unsigned)number_at(bytes + CALLED, 4), (unsigned)bytes[MODE], (unsigned)bytes[SECOND],
            (unsigned)bytes[DIGIT_COUNT]);
-    for (size_t i = 0; i < MOST_DIGITS; i++)
+    for (size_t i = 0; i < told; i++)
         printf(" %u", (unsigned)bytes[DIGITS + i]);
     printf("\n");
 }
 
+static void tell_carrier(const uint8_t *bytes) {
+    printf(", carrier %u", (unsigned)bytes[SHIPS_CARRIER]);
+    if (bytes[SHIPS_CARRIER] != 0u)
+        printf(" due %u", (unsigned)number_at(bytes + CARRIER_DUE, 4));
+}
+
+static void tell_told(const uint8_t *bytes) {
+    printf(", told %u", (unsigned)bytes[TOLD]);
+    if (bytes[TOLD] != 0u)
+        printf(": %u %u %u", (unsigned)bytes[HOURS], (unsigned)bytes[MINUTES], (unsigned)bytes[SECONDS]);
+}
+
+/* What its phase uses. */
 static void tell_slot(uint32_t slot, const uint8_t *bytes) {
-    printf("  slot %u: phase %u, channel %u", (unsigned)slot, (unsigned)bytes[PHASE],
+    static const char *const names[] = {"free", "offered", "ring-back", "ring-back repeated", "acknowledged", "dialling",
+        "answered", "hold", "taken"};
+    uint8_t phase = bytes[PHASE];
+    printf("  slot %u: phase %u (%s), channel %u", (unsigned)slot, (unsigned)phase, phase <= 8u ? names[phase] : "none",
            (unsigned)number_at(bytes + CHANNEL, 4));
-    if (bytes[PHASE] == 0u || bytes[PHASE] >= 8u) {
+    if (phase == 0u || phase >= 8u) {
         printf("\n");
         return;
     }
-    printf(", time %u, carrier %u due %u, told %u: %u %u %u,", (unsigned)number_at(bytes + TIME, 4),
-           (unsigned)bytes[SHIPS_CARRIER], (unsigned)number_at(bytes + CARRIER_DUE, 4), (unsigned)bytes[TOLD],
-           (unsigned)bytes[HOURS], (unsigned)bytes[MINUTES], (unsigned)bytes[SECONDS]);
+    printf(", %s %u", phase == 6u ? "since" : "due", (unsigned)number_at(bytes + TIME, 4));
+    if (phase == 5u || phase == 6u)
+        tell_carrier(bytes);
+    if (phase == 7u)
+        tell_told(bytes);
+    printf(",");
     tell_request(bytes + SLOT_REQUEST);
 }
 
@@ -38,14 +61,21 @@ static void tell_station(const uint8_t *bytes) {
     }
 }
 
-void tell_call(const struct call *call) {
-    const struct event *event = call->event;
-    printf("stations: %c at %u on slot %u differs, station of %u bytes, room of %u\n  %u symbols:", event->letter,
-           (unsigned)event->time, (unsigned)event->slot, (unsigned)call->size, (unsigned)call->room_size,
-           (unsigned)event->count);
+/* As the script writes it, N for the next due time. */
+static void tell_event(const struct event *event) {
+    bool slot = event->letter != 'Q' && event->letter != 'T' && event->letter != NEXT_DUE_LETTER;
+    printf("stations: the two differ at %c", event->letter);
+    if (event->letter != 'S' && event->letter != NEXT_DUE_LETTER)
+        printf(" %u", (unsigned)event->time);
+    if (slot)
+        printf(" %u", (unsigned)event->slot);
     for (size_t i = 0; i < event->count; i++)
         printf(" %u", (unsigned)event->symbols[i]);
-    printf("\n");
+}
+
+void tell_call(const struct call *call) {
+    tell_event(call->event);
+    printf("\n  a station of %u bytes, a room of %u\n", (unsigned)call->size, (unsigned)call->room_size);
     if (call->size >= STATION_SIZE)
         tell_station(call->station);
 }

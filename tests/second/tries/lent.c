@@ -1,0 +1,136 @@
+/* The station on lent bytes, byte by byte as include/coast.h lays it out: one call from its request to its hold, with a ship
+ * that waits. */
+#include <stdio.h>
+#include <string.h>
+#include "lent.h"
+
+#define SIZE 1722u
+#define ROOM 320u
+#define SLOT 10   /* where the first slot begins */
+#define QUEUE 730 /* and the first waiting ship */
+
+static uint8_t station[SIZE + 1u], wanted[SIZE + 1u], room[ROOM];
+static int failures;
+
+static const uint8_t request[24] = {123, 0, 20, 1, 23, 40, 100, 20, 0, 56, 78, 90,
+    101, 126, 126, 126, 126, 105, 5, 55, 12, 34, 117, 104};
+static const uint8_t working_call[24] = {123, 0, 20, 1, 23, 40, 100, 20, 0, 56, 78, 90,
+    101, 126, 126, 126, 126, 105, 5, 55, 12, 34, 127, 98};
+static const uint8_t end_of_call[24] = {123, 0, 20, 1, 23, 40, 100, 20, 0, 56, 78, 90,
+    105, 126, 126, 126, 126, 105, 5, 55, 12, 34, 117, 100};
+
+/* 2001234, 200056789 and 200056780 */
+static const uint8_t coast[4] = {82, 137, 30, 0}, ship[4] = {213, 159, 236, 11}, other[4] = {204, 159, 236, 11};
+
+static uint64_t told(uint64_t answer, uint64_t actions, uint64_t due) {
+    return answer + 256u * actions + (due == 0u ? 0u : 65536u + 4294967296u * due);
+}
+
+/* The answer with its due time, and every byte of the station. */
+static void want(const char *what, uint64_t got, uint64_t answer) {
+    if (got == answer && memcmp(station, wanted, sizeof station) == 0)
+        return;
+    failures++;
+    printf("%s: got %llx, wanted %llx\n", what, (unsigned long long)got, (unsigned long long)answer);
+    for (size_t i = 0; i < sizeof station; i++)
+        if (station[i] != wanted[i])
+            printf("  byte %zu: got %d, wanted %d\n", i, station[i], wanted[i]);
+}
+
+static void want_request(size_t at, const uint8_t *from, uint8_t mode) {
+    static const uint8_t digits[7] = {5, 5, 5, 1, 2, 3, 4};
+    memcpy(wanted + at, from, 4);
+    memcpy(wanted + at + 4, coast, 4);
+    wanted[at + 8] = mode;
+    wanted[at + 9] = 126;
+    wanted[at + 10] = 7;
+    memcpy(wanted + at + 11, digits, 7);
+}
+
+static void want_time(size_t at, uint8_t low, uint8_t high) {
+    wanted[at] = low;
+    wanted[at + 1] = high;
+}
+
+static void set_up(void) {
+    static const uint8_t channels[3] = {26, 88, 26};
+    memset(station, 77, sizeof station);
+    memset(wanted, 77, sizeof wanted);
+    want("1721 bytes", second_set_up_bytes(1, channels, 2, station, SIZE - 1u), 29);
+    want("1723 bytes", second_set_up_bytes(2001234, channels, 2, station, SIZE + 1u), 29);
+    want("a ship's identity", second_set_up_bytes(200056789, channels, 2, station, SIZE), 36);
+    want("a channel twice", second_set_up_bytes(2001234, channels, 3, station, SIZE), 36);
+    want("no channel", second_set_up_bytes(2001234, NULL, 0, station, SIZE), 36);
+    memset(wanted, 0, SIZE);
+    memcpy(wanted + 4, coast, 4);
+    wanted[8] = 1;
+    wanted[SLOT + 14] = 26;
+    want("set-up", second_set_up_bytes(2001234, channels, 1, station, SIZE), 0);
+    want("no wait", second_next_due_bytes(station, SIZE), 0);
+}
+
+static void offer(void) {
+    want_time(0, 100, 0);
+    wanted[SLOT] = 1;
+    want_time(SLOT + 1, 5, 1); /* 261 */
+    want_request(SLOT + 18, ship, 1);
+    want("request", second_heard_on_channel_70_bytes(station, SIZE, 100, request, 24, room, ROOM), told(0, 2, 261));
+    want("next due", second_next_due_bytes(station, SIZE), told(0, 0, 261));
+    want("before the clock", second_on_hook_bytes(station, SIZE, 90, 0, room, ROOM), told(32, 0, 261));
+    want("due", second_carrier_up_bytes(station, SIZE, 261, 0, room, ROOM), told(33, 0, 261));
+    want("no slot", second_take_bytes(station, SIZE, 260, 1, room, ROOM), told(34, 0, 261));
+    want("not free", second_take_bytes(station, SIZE, 260, 0, room, ROOM), told(35, 0, 261));
+    want("room", second_tick_bytes(station, SIZE, 261, room, ROOM - 1u), told(30, 0, 261));
+    want("1721 bytes", second_tick_bytes(station, SIZE - 1u, 261, room, ROOM), 29);
+}
+
+static void call_and_wait(void) {
+    uint8_t another[24];
+    wanted[SLOT] = 5;
+    want_time(0, 4, 1);        /* 260 */
+    want_time(SLOT + 1, 93, 3); /* 861 */
+    want("working call", second_heard_on_slot_bytes(station, SIZE, 260, 0, working_call, 24, room, ROOM), told(0, 1, 861));
+    memcpy(another, request, 24);
+    another[11] = 0;   /* ship 200056780 */
+    another[12] = 100; /* simplex */
+    another[23] = (uint8_t)(104 ^ 90 ^ 0 ^ 101 ^ 100);
+    wanted[9] = 1;
+    want_time(0, 44, 1);       /* 300 */
+    want_time(QUEUE, 85, 36);  /* 9301 */
+    want_request(QUEUE + 4, other, 0);
+    want("another request", second_heard_on_channel_70_bytes(station, SIZE, 300, another, 24, room, ROOM), told(0, 1, 861));
+    wanted[SLOT] = 6;
+    want_time(0, 144, 1); /* 400 */
+    want_time(SLOT + 1, 144, 1);
+    want("off-hook", second_off_hook_bytes(station, SIZE, 400, 0, room, ROOM), told(0, 0, 9301));
+    want_time(0, 244, 1); /* 500 */
+    wanted[SLOT + 5] = 1;
+    want_time(SLOT + 6, 39, 2); /* 551 */
+    want("carrier down", second_carrier_down_bytes(station, SIZE, 500, 0, room, ROOM), told(0, 0, 551));
+}
+
+static void end_and_ring_back(void) {
+    wanted[SLOT] = 7;
+    want_time(0, 38, 2);        /* 550 */
+    want_time(SLOT + 1, 79, 2); /* 591 */
+    wanted[SLOT + 5] = wanted[SLOT + 6] = wanted[SLOT + 7] = 0;
+    wanted[SLOT + 10] = 1;
+    wanted[SLOT + 13] = 15;
+    want("end", second_heard_on_slot_bytes(station, SIZE, 550, 0, end_of_call, 24, room, ROOM), told(0, 4, 591));
+    memset(wanted + SLOT + 1, 0, 13);
+    memset(wanted + QUEUE, 0, 31);
+    want_time(0, 79, 2);
+    wanted[9] = 0;
+    wanted[SLOT] = 2;
+    want_time(SLOT + 1, 130, 2); /* 642 */
+    want_request(SLOT + 18, other, 0);
+    want("hold's tick", second_tick_bytes(station, SIZE, 4000000000u, room, ROOM), told(0, 2, 642));
+}
+
+int main(void) {
+    set_up();
+    offer();
+    call_and_wait();
+    end_and_ring_back();
+    return failures == 0 ? 0 : 1;
+}
