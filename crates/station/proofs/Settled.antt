@@ -1,6 +1,7 @@
 -- Any two results that meet a contract are equal.
 use mathlib.Core.Path.{_≡_, sym, _∙_}
 use contract.Lifetimes.{Lfts}
+use Rattle.station.proofs.Station.is_sound.Reads as Station-is-sound
 use Rattle.station.proofs.Station.next_due.Reads as Station-next-due
 use Rattle.station.proofs.Station.heard_on_channel_70.Reads as Station-heard-on-channel-70
 use Rattle.station.proofs.Station.heard_on_slot.Reads as Station-heard-on-slot
@@ -12,6 +13,10 @@ use Rattle.station.proofs.Station.on_hook.Reads as Station-on-hook
 use Rattle.station.proofs.Station.give_back.Reads as Station-give-back
 use Rattle.station.proofs.Station.set_up.Reads as Station-set-up
 use Rattle.station.proofs.Station.tick.Reads as Station-tick
+
+pub Station-is-sound-settled : (κs : Lfts 0) (a : _) (r r' : _) (s s' : _)
+    → Station-is-sound.Post κs a r s → Station-is-sound.Post κs a r' s' → r ≡ r'
+Station-is-sound-settled κs a r r' s s' p q = p ∙ sym q
 
 pub Station-next-due-settled : (κs : Lfts 0) (a : _) (r r' : _) (s s' : _)
     → Station-next-due.Post κs a r s → Station-next-due.Post κs a r' s' → r ≡ r'

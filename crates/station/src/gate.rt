@@ -58,7 +58,8 @@ impl Verdict {
 }
 
 impl Station {
-    pub(crate) fn is_sound(self) -> bool
+    // The test that 29 makes.
+    pub fn is_sound(self) -> bool
         ensures { λ r. ⌜ r ≡ (recordsKeep self && sound (configOf self) (modelOf self)) ⌝ }
     {
         let t = self.clock;
