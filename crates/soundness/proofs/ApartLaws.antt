@@ -16,7 +16,7 @@ use Rattle.requests.proofs.ArrayLaws.{left-more}
 use Rattle.slots.specs.declared.Slot.{Slot}
 use Rattle.slots.specs.declared.Waiting.{Waiting}
 use Rattle.slots.specs.Views.{slotView, waitingView, owned, noSlot, noWaiting}
-use Rattle.slots.specs.Changes.{lowestFrom}
+use Rattle.finding.specs.Searches.{lowestFrom}
 use Rattle.slots.proofs.ViewLaws.{owner-view}
 use Rattle.soundness.specs.Soundly.{whoOf}
 

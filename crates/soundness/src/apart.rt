@@ -8,9 +8,13 @@ ghost use Rattle.rules.specs.Words.{is};
 ghost use Rattle.rules.specs.Places.{all, elem, distinct, isSome};
 ghost use Rattle.rules.specs.Heard.{sameChannel};
 ghost use Rattle.rules.specs.Sound.{channelsKeep, owners};
-ghost use Rattle.requests.specs.Views.{viewed, left, requestOf};
-ghost use Rattle.slots.specs.Views.{slotView, waitingView, channelOf, foundView, placeView, partyOf, owned};
+ghost use Rattle.requests.specs.Views.{viewed, left, requestOf, partyOf};
+ghost use Rattle.slots.specs.Views.{slotView, waitingView, channelOf, foundView, placeView, owned};
 ghost use Rattle.soundness.specs.Soundly.{whoOf};
+use finding::channel_from;
+use finding::has_ship;
+use finding::place_from;
+use finding::slot_from;
 use requests::least;
 use sequence::parts::channel_ok;
 use slots::Found;
@@ -18,10 +22,6 @@ use slots::Place;
 use slots::QueuePlace;
 use slots::Slot;
 use slots::Waiting;
-use slots::finding::channel_from;
-use slots::finding::has_ship;
-use slots::finding::place_from;
-use slots::finding::slot_from;
 use units::SlotNumber;
 
 fn is_found(f: Found) -> bool

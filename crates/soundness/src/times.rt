@@ -7,13 +7,13 @@ ghost use Rattle.rules.specs.Places.{all};
 ghost use Rattle.rules.specs.Sound.{fits, lossFits, slotFits, placeFits};
 ghost use Rattle.requests.specs.Views.{viewed, modeOf};
 ghost use Rattle.slots.specs.Views.{slotView, waitingView, carrierOf};
+use dues::carrier_wait;
 use requests::Mode;
 use requests::least;
 use slots::Carrier;
 use slots::Phase;
 use slots::Slot;
 use slots::Waiting;
-use slots::dues::carrier_wait;
 use units::Tenths;
 
 // "each due time lies from the clock to the clock plus its wait and 1"

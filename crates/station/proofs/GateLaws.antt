@@ -24,10 +24,6 @@ pub not-not : (b : Bool) → not (not b) ≡ b
 not-not true = refl
 not-not false = refl
 
-pub some-if : {A : Type 0} (b : Bool) (a : A) → b ≡ isSome (cond b (some a) none)
-some-if true a = refl
-some-if false a = refl
-
 unbarred : (v : Option ℕ) → andThen v true 35 ≡ v
 unbarred none = refl
 unbarred (some k) = refl

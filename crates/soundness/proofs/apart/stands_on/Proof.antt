@@ -1,9 +1,9 @@
 use Rattle.soundness.proofs.ApartLaws.{found-owner, found-waiting}
 use Rattle.soundness.specs.Soundly.{whoOf}
-use Rattle.slots.specs.Changes.{lowestFrom}
-use Rattle.slots.specs.Views.{slotView, waitingView, partyOf}
+use Rattle.finding.specs.Searches.{lowestFrom}
+use Rattle.slots.specs.Views.{slotView, waitingView}
 use Rattle.requests.proofs.ArrayLaws.{left-all}
-use Rattle.requests.specs.Views.{viewed, left}
+use Rattle.requests.specs.Views.{viewed, left, partyOf}
 use Rattle.rules.specs.Requests.{owns, waitsFor}
 use Rattle.rules.specs.Places.{isSome}
 use mathlib.Core.List.{map}

@@ -1,5 +1,5 @@
 use borrow.Author.Tests.{not-true, not-false}
-use Rattle.slots.proofs.ScanLaws.{all-on, all-off}
+use Rattle.requests.proofs.ArrayLaws.{all-on, all-off}
 use Rattle.requests.proofs.ArrayLaws.{left-all, left-none}
 use Rattle.rules.specs.Places.{all}
 use Rattle.soundness.specs.Soundly.{named}
