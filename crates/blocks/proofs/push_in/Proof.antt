@@ -1,13 +1,13 @@
 use mathlib.Core.Path.{_≡_}
 use lib.ListN.{length}
-use Rattle.actions.proofs.BlockLaws.{clip-push, clip-full}
+use Rattle.blocks.proofs.BlockLaws.{clip-push, clip-full}
 use Rattle.actions.specs.Blocks.{actionBlock}
 use native.Mathlib.Omega.{arith}
 use lib.Seq.{set-out}
 use mathlib.Core.Path.{sym, refl}
 use borrow.Author.Needs.{needs}
-use Rattle.actions.proofs.blocks.push_in.Statement.{statement}
-use Rattle.actions.proofs.blocks.push_in.Tie as tie
+use Rattle.blocks.proofs.push_in.Statement.{statement}
+use Rattle.blocks.proofs.push_in.Tie as tie
 
 returns : tie.Need-returns
 returns c = let w : length (c .before .args .t1) ≡ 8 = search needs in

@@ -1,12 +1,12 @@
-use Rattle.actions.proofs.BlockLaws.{in-payload, past-payload, past-block}
+use Rattle.blocks.proofs.BlockLaws.{in-payload, past-payload, past-block}
 use Rattle.actions.specs.Blocks.{actionBlock}
 use Rattle.rules.specs.Bytes.{block}
 use native.Mathlib.Omega.{arith}
 use lib.ListN.{length, length-take}
 use mathlib.Core.Path.{_≡_, sym}
 use borrow.Author.Needs.{needs}
-use Rattle.actions.proofs.blocks.block_byte.Statement.{statement}
-use Rattle.actions.proofs.blocks.block_byte.Tie as tie
+use Rattle.blocks.proofs.block_byte.Statement.{statement}
+use Rattle.blocks.proofs.block_byte.Tie as tie
 
 returns : tie.Need-returns
 unfolding actionBlock block

@@ -4,8 +4,8 @@ ghost use mathlib.Core.List.{[], _∷_, _++_};
 ghost use Prim.Native.Nat.{_+_, min};
 ghost use lib.ListN.{getD, length, set, replicate};
 ghost use Rattle.requests.specs.Views.{viewed};
 ghost use Rattle.actions.specs.Blocks.{actionBlock, blankAction, clip, handed, inBytes, putCount, putRoom};
-use crate::Action;
+use actions::Action;
 use requests::least;
 use units::SlotNumber;
 

@@ -1,9 +1,9 @@
 use denote.Ref.{now}
 use Rattle.actions.specs.Blocks.{actionBlock, joined, handed}
 use mathlib.Core.Path.{_≡_, refl, sym, _∙_}
-use Rattle.actions.proofs.BlockLaws.{laid-length, laid-at, handed-all, handed-length, put-short, put-laid}
-use Rattle.actions.proofs.BlockLaws.{laid-length, laid-at}
+use Rattle.blocks.proofs.BlockLaws.{laid-length, laid-at, handed-all, handed-length, put-short, put-laid}
+use Rattle.blocks.proofs.BlockLaws.{laid-length, laid-at}
 use Rattle.actions.specs.Blocks.{actionBlock, joined}
 use Rattle.requests.specs.Views.{viewed}
 use Rattle.sequence.proofs.Paste.{front-turn, paste-front}
 use native.Mathlib.Omega.{arith}
@@ -12,8 +12,8 @@ use lib.Seq.{paste}
 use lib.ListN.{length, length-set}
 use mathlib.Core.Path.{_≡_, refl}
 use Prim.Native.Nat.{_≤_, _-_, _*_, min}
-use Rattle.actions.proofs.blocks.put.Statement.{statement}
-use Rattle.actions.proofs.blocks.put.Tie as tie
+use Rattle.blocks.proofs.put.Statement.{statement}
+use Rattle.blocks.proofs.put.Tie as tie
 
 abbrev Inv-loop : tie.InvT-loop
 Inv-loop n room₀ a k m i₀ room i = (room ≡ paste room₀ 0 (joined (viewed actionBlock n a)) i) × (i ≤ m) × (length room ≡ length room₀) × (m ≡ k * 40) × (k ≡ min n 8) × (length a ≡ 8)

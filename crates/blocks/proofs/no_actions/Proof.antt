@@ -1,8 +1,8 @@
 use Rattle.actions.specs.Blocks.{actionOf, blankAction}
 use Rattle.rules.specs.Bytes.{padded}
 use mathlib.Core.Path.{refl}
-use Rattle.actions.proofs.blocks.no_actions.Statement.{statement}
-use Rattle.actions.proofs.blocks.no_actions.Tie as tie
+use Rattle.blocks.proofs.no_actions.Statement.{statement}
+use Rattle.blocks.proofs.no_actions.Tie as tie
 
 returns : tie.Need-returns
 unfolding blankAction actionOf padded
