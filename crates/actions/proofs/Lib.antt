@@ -1,5 +1,4 @@
 pub mod ActionLaws
-pub mod BlockLaws
 pub mod Speaking
 pub mod Settled
 pub mod Saying

@@ -12,10 +12,6 @@ use Rattle.actions.proofs.sequences.ring_back.Reads as ring-back
 use Rattle.actions.proofs.sequences.unable.Reads as unable
 use Rattle.actions.proofs.sequences.unable_to.Reads as unable-to
 use Rattle.actions.proofs.sequences.over.Reads as over
-use Rattle.actions.proofs.blocks.no_actions.Reads as no-actions
-use Rattle.actions.proofs.blocks.push_in.Reads as push-in
-use Rattle.actions.proofs.blocks.one_more.Reads as one-more
-use Rattle.actions.proofs.blocks.put.Reads as put
 
 pub carrier-on-settled : (κs : Lfts 0) (a : _) (r r' : _) (s s' : _) → carrier-on.Post κs a r s → carrier-on.Post κs a r' s' → r ≡ r'
 carrier-on-settled κs a r r' s s' p q = p .0 ∙ sym (q .0)
@@ -49,15 +45,3 @@ unable-to-settled κs a r r' s s' p q = p .0 ∙ sym (q .0)
 
 pub over-settled : (κs : Lfts 0) (a : _) (r r' : _) (s s' : _) → over.Post κs a r s → over.Post κs a r' s' → r ≡ r'
 over-settled κs a r r' s s' p q = p .0 ∙ sym (q .0)
-
-pub no-actions-settled : (κs : Lfts 0) (a : _) (r r' : _) (s s' : _) → no-actions.Post κs a r s → no-actions.Post κs a r' s' → r ≡ r'
-no-actions-settled κs a r r' s s' p q = p ∙ sym q
-
-pub push-in-settled : (κs : Lfts 0) (a : _) (r r' : _) (s s' : _) → push-in.Post κs a r s → push-in.Post κs a r' s' → r ≡ r'
-push-in-settled κs a r r' s s' p q = p .0 ∙ sym (q .0)
-
-pub one-more-settled : (κs : Lfts 0) (a : _) (r r' : _) (s s' : _) → one-more.Post κs a r s → one-more.Post κs a r' s' → r ≡ r'
-one-more-settled κs a r r' s s' p q = p ∙ sym q
-
-pub put-settled : (κs : Lfts 1) (a : _) (r r' : _) (s s' : _) → put.Post κs a r s → put.Post κs a r' s' → (r ≡ r') × (s .1 .1 .0 .now ≡ s' .1 .1 .0 .now)
-put-settled κs a r r' s s' p q = (p .0 ∙ sym (q .0), p .1 ∙ sym (q .1))

@@ -9,11 +9,10 @@ use lib.Dec.{leb, eqb}
 use lib.ListN.{length, getD}
 use borrow.Author.Tests.{leb-true, eqb-true}
 use Rattle.units.specs.declared.Told.{Told}
-use Rattle.sequence.specs.declared.Meaning.{Meaning}
 use Rattle.sequence.specs.Symbols.{within}
 use Rattle.sequence.specs.Identity.{isShip, isCoast}
 use Rattle.sequence.specs.Field.{unableSecond, channelOk}
-use Rattle.sequence.specs.Layout.{endOk, valid, layout}
+use Rattle.sequence.specs.Layout.{endOk}
 use Rattle.sequence.proofs.Tests.{both-true}
 use Rattle.rules.specs.Places.{all, Each}
 use Rattle.rules.specs.Words.{Request, Config, carrierOn, carrierOff, acknowledge, ringBack, unable, dial, releaseLine}
@@ -23,10 +22,6 @@ use Rattle.rules.specs.Sound.{identityKeeps, channelsKeep, configKeeps, numberK
 use Rattle.rules.proofs.SentLaws.{able-valid, unable-valid, over-valid}
 use Rattle.actions.specs.Blocks.{inBytes, joined}
 use Rattle.actions.specs.Sent.{sent, sentPayload, sentBlock, speaks}
-
-pub sent-valid : (m : Meaning) → valid m ≡ true → sent m ≡ layout m
-unfolding sent
-sent-valid m h = rw h
 
 -- ── blocks ───────────────────────────────────────────────────────────────────
 

@@ -1,5 +1,4 @@
-// The actions that are handed out: each made with its payload, at most eight a step, laid block after block into a lent room.
-pub mod blocks;
+// The actions that are handed out, each made with its payload.
 pub mod deeds;
 pub mod sequences;
 

@@ -22,7 +22,7 @@ use Rattle.slots.specs.declared.Phase.{Phase}
 use Rattle.slots.specs.declared.Phase.the-variants.{Free, Offered, RingBack, RingAgain, Acknowledged, Dialling, Answered, Hold, Taken}
 use Rattle.slots.specs.Views.{phaseView, slotView}
 use Rattle.slots.specs.Images.{slotImage, waitingImage, blankSlot, blankWaiting, slotImages, Short, ShortSlot, Fits}
-use Rattle.soundness.specs.Soundly.{numberExact, slotExact, waitingExact}
+use Rattle.keeping.specs.Kept.{numberExact, slotExact, waitingExact}
 use Rattle.station.specs.declared.Station.{Station}
 use Rattle.station.specs.Model.{modelOf, imageOf}
 use Rattle.station.specs.Step.{recordsKeep, refusal}

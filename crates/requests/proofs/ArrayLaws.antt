@@ -1,5 +1,6 @@
 -- The laws that join an array with a count to the list that it stands for, and to the list that is laid out again.
 use Prim.Native.Nat.{ℕ, zero, suc, _+_, _<_, _≤_, min}
+use mathlib.Core.Bool.{Bool, true, false}
 use mathlib.Core.List.{List, [], _∷_, _++_, map}
 use mathlib.Core.Path.{_≡_, refl, sym, ap, _∙_}
 use native.Mathlib.Omega.{arith}
@@ -7,7 +8,7 @@ use native.Mathlib.Nat.{le-of-suc-le-suc, not-suc-le-zero}
 use native.Mathlib.Numerals.{add-one}
 use lib.ListN.{length, take, drop, getD, set, length-take, length-map, List·getD-eq-default, drop-of-length-le}
 use lib.Seq.{drop-cons}
-use Rattle.rules.specs.Places.{modAt}
+use Rattle.rules.specs.Places.{all, modAt}
 use Rattle.rules.specs.Bytes.{padded}
 use Rattle.requests.specs.Views.{viewed, left, itself}
 
@@ -116,3 +117,11 @@ pub modAt-past : {A : Type 0} (f : A → A) (i : ℕ) (l : List A) → length l 
 modAt-past f i [] h = refl
 modAt-past f zero (x ∷ l) h = absurd (not-suc-le-zero h)
 modAt-past f (suc i) (x ∷ l) h = ap (λ r. x ∷ r) (modAt-past f i l (le-of-suc-le-suc h))
+
+-- upward: a test of every element
+module _ {A B : Type 0} (v : A → B) (f : B → Bool) (n : ℕ) (l : List A) (i : ℕ) (d : A) (h : i < n) (k : i < length l) where
+  pub all-on : f (v (getD l i d)) ≡ true → all f (left v n l i) ≡ all f (left v n l (i + 1))
+  all-on t = rw (left-more v n l i d h k, t)
+
+  pub all-off : f (v (getD l i d)) ≡ false → all f (left v n l i) ≡ false
+  all-off t = rw (left-more v n l i d h k, t)

@@ -21,6 +21,9 @@ left v n l i = drop i (viewed v n l)
 abbrev pub itself : {A : Type 0} → A → A
 itself x = x
 
+abbrev pub partyOf : ℕ → ℕ → W.Party
+partyOf ship station = record { ship = ship; station = station }
+
 abbrev pub modeOf : Mode → W.Mode
 modeOf Simplex = simplex
 modeOf Duplex = duplex

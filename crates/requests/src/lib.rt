@@ -1,4 +1,6 @@
 // A stored request: who asks for what. What the records of slots, of the queue and of actions share.
+pub mod sameness;
+
 ghost use mathlib.Core.Path.{_≡_};
 ghost use Prim.Native.Nat.{min};
 ghost use Rattle.requests.specs.Images.{blankRequest};

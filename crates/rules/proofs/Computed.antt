@@ -25,16 +25,17 @@ use Rattle.rules.specs.CallCases.{callCases}
 use Rattle.rules.specs.RefusalCases.{refusalCases}
 use Rattle.rules.specs.Phases.{rowOf, phases}
 use Rattle.rules.specs.SoundCases.{setUpCases, storedCases, countCases, timeCases}
+use Rattle.rules.proofs.Tested.{as-expected}
 
 -- P1 to P12, "Hold begun at 6000", "Number 7"
 pub cases-computed : map (λ r. r .computed) cases ≡ map (λ r. r .expected) cases
 unfolding printed lastPrinted isShip isCoast identitiesOk identityPairs identityOf isCall unableSecond telecommandsOk channelOk durationOk fieldOk numberOk parity evened endOk valid front body layout Reader.lengthIn Reader.checkIn Reader.formatIn Reader.identityAt Reader.identityPairsAt Reader.identitiesIn Reader.categoryIn Reader.telecommandsIn Reader.blankSymbols Reader.channelSymbols Reader.durationSymbols Reader.fieldSymbols Reader.fieldOf Reader.fieldIn Reader.pairsIn Reader.parityOk Reader.pairsOk Reader.numberIn Reader.zeroBefore Reader.sixteen Reader.numberOf Reader.endIn Reader.refusals Reader.answerOf Reader.meaningOf Reader.blankMeaning Reader.readingOf padded answerTo ableSaid unableSaid overSaid payloadOf is kindOf addressed meaning fresh setSlot setClock setQueue table fires nextDue identityKeeps channelsKeep configKeeps oneSlotEach numberKeeps requestKeeps durationKeeps noShipTwice storedKeeps timesFit sound rungBack freedFor freed coastEnd standing ruleA repeated afresh same ruleB ruleD offer ruleF ruleG eToG newcomer dToG redial ruleC bOrC requested dialNow workingKind workingOn agreed bqKind bqFor offHookStage offHookOn downOn upOn shipEnd sayAgain shipEndOn endOn takeOn giveOn offerDue ringAgain pendingDue replyDue mainOn fire ticked heardOn70 heardOn happenedOn actAt refusals verdict setUpVerdict step play final
-cases-computed = refl
+cases-computed = as-expected cases refl
 
 -- a case for each rule, and for each refusal
 pub rules-computed : map (λ r. r .computed) (requestCases ++ callCases ++ refusalCases) ≡ map (λ r. r .expected) (requestCases ++ callCases ++ refusalCases)
 unfolding block blockOf printed lastPrinted isShip isCoast identitiesOk identityPairs identityOf isCall unableSecond telecommandsOk channelOk durationOk fieldOk numberOk parity evened endOk valid front body layout Reader.lengthIn Reader.checkIn Reader.formatIn Reader.identityAt Reader.identityPairsAt Reader.identitiesIn Reader.categoryIn Reader.telecommandsIn Reader.blankSymbols Reader.channelSymbols Reader.durationSymbols Reader.fieldSymbols Reader.fieldOf Reader.fieldIn Reader.pairsIn Reader.parityOk Reader.pairsOk Reader.numberIn Reader.zeroBefore Reader.sixteen Reader.numberOf Reader.endIn Reader.refusals Reader.answerOf Reader.meaningOf Reader.blankMeaning Reader.readingOf padded answerTo ableSaid unableSaid overSaid payloadOf is kindOf addressed meaning fresh setSlot setClock setQueue table fires nextDue identityKeeps channelsKeep configKeeps oneSlotEach numberKeeps requestKeeps durationKeeps noShipTwice storedKeeps timesFit sound rungBack freedFor freed coastEnd standing ruleA repeated afresh same ruleB ruleD offer ruleF ruleG eToG newcomer dToG redial ruleC bOrC requested dialNow workingKind workingOn agreed bqKind bqFor offHookStage offHookOn downOn upOn shipEnd sayAgain shipEndOn endOn takeOn giveOn offerDue ringAgain pendingDue replyDue mainOn fire ticked heardOn70 heardOn happenedOn actAt refusals verdict setUpVerdict step play final
-rules-computed = refl
+rules-computed = as-expected (requestCases ++ callCases ++ refusalCases) refl
 
 -- a case for each part of soundness, and for set-up
 pub sound-computed : map (λ j. j .given) (setUpCases ++ storedCases ++ countCases ++ timeCases) ≡ map (λ j. j .expected) (setUpCases ++ storedCases ++ countCases ++ timeCases)

@@ -27,4 +27,5 @@ pub mod SentLaws
 pub mod Eight
 pub mod Answered
 pub mod Charged
+pub mod Tested
 pub mod Computed

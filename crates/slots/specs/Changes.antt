@@ -34,18 +34,3 @@ cutLine n k = cond (leb (min n 32) k) n (min n 32 - 1)
 
 unfoldable pub cutIn : List Waiting → ℕ → ℕ → List Waiting
 cutIn a n k = cond (leb (min n 32) k) a (without blankWaiting a k)
-
--- the lowest place whose element passes, where the first has the place i
-abbrev pub lowestFrom : {A : Type 0} → (A → Bool) → ℕ → List A → Option ℕ
-lowestFrom p i [] = none
-lowestFrom p i (x ∷ xs) = cond (p x) (some i) (lowestFrom p (suc i) xs)
-
--- a wait that may run, set before the others
-abbrev pub joinDue : T.Wait → Option ℕ → Option T.Due → Option T.Due
-joinDue w none e = e
-joinDue w (some d) e = sooner (record { what = w; at = d }) e
-
--- the due times of waiting ships, set before the others
-abbrev pub queueJoined : ℕ → List ℕ → Option T.Due → Option T.Due
-queueJoined k [] e = e
-queueJoined k (d ∷ ds) e = sooner (record { what = ofQueue k; at = d }) (queueJoined (suc k) ds e)

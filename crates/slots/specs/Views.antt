@@ -58,9 +58,6 @@ waitingView w = record { request = requestOf (w .request); due = w .due .0 }
 abbrev pub dueOf : R.Waiting → ℕ
 dueOf w = w .due
 
-abbrev pub partyOf : ℕ → ℕ → W.Party
-partyOf ship station = record { ship = ship; station = station }
-
 abbrev pub waitView : Wait → T.Wait
 waitView (Entry k) = ofQueue (k .0)
 waitView (Loss i) = loss (i .0)

@@ -1,10 +1,7 @@
 // The slots and the waiting ships of a station, and what is done with one of them or with an array of them.
-pub mod dues;
-pub mod finding;
 pub mod laying;
 pub mod places;
 pub mod queue;
-pub mod sameness;
 
 use requests::Request;
 use units::Channel;

@@ -1,4 +1,2 @@
-pub mod ApartLaws
-pub mod KeepLaws
 pub mod FitLaws
 pub mod Settled

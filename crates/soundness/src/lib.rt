@@ -2,21 +2,16 @@
 ghost use mathlib.Core.Path.{_≡_};
 ghost use Prim.Native.Nat.{_<_};
 ghost use Rattle.rules.specs.Sound.{configKeeps, sound};
-ghost use Rattle.soundness.specs.Soundly.{configFor, modelFor, soundly};
-
-pub mod apart;
-pub mod exact;
-pub mod stored;
-pub mod times;
-
+ghost use Rattle.keeping.specs.Kept.{configFor};
+ghost use Rattle.soundness.specs.Soundly.{modelFor, soundly};
 use apart::channels_keep;
 use apart::no_ship_twice;
-use exact::is_exact;
+use keeping::exact::is_exact;
+use keeping::stored::stored_keep;
+use keeping::times::times_fit;
 use sequence::parts::is_coast;
 use slots::Slot;
 use slots::Waiting;
-use stored::stored_keep;
-use times::times_fit;
 use units::Tenths;
 
 // The identity and the channels: what set-up asks, and every event after it.

@@ -13,7 +13,8 @@ use Rattle.rules.specs.Words.{Happened, heard, offHook, onHook, carrierUp, carr
 use Rattle.rules.specs.Station.{free, fires}
 use Rattle.rules.specs.Sound.{sound}
 use Rattle.requests.specs.Views.{viewed, itself}
-use Rattle.soundness.specs.Soundly.{slotExact, waitingExact, soundly}
+use Rattle.keeping.specs.Kept.{slotExact, waitingExact}
+use Rattle.soundness.specs.Soundly.{soundly}
 use Rattle.rules.specs.Verdict.{readerSays, readOn, barredOn, refusals, verdict}
 use Rattle.station.specs.declared.Station.{Station}
 use Rattle.station.specs.Model.{modelOf, configOf}
@@ -23,10 +24,6 @@ use Rattle.station.specs.Draft.{andThen}
 pub not-not : (b : Bool) → not (not b) ≡ b
 not-not true = refl
 not-not false = refl
-
-pub some-if : {A : Type 0} (b : Bool) (a : A) → b ≡ isSome (cond b (some a) none)
-some-if true a = refl
-some-if false a = refl
 
 unbarred : (v : Option ℕ) → andThen v true 35 ≡ v
 unbarred none = refl

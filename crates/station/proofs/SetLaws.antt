@@ -16,7 +16,7 @@ use Rattle.requests.specs.Views.{viewed}
 use Rattle.slots.specs.declared.Slot.{Slot}
 use Rattle.slots.specs.Views.{channelOf}
 use Rattle.slots.specs.Images.{slotImage, blankSlot, blankWaiting, tenths, slotImages}
-use Rattle.soundness.specs.Soundly.{configFor}
+use Rattle.keeping.specs.Kept.{configFor}
 use Rattle.station.specs.declared.SetUp.{SetUp}
 use Rattle.station.specs.Model.{imageOf}
 use Rattle.station.specs.Step.{channelNumber, given, blankStation, setUpBy}

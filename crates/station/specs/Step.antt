@@ -18,7 +18,7 @@ use Rattle.rules.specs.Verdict.{unless, refusals, setUpVerdict}
 use Rattle.rules.specs.Bytes.{blocks}
 use Rattle.requests.specs.Views.{viewed, itself}
 use Rattle.slots.specs.Images.{tenths}
-use Rattle.soundness.specs.Soundly.{slotExact, waitingExact}
+use Rattle.keeping.specs.Kept.{slotExact, waitingExact}
 use Rattle.station.specs.declared.Station.{Station}
 use Rattle.station.specs.declared.NextDue.{NextDue}
 use Rattle.station.specs.declared.NextDue.the-variants.{Never, At}

@@ -14,8 +14,12 @@ use crate::pieces::wait_from;
 use actions::deeds::carrier_on;
 use actions::sequences::acknowledgement;
 use actions::sequences::unable_to;
+use finding::first_free;
+use finding::place_of;
+use finding::standing;
 use requests::Mode;
 use requests::Request;
+use requests::sameness::same_request;
 use slots::Carrier;
 use slots::Found;
 use slots::Phase;
@@ -23,13 +27,9 @@ use slots::Place;
 use slots::QueuePlace;
 use slots::Standing;
 use slots::Waiting;
-use slots::finding::first_free;
-use slots::finding::place_of;
-use slots::finding::standing;
 use slots::places::in_line;
 use slots::queue::join_in;
 use slots::queue::replace_in;
-use slots::sameness::same_request;
 use units::SlotNumber;
 
 impl Plan {

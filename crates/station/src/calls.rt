@@ -14,10 +14,10 @@ use crate::Stepped;
 use crate::Verdict;
 use crate::pieces::call_of;
 use crate::pieces::wait_from;
+use dues::carrier_wait;
 use requests::Mode;
 use slots::Carrier;
 use slots::Phase;
-use slots::dues::carrier_wait;
 use units::SlotNumber;
 use units::Tenths;
 

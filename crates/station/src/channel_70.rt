@@ -17,9 +17,9 @@ use crate::Verdict;
 use crate::pieces::wait_from;
 use reading::read;
 use requests::Request;
+use requests::sameness::is_by;
 use slots::Phase;
 use slots::Slot;
-use slots::finding::is_by;
 use units::SlotNumber;
 use units::Tenths;
 

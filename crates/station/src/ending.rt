@@ -8,7 +8,7 @@ ghost use Rattle.station.specs.Draft.{draftOf, finished, finishedRoom};
 use crate::Plan;
 use crate::Station;
 use crate::Stepped;
-use actions::blocks::put;
+use blocks::put;
 
 impl Plan {
     // The station tidied, the actions laid into the room.

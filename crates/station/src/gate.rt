@@ -14,23 +14,15 @@ ghost use Rattle.station.specs.Draft.{verdictOf, andThen};
 use crate::NextDue;
 use crate::Station;
 use crate::Verdict;
-use crate::pieces::is_free;
 use crate::pieces::is_taken;
+use dues::earliest_due;
+use dues::falls_due;
+use finding::is_free;
 use sequence::Answer;
 use slots::Due;
-use slots::dues::earliest_due;
 use slots::places::held;
 use units::SlotNumber;
 use units::Tenths;
-
-fn falls_due(d: Due, t: Tenths) -> bool
-    ensures { λ r. ⌜ r ≡ isSome (ifDue (t .0) (dueView d)) ⌝ }
-{
-    match d {
-        Due::Never => false,
-        Due::In(u, _) => u.0 <= t.0,
-    }
-}
 
 impl Verdict {
     // One test more behind those that were passed, and its refusal.

@@ -10,12 +10,12 @@ ghost use Rattle.station.specs.Hearing.{heardAs, heardOf};
 use crate::Heard;
 use crate::Kind;
 use crate::Station;
+use finding::slot_named;
 use requests::Mode;
 use requests::Request;
 use sequence::Field;
 use sequence::Meaning;
 use slots::Found;
-use slots::finding::slot_named;
 
 fn is_blank(f: Field) -> bool
     ensures { λ r. ⌜ r ≡ isBlank f ⌝ }

@@ -3,7 +3,6 @@ ghost use mathlib.Core.Path.{_≡_};
 ghost use Prim.Native.Nat.{_≤_};
 ghost use lib.ListN.{getD};
 ghost use Rattle.rules.specs.Station.{free, dueAfter};
-ghost use Rattle.rules.specs.Requests.{isFree};
 ghost use Rattle.rules.specs.Verdict.{isTaken};
 ghost use Rattle.requests.specs.Views.{viewed, requestOf};
 ghost use Rattle.slots.specs.Views.{phaseView, slotView, waitingView};
@@ -14,14 +13,14 @@ use crate::Call;
 use crate::Plan;
 use crate::Station;
 use actions::Action;
-use actions::blocks::no_actions;
-use actions::blocks::one_more;
-use actions::blocks::push_in;
+use blocks::no_actions;
+use blocks::one_more;
+use blocks::push_in;
+use dues::due_after;
 use requests::Request;
 use slots::Phase;
 use slots::Slot;
 use slots::Waiting;
-use slots::dues::due_after;
 use slots::laying::tidy_queue;
 use slots::laying::tidy_slots;
 use slots::places::held;
@@ -46,23 +45,6 @@ pub(crate) fn call_of(s: Slot) -> Call
         Phase::Answered(t, c) => Call::Answered(t, c),
         Phase::Hold(_, _) => Call::NoCall,
         Phase::Taken => Call::NoCall,
-    }
-}
-
-pub(crate) fn is_free(s: Slot) -> bool
-    ensures { λ r. ⌜ r ≡ isFree (slotView s) ⌝ }
-{
-    let p = s.phase;
-    match p {
-        Phase::Free => true,
-        Phase::Offered(_) => false,
-        Phase::RingBack(_) => false,
-        Phase::RingAgain(_) => false,
-        Phase::Acknowledged(_) => false,
-        Phase::Dialling(_, _) => false,
-        Phase::Answered(_, _) => false,
-        Phase::Hold(_, _) => false,
-        Phase::Taken => false,
     }
 }
 

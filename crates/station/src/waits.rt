@@ -1,7 +1,6 @@
 // A wait falls due.
 ghost use mathlib.Core.Path.{_≡_};
 ghost use Prim.Native.Nat.{_≤_};
-ghost use Rattle.rules.specs.Waits.{ifDue};
 ghost use Rattle.rules.specs.Station.{fires};
 ghost use Rattle.rules.specs.Calls.{offerDue, ringAgain, mainOn, ticked};
 ghost use Rattle.requests.specs.Views.{requestOf};
@@ -16,6 +15,7 @@ use crate::Verdict;
 use crate::pieces::wait_from;
 use actions::deeds::carrier_off;
 use actions::sequences::ring_back;
+use dues::due_by;
 use requests::Request;
 use slots::Due;
 use slots::Phase;
@@ -23,16 +23,6 @@ use slots::Wait;
 use units::SlotNumber;
 use units::Tenths;
 use units::Told;
-
-// The wait, where it is due at or before t.
-fn due_by(d: Due, t: Tenths) -> Due
-    ensures { λ r. ⌜ dueView r ≡ ifDue (t .0) (dueView d) ⌝ }
-{
-    match d {
-        Due::Never => d,
-        Due::In(u, _) => if u.0 <= t.0 { d } else { Due::Never },
-    }
-}
 
 impl Plan {
     // "Offer due: carrier off, slot freed."

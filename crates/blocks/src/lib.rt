@@ -1,0 +1,100 @@
+// Eight actions by value: one more of them, and their blocks laid into the room that is lent.
+ghost use mathlib.Core.Path.{_≡_};
+ghost use mathlib.Core.List.{[], _∷_, _++_};
+ghost use Prim.Native.Nat.{_+_, min};
+ghost use lib.ListN.{getD, length, set, replicate};
+ghost use Rattle.requests.specs.Views.{viewed};
+ghost use Rattle.actions.specs.Blocks.{actionBlock, blankAction, clip, handed, inBytes, putCount, putRoom};
+use actions::Action;
+use requests::least;
+use units::SlotNumber;
+
+// "At most 8 a step": none of them yet.
+pub fn no_actions() -> [Action; 8]
+    ensures { λ r. ⌜ r ≡ replicate 8 blankAction ⌝ }
+{
+    let blank = Action {
+        kind: 0,
+        slot: SlotNumber(0),
+        length: 0,
+        payload: [0u8; 36],
+    };
+    [blank; 8]
+}
+
+// One action more behind the first n, where there are not yet eight.
+pub fn push_in(mut a: [Action; 8], n: u8, x: Action) -> [Action; 8]
+    ensures { λ r. ⌜ r ≡ set a n x ⌝ }
+    ensures { λ r. ⌜ viewed actionBlock (min n 7 + 1) r ≡ clip (viewed actionBlock n a ++ (actionBlock x ∷ [])) ⌝ }
+{
+    if 8 <= n {
+        return a;
+    }
+    a[n as usize] = x;
+    a
+}
+
+// The count of actions with one more.
+pub fn one_more(n: u8) -> u8
+    ensures { λ r. ⌜ r ≡ min n 7 + 1 ⌝ }
+{
+    least(n, 7) + 1
+}
+
+// A slot's number in its block's byte; 255, which no slot has, for one past it.
+fn slot_byte(i: SlotNumber) -> u8
+    ensures { λ r. ⌜ r ≡ min (i .0) 255 ⌝ }
+{
+    if i.0 <= 255 {
+        return i.0 as u8;
+    }
+    255
+}
+
+// "kind, slot .., payload length, 0, payload, zeros"
+fn block_byte(a: Action, j: usize) -> u8
+    ensures { λ r. ⌜ r ≡ getD (inBytes (actionBlock a)) j 0 ⌝ }
+{
+    if j == 0 {
+        return a.kind;
+    }
+    if j == 1 {
+        let i = a.slot;
+        return slot_byte(i);
+    }
+    if j == 2 {
+        return least(a.length, 36);
+    }
+    if j < 4 {
+        return 0;
+    }
+    if 40 <= j {
+        return 0;
+    }
+    let n = a.length as usize;
+    let p = a.payload;
+    if j - 4 < n {
+        return p[j - 4];
+    }
+    0
+}
+
+// Lays the first n actions, block after block, at the front of a room that holds them, and returns their count;
+// a shorter room is left as it is.
+pub fn put(a: [Action; 8], n: u8, room: &mut [u8]) -> u8
+    ensures { λ r. ⌜ r ≡ putCount (handed n a) (length (now (room .entry))) ⌝ }
+    ensures { λ _. ⌜ now (room .exit) ≡ putRoom (handed n a) (now (room .entry)) ⌝ }
+{
+    let k = least(n, 8);
+    let m = k as usize * 40;
+    if room.len() < m {
+        return 0;
+    }
+    let mut i = 0;
+    while i < m {
+        let x = a[i / 40];
+        room[i] = block_byte(x, i % 40);
+        i += 1;
+    }
+    k
+}

@@ -1,0 +1,24 @@
+-- Any two results that meet a contract are equal.
+use mathlib.Core.Path.{_≡_, sym, ap, _∙_}
+use contract.Lifetimes.{Lfts}
+use Rattle.slots.proofs.ViewLaws.{due-one}
+use Rattle.dues.proofs.carrier_wait.Reads as carrier-wait
+use Rattle.dues.proofs.due_after.Reads as due-after
+use Rattle.dues.proofs.due_by.Reads as due-by
+use Rattle.dues.proofs.falls_due.Reads as falls-due
+use Rattle.dues.proofs.earliest_due.Reads as earliest-due
+
+pub carrier-wait-settled : (κs : Lfts 0) (a : _) (r r' : _) (s s' : _) → carrier-wait.Post κs a r s → carrier-wait.Post κs a r' s' → r ≡ r'
+carrier-wait-settled κs a r r' s s' p q = p ∙ sym q
+
+pub due-after-settled : (κs : Lfts 0) (a : _) (r r' : _) (s s' : _) → due-after.Post κs a r s → due-after.Post κs a r' s' → r ≡ r'
+due-after-settled κs a r r' s s' p q = ap (λ n. record { 0 = n }) (p ∙ sym q)
+
+pub due-by-settled : (κs : Lfts 0) (a : _) (r r' : _) (s s' : _) → due-by.Post κs a r s → due-by.Post κs a r' s' → r ≡ r'
+due-by-settled κs a r r' s s' p q = due-one _ _ (p ∙ sym q)
+
+pub falls-due-settled : (κs : Lfts 0) (a : _) (r r' : _) (s s' : _) → falls-due.Post κs a r s → falls-due.Post κs a r' s' → r ≡ r'
+falls-due-settled κs a r r' s s' p q = p ∙ sym q
+
+pub earliest-due-settled : (κs : Lfts 0) (a : _) (r r' : _) (s s' : _) → earliest-due.Post κs a r s → earliest-due.Post κs a r' s' → r ≡ r'
+earliest-due-settled κs a r r' s s' p q = due-one _ _ (p ∙ sym q)

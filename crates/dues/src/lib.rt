@@ -1,0 +1,156 @@
+// When a wait falls due, and which of all waits is the earliest.
+ghost use mathlib.Core.Path.{_≡_};
+ghost use mathlib.Core.List.{map};
+ghost use Prim.Native.Nat.{_+_, _<_, min};
+ghost use Rattle.rules.specs.Places.{isSome};
+ghost use Rattle.rules.specs.Waits.{loss, main, sooner, earliest, ifDue, queueTable};
+ghost use Rattle.rules.specs.Station.{lossDue, mainDue, slotTable, carrierWait, dueAfter};
+ghost use Rattle.requests.specs.Views.{viewed, modeOf};
+ghost use Rattle.slots.specs.Views.{slotView, waitingView, carrierOf, waitView, dueView, dueOf};
+ghost use Rattle.dues.specs.Joins.{joinDue, queueJoined};
+use requests::Mode;
+use requests::least;
+use slots::Carrier;
+use slots::Due;
+use slots::Phase;
+use slots::QueuePlace;
+use slots::Slot;
+use slots::Wait;
+use slots::Waiting;
+use units::SlotNumber;
+use units::Tenths;
+
+// "a wait of 50 duplex, 450 simplex"
+pub fn carrier_wait(m: Mode) -> u32
+    ensures { λ r. ⌜ r ≡ carrierWait (modeOf m) ⌝ }
+{
+    match m {
+        Mode::Simplex => 450,
+        Mode::Duplex => 50,
+    }
+}
+
+// A wait of p begun at s; the greatest time stands for all that lie past it.
+pub fn due_after(s: Tenths, p: u32) -> Tenths
+    ensures { λ r. ⌜ r .0 ≡ min (dueAfter (s .0) p) 4294967295 ⌝ }
+{
+    let d = s.0 as u64 + (p as u64 + 1);
+    if d <= 4294967295 {
+        return Tenths(d as u32);
+    }
+    Tenths(4294967295)
+}
+
+// The wait w due at t, or d where that is due before it.
+fn sooner_of(t: Tenths, w: Wait, d: Due) -> Due
+    ensures { λ r. ⌜ dueView r ≡ sooner (record { what = waitView w; at = t .0 }) (dueView d) ⌝ }
+{
+    match d {
+        Due::Never => Due::In(t, w),
+        Due::In(u, _) => if t.0 <= u.0 { Due::In(t, w) } else { d },
+    }
+}
+
+fn carrier_due(c: Carrier, i: SlotNumber, d: Due) -> Due
+    ensures { λ r. ⌜ dueView r ≡ joinDue (loss (i .0)) (carrierOf c) (dueView d) ⌝ }
+{
+    match c {
+        Carrier::Present => d,
+        Carrier::Lost(t) => sooner_of(t, Wait::Loss(i), d),
+    }
+}
+
+fn loss_due(s: Slot, i: SlotNumber, d: Due) -> Due
+    ensures { λ r. ⌜ dueView r ≡ joinDue (loss (i .0)) (lossDue (slotView s)) (dueView d) ⌝ }
+{
+    let p = s.phase;
+    match p {
+        Phase::Free => d,
+        Phase::Offered(_) => d,
+        Phase::RingBack(_) => d,
+        Phase::RingAgain(_) => d,
+        Phase::Acknowledged(_) => d,
+        Phase::Dialling(_, c) => carrier_due(c, i, d),
+        Phase::Answered(_, c) => carrier_due(c, i, d),
+        Phase::Hold(_, _) => d,
+        Phase::Taken => d,
+    }
+}
+
+fn main_due(s: Slot, i: SlotNumber, d: Due) -> Due
+    ensures { λ r. ⌜ dueView r ≡ joinDue (main (i .0)) (mainDue (slotView s)) (dueView d) ⌝ }
+{
+    let p = s.phase;
+    match p {
+        Phase::Free => d,
+        Phase::Offered(t) => sooner_of(t, Wait::Main(i), d),
+        Phase::RingBack(t) => sooner_of(t, Wait::Main(i), d),
+        Phase::RingAgain(t) => sooner_of(t, Wait::Main(i), d),
+        Phase::Acknowledged(t) => sooner_of(t, Wait::Main(i), d),
+        Phase::Dialling(t, _) => sooner_of(t, Wait::Main(i), d),
+        Phase::Answered(_, _) => d,
+        Phase::Hold(t, _) => sooner_of(t, Wait::Main(i), d),
+        Phase::Taken => d,
+    }
+}
+
+// The earliest wait of the first n slots: from the last slot to the first, so that of two due together the lower stands.
+fn slots_due(a: [Slot; 16], n: u8) -> Due
+    ensures { λ r. ⌜ dueView r ≡ earliest (slotTable 0 (viewed slotView n a)) ⌝ }
+{
+    let mut d = Due::Never;
+    let mut i = least(n, 16) as u32;
+    while 0 < i {
+        i -= 1;
+        let s = a[i as usize];
+        let m = main_due(s, SlotNumber(i), d);
+        d = loss_due(s, SlotNumber(i), m);
+    }
+    d
+}
+
+// The earliest wait of the first n waiting ships, before d.
+fn queue_due(a: [Waiting; 32], n: u8, d: Due) -> Due
+    ensures { λ r. ⌜ dueView r ≡ queueJoined 0 (map dueOf (viewed waitingView n a)) (dueView d) ⌝ }
+{
+    let mut e = d;
+    let mut k = least(n, 32);
+    while 0 < k {
+        k -= 1;
+        let w = a[k as usize];
+        let t = w.due;
+        e = sooner_of(t, Wait::Entry(QueuePlace(k)), e);
+    }
+    e
+}
+
+// The earliest wait of all: "queue entries, oldest first; slots, lowest first".
+pub fn earliest_due(a: [Slot; 16], n: u8, b: [Waiting; 32], m: u8) -> Due
+    ensures { λ r. ⌜ dueView r ≡ earliest (queueTable 0 (map dueOf (viewed waitingView m b)) (slotTable 0 (viewed slotView n a))) ⌝ }
+{
+    let d = slots_due(a, n);
+    queue_due(b, m, d)
+}
+
+// The wait, where it is due at or before t.
+pub fn due_by(d: Due, t: Tenths) -> Due
+    ensures { λ r. ⌜ dueView r ≡ ifDue (t .0) (dueView d) ⌝ }
+{
+    match d {
+        Due::Never => d,
+        Due::In(u, w) => if u.0 <= t.0 {
+            Due::In(u, w)
+        } else {
+            Due::Never
+        },
+    }
+}
+
+pub fn falls_due(d: Due, t: Tenths) -> bool
+    ensures { λ r. ⌜ r ≡ isSome (ifDue (t .0) (dueView d)) ⌝ }
+{
+    match d {
+        Due::Never => false,
+        Due::In(u, _) => u.0 <= t.0,
+    }
+}

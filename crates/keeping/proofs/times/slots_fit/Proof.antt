@@ -1,0 +1,53 @@
+use borrow.Author.Tests.{not-true, not-false}
+use Rattle.requests.proofs.ArrayLaws.{all-on, all-off}
+use Rattle.requests.proofs.ArrayLaws.{left-all, left-none}
+use Rattle.rules.specs.Places.{all}
+use Rattle.rules.specs.Sound.{slotFits}
+use Rattle.slots.specs.Views.{slotView, noSlot}
+use Rattle.requests.specs.Views.{viewed, left}
+use borrow.Author.Needs.{needs}
+use lib.ListN.{length}
+use native.Mathlib.Omega.{arith}
+use mathlib.Core.Path.{_≡_, sym, ap, _∙_}
+use Prim.Native.Nat.{_-_, min}
+use Rattle.keeping.proofs.times.slots_fit.Statement.{statement}
+use Rattle.keeping.proofs.times.slots_fit.Tie as tie
+
+abbrev Inv-loop : tie.InvT-loop
+Inv-loop n c a m i₀ i = (length a ≡ 16) × (m ≡ min n 16) × (all (slotFits (c .0)) (viewed slotView n a) ≡ all (slotFits (c .0)) (left slotView n a i))
+
+abbrev μ-loop : tie.MeasureT-loop
+μ-loop n c a m i₀ i = m - i
+
+loop-holds : tie.Need-loop-holds Inv-loop μ-loop
+loop-holds c = (search needs, c .least .ensures, ap (all _) (sym (left-all slotView _ _)))
+
+returns : tie.Need-returns Inv-loop μ-loop
+returns c = sym (c .before .before .before .before .loop .inv .2 ∙ all-off slotView _ (c .before .before .before .before .before .before .args .n) (c .before .before .before .before .before .before .args .t1) (c .before .before .before .before .loop .i) noSlot (omega arith) (omega arith) (sym (c .before .slot-fits .ensures) ∙ not-true _ (c .if1 .taken)))
+
+loop-less : tie.Need-loop-less Inv-loop μ-loop
+loop-less c = omega arith
+
+loop-again : tie.Need-loop-again Inv-loop μ-loop
+loop-again c = (search needs, c .before .before .before .before .loop .inv .1, c .before .before .before .before .loop .inv .2 ∙ all-on slotView _ (c .before .before .before .before .before .before .args .n) (c .before .before .before .before .before .before .args .t1) (c .before .before .before .before .loop .i) noSlot (omega arith) (omega arith) (sym (c .before .slot-fits .ensures) ∙ not-false _ (c .if1 .left)))
+
+returns-2 : tie.Need-returns-2 Inv-loop μ-loop
+returns-2 c = sym (c .before .loop .inv .2 ∙ ap (all _) (left-none slotView _ _ _ (omega arith)))
+
+pub slots-fit-spec : {M : Type 1} → statement M
+slots-fit-spec =
+    tie.close
+    (tie.spec
+    Inv-loop
+    μ-loop
+    (λ c κs. search needs)
+    loop-holds
+    (λ c. search needs)
+    (λ c. search needs)
+    (λ c. search needs)
+    (λ c κs. search needs)
+    returns
+    (λ c. search needs)
+    loop-less
+    loop-again
+    returns-2)

@@ -1,0 +1,118 @@
+// The due times and the answered starts, held to the clock.
+ghost use mathlib.Core.Path.{_≡_};
+ghost use mathlib.Core.Bool.{_&&_};
+ghost use Prim.Native.Nat.{_+_, _<_};
+ghost use lib.Dec.{leb};
+ghost use Rattle.rules.specs.Places.{all};
+ghost use Rattle.rules.specs.Sound.{fits, lossFits, slotFits, placeFits};
+ghost use Rattle.requests.specs.Views.{viewed, modeOf};
+ghost use Rattle.slots.specs.Views.{slotView, waitingView, carrierOf};
+use dues::carrier_wait;
+use requests::Mode;
+use requests::least;
+use slots::Carrier;
+use slots::Phase;
+use slots::Slot;
+use slots::Waiting;
+use units::Tenths;
+
+// "each due time lies from the clock to the clock plus its wait and 1"
+fn fits_wait(c: Tenths, p: u32, d: Tenths) -> bool
+    ensures { λ r. ⌜ r ≡ fits (c .0) p (d .0) ⌝ }
+{
+    let x = c.0;
+    let y = d.0;
+    if y < x {
+        return false;
+    }
+    y as u64 <= x as u64 + (p as u64 + 1)
+}
+
+fn loss_fits(c: Tenths, m: Mode, l: Carrier) -> bool
+    ensures { λ r. ⌜ r ≡ lossFits (c .0) (modeOf m) (carrierOf l) ⌝ }
+{
+    match l {
+        Carrier::Present => true,
+        Carrier::Lost(t) => fits_wait(c, carrier_wait(m), t),
+    }
+}
+
+fn dialling_fits(c: Tenths, t: Tenths, m: Mode, l: Carrier) -> bool
+    ensures { λ r. ⌜ r ≡ (fits (c .0) 600 (t .0) && lossFits (c .0) (modeOf m) (carrierOf l)) ⌝ }
+{
+    if !fits_wait(c, 600, t) {
+        return false;
+    }
+    loss_fits(c, m, l)
+}
+
+// "no answered start is after the clock"
+fn answered_fits(c: Tenths, t: Tenths, m: Mode, l: Carrier) -> bool
+    ensures { λ r. ⌜ r ≡ (leb (t .0) (c .0) && lossFits (c .0) (modeOf m) (carrierOf l)) ⌝ }
+{
+    let x = c.0;
+    let y = t.0;
+    if x < y {
+        return false;
+    }
+    loss_fits(c, m, l)
+}
+
+fn slot_fits(s: Slot, c: Tenths) -> bool
+    ensures { λ r. ⌜ r ≡ slotFits (c .0) (slotView s) ⌝ }
+{
+    let p = s.phase;
+    let q = s.request;
+    let m = q.mode;
+    match p {
+        Phase::Free => true,
+        Phase::Offered(t) => fits_wait(c, 160, t),
+        Phase::RingBack(t) => fits_wait(c, 50, t),
+        Phase::RingAgain(t) => fits_wait(c, 50, t),
+        Phase::Acknowledged(t) => fits_wait(c, 160, t),
+        Phase::Dialling(t, l) => dialling_fits(c, t, m, l),
+        Phase::Answered(t, l) => answered_fits(c, t, m, l),
+        Phase::Hold(t, _) => fits_wait(c, 40, t),
+        Phase::Taken => true,
+    }
+}
+
+fn slots_fit(a: [Slot; 16], n: u8, c: Tenths) -> bool
+    ensures { λ r. ⌜ r ≡ all (slotFits (c .0)) (viewed slotView n a) ⌝ }
+{
+    let m = least(n, 16);
+    let mut i: u8 = 0;
+    while i < m {
+        let s = a[i as usize];
+        if !slot_fits(s, c) {
+            return false;
+        }
+        i += 1;
+    }
+    true
+}
+
+fn queue_fits(b: [Waiting; 32], m: u8, c: Tenths) -> bool
+    ensures { λ r. ⌜ r ≡ all (placeFits (c .0)) (viewed waitingView m b) ⌝ }
+{
+    let n = least(m, 32);
+    let mut k: u8 = 0;
+    while k < n {
+        let w = b[k as usize];
+        let d = w.due;
+        if !fits_wait(c, 9000, d) {
+            return false;
+        }
+        k += 1;
+    }
+    true
+}
+
+pub fn times_fit(c: Tenths, a: [Slot; 16], n: u8, b: [Waiting; 32], m: u8) -> bool
+    ensures { λ r. ⌜ r ≡ (all (slotFits (c .0)) (viewed slotView n a) && all (placeFits (c .0)) (viewed waitingView m b)) ⌝ }
+{
+    if !slots_fit(a, n, c) {
+        return false;
+    }
+    queue_fits(b, m, c)
+}
