@@ -131,8 +131,8 @@ uint64_t coast_next_due(const uint8_t *station, size_t size);
 /* The events, each at a time in tenths of a second. Each answers 0 (done) or 1 (ignored), leaves the next station in
  * place of the one that came in, and its actions at the front of the room; bytes behind the last action stay. Or it
  * answers the first that fits of those told below, in the order told; then the count is 0, and not a byte of the station
- * or of the room changes. coast_waits and coast_due tell the next due time of the station as it then stands, unless the
- * size is not 1722. */
+ * or of the room changes. coast_waits and coast_due tell the next due time of the station as it then stands; beside 29
+ * they mean nothing. */
 
 /* The time has come: the earliest wait that is due fires, one a call, at its own due time; with none due the clock moves
  * on. Hand in ticks until coast_due is past the time. Answers 0; or 29, 30, 31, 32. */
