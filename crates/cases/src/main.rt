@@ -1,17 +1,17 @@
 // Runs document 01's cases that are not marked P, and compares: tables of script lines, then what no script can reach.
 mod rooms;
 mod saying;
-mod soundness;
 mod stations;
 mod tables;
 mod tallies;
 mod trials;
+mod unsound;
 mod writer;
 
 use crate::rooms::try_rooms;
 use crate::saying::say;
-use crate::soundness::try_soundness;
 use crate::tables::run_table;
+use crate::unsound::try_soundness;
 use crate::writer::try_writer;
 use script::Session;
 

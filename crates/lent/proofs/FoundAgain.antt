@@ -36,10 +36,10 @@ use Rattle.slots.specs.Images.{slotImage, slotImages, waitingImage, blankSlot, 
 use Rattle.station.specs.declared.Station.{Station}
 use Rattle.station.specs.Model.{imageOf, configOf, modelOf}
 use Rattle.station.specs.Step.{recordsKeep, refusal, steppedFor, steppedBy, blankStation, given, setUpFor, setUpBy}
-use Rattle.fields.specs.Fields.{encode, decode}
-use Rattle.fields.specs.Records.{recordsIn}
-use Rattle.fields.proofs.FieldLaws.{there-and-back}
-use Rattle.fields.proofs.RecordLaws.{records-told}
+use Rattle.layouts.specs.Fields.{encode, decode}
+use Rattle.layouts.specs.Records.{recordsIn}
+use Rattle.layouts.proofs.FieldLaws.{there-and-back}
+use Rattle.layouts.proofs.RecordLaws.{records-told}
 use Rattle.lent.specs.Layout.{slotFields, waitingFields, stationFields}
 use Rattle.lent.specs.Numbers.{numbersFrom, requestNumbers, requestFrom, carrierFields, toldFields, carrierFrom, toldFrom, phaseFields, phaseFrom, slotNumbers, waitingNumbers, stationNumbers, slotFrom, waitingFrom, stationIn}
 use Rattle.lent.specs.Stations.{stationBytes, stationFrom}

@@ -12,10 +12,10 @@ use Rattle.sequence.specs.declared.Meaning.{Meaning}
 use Rattle.requests.specs.declared.Request.{Request}
 use Rattle.slots.specs.declared.Slot.{Slot}
 use Rattle.slots.specs.declared.Waiting.{Waiting}
-use Rattle.fields.specs.Fields.{lowFirst, numberAt, encode, decode, laid}
-use Rattle.fields.specs.Records.{shifted, recordsAt}
-use Rattle.fields.proofs.FieldLaws.{encode-length, laidAll, laid-all, laid-next}
-use Rattle.fields.proofs.RecordLaws.{encode-shifted, recordsAt-more, flatMap-more, flatMap-length}
+use Rattle.layouts.specs.Fields.{lowFirst, numberAt, encode, decode, laid}
+use Rattle.layouts.specs.Records.{shifted, recordsAt}
+use Rattle.layouts.proofs.FieldLaws.{encode-length, laidAll, laid-all, laid-next}
+use Rattle.layouts.proofs.RecordLaws.{encode-shifted, recordsAt-more, flatMap-more, flatMap-length}
 use Rattle.lent.specs.declared.phases.PhaseFields.{PhaseFields}
 use Rattle.lent.specs.declared.said.FieldBytes.{FieldBytes}
 use Rattle.lent.specs.Layout.{run, requestFields, slotFields, waitingFields}

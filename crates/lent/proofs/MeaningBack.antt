@@ -15,8 +15,8 @@ use Rattle.sequence.proofs.Tests.{both-true}
 use Rattle.writing.proofs.EvenedLaws.{fit}
 use Rattle.writing.proofs.Bounds.{channel-le}
 use Rattle.writing.proofs.Valid.{parts}
-use Rattle.fields.specs.Fields.{encode, decode}
-use Rattle.fields.proofs.FieldLaws.{there-and-back}
+use Rattle.layouts.specs.Fields.{encode, decode}
+use Rattle.layouts.proofs.FieldLaws.{there-and-back}
 use Rattle.lent.specs.Meanings.{meaningFields, fieldBytes, meaningNumbers, meaningBytes, fieldFrom, meaningIn, meaningFrom}
 use Rattle.lent.specs.Statement.{MeaningIsFoundAgain}
 use Rattle.lent.proofs.LayLaws.{sixteen}

@@ -2,8 +2,8 @@
 use Prim.Native.Nat.{ℕ, zero, suc, _+_}
 use Prim.Native.String.{String}
 use mathlib.Core.List.{List, [], _∷_, _++_}
-use Rattle.fields.specs.Fields.{Field, row}
-use Rattle.fields.specs.Records.{shifted, repeated}
+use Rattle.layouts.specs.Fields.{Field, row}
+use Rattle.layouts.specs.Records.{shifted, repeated}
 
 -- so many fields of one byte, one behind the other
 abbrev pub run : String → ℕ → ℕ → List Field

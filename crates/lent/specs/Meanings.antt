@@ -8,7 +8,7 @@ use Rattle.sequence.specs.declared.Field.{Field as ChannelField}
 use Rattle.sequence.specs.declared.Field.the-variants.{Blank, Channel, Duration}
 use Rattle.sequence.specs.declared.Meaning.{Meaning}
 use Rattle.sequence.specs.Reading.{blankMeaning}
-use Rattle.fields.specs.Fields.{Field, row, encode, decode, laid}
+use Rattle.layouts.specs.Fields.{Field, row, encode, decode, laid}
 use Rattle.lent.specs.declared.said.FieldBytes.{FieldBytes}
 use Rattle.lent.specs.Layout.{run}
 use Rattle.lent.specs.Numbers.{numbersFrom}

@@ -18,7 +18,7 @@ use Rattle.slots.specs.declared.Slot.{Slot}
 use Rattle.slots.specs.declared.Waiting.{Waiting}
 use Rattle.slots.specs.Images.{tenths}
 use Rattle.station.specs.declared.Station.{Station}
-use Rattle.fields.specs.Records.{recordsIn}
+use Rattle.layouts.specs.Records.{recordsIn}
 use Rattle.lent.specs.declared.phases.CarrierFields.{CarrierFields}
 use Rattle.lent.specs.declared.phases.ToldFields.{ToldFields}
 use Rattle.lent.specs.declared.phases.PhaseFields.{PhaseFields}

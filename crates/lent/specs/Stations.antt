@@ -8,7 +8,7 @@ use Rattle.slots.specs.declared.Slot.{Slot}
 use Rattle.slots.specs.declared.Waiting.{Waiting}
 use Rattle.station.specs.declared.Station.{Station}
 use Rattle.station.specs.Step.{blankStation}
-use Rattle.fields.specs.Fields.{encode, decode}
+use Rattle.layouts.specs.Fields.{encode, decode}
 use Rattle.lent.specs.Layout.{slotFields, waitingFields, stationFields}
 use Rattle.lent.specs.Numbers.{slotNumbers, waitingNumbers, stationNumbers, stationIn}
 

@@ -2,7 +2,7 @@
 ghost use mathlib.Core.Path.{_≡_};
 ghost use Prim.Native.Nat.{_+_, _≤_};
 ghost use lib.ListN.{length};
-ghost use Rattle.fields.specs.Fields.{encode, decode, laid};
+ghost use Rattle.layouts.specs.Fields.{encode, decode, laid};
 ghost use Rattle.lent.specs.Layout.{requestFields};
 ghost use Rattle.lent.specs.Numbers.{modeMark, modeFrom, requestNumbers, requestFrom};
 use crate::numbers::digits_at;

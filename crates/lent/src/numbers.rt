@@ -2,7 +2,7 @@
 ghost use mathlib.Core.Path.{_≡_};
 ghost use Prim.Native.Nat.{_+_, _≤_};
 ghost use lib.ListN.{length};
-ghost use Rattle.fields.specs.Fields.{lowFirst, numberAt, laid};
+ghost use Rattle.layouts.specs.Fields.{lowFirst, numberAt, laid};
 ghost use Rattle.lent.specs.Numbers.{numbersFrom};
 
 pub(crate) fn four_at(bytes: &[u8], i: usize) -> u32

@@ -3,7 +3,7 @@ ghost use mathlib.Core.Path.{_≡_};
 ghost use Prim.Native.Nat.{_+_, _≤_};
 ghost use mathlib.Core.List.{[]};
 ghost use lib.ListN.{length, take};
-ghost use Rattle.fields.specs.Fields.{encode, decode, laid};
+ghost use Rattle.layouts.specs.Fields.{encode, decode, laid};
 ghost use Rattle.lent.specs.Layout.{slotFields, waitingFields};
 ghost use Rattle.lent.specs.Numbers.{phaseIn, phaseNumbers, slotFrom, waitingFrom};
 ghost use Rattle.lent.specs.Stations.{slotBytes, waitingBytes};

@@ -2,11 +2,11 @@
 ghost use mathlib.Core.Path.{_≡_};
 ghost use Rattle.printing.specs.Replies.{replyText, putText, putLength};
 
-mod actions;
+mod deeds;
 mod texts;
 
-use crate::actions::put_actions;
-use crate::actions::put_head;
+use crate::deeds::put_actions;
+use crate::deeds::put_head;
 use requests::least;
 use station::NextDue;
 use units::Tenths;

@@ -4,7 +4,7 @@ use native.Mathlib.Omega.{arith}
 use mathlib.Core.List.{[], flatMap}
 use lib.ListN.{length, take}
 use lib.Seq.{take-all, paste-zero}
-use Rattle.fields.specs.Fields.{laid}
+use Rattle.layouts.specs.Fields.{laid}
 use Rattle.slots.specs.Views.{noSlot}
 use Rattle.lent.specs.Stations.{slotBytes}
 use Rattle.lent.proofs.LayLaws.{record-laid, slot-size}

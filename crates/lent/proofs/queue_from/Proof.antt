@@ -3,8 +3,8 @@ use mathlib.Core.Path.{_≡_, refl, sym, ap, _∙_}
 use native.Mathlib.Omega.{arith}
 use lib.ListN.{length, take, length-set}
 use lib.Seq.{take-all}
-use Rattle.fields.specs.Fields.{decode}
-use Rattle.fields.specs.Records.{recordsAt}
+use Rattle.layouts.specs.Fields.{decode}
+use Rattle.layouts.specs.Records.{recordsAt}
 use Rattle.lent.specs.Layout.{waitingFields}
 use Rattle.lent.specs.Numbers.{waitingFrom}
 use Rattle.lent.proofs.LayLaws.{record-read}

@@ -4,7 +4,7 @@ use native.Mathlib.Omega.{arith}
 use lib.ListN.{length, length-set}
 use lib.Seq.{paste, paste-zero}
 use Rattle.sequence.proofs.Paste.{paste-turn}
-use Rattle.fields.specs.Fields.{laid}
+use Rattle.layouts.specs.Fields.{laid}
 use borrow.Author.Needs.{needs}
 use Rattle.lent.proofs.numbers.lay.Statement.{statement}
 use Rattle.lent.proofs.numbers.lay.Tie as tie

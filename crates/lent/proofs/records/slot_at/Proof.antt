@@ -1,7 +1,7 @@
 use native.Mathlib.Omega.{arith}
 use Rattle.lent.specs.Layout.{requestFields, slotFields}
 use Rattle.lent.specs.Numbers.{slotFrom}
-use Rattle.fields.proofs.RecordLaws.{decode-shifted}
+use Rattle.layouts.proofs.RecordLaws.{decode-shifted}
 use borrow.Author.Needs.{needs}
 use Rattle.lent.proofs.records.slot_at.Statement.{statement}
 use Rattle.lent.proofs.records.slot_at.Tie as tie

@@ -2,7 +2,7 @@ use native.Mathlib.Omega.{arith}
 use native.Mathlib.Nat.{add-zero}
 use Rattle.lent.specs.Layout.{requestFields, waitingFields}
 use Rattle.lent.specs.Numbers.{waitingFrom}
-use Rattle.fields.proofs.RecordLaws.{decode-shifted}
+use Rattle.layouts.proofs.RecordLaws.{decode-shifted}
 use borrow.Author.Needs.{needs}
 use Rattle.lent.proofs.records.waiting_at.Statement.{statement}
 use Rattle.lent.proofs.records.waiting_at.Tie as tie

@@ -2,7 +2,7 @@
 use Prim.Native.Nat.{ℕ, zero, suc, _+_}
 use mathlib.Core.List.{List, [], _∷_, _++_, map}
 use lib.ListN.{length, take, drop}
-use Rattle.fields.specs.Fields.{Field, row}
+use Rattle.layouts.specs.Fields.{Field, row}
 
 -- the fields of a record that begins at a place
 unfoldable pub shifted : ℕ → List Field → List Field

@@ -6,9 +6,9 @@ use native.Mathlib.Omega.{arith}
 use native.Mathlib.Nat.{zero-add, mul-suc}
 use lib.ListN.{length, take, drop, length-append, length-map}
 use lib.Seq.{take-at, drop-at}
-use Rattle.fields.specs.Fields.{Field, lowFirst, numberAt, encode, decode}
-use Rattle.fields.specs.Records.{shifted, repeated, recordsAt, recordsIn}
-use Rattle.fields.proofs.FieldLaws.{decode-length}
+use Rattle.layouts.specs.Fields.{Field, lowFirst, numberAt, encode, decode}
+use Rattle.layouts.specs.Records.{shifted, repeated, recordsAt, recordsIn}
+use Rattle.layouts.proofs.FieldLaws.{decode-length}
 
 -- ── the fields of a record, further on ───────────────────────────────────────
 

@@ -11,7 +11,7 @@ use lib.Seq.{getD-at, append-snoc, take-length, drop-drop, take-paste, drop-past
 use borrow.Author.Tests.{eqb-true, leb-true}
 use Rattle.sequence.proofs.Tests.{both-true}
 use Rattle.sequence.proofs.Paste.{paste-whole}
-use Rattle.fields.specs.Fields.{Field, lowFirst, numberAt, encode, decode, ordered, size, laid}
+use Rattle.layouts.specs.Fields.{Field, lowFirst, numberAt, encode, decode, ordered, size, laid}
 
 -- ── one number ───────────────────────────────────────────────────────────────
 
