@@ -3,7 +3,6 @@ use Prim.Native.Nat.{ℕ, _+_, _*_}
 use mathlib.Core.Bool.{cond, _&&_}
 use mathlib.Core.List.{List}
 use lib.Dec.{leb, eqb}
-use lib.ListN.{length}
 use Rattle.rules.specs.Words.{Happened, Event}
 use Rattle.rules.specs.Sound.{sound}
 use Rattle.station.specs.declared.NextDue.{NextDue}

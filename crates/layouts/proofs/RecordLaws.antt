@@ -4,7 +4,7 @@ use mathlib.Core.Path.{_≡_, refl, sym, ap, _∙_}
 use mathlib.Core.List.{List, [], _∷_, _++_, map, flatMap, append-assoc}
 use native.Mathlib.Omega.{arith}
 use native.Mathlib.Nat.{zero-add, mul-suc}
-use lib.ListN.{length, take, drop, length-append, length-map}
+use lib.ListN.{length, length-append, length-map}
 use lib.Seq.{take-at, drop-at}
 use Rattle.layouts.specs.Fields.{Field, lowFirst, numberAt, encode, decode}
 use Rattle.layouts.specs.Records.{shifted, repeated, recordsAt, recordsIn}

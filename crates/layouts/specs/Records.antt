@@ -1,7 +1,7 @@
 -- Records within a layout: the same fields again, further on.
 use Prim.Native.Nat.{ℕ, zero, suc, _+_}
 use mathlib.Core.List.{List, [], _∷_, _++_, map}
-use lib.ListN.{length, take, drop}
+use lib.ListN.{take, drop}
 use Rattle.layouts.specs.Fields.{Field, row}
 
 -- the fields of a record that begins at a place

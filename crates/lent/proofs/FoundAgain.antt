@@ -1,10 +1,9 @@
 -- Whatever is handed out is found again in its bytes.
 use Prim.Native.Nat.{ℕ, zero, suc}
 use mathlib.Core.Path.{_≡_, refl, sym, ap, _∙_}
-use mathlib.Core.Bool.{false}
 use mathlib.Core.List.{List, [], _∷_, _++_, map, flatMap, append-nil}
 use mathlib.Core.Option.{Option, none, some}
-use lib.ListN.{length, drop, length-replicate}
+use lib.ListN.{length, drop}
 use lib.Seq.{drop-at}
 use borrow.Author.Tests.{eq-eqb, ne-eqb}
 use Rattle.units.specs.declared.Channel.{Channel}
@@ -35,13 +34,13 @@ use Rattle.slots.specs.declared.Waiting.{Waiting}
 use Rattle.slots.specs.Images.{slotImage, slotImages, waitingImage, blankSlot, blankWaiting}
 use Rattle.station.specs.declared.Station.{Station}
 use Rattle.station.specs.Model.{imageOf, configOf, modelOf}
-use Rattle.station.specs.Step.{recordsKeep, refusal, steppedFor, steppedBy, blankStation, given, setUpFor, setUpBy}
+use Rattle.station.specs.Step.{recordsKeep, refusal, steppedBy, blankStation, given, setUpFor, setUpBy}
 use Rattle.layouts.specs.Fields.{encode, decode}
 use Rattle.layouts.specs.Records.{recordsIn}
 use Rattle.layouts.proofs.FieldLaws.{there-and-back}
 use Rattle.layouts.proofs.RecordLaws.{records-told}
 use Rattle.lent.specs.Layout.{slotFields, waitingFields, stationFields}
-use Rattle.lent.specs.Numbers.{numbersFrom, requestNumbers, requestFrom, carrierFields, toldFields, carrierFrom, toldFrom, phaseFields, phaseFrom, slotNumbers, waitingNumbers, stationNumbers, slotFrom, waitingFrom, stationIn}
+use Rattle.lent.specs.Numbers.{requestNumbers, requestFrom, carrierFields, toldFields, carrierFrom, toldFrom, phaseFields, phaseFrom, slotNumbers, waitingNumbers, stationNumbers, slotFrom, waitingFrom, stationIn}
 use Rattle.lent.specs.Stations.{stationBytes, stationFrom}
 use Rattle.lent.specs.Statement.{FoundAgain, HandedOutIsFoundAgain, WrongSizeIsNotSound}
 use Rattle.lent.proofs.LayLaws.{sixteen}

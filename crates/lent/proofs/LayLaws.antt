@@ -14,7 +14,7 @@ use Rattle.slots.specs.declared.Slot.{Slot}
 use Rattle.slots.specs.declared.Waiting.{Waiting}
 use Rattle.layouts.specs.Fields.{lowFirst, numberAt, encode, decode, laid}
 use Rattle.layouts.specs.Records.{shifted, recordsAt}
-use Rattle.layouts.proofs.FieldLaws.{encode-length, laidAll, laid-all, laid-next}
+use Rattle.layouts.proofs.FieldLaws.{laidAll, laid-all, laid-next}
 use Rattle.layouts.proofs.RecordLaws.{encode-shifted, recordsAt-more, flatMap-more, flatMap-length}
 use Rattle.lent.specs.declared.phases.PhaseFields.{PhaseFields}
 use Rattle.lent.specs.declared.said.FieldBytes.{FieldBytes}

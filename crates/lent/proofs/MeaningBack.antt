@@ -1,6 +1,6 @@
 -- The 32 bytes of a valid meaning stand for that meaning again, so what was read can be handed to the writer as it stands.
 use Prim.Native.Nat.{ℕ, _+_, _%_, _≤_}
-use mathlib.Core.Path.{_≡_, refl, _∙_}
+use mathlib.Core.Path.{_≡_, refl}
 use mathlib.Core.Bool.{true}
 use mathlib.Core.List.{List, [], _++_}
 use native.Mathlib.Omega.{arith}
@@ -15,7 +15,7 @@ use Rattle.sequence.proofs.Tests.{both-true}
 use Rattle.writing.proofs.EvenedLaws.{fit}
 use Rattle.writing.proofs.Bounds.{channel-le}
 use Rattle.writing.proofs.Valid.{parts}
-use Rattle.layouts.specs.Fields.{encode, decode}
+use Rattle.layouts.specs.Fields.{decode}
 use Rattle.layouts.proofs.FieldLaws.{there-and-back}
 use Rattle.lent.specs.Meanings.{meaningFields, fieldBytes, meaningNumbers, meaningBytes, fieldFrom, meaningIn, meaningFrom}
 use Rattle.lent.specs.Statement.{MeaningIsFoundAgain}

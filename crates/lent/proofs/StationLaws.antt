@@ -12,12 +12,12 @@ use Rattle.slots.specs.Images.{tenths}
 use Rattle.station.specs.declared.Station.{Station}
 use Rattle.layouts.specs.Fields.{lowFirst, numberAt, encode, decode, ordered, size, laid}
 use Rattle.layouts.specs.Records.{shifted, repeated, recordsAt, recordsIn}
-use Rattle.layouts.proofs.FieldLaws.{encode-length, decode-length, laidAll, laid-all, laid-whole}
+use Rattle.layouts.proofs.FieldLaws.{encode-length, decode-length, laid-all, laid-whole}
 use Rattle.layouts.proofs.RecordLaws.{encode-behind, decode-behind, encode-repeated, records-decoded, flatMap-length}
 use Rattle.lent.specs.Layout.{requestFields, slotFields, waitingFields, headFields, stationFields}
 use Rattle.lent.specs.Numbers.{requestNumbers, slotNumbers, waitingNumbers, stationNumbers, slotFrom, waitingFrom, stationIn}
 use Rattle.lent.specs.Stations.{stationBytes, slotBytes, waitingBytes}
-use Rattle.lent.proofs.LayLaws.{slot-size, waiting-size}
+use Rattle.lent.proofs.LayLaws.{slot-size}
 
 -- ── how many fields, numbers and bytes ───────────────────────────────────────
 

@@ -1,9 +1,8 @@
 // The station in bytes that a host lends: laid out by one list of fields, and read back.
 ghost use mathlib.Core.Path.{_≡_};
 ghost use mathlib.Core.List.{flatMap};
-ghost use Prim.Native.Nat.{_≤_};
 ghost use lib.ListN.{length};
-ghost use Rattle.layouts.specs.Fields.{encode, decode, laid};
+ghost use Rattle.layouts.specs.Fields.{decode, laid};
 ghost use Rattle.layouts.specs.Records.{recordsAt};
 ghost use Rattle.lent.specs.Layout.{slotFields, waitingFields};
 ghost use Rattle.lent.specs.Numbers.{slotFrom, waitingFrom};

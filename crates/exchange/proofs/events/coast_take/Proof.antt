@@ -1,4 +1,4 @@
-use mathlib.Core.Path.{_≡_, refl, sym, ap, _∙_}
+use mathlib.Core.Path.{_∙_}
 use Rattle.exchange.specs.Events.{returned, stationAfter, roomLeft}
 use borrow.Author.Needs.{needs}
 use Rattle.exchange.proofs.events.coast_take.Statement.{statement}

@@ -1,5 +1,4 @@
-use borrow.Author.Tests.{eq-eqb, ne-eqb, lt-leb, le-leb}
-use borrow.Author.Needs.{needs}
+use borrow.Author.Tests.{eq-eqb, ne-eqb}
 use Rattle.lent.proofs.asked.mode_from.Statement.{statement}
 use Rattle.lent.proofs.asked.mode_from.Tie as tie
 

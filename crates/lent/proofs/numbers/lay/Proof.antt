@@ -1,11 +1,10 @@
 use Prim.Native.Nat.{_≤_, _-_}
-use mathlib.Core.Path.{_≡_, refl, sym, ap, _∙_}
+use mathlib.Core.Path.{_≡_, refl}
 use native.Mathlib.Omega.{arith}
 use lib.ListN.{length, length-set}
 use lib.Seq.{paste, paste-zero}
 use Rattle.sequence.proofs.Paste.{paste-turn}
 use Rattle.layouts.specs.Fields.{laid}
-use borrow.Author.Needs.{needs}
 use Rattle.lent.proofs.numbers.lay.Statement.{statement}
 use Rattle.lent.proofs.numbers.lay.Tie as tie
 

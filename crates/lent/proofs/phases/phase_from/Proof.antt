@@ -1,4 +1,4 @@
-use borrow.Author.Tests.{eq-eqb, ne-eqb, lt-leb, le-leb}
+use borrow.Author.Tests.{eq-eqb, ne-eqb}
 use Rattle.lent.specs.Numbers.{phaseFrom}
 use borrow.Author.Needs.{needs}
 use Rattle.lent.proofs.phases.phase_from.Statement.{statement}

@@ -1,6 +1,5 @@
-use borrow.Author.Tests.{eq-eqb, ne-eqb, lt-leb, le-leb}
+use borrow.Author.Tests.{eq-eqb, ne-eqb}
 use Rattle.lent.specs.Numbers.{toldFrom}
-use borrow.Author.Needs.{needs}
 use Rattle.lent.proofs.phases.told_from.Statement.{statement}
 use Rattle.lent.proofs.phases.told_from.Tie as tie
 

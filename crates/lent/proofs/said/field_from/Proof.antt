@@ -1,4 +1,4 @@
-use borrow.Author.Tests.{eq-eqb, ne-eqb, lt-leb, le-leb}
+use borrow.Author.Tests.{eq-eqb, ne-eqb}
 use Rattle.lent.specs.Meanings.{fieldFrom}
 use borrow.Author.Needs.{needs}
 use Rattle.lent.proofs.said.field_from.Statement.{statement}

@@ -1,7 +1,6 @@
-use Prim.Native.Nat.{_≤_}
-use mathlib.Core.Path.{_≡_, refl, sym, ap, _∙_}
+use mathlib.Core.Path.{_≡_, _∙_}
 use native.Mathlib.Omega.{arith}
-use borrow.Author.Tests.{eq-eqb, ne-eqb, lt-leb, le-leb}
+use borrow.Author.Tests.{lt-leb, le-leb}
 use lib.ListN.{length}
 use Rattle.lent.specs.Meanings.{meaningLaid}
 use Rattle.lent.proofs.LayLaws.{meaning-laid}

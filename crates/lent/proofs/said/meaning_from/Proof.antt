@@ -1,6 +1,6 @@
-use mathlib.Core.Path.{_≡_, refl, sym, ap, _∙_}
+use mathlib.Core.Path.{sym, _∙_}
 use native.Mathlib.Omega.{arith}
-use borrow.Author.Tests.{eq-eqb, ne-eqb, lt-leb, le-leb}
+use borrow.Author.Tests.{lt-leb, le-leb}
 use Rattle.lent.specs.Meanings.{meaningFields, meaningIn, meaningFrom}
 use Rattle.lent.proofs.LayLaws.{meaning-digits}
 use borrow.Author.Needs.{needs}
