@@ -74,30 +74,17 @@ fn most_actions() -> u8 {
     stepped.count
 }
 
-fn busy_in(time: u32, n: usize) -> u8 {
-    ticked_in(busy(), time, n)
-}
-
-fn try_sizes(tally: Tally) -> Tally {
-    let t = tally.answered(b"30 a room of 319 bytes", busy_in(1000, 319), 30);
-    let t = t.answered(b"30 no room at all", busy_in(1000, 0), 30);
-    let t = t.answered(b"a room of 320 bytes is enough", busy_in(1000, 320), 0);
-    let t = t.answered(
-        b"six actions, and the bytes after them stay",
-        busy_in(1451, 320),
-        0,
-    );
-    t.answered(b"eight actions are the most: rule c", most_actions(), 8)
-}
-
-fn try_order(tally: Tally) -> Tally {
-    let unsound = ticked_in(named(200056789), 1000, 319);
-    let t = tally.answered(b"29 before 30", unsound, 29);
-    let t = t.answered(b"30 before 31", busy_in(4000000001, 319), 30);
-    t.answered(b"30 before 32", busy_in(999, 319), 30)
-}
-
 pub(crate) fn try_rooms(tally: Tally) -> Tally {
-    let t = try_sizes(tally);
-    try_order(t)
+    let enough = ticked_in(busy(), 1000, 320);
+    let six = ticked_in(busy(), 1451, 320);
+    let unsound = ticked_in(named(200056789), 1000, 319);
+    let late = ticked_in(busy(), 4000000001, 319);
+    let t = tally.answered(b"30 a room of 319 bytes", ticked_in(busy(), 1000, 319), 30);
+    let t = t.answered(b"30 no room at all", ticked_in(busy(), 1000, 0), 30);
+    let t = t.answered(b"a room of 320 bytes is enough", enough, 0);
+    let t = t.answered(b"six actions, and the bytes after them stay", six, 0);
+    let t = t.answered(b"eight actions are the most: rule c", most_actions(), 8);
+    let t = t.answered(b"29 before 30", unsound, 29);
+    let t = t.answered(b"30 before 31", late, 30);
+    t.answered(b"30 before 32", ticked_in(busy(), 999, 319), 30)
 }

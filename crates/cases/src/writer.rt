@@ -49,49 +49,30 @@ fn written(meaning: Meaning) -> u8 {
     written_in(meaning, 28)
 }
 
-// A request to the station with one part of it given.
-fn to(address: u32) -> Meaning {
-    meant(address, 101, Field::Blank, usual(), 117)
-}
-
-fn saying(first: u8, field: Field) -> Meaning {
-    meant(2001234, first, field, usual(), 117)
-}
-
-fn calling(number: Number) -> Meaning {
-    meant(2001234, 101, Field::Blank, number, 117)
-}
-
-fn ending(end: u8) -> Meaning {
-    meant(2001234, 101, Field::Blank, usual(), end)
-}
-
-fn try_fields(tally: Tally) -> Tally {
+fn try_alone(tally: Tally) -> Tally {
+    let good = meant(2001234, 101, Field::Blank, usual(), 117);
+    let ships = meant(200056790, 101, Field::Blank, usual(), 117);
+    let unknown = meant(2001234, 110, Field::Blank, usual(), 117);
+    let calling = meant(2001234, 101, Field::Channel(Channel(70)), usual(), 117);
+    let ended = meant(2001234, 105, Field::Channel(Channel(26)), usual(), 117);
+    let empty = meant(2001234, 101, Field::Blank, no_number(), 117);
+    let longer = meant(2001234, 101, Field::Blank, number_of(7, 1), 117);
+    let past = meant(2001234, 101, Field::Blank, number_of(17, 0), 117);
+    let open = meant(2001234, 101, Field::Blank, usual(), 118);
     let t = tally.answered(
         b"the writer writes the sequence's own bytes",
-        written(to(2001234)),
+        written(good),
         0,
     );
-    let t = t.answered(b"21 a room of 27 bytes", written_in(to(2001234), 27), 21);
-    let t = t.answered(b"15 two ships", written(to(200056790)), 15);
-    let t = t.answered(
-        b"17 first telecommand 110",
-        written(saying(110, Field::Blank)),
-        17,
-    );
-    let seventy = saying(101, Field::Channel(Channel(70)));
-    let t = t.answered(b"18 channel 70", written(seventy), 18);
-    let ended = saying(105, Field::Channel(Channel(26)));
-    t.answered(b"18 a channel in an end of call", written(ended), 18)
-}
-
-fn try_numbers(tally: Tally) -> Tally {
-    let t = tally.answered(b"19 no digit", written(calling(no_number())), 19);
-    let longer = calling(number_of(7, 1));
+    let t = t.answered(b"21 a room of 27 bytes", written_in(good, 27), 21);
+    let t = t.answered(b"15 two ships", written(ships), 15);
+    let t = t.answered(b"17 first telecommand 110", written(unknown), 17);
+    let t = t.answered(b"18 channel 70", written(calling), 18);
+    let t = t.answered(b"18 a channel in an end of call", written(ended), 18);
+    let t = t.answered(b"19 no digit", written(empty), 19);
     let t = t.answered(b"19 an unused digit that is not 0", written(longer), 19);
-    let past = calling(number_of(17, 0));
     let t = t.answered(b"19 seventeen digits", written(past), 19);
-    t.answered(b"20 end of sequence 118", written(ending(118)), 20)
+    t.answered(b"20 end of sequence 118", written(open), 20)
 }
 
 fn try_order(tally: Tally) -> Tally {
@@ -109,7 +90,6 @@ fn try_order(tally: Tally) -> Tally {
 }
 
 pub(crate) fn try_writer(tally: Tally) -> Tally {
-    let t = try_fields(tally);
-    let t = try_numbers(t);
+    let t = try_alone(tally);
     try_order(t)
 }
