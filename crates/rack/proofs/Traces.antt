@@ -16,7 +16,6 @@ use Rattle.rules.specs.Verdict.{verdict, setUpVerdict, step, play, final}
 use Rattle.rules.specs.Bytes.{blocks}
 use Rattle.rules.specs.Printed.{dueShown, lines, printed}
 use Rattle.rules.specs.Statement.{ZeroOrOne, AtMostEight}
-use Rattle.rules.proofs.Accepted.{accepted}
 use Rattle.rules.proofs.Run.{play-on, play-past, final-on, final-past}
 use Rattle.rules.proofs.Kept.{stays-sound}
 use Rattle.rules.proofs.Eight.{at-most-eight}

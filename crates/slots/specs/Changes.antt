@@ -1,12 +1,10 @@
 -- What is done to an array, on the records themselves; and the searches and joins that count their place.
 use Prim.Native.Nat.{ℕ, zero, suc, _-_, min}
-use mathlib.Core.Bool.{Bool, cond}
+use mathlib.Core.Bool.{cond}
 use mathlib.Core.List.{List, [], _∷_, _++_}
-use mathlib.Core.Option.{Option, none, some}
 use lib.Dec.{leb}
 use lib.ListN.{getD, set}
 use Rattle.rules.specs.Waits as T
-use Rattle.rules.specs.Waits.{ofQueue, sooner}
 use Rattle.requests.specs.declared.Request.{Request}
 use Rattle.slots.specs.declared.Phase.{Phase}
 use Rattle.slots.specs.declared.Slot.{Slot}

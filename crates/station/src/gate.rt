@@ -1,7 +1,7 @@
 // Which event is refused: the tests, in document 01's order.
 ghost use mathlib.Core.Path.{_≡_};
 ghost use mathlib.Core.Bool.{not, _&&_};
-ghost use Rattle.rules.specs.Waits.{earliest, ifDue};
+ghost use Rattle.rules.specs.Waits.{earliest};
 ghost use Rattle.rules.specs.Places.{isSome};
 ghost use Rattle.rules.specs.Words.{tick, offHook, takes, givesBack, onSlot};
 ghost use Rattle.rules.specs.Sound.{sound};

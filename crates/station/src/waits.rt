@@ -4,7 +4,7 @@ ghost use Prim.Native.Nat.{_≤_};
 ghost use Rattle.rules.specs.Station.{fires};
 ghost use Rattle.rules.specs.Calls.{offerDue, ringAgain, mainOn, ticked};
 ghost use Rattle.requests.specs.Views.{requestOf};
-ghost use Rattle.slots.specs.Views.{waitView, dueView};
+ghost use Rattle.slots.specs.Views.{waitView};
 ghost use Rattle.station.specs.Model.{modelOf, configOf};
 ghost use Rattle.station.specs.Step.{tickAt, steppedBy, roomAfter};
 ghost use Rattle.station.specs.Draft.{draftOf, doing, onSlotBy, firing, drafted};
