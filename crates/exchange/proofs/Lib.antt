@@ -1,3 +1,4 @@
 pub mod WriteLaws
 pub mod SetUpLaws
+pub mod HandsOn
 pub mod Settled

@@ -1,2 +1,3 @@
 pub mod Sequences
 pub mod Events
+pub mod Statement

@@ -77,6 +77,7 @@ pub fn station_from(bytes: &[u8]) -> Station
     }
 }
 
+// The second clause, here and below: in the caller's proof the array is a field, whose length is not at hand.
 fn lay_slots(a: [Slot; 16], room: &mut [u8])
     requires { ⌜ length (now room) ≡ 1722 ⌝ }
     ensures { λ _. ⌜ now (room .exit) ≡ laid (now (room .entry)) 10 (flatMap slotBytes a) ⌝ }
