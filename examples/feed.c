@@ -76,8 +76,9 @@ static bool take_time(const char **at, uint32_t *tenths) {
         return false;
     if (**at == '.') {
         ++*at;
-        if (!take_number(at, 9, &tenth))
+        if (!is_digit(**at))
             return false;
+        tenth = (uint32_t)(*(*at)++ - '0');
     }
     *tenths = seconds * 10u + tenth;
     bool whole = ends_word(**at);

@@ -6,6 +6,7 @@
 #include "feed.h"
 #include "words.h"
 
+/* As <stdio.h> has them: the toolchain's compiler, which builds this on Arm, comes without the C library's headers. */
 extern int printf(const char *, ...);
 extern int fflush(void *);
 

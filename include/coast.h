@@ -39,6 +39,7 @@ extern "C" {
 
 /* Answers. Where several would fit, the entries below say which is given. */
 #define COAST_DONE 0
+#define COAST_IGNORED 1            /* an event that does nothing but move the clock on */
 #define COAST_BAD_LENGTH 11        /* fewer than 21 symbols, or more than 28 */
 #define COAST_BAD_SYMBOL 12        /* a symbol over 127 */
 #define COAST_BAD_CHECK 13         /* the last symbol is not the exclusive-or of all before it */
@@ -51,12 +52,11 @@ extern "C" {
 #define COAST_BAD_END 20           /* the end of sequence is not 117, 122 or 127 */
 #define COAST_ROOM_SHORT 21        /* the room to write a sequence in is under 28 bytes */
 #define COAST_MEANING_SHORT 22     /* the meaning's bytes are fewer than 32 */
-#define COAST_IGNORED 1            /* an event that does nothing but move the clock on */
 #define COAST_NOT_SOUND 29         /* the station is not sound, or its bytes are not 1722 */
 #define COAST_ACTIONS_SHORT 30     /* the room for actions is under 320 bytes */
 #define COAST_TIME_TOO_LATE 31     /* the time is over 4,000,000,000 */
 #define COAST_TIME_BEFORE_CLOCK 32 /* the time is before the station's clock */
-#define COAST_WAIT_DUE 33          /* a wait is due by this time, and the event is no tick: hand in a tick first */
+#define COAST_WAIT_DUE 33          /* a wait is due by this time, and the event is no tick: hand in ticks first */
 #define COAST_NO_SLOT 34           /* there is no slot of this number */
 #define COAST_OPERATOR 35          /* takes a slot that is not free, or gives back one that is not taken */
 #define COAST_BAD_SET_UP 36        /* not a coast station's identity, or not 1 to 16 different working channels */
@@ -83,7 +83,7 @@ uint32_t coast_write_sequence(const uint8_t *meaning, size_t size, uint8_t *room
  *    0  4  clock, in tenths of a second          in each slot:
  *    4  4  the station's identity                   0  1  phase: 0 free, 1 offered, 2 ring-back, 3 ring-back repeated,
  *    8  1  count of slots                                 4 acknowledged, 5 dialling, 6 answered, 7 hold, 8 taken
- *    9  1  count of waiting ships                   1  4  due time (1 to 5, 7), or the time since when (6)
+ *    9  1  count of waiting ships                   1  4  due time (1 to 5, 7), or when it was answered (6)
  *   10     16 slots of 45 bytes                     5  1  the ship's carrier (5, 6): 0 present, 1 lost
  *  730     32 waiting ships of 31 bytes,            6  4  due time of a carrier that is lost
  *          the oldest first                        10  1  what was told (7): 0 nothing, 1 a duration
@@ -94,11 +94,16 @@ uint32_t coast_write_sequence(const uint8_t *meaning, size_t size, uint8_t *room
  *    8  1  mode: 0 simplex, 1 duplex             in each waiting ship:
  *    9  1  second telecommand                       0  4  due time
  *   10  1  count of digits                          4 27  request
- *   11 16  digits, one a byte
+ *   11 16  digits, one a byte;
+ *          0 past the count
  *
  * What the library leaves is 0 wherever nothing is named: in slots and waiting ships past the counts, and in the parts that
  * a phase does not use. What stands there in bytes that are handed in is not looked at. A phase over 8, and a carrier, a
- * duration's mark or a mode over 1 where it is looked at, is 29. */
+ * duration's mark or a mode over 1 where it is looked at, is 29, and so is a digit past its count that is not 0.
+ *
+ * A station is sound if document 01 allows it: its identity, channels and stored requests keep the rules, no ship stands
+ * twice, no call was answered after the clock, and each due time lies from the clock to the clock plus its wait and a tenth.
+ * All that the library leaves is sound. */
 #define COAST_STATION_SIZE 1722
 
 /* Actions: an event lays at most eight at the front of the lent room, in the order in which they are to be done; coast_count
@@ -120,8 +125,8 @@ uint32_t coast_write_sequence(const uint8_t *meaning, size_t size, uint8_t *room
 
 /* What the entries below return is one number: coast_answer, coast_count, coast_waits and coast_due take it apart.
  *
- * Sets a station up in the `size` bytes at `station`, with a slot for each of the `count` channels, one a byte, in the
- * list's order; all slots free, the clock at 0. Answers 0; or 29 where the size is not 1722, or else 36, and no byte
+ * Sets a station up in the `size` bytes at `station`, with a slot for each of the `count` channels, one a byte: slot 0
+ * for the first, and so on; all slots free, the clock at 0. Answers 0; or 29 where the size is not 1722, or else 36, and no byte
  * changes. */
 uint64_t coast_set_up(uint32_t identity, const uint8_t *channels, size_t count, uint8_t *station, size_t size);
 
@@ -135,7 +140,7 @@ uint64_t coast_next_due(const uint8_t *station, size_t size);
  * they mean nothing. */
 
 /* The time has come: the earliest wait that is due fires, one a call, at its own due time; with none due the clock moves
- * on. Hand in ticks until coast_due is past the time. Answers 0; or 29, 30, 31, 32. */
+ * on. Hand in ticks until coast_waits is 0 or coast_due is past the time. Answers 0; or 29, 30, 31, 32. */
 uint64_t coast_tick(uint8_t *station, size_t size, uint32_t time, uint8_t *room, size_t room_size);
 
 /* A sequence was heard on channel 70. Answers 0, 1; or 29, 30, 31, 32, 33, 11 to 20. */

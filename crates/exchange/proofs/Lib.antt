@@ -1,4 +1,4 @@
 pub mod WriteLaws
 pub mod SetUpLaws
-pub mod HandsOn
+pub mod Theorems
 pub mod Settled

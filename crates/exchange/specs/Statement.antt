@@ -1,15 +1,49 @@
--- What is claimed of a host that hands on what it was left: its calls are the station's own run.
-use Prim.Native.Nat.{ℕ}
+-- What is claimed of the station's entries: of any call, and of a host that hands on what it was left.
+use Prim.Native.Nat.{ℕ, _/_, _%_, _<_}
 use mathlib.Core.Path.{_≡_}
 use mathlib.Core.List.{List, [], _∷_}
-use mathlib.Core.Option.{none}
+use mathlib.Core.Option.{none, some}
 use lib.ListN.{length}
 use Rattle.rules.specs.Words.{Event}
 use Rattle.rules.specs.Verdict.{setUpVerdict}
+use Rattle.station.specs.declared.NextDue.{NextDue}
+use Rattle.station.specs.declared.NextDue.the-variants.{Never, At}
 use Rattle.station.specs.declared.Station.{Station}
-use Rattle.station.specs.Step.{given, steppedBy, setUpBy}
-use Rattle.lent.specs.Stations.{stationBytes}
-use Rattle.exchange.specs.Events.{told, returned, stationAfter, stationSetUp}
+use Rattle.station.specs.declared.Stepped.{Stepped}
+use Rattle.station.specs.Step.{given, refusal, steppedBy, roomAfter, setUpBy}
+use Rattle.lent.specs.Stations.{stationBytes, stationFrom}
+use Rattle.lent.specs.Statement.{FoundAgain}
+use Rattle.exchange.specs.Events.{told, returned, stationAfter, roomLeft, stationSetUp, dueReturned}
+
+-- ── any call, on any bytes ───────────────────────────────────────────────────
+
+-- "leaves lent bytes untouched": the station's and the room's
+abbrev pub RefusalLeavesAll : Type 0
+RefusalLeavesAll = (b room : List ℕ) (e : Event) (n : ℕ) → refusal (stationFrom b) e ≡ some n → (stationAfter b e ≡ b) × (roomLeft b room e ≡ room)
+
+-- an accepted event leaves the next station's bytes, and they stand for it
+abbrev pub AcceptedLeavesItsStation : Type 0
+AcceptedLeavesItsStation = (b : List ℕ) (e : Event) → refusal (stationFrom b) e ≡ none
+    → (stationAfter b e ≡ stationBytes (steppedBy (stationFrom b) e .station)) × FoundAgain (steppedBy (stationFrom b) e .station)
+
+-- bytes of another size have no due time either
+abbrev pub WrongSizeHasNoDue : Type 0
+WrongSizeHasNoDue = (b : List ℕ) → (length b ≡ 1722 → ⊥) → dueReturned (stationFrom b) ≡ 29
+
+-- the four parts of the number that an event returns, as the header takes it apart
+abbrev pub waits : NextDue → ℕ
+waits Never = 0
+waits (At t) = 1
+
+abbrev pub dueTime : NextDue → ℕ
+dueTime Never = 0
+dueTime (At t) = t .0
+
+abbrev pub TakenApart : Type 0
+TakenApart = (r : Stepped) → r .answer < 256 → r .count < 256
+    → (told r % 256 ≡ r .answer) × (told r / 256 % 256 ≡ r .count) × (told r / 65536 % 2 ≡ waits (r .due)) × (told r / 4294967296 ≡ dueTime (r .due))
+
+-- ── a host that hands on what it was left ────────────────────────────────────
 
 -- each event on the bytes that the one before left: what the entries return, and the bytes at the end
 abbrev pub returnedBy : List ℕ → List Event → List ℕ
@@ -29,8 +63,10 @@ abbrev pub handedBy : Station → List Event → Station
 handedBy s [] = s
 handedBy s (e ∷ es) = handedBy (steppedBy s e .station) es
 
--- from every set-up that 36 does not refuse, along any list of events: the same answers, counts and due times, and the same station
+-- from every set-up that 36 does not refuse, along any list of events: the same answers, counts and due times, the same station, and
+-- in the room of one event more the same actions
 abbrev pub HostHandsOn : Type 0
 HostHandsOn = (identity : ℕ) (channels lent : List ℕ) → setUpVerdict (given identity channels) ≡ none → length lent ≡ 1722 → (es : List Event)
     → (returnedBy (stationSetUp identity channels lent) es ≡ toldBy (setUpBy identity channels .station) es)
     × (leftBy (stationSetUp identity channels lent) es ≡ stationBytes (handedBy (setUpBy identity channels .station) es))
+    × ((e : Event) (room : List ℕ) → roomLeft (leftBy (stationSetUp identity channels lent) es) room e ≡ roomAfter (handedBy (setUpBy identity channels .station) es) room e)

@@ -1,4 +1,4 @@
--- A layout in bytes is one list of fields: a new field is one row.
+-- A layout in bytes is one list of fields; the laws ask nothing of a new row but its place.
 use Prim.Native.Nat.{ℕ, zero, suc, _+_, _*_, _/_, _%_}
 use Prim.Native.String.{String}
 use mathlib.Core.Bool.{Bool, true, _&&_}

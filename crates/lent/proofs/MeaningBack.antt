@@ -38,9 +38,12 @@ decoded : (m : Meaning) (rest : List ℕ) → decode meaningFields (meaningBytes
 unfolding meaningBytes meaningFields meaningNumbers
 decoded m rest = there-and-back meaningFields (meaningNumbers m) [] rest 0 0 refl refl refl
 
+size : (m : Meaning) → length (meaningBytes m) ≡ 32
+unfolding meaningBytes meaningFields meaningNumbers
+size m = refl
+
 pub meaning-is-found-again : MeaningIsFoundAgain
 unfolding meaningFrom
-meaning-is-found-again m rest v =
-    let size : length (meaningBytes m) ≡ 32 = unfold meaningBytes meaningFields meaningNumbers in refl in
-    let long : 32 ≤ length (meaningBytes m ++ rest) = rw (length-append (meaningBytes m) rest, size) (omega arith) in
-    rw (le-leb _ _ long, decoded m rest) (numbers-back m v)
+meaning-is-found-again m rest =
+    let long : 32 ≤ length (meaningBytes m ++ rest) = rw (length-append (meaningBytes m) rest, size m) (omega arith) in
+    (size m, λ v. rw (le-leb _ _ long, decoded m rest) (numbers-back m v))

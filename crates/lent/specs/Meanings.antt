@@ -1,7 +1,7 @@
 -- A meaning in 32 bytes, as a host in C lends them.
 use Prim.Native.Nat.{ℕ, _%_}
 use mathlib.Core.Bool.{cond}
-use mathlib.Core.List.{List, [], _∷_}
+use mathlib.Core.List.{List, _∷_}
 use lib.Dec.{leb, eqb}
 use lib.ListN.{length, getD, drop}
 use Rattle.sequence.specs.declared.Field.{Field as ChannelField}

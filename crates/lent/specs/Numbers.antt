@@ -30,7 +30,7 @@ abbrev pub numbersFrom : ℕ → ℕ → List ℕ → List ℕ
 numbersFrom zero i l = []
 numbersFrom (suc k) i l = getD l i 0 ∷ numbersFrom k (i + 1) l
 
--- "0 simplex, 1 duplex"
+-- 0 simplex, 1 duplex
 abbrev pub modeMark : Mode → ℕ
 modeMark Simplex = 0
 modeMark Duplex = 1

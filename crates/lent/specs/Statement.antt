@@ -15,7 +15,7 @@ use Rattle.lent.specs.Stations.{stationBytes, stationFrom}
 
 -- the 32 bytes of a valid meaning, whatever stands behind them
 abbrev pub MeaningIsFoundAgain : Type 0
-MeaningIsFoundAgain = (m : Meaning) (rest : List ℕ) → valid m ≡ true → meaningFrom (meaningBytes m ++ rest) ≡ m
+MeaningIsFoundAgain = (m : Meaning) (rest : List ℕ) → (length (meaningBytes m) ≡ 32) × (valid m ≡ true → meaningFrom (meaningBytes m ++ rest) ≡ m)
 
 -- decoding what was encoded gives the station back, and it takes 1722 bytes
 abbrev pub FoundAgain : Station → Type 0

@@ -83,7 +83,7 @@ roomAfter s room e = roomFor (configOf s) room (act (configOf s) (modelOf s) e) 
 abbrev pub channelNumber : ℕ → Channel
 channelNumber n = record { 0 = n }
 
--- "slots in the list's order"
+-- slots in the list's order
 abbrev pub given : ℕ → List ℕ → Config
 given identity channels = record { identity = identity; channels = map channelNumber channels }
 

@@ -69,7 +69,7 @@ impl Station {
         earliest_due(a, self.count, b, self.waiting)
     }
 
-    // The next due time: "none or tenths".
+    // The next due time: none, or tenths.
     pub fn next_due(self) -> NextDue
         ensures { λ r. ⌜ r ≡ dueImage (nextDue (modelOf self)) ⌝ }
     {

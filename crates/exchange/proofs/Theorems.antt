@@ -1,0 +1,118 @@
+-- What an event leaves in lent bytes; and a host that hands on what it was left runs the station itself.
+use Prim.Native.Nat.{ℕ, _≤_, _<_, _+_, _*_, _/_, _%_}
+use mathlib.Core.Path.{_≡_, refl, sym, ap, _∙_}
+use mathlib.Core.Bool.{Bool, true, false, cond}
+use mathlib.Core.List.{List, [], _∷_}
+use mathlib.Core.Option.{Option, none, some}
+use native.Mathlib.Omega.{arith}
+use lib.Dec.{eqb}
+use lib.ListN.{length}
+use borrow.Author.Tests.{le-leb, lt-leb, eq-eqb, ne-eqb, eqb-true, eqb-false}
+use Rattle.sequence.specs.Identity.{isCoast}
+use Rattle.sequence.proofs.Tests.{Either, yes!, no!, which}
+use Rattle.rules.specs.Words.{Event}
+use Rattle.rules.specs.Calls.{act}
+use Rattle.rules.specs.Bytes.{padded}
+use Rattle.rules.specs.Station.{fresh}
+use Rattle.rules.specs.Sound.{identityKeeps, configKeeps, sound}
+use Rattle.rules.specs.Statement.{ZeroOrOne}
+use Rattle.rules.specs.Verdict.{verdict, setUpVerdict}
+use Rattle.rules.proofs.Answered.{zero-or-one}
+use Rattle.requests.specs.Views.{viewed}
+use Rattle.station.specs.declared.NextDue.{NextDue}
+use Rattle.station.specs.declared.NextDue.the-variants.{Never, At}
+use Rattle.station.specs.declared.Station.{Station}
+use Rattle.station.specs.Model.{configOf, modelOf, imageOf}
+use Rattle.station.specs.Step.{given, recordsKeep, refusal, steppedBy, roomAfter, blankStation, setUpBy}
+use Rattle.station.proofs.GateLaws.{passed}
+use Rattle.lent.specs.Stations.{stationBytes, stationFrom, stationLaid}
+use Rattle.lent.specs.Statement.{FoundAgain}
+use Rattle.lent.proofs.FoundAgain.{handed-out-is-found-again, wrong-size-is-not-sound}
+use Rattle.exchange.specs.Events.{told, kept, returned, stationAfter, roomLeft, stationSetUp, dueNumber, dueReturned}
+use Rattle.exchange.specs.Statement.{RefusalLeavesAll, AcceptedLeavesItsStation, WrongSizeHasNoDue, TakenApart, waits, dueTime, returnedBy, leftBy, toldBy, handedBy, HostHandsOn}
+
+-- ── any call, on any bytes ───────────────────────────────────────────────────
+
+laid-whole : (s : Station) (b : List ℕ) → length b ≡ 1722 → stationLaid s b ≡ stationBytes s
+unfolding stationLaid
+laid-whole s b w = rw (eq-eqb (length b) 1722 w)
+
+refused-from-11 : (s : Station) (e : Event) (n : ℕ) → refusal s e ≡ some n → 1 < n
+unfolding refusal verdict ZeroOrOne
+refused-from-11 s e n h = go (recordsKeep s) h
+  where
+    go : (t : Bool) → cond t (verdict (configOf s) (modelOf s) e) (some 29) ≡ some n → 1 < n
+    go true v = omega (arith, zero-or-one (configOf s) (modelOf s) e .1 n v)
+    go false v = let q : 29 ≡ n = cc in omega arith
+
+pub refusal-leaves-all : RefusalLeavesAll
+unfolding stationAfter kept steppedBy roomLeft roomAfter
+refusal-leaves-all b room e n h = (rw (h, lt-leb n 1 (refused-from-11 (stationFrom b) e n h)), rw h)
+
+-- an event is accepted on bytes of the right size alone
+right-size : (b : List ℕ) (e : Event) → refusal (stationFrom b) e ≡ none → length b ≡ 1722
+right-size b e h = go (which (eqb (length b) 1722))
+  where
+    go : Either (eqb (length b) 1722) → length b ≡ 1722
+    go (yes! p) = eqb-true (length b) 1722 p
+    go (no! p) =
+        let v = wrong-size-is-not-sound b (eqb-false (length b) 1722 p) e in
+        let q : _≡_ {A = ℕ} 0 1 = cc in
+        absurd (omega (arith, q))
+
+accepted-laid : (b : List ℕ) (e : Event) → refusal (stationFrom b) e ≡ none → stationAfter b e ≡ stationBytes (steppedBy (stationFrom b) e .station)
+unfolding stationAfter kept steppedBy ZeroOrOne
+accepted-laid b e h =
+    let s = stationFrom b in
+    let few : act (configOf s) (modelOf s) e .answer ≤ 1 = zero-or-one (configOf s) (modelOf s) e .0 (passed s e (sym h) .judged) in
+    rw (h, le-leb _ _ few) (laid-whole _ b (right-size b e h))
+
+pub accepted-leaves-its-station : AcceptedLeavesItsStation
+accepted-leaves-its-station b e h = (accepted-laid b e h, handed-out-is-found-again .1 (stationFrom b) e h)
+
+pub wrong-size-has-no-due : WrongSizeHasNoDue
+unfolding dueReturned stationFrom blankStation recordsKeep viewed imageOf modelOf configOf sound configKeeps identityKeeps isCoast fresh padded
+wrong-size-has-no-due b h = rw (ne-eqb (length b) 1722 h) refl
+
+apart : (a n : ℕ) (d : NextDue) → a < 256 → n < 256
+    → ((a + 256 * n + dueNumber d) % 256 ≡ a) × ((a + 256 * n + dueNumber d) / 256 % 256 ≡ n) × ((a + 256 * n + dueNumber d) / 65536 % 2 ≡ waits d) × ((a + 256 * n + dueNumber d) / 4294967296 ≡ dueTime d)
+apart a n Never h k = (omega arith, omega arith, omega arith, omega arith)
+apart a n (At t) h k = (omega arith, omega arith, omega arith, omega arith)
+
+pub taken-apart : TakenApart
+unfolding told
+taken-apart r h k = apart (r .answer) (r .count) (r .due) h k
+
+-- ── a host that hands on what it was left ────────────────────────────────────
+
+module _ (s : Station) (f : FoundAgain s) (e : Event) where
+  returned-is : returned (stationBytes s) e ≡ told (steppedBy s e)
+  unfolding returned
+  returned-is = rw (f .1)
+
+  left-is : (o : Option ℕ) → refusal s e ≡ o → (stationAfter (stationBytes s) e ≡ stationBytes (steppedBy s e .station)) × FoundAgain (steppedBy s e .station)
+  left-is none h = rw (f .1) at (accepted-leaves-its-station (stationBytes s) e (rw (f .1) h))
+  left-is (some n) h =
+      let same : steppedBy s e .station ≡ s = unfold steppedBy in rw h in
+      let stays = refusal-leaves-all (stationBytes s) [] e n (rw (f .1) h) .0 in
+      (stays ∙ ap stationBytes (sym same), rw same f)
+
+along : (s : Station) → FoundAgain s → (es : List Event)
+    → (returnedBy (stationBytes s) es ≡ toldBy s es)
+    × (leftBy (stationBytes s) es ≡ stationBytes (handedBy s es))
+    × ((e : Event) (room : List ℕ) → roomLeft (leftBy (stationBytes s) es) room e ≡ roomAfter (handedBy s es) room e)
+unfolding roomLeft
+along s f [] = (refl, refl, λ e room. rw (f .1))
+along s f (e ∷ es) =
+    let l = left-is s f e (refusal s e) refl in
+    let more = along (steppedBy s e .station) (l .1) es in
+    (rw (returned-is s f e, l .0, more .0), rw (l .0) (more .1), rw (l .0) (more .2))
+
+set-up : (identity : ℕ) (channels lent : List ℕ) → setUpVerdict (given identity channels) ≡ none → length lent ≡ 1722
+    → stationSetUp identity channels lent ≡ stationBytes (setUpBy identity channels .station)
+unfolding stationSetUp setUpBy
+set-up identity channels lent h w = rw h (laid-whole _ lent w)
+
+pub host-hands-on : HostHandsOn
+host-hands-on identity channels lent h w es =
+    rw (set-up identity channels lent h w) (along (setUpBy identity channels .station) (handed-out-is-found-again .0 identity channels) es)
