@@ -86,11 +86,11 @@ taken-apart r h k = apart (r .answer) (r .count) (r .due) h k
 -- ── a host that hands on what it was left ────────────────────────────────────
 
 module _ (s : Station) (f : FoundAgain s) (e : Event) where
-  returned-is : returned (stationBytes s) e ≡ told (steppedBy s e)
+  pub returned-is : returned (stationBytes s) e ≡ told (steppedBy s e)
   unfolding returned
   returned-is = rw (f .1)
 
-  left-is : (o : Option ℕ) → refusal s e ≡ o → (stationAfter (stationBytes s) e ≡ stationBytes (steppedBy s e .station)) × FoundAgain (steppedBy s e .station)
+  pub left-is : (o : Option ℕ) → refusal s e ≡ o → (stationAfter (stationBytes s) e ≡ stationBytes (steppedBy s e .station)) × FoundAgain (steppedBy s e .station)
   left-is none h = rw (f .1) at (accepted-leaves-its-station (stationBytes s) e (rw (f .1) h))
   left-is (some n) h =
       let same : steppedBy s e .station ≡ s = unfold steppedBy in rw h in
@@ -108,7 +108,7 @@ along s f (e ∷ es) =
     let more = along (steppedBy s e .station) (l .1) es in
     (rw (returned-is s f e, l .0, more .0), rw (l .0) (more .1), rw (l .0) (more .2))
 
-set-up : (identity : ℕ) (channels lent : List ℕ) → setUpVerdict (given identity channels) ≡ none → length lent ≡ 1722
+pub set-up : (identity : ℕ) (channels lent : List ℕ) → setUpVerdict (given identity channels) ≡ none → length lent ≡ 1722
     → stationSetUp identity channels lent ≡ stationBytes (setUpBy identity channels .station)
 unfolding stationSetUp setUpBy
 set-up identity channels lent h w = rw h (laid-whole _ lent w)

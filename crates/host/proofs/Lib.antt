@@ -1,0 +1,3 @@
+pub mod Small
+pub mod Calls
+pub mod Theorems
