@@ -1,26 +1,23 @@
 -- The answer and the count of actions fit a byte each.
-use Prim.Native.Nat.{ℕ, _≤_, _<_}
+use Prim.Native.Nat.{ℕ, _<_}
 use mathlib.Core.Path.{_≡_, refl, sym}
 use mathlib.Core.Bool.{Bool, true, false, cond}
 use mathlib.Core.List.{List, [], _∷_}
 use mathlib.Core.Option.{Option, none, some}
 use native.Mathlib.Omega.{arith}
-use lib.ListN.{length}
 use Rattle.sequence.specs.declared.Answer.{Answer}
 use Rattle.sequence.specs.declared.Answer.the-variants.{Done, BadLength, BadSymbol, BadCheck, BadFormat, BadIdentities, BadCategory, BadTelecommands, BadField, BadNumber, BadEnd, ShortRoom}
 use Rattle.sequence.specs.Refusals.{Row, firstRefusal}
 use Rattle.sequence.specs.Answers.{answerNumber}
 use Rattle.rules.specs.Places.{Each}
 use Rattle.rules.specs.Words.{Event}
-use Rattle.rules.specs.Calls.{act}
 use Rattle.rules.specs.Statement.{AtMostEight, ZeroOrOne}
-use Rattle.rules.specs.Verdict.{readIn, refusals}
+use Rattle.rules.specs.Verdict.{unless, readIn, refusals}
 use Rattle.rules.proofs.Answered.{zero-or-one}
 use Rattle.rules.proofs.Eight.{at-most-eight}
 use Rattle.station.specs.declared.Station.{Station}
-use Rattle.station.specs.declared.Stepped.{Stepped}
 use Rattle.station.specs.Model.{configOf, modelOf}
-use Rattle.station.specs.Step.{refusal, steppedBy}
+use Rattle.station.specs.Step.{recordsKeep, refusal, steppedBy}
 use Rattle.station.proofs.GateLaws.{passed}
 
 abbrev InByte : Row (Option ℕ) → Type 0
@@ -54,9 +51,9 @@ answer-in-byte ShortRoom = omega arith
 refused-in-byte : (s : Station) (e : Event) (n : ℕ) → refusal s e ≡ some n → n < 256
 unfolding refusal refusals
 refused-in-byte s e =
-    first-in-byte _ (
+    first-in-byte (unless (recordsKeep s) 29 ∷ refusals (configOf s) (modelOf s) e) (
       plain 29 (omega arith),
-      (plain 29 (omega arith), (plain 30 (omega arith), (plain 31 (omega arith), (plain 32 (omega arith), (plain 33 (omega arith), (plain 34 (omega arith), (plain (answerNumber (readIn (e .what))) (answer-in-byte (readIn (e .what))), (plain 35 (omega arith), tt))))))))
+      (plain 29 (omega arith), (plain 30 (omega arith), (plain 31 (omega arith), (plain 32 (omega arith), (plain 33 (omega arith), (plain 34 (omega arith), (plain (answerNumber (readIn (e .what))) (answer-in-byte (readIn (e .what))), (plain 35 (omega arith), tt)))))))),
     )
 
 pub stepped-in-byte : (s : Station) (e : Event) → (steppedBy s e .answer < 256) × (steppedBy s e .count < 256)
