@@ -28,12 +28,13 @@ use Rattle.rack.specs.Steps.{Step, stepOf, Allowed, SetUpAs, by-set-up}
 use Rattle.rack.specs.Steps as Rack
 use Rattle.rack.specs.Statement as Said
 use Rattle.rack.specs.Statement.{heldBy, RackObeys}
+use Rattle.rack.proofs.Scripted.{step-allowed}
 use Rattle.rack.proofs.Theorems.{rack-obeys}
 use Rattle.host.specs.Calls as Host
 use Rattle.host.specs.Calls.{Call, HandsOn, lastOf, SetUpIn}
 use Rattle.host.specs.Statement.{entriesIn, HostObeys}
 use Rattle.host.proofs.Small.{stepped-in-byte}
-use Rattle.host.proofs.Calls.{called, stepping}
+use Rattle.host.proofs.Calls.{called}
 
 -- ── a list of calls as a list of steps ───────────────────────────────────────
 
@@ -63,7 +64,7 @@ walk s f (x ∷ xs) h =
     let next = left-is s f e (refusal s e) refl in
     let kept : x .kept ≡ stationBytes (steppedBy s e .station) = k .kept-is ∙ (rw (h .0) (next .0)) in
     let step = stepOf e s (x .lent) (steppedBy s e) (roomAfter s (x .lent) e) in
-    let allowed : Allowed step = rw (k .event-is) (stepping s (x .lent) (k .time) (k .what)) in
+    let allowed : Allowed step = rw (k .event-is) (step-allowed s (x .lent) (k .time) (k .what)) in
     let more = walk (steppedBy s e .station) (next .1) xs (rw kept at (h .1 .1)) in
     record {
       steps = step ∷ more .steps;

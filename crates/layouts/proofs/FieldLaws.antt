@@ -6,7 +6,7 @@ use mathlib.Core.List.{List, [], _∷_, _++_, append-assoc, append-nil}
 use native.Mathlib.Omega.{arith}
 use lib.Dec.{leb, eqb}
 use lib.ListN.{length, take, drop, length-append}
-use lib.Seq.{getD-at, append-snoc, take-length, drop-drop, take-paste, drop-paste, length-paste}
+use lib.Seq.{getD-at, append-snoc, take-length, drop-drop, take-paste, drop-paste}
 use borrow.Author.Tests.{eqb-true, leb-true}
 use Rattle.sequence.proofs.Tests.{both-true}
 use Rattle.sequence.proofs.Paste.{paste-whole}
@@ -91,7 +91,3 @@ laid-all room p s (t ∷ more) h =
 pub laid-whole : (room s : List ℕ) → length s ≡ length room → laid room 0 s ≡ s
 unfolding laid
 laid-whole room s e = rw e (paste-whole room s (length room) e refl)
-
-pub laid-length : (room : List ℕ) (p : ℕ) (s : List ℕ) → p + length s ≤ length room → length (laid room p s) ≡ length room
-unfolding laid
-laid-length room p s h = length-paste room p s (length s) h (omega arith)
