@@ -2,7 +2,7 @@
 use Prim.Native.Nat.{ℕ, zero, suc, _+_, _*_, _/_, _%_, _≤_}
 use mathlib.Core.Path.{_≡_, refl, sym, ap, _∙_}
 use mathlib.Core.Bool.{true, _&&_}
-use mathlib.Core.List.{List, [], _∷_, _++_, append-assoc, append-nil}
+use mathlib.Core.List.{List, [], _∷_, _++_, append-assoc, append-nil, flatten}
 use native.Mathlib.Omega.{arith}
 use lib.Dec.{leb, eqb}
 use lib.ListN.{length, take, drop, length-append}
@@ -76,16 +76,13 @@ abbrev pub laidAll : List ℕ → ℕ → ℕ → List (List ℕ) → List ℕ
 laidAll room p o [] = room
 laidAll room p o (s ∷ more) = laidAll (laid room (p + o) s) p (o + length s) more
 
-abbrev pub joined : List (List ℕ) → List ℕ
-joined [] = []
-joined (s ∷ more) = s ++ joined more
-
 pub laid-all : (room : List ℕ) (p : ℕ) (s : List ℕ) (more : List (List ℕ)) → p ≤ length room
-    → laidAll (laid room p s) p (length s) more ≡ laid room p (s ++ joined more)
+    → laidAll (laid room p s) p (length s) more ≡ laid room p (s ++ flatten more)
+unfolding flatten
 laid-all room p s [] h = ap (laid room p) (sym (append-nil s))
 laid-all room p s (t ∷ more) h =
     let e : length s + length t ≡ length (s ++ t) = sym (length-append s t) in
-    rw (laid-next room p s t h, e) (laid-all room p (s ++ t) more h ∙ ap (laid room p) (append-assoc s t (joined more)))
+    rw (laid-next room p s t h, e) (laid-all room p (s ++ t) more h ∙ ap (laid room p) (append-assoc s t (flatten more)))
 
 -- over bytes that are just as many
 pub laid-whole : (room s : List ℕ) → length s ≡ length room → laid room 0 s ≡ s

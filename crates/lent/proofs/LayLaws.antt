@@ -2,7 +2,7 @@
 use Prim.Native.Nat.{ℕ, zero, suc, _+_, _*_, _≤_}
 use Prim.Native.String.{String}
 use mathlib.Core.Path.{_≡_, refl, sym, ap, _∙_}
-use mathlib.Core.List.{List, [], _∷_, _++_, flatMap, append-nil}
+use mathlib.Core.List.{List, [], _∷_, _++_, flatMap, flatten, append-nil}
 use native.Mathlib.Omega.{arith}
 use native.Mathlib.Nat.{add-zero}
 use native.Mathlib.Numerals.{add-one}
@@ -72,7 +72,7 @@ pub request-laid : (q : Request) (room : List ℕ) (p : ℕ) → length (q .numb
     → laidAll (laid room p (lowFirst 4 (q .ship))) p 4
     (lowFirst 4 (q .station) ∷ (modeMark (q .mode) ∷ q .second ∷ q .number .count ∷ []) ∷ q .number .digits ∷ [])
     ≡ laid room p (encode requestFields (requestNumbers q))
-unfolding requestFields requestNumbers
+unfolding flatten requestFields requestNumbers
 request-laid q room p w h =
     laid-all room p (lowFirst 4 (q .ship)) (lowFirst 4 (q .station) ∷ (modeMark (q .mode) ∷ q .second ∷ q .number .count ∷ []) ∷ q .number .digits ∷ []) h
     ∙ (rw (append-nil (q .number .digits), sixteen (q .number .digits) w))
@@ -84,7 +84,7 @@ pub meaning-laid : (m : Meaning) (f : FieldBytes) (room : List ℕ) → length (
     ∷ m .number .digits
     ∷ [])
     ≡ laid room 0 (meaningBytes m)
-unfolding meaningBytes meaningFields meaningNumbers
+unfolding flatten meaningBytes meaningFields meaningNumbers
 meaning-laid m f room w e =
     laid-all room 0 (lowFirst 4 (m .address))
     (lowFirst 4 (m .sender) ∷ (m .first ∷ m .second ∷ f .kind ∷ f .first ∷ f .second ∷ f .third ∷ m .number .count ∷ m .end ∷ []) ∷ m .number .digits ∷ [])
@@ -95,7 +95,7 @@ pub phase-laid : (f : PhaseFields) (room : List ℕ) (p : ℕ) → p ≤ length 
     → laidAll (laid room p (f .kind ∷ [])) p 1
     (lowFirst 4 (f .time) ∷ (f .carrier .mark ∷ []) ∷ lowFirst 4 (f .carrier .due) ∷ (f .told .mark ∷ f .told .hours ∷ f .told .minutes ∷ f .told .seconds ∷ []) ∷ [])
     ≡ laid room p (encode (take 8 slotFields) (phaseNumbers f []))
-unfolding slotFields
+unfolding flatten slotFields
 phase-laid f room p h =
     laid-all room p (f .kind ∷ [])
     (lowFirst 4 (f .time) ∷ (f .carrier .mark ∷ []) ∷ lowFirst 4 (f .carrier .due) ∷ (f .told .mark ∷ f .told .hours ∷ f .told .minutes ∷ f .told .seconds ∷ []) ∷ []) h
@@ -104,14 +104,14 @@ pub slot-laid : (s : Slot) (f : PhaseFields) (room : List ℕ) (p : ℕ) → f �
     → laidAll (laid room p (encode (take 8 slotFields) (phaseNumbers f []))) p 14
     (lowFirst 4 (s .channel .0) ∷ encode requestFields (requestNumbers (s .request)) ∷ [])
     ≡ laid room p (slotBytes s)
-unfolding slotBytes slotFields slotNumbers
+unfolding flatten slotBytes slotFields slotNumbers
 slot-laid s f room p e h =
     laid-all room p (encode (take 8 slotFields) (phaseNumbers f [])) (lowFirst 4 (s .channel .0) ∷ encode requestFields (requestNumbers (s .request)) ∷ []) h
     ∙ (rw (append-nil (encode requestFields (requestNumbers (s .request))), e, encode-shifted 18 requestFields (requestNumbers (s .request))))
 
 pub waiting-laid : (w : Waiting) (room : List ℕ) (p : ℕ) → p ≤ length room
     → laidAll (laid room p (lowFirst 4 (w .due .0))) p 4 (encode requestFields (requestNumbers (w .request)) ∷ []) ≡ laid room p (waitingBytes w)
-unfolding waitingBytes waitingFields waitingNumbers
+unfolding flatten waitingBytes waitingFields waitingNumbers
 waiting-laid w room p h =
     laid-all room p (lowFirst 4 (w .due .0)) (encode requestFields (requestNumbers (w .request)) ∷ []) h
     ∙ (rw (append-nil (encode requestFields (requestNumbers (w .request))), encode-shifted 4 requestFields (requestNumbers (w .request))))

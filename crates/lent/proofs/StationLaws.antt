@@ -2,7 +2,7 @@
 use Prim.Native.Nat.{ℕ, _+_, _*_}
 use mathlib.Core.Path.{_≡_, refl, sym, ap, _∙_}
 use mathlib.Core.Bool.{true}
-use mathlib.Core.List.{List, [], _∷_, _++_, flatMap, append-nil}
+use mathlib.Core.List.{List, [], _∷_, _++_, flatMap, flatten, append-nil}
 use native.Mathlib.Omega.{arith}
 use lib.ListN.{length, getD, drop, length-append}
 use lib.Seq.{drop-at}
@@ -117,6 +117,7 @@ module _ (s : Station) (slots16 : length (s .slots) ≡ 16) (queue32 : length (s
   pub station-laid : (b : List ℕ) → length b ≡ 1722
       → laid (laid (laid (laid (laid b 0 (lowFirst 4 (s .clock .0))) 4 (lowFirst 4 (s .identity))) 8 (s .count ∷ s .waiting ∷ [])) 10 (flatMap slotBytes (s .slots))) 730 (flatMap waitingBytes (s .queue))
       ≡ stationBytes s
+  unfolding flatten
   station-laid b w =
       let first = flatMap slotBytes (s .slots) in
       let second = flatMap waitingBytes (s .queue) in
