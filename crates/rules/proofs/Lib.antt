@@ -22,6 +22,8 @@ pub mod Laws
 pub mod Spoken
 pub mod Literal
 pub mod Idle
+pub mod Calm
+pub mod Repeats
 pub mod Payloads
 pub mod SentLaws
 pub mod Eight

@@ -20,6 +20,7 @@ pub mod Book
 pub mod Reading
 pub mod ReadingLaws
 pub mod ThreeWords
+pub mod Repeated
 pub mod Statement
 -- runs and cases
 pub mod Runs

@@ -1,12 +1,12 @@
 -- A case for each rule of a request, of the working call and of ring-back: what the last event of a short script prints.
 use mathlib.Core.List.{List, [], _∷_}
 use Rattle.sequence.specs.declared.Field.the-variants.{Blank}
-use Rattle.rules.specs.Words.{simplex, duplex, heard, offHook, onHook, carrierDown, takes, givesBack, onChannel70}
+use Rattle.rules.specs.Words.{simplex, duplex, heard, offHook, onHook, carrierDown, takes, givesBack, onChannel70, Event}
 use Rattle.rules.specs.Verdict.{step}
 use Rattle.rules.specs.Printed.{lines}
 use Rattle.rules.specs.Runs.{station, seven, eight, nine, sends, at, usual, callsFor, calls, accepts, on, works, ticks}
 use Rattle.rules.specs.Cases.{Row}
-use Rattle.rules.specs.Scripts.{gives, dataCalls, elsewhere, crowded, charges, unable109Seven, ackSeven26, ackSeven26Again, ackSeven26Simplex, ackEight26, overSevenByCoast15, ringEight26, unable103Seven, ringSeven26Again, ackSeven27, unable103Eight, unable102Nine, ringNine26}
+use Rattle.rules.specs.Scripts.{gives, dataCalls, elsewhere, crowded, charges, unable109Seven, ackSeven26, ackSeven26Again, ackSeven26Simplex, ackEight26, overSevenByCoast15, ringEight26, unable103Seven, ringSeven26Again, ringSeven26Simplex, ackSeven27, unable103Eight, unable102Nine, ringNine26}
 
 -- ── what is ignored ───────────────────────────────────────────────────────────
 
@@ -115,6 +115,16 @@ abbrev pub ruleDReplaced : Row
 ruleDReplaced = record {
   computed = gives 1 (on 50 0 takes ∷ calls 100 seven duplex ∷ callsFor (4 ∷ 2 ∷ []) 200 seven duplex ∷ on 300 0 givesBack ∷ []);
   expected = (0 ∷ 300 ∷ 2 ∷ 351 ∷ []) ∷ (1 ∷ 0 ∷ []) ∷ (3 ∷ 0 ∷ ringSeven26Again) ∷ [];
+}
+
+-- d. in its new mode
+abbrev pub otherMode : List Event
+otherMode = on 50 0 takes ∷ calls 100 seven duplex ∷ calls 200 seven simplex ∷ on 300 0 givesBack ∷ []
+
+abbrev pub ruleDOtherMode : Row
+ruleDOtherMode = record {
+  computed = gives 1 otherMode;
+  expected = (0 ∷ 300 ∷ 2 ∷ 351 ∷ []) ∷ (1 ∷ 0 ∷ []) ∷ (3 ∷ 0 ∷ ringSeven26Simplex) ∷ [];
 }
 
 -- e. the lowest free slot
@@ -243,4 +253,4 @@ queueEntryDue = record {
 -- ── all of them ──────────────────────────────────────────────────────────────
 
 abbrev pub requestCases : List Row
-requestCases = ignoredPhase ∷ ignoredAddress ∷ ignoredChannel ∷ ruleAShown ∷ ruleBRepeated ∷ ruleBDiffers ∷ ruleBOtherMode ∷ ruleBInRingBack ∷ ruleBAcknowledged ∷ ruleCDuplex ∷ ruleCPresent ∷ ruleCAbsent ∷ ruleCRingsBack ∷ ruleDShown ∷ ruleDReplaced ∷ ruleELowest ∷ ruleFShown ∷ ruleGShown ∷ workingDials ∷ workingMode ∷ workingStranger ∷ workingInRingBack ∷ workingAcknowledged ∷ offerFallsDue ∷ ringBackOldest ∷ ringBackAgain ∷ ringBackDropped ∷ bqAcknowledged ∷ bqOtherChannel ∷ bqSecond ∷ acknowledgedDue ∷ queueEntryDue ∷ []
+requestCases = ignoredPhase ∷ ignoredAddress ∷ ignoredChannel ∷ ruleAShown ∷ ruleBRepeated ∷ ruleBDiffers ∷ ruleBOtherMode ∷ ruleBInRingBack ∷ ruleBAcknowledged ∷ ruleCDuplex ∷ ruleCPresent ∷ ruleCAbsent ∷ ruleCRingsBack ∷ ruleDShown ∷ ruleDReplaced ∷ ruleDOtherMode ∷ ruleELowest ∷ ruleFShown ∷ ruleGShown ∷ workingDials ∷ workingMode ∷ workingStranger ∷ workingInRingBack ∷ workingAcknowledged ∷ offerFallsDue ∷ ringBackOldest ∷ ringBackAgain ∷ ringBackDropped ∷ bqAcknowledged ∷ bqOtherChannel ∷ bqSecond ∷ acknowledgedDue ∷ queueEntryDue ∷ []

@@ -1,13 +1,14 @@
 -- What is claimed of every run: the theorem on charges, and what stands beside it.
 use mathlib.Core.Path.{_≡_}
-use mathlib.Core.List.{List, [], _∷_}
+use mathlib.Core.List.{List, [], _∷_, _++_}
 use mathlib.Core.Bool.{true}
 use mathlib.Core.Option.{none, some}
 use Prim.Native.Nat.{ℕ, suc, _+_, _-_, _/_, _<_, _≤_}
 use lib.ListN.{length}
 use Rattle.units.specs.declared.Seconds.{Seconds}
 use Rattle.rules.specs.Places.{lowest, Each}
-use Rattle.rules.specs.Words.{Config, Event, Deed}
+use Rattle.rules.specs.Words.{Request, Config, Event, Deed, ringBack, dial}
+use Rattle.rules.specs.Heard.{nothing}
 use Rattle.rules.specs.Actions.{Charge, Action, does, over, charge}
 use Rattle.rules.specs.Station.{Stage, dialling, answered, Slot, free, taken, pending, busy, held, Waiting, Station, fresh}
 use Rattle.rules.specs.Sound.{sound}
@@ -15,9 +16,10 @@ use Rattle.rules.specs.Requests.{isFree}
 use Rattle.rules.specs.Calls.{act}
 use Rattle.rules.specs.Verdict.{verdict, setUpVerdict, Entry, play, final}
 use Rattle.rules.specs.Bytes.{payloadOf}
-use Rattle.rules.specs.Book.{Book, Note, Stop, line, blankBook}
+use Rattle.rules.specs.Book.{Book, Note, Stop, toldRQ, line, blankBook}
 use Rattle.rules.specs.Reading.{Numbered, numbered, stops, counted, countedByCalls, readAll}
 use Rattle.rules.specs.ThreeWords.{idle, wordAfter, wordOf}
+use Rattle.rules.specs.Repeated.{heardIn, lastAsked, Repeats, Dials}
 
 -- ── the list, and the charges in it ──────────────────────────────────────────
 
@@ -136,6 +138,22 @@ AlwaysFits = OfEveryRun (λ c es. (length (stationAfter c es .slots) ≤ 16) × 
 -- "dial", "release line" and off-hook alone say of every slot what the book says of its line, after every entry
 unfoldable pub Literally : Type 0
 Literally = OfEveryRun (λ c es. (i : ℕ) → i < length (c .channels) → wordAfter i (listOf c es) idle ≡ wordOf (line (bookOf c es) i .call))
+
+-- what holds of every entry n of every run's list, with the entries before it
+abbrev pub OfEveryEntry : (Config → List Note → Note → Type 0) → Type 0
+OfEveryEntry P = OfEveryRun (λ c es. (before : List Note) (n : Note) (after : List Note) → listOf c es ≡ before ++ n ∷ after → P c before n)
+
+-- an acknowledgement repeats the call request that its own entry heard, a ring-back the one that its ship was last told to wait with
+unfoldable pub AnswersRepeat : Type 0
+AnswersRepeat = OfEveryEntry (λ c before n. Each (Repeats (heardIn c n) (λ x. lastAsked c x nothing before)) (n .deeds))
+
+-- a ring-back that its entry begins with, the second sending, repeats the one that channel 70 last carried about that slot
+unfoldable pub SecondRingRepeats : Type 0
+SecondRingRepeats = OfEveryEntry (λ c before n. (i : ℕ) (r : Request) (ds : List Deed) → n .deeds ≡ ringBack i r ∷ ds → line (readAll c before (blankBook c)) i .said ≡ toldRQ r)
+
+-- a number that is dialled is that of the request which channel 70 last named for that slot
+unfoldable pub DialsAsked : Type 0
+DialsAsked = OfEveryEntry (λ c before n. (i : ℕ) (digits : List ℕ) (ds : List Deed) → n .deeds ≡ dial i digits ∷ ds → Dials digits (line (readAll c before (blankBook c)) i .said))
 
 -- while a ship waits no slot is free
 unfoldable pub NoChannelIdle : Type 0

@@ -1,0 +1,276 @@
+-- `AnswersRepeat`: a call request, any event, and then the run.
+use mathlib.Core.Path.{_≡_, refl, sym, ap, subst, _∙_}
+use mathlib.Core.List.{List, [], _∷_, _++_}
+use mathlib.Core.Bool.{Bool, true, false, cond, _||_}
+use mathlib.Core.Option.{Option, none, some}
+use Prim.Native.Nat.{ℕ, zero, suc, _+_, _≤_}
+use native.Mathlib.Omega.{arith}
+use lib.Dec.{ltb}
+use lib.ListN.{getD, length, replicate}
+use Rattle.rules.specs.Places.{modAt, shift, lowest, Each}
+use Rattle.rules.specs.Words.{Party, is, Mode, simplex, duplex, Request, Config, What, tick, onChannel70, onSlot, Event, Deed}
+use Rattle.rules.specs.Heard.{Heard, callRequest, dataRequest, bq, workingCall, endOfCall, nothing, meaning}
+use Rattle.rules.specs.Actions.{Action}
+use Rattle.rules.specs.Station.{Kind, offered, firstRing, secondRing, acknowledged, Stage, dialling, answered, Slot, free, taken, pending, busy, held, Waiting, Station, fresh, setSlot, setClock, setQueue, dueAfter, queueWait, fires}
+use Rattle.rules.specs.Requests.{Out, also, rungBack, freedFor, freed, coastEnd, owns, waitsFor, slotOf, placeOf, standsAt, standing, ruleA, repeated, afresh, same, ruleB, ruleD, offer, ruleF, ruleG, isFree, eToG, newcomer, dToG, redial, ruleC, bOrC, requested}
+use Rattle.rules.specs.Calls.{heardOn70, actAt, act}
+use Rattle.rules.specs.Verdict.{verdict, play}
+use Rattle.rules.specs.Book.{Note, Book, blankBook}
+use Rattle.rules.specs.Reading.{turn, readAll}
+use Rattle.rules.specs.Repeated.{heardAt, heardIn, putsOff, toldToWait, lastAsked, Repeats}
+use Rattle.rules.specs.Statement.{deedsOf, notes, AnswersRepeat, SecondRingRepeats, DialsAsked}
+use Rattle.rules.proofs.PlaceLaws.{shift-some, lowest-is, each-append}
+use Rattle.rules.proofs.Base.{seen, is-same, deeds-append}
+use Rattle.rules.proofs.Accepted.{accepted, sounds}
+use Rattle.rules.proofs.Run.{noteOf, turn-is, play-on, play-past, fresh-seen}
+use Rattle.rules.proofs.Once.{bit, countS, countQ, Once, distinct-once, none-count, waiting-count, coastEnd-gone}
+use Rattle.rules.proofs.Walk.{offerOf}
+use Rattle.rules.proofs.Calm.{Asked, Rung, Known, Again, Calm, calm-if, still, set-known, coastEnd-calm, happened-calm, agree-calm, clock-known, tick-calm}
+
+-- what each ship last asked for, once the deeds are done
+abbrev told : Heard → (Party → Heard) → List Deed → Party → Heard
+told h a ds x = cond (toldToWait x ds) h (a x)
+
+-- an outcome that repeats, and leaves the station with what it has told
+record Said (h : Heard) (a : Party → Heard) (b : Book) (o : Out) : Type 0 where
+  repeats : Each (Repeats h a) (deedsOf (o .acts))
+  again : Again b (deedsOf (o .acts))
+  known : Known (told h a (deedsOf (o .acts))) (o .next)
+
+calm-said : (h : Heard) (a : Party → Heard) (b : Book) (o : Out) → Calm h a b o → Said h a b o
+calm-said h a b o c = record { repeats = c .repeats; again = c .again; known = subst (λ z. Known z (o .next)) (λ i x. cond (sym (c .untold x) i) h (a x)) (c .known) }
+
+-- ── the ship that is told to wait is the only one concerned ──────────────────
+
+module _ (r : Request) (a : Party → Heard) (b : Book) where
+  -- r is asked and put off
+  abbrev now : Party → Heard
+  now x = cond (is (r .who) x || false) (callRequest r) (a x)
+
+  now-asked : now (r .who) ≡ callRequest r
+  now-asked = rw (is-same (r .who) (r .who) refl) refl
+
+  others-wait : (q : List Waiting) → countQ (r .who) q ≡ 0 → Each (Asked a) q → Each (Asked now) q
+  others-wait [] n k = tt
+  others-wait (w ∷ q) n k = go (is (r .who) (w .request .who)) refl (λ m. others-wait q m (k .1))
+    where
+      go : (b : Bool) → is (r .who) (w .request .who) ≡ b → (countQ (r .who) q ≡ 0 → Each (Asked now) q) → Each (Asked now) (w ∷ q)
+      go true e ih = let z : 1 + countQ (r .who) q ≡ 0 = rw e at n in absurd (omega arith)
+      go false e ih = let z : 0 + countQ (r .who) q ≡ 0 = rw e at n in (rw e (k .0), ih (omega arith))
+
+  other-rings : (s : Slot) → owns (r .who) s ≡ false → Rung a s → Rung now s
+  other-rings free e k = tt
+  other-rings taken e k = tt
+  other-rings (pending offered o d) e k = tt
+  other-rings (pending firstRing o d) e k = rw e k
+  other-rings (pending secondRing o d) e k = tt
+  other-rings (pending acknowledged o d) e k = tt
+  other-rings (busy o g c) e k = tt
+  other-rings (held o n d) e k = tt
+
+  others-ring : (ss : List Slot) → countS (r .who) ss ≡ 0 → Each (Rung a) ss → Each (Rung now) ss
+  others-ring [] n k = tt
+  others-ring (s ∷ ss) n k = go (owns (r .who) s) refl (λ m. others-ring ss m (k .1))
+    where
+      go : (b : Bool) → owns (r .who) s ≡ b → (countS (r .who) ss ≡ 0 → Each (Rung now) ss) → Each (Rung now) (s ∷ ss)
+      go true e ih = let z : 1 + countS (r .who) ss ≡ 0 = rw e at n in absurd (omega arith)
+      go false e ih = let z : 0 + countS (r .who) ss ≡ 0 = rw e at n in (other-rings s e (k .0), ih (omega arith))
+
+  -- its place is the one that changes
+  replaced : (k : ℕ) (q : List Waiting) → lowest (waitsFor (r .who)) q ≡ some k → countQ (r .who) q ≤ 1 → Each (Asked a) q → Each (Asked now) (modAt (λ w. record { request = r; due = w .due }) k q)
+  replaced k [] h n s = tt
+  replaced k (w ∷ q) h n s = go (is (r .who) (w .request .who)) refl k h (λ j e m. replaced j q e m (s .1))
+    where
+      go : (b : Bool) → is (r .who) (w .request .who) ≡ b → (k : ℕ) → cond b (some zero) (shift (lowest (waitsFor (r .who)) q)) ≡ some k
+          → ((j : ℕ) → lowest (waitsFor (r .who)) q ≡ some j → countQ (r .who) q ≤ 1 → Each (Asked now) (modAt (λ w. record { request = r; due = w .due }) j q)) → Each (Asked now) (modAt (λ w. record { request = r; due = w .due }) k (w ∷ q))
+      go true e zero z ih = let m : 1 + countQ (r .who) q ≤ 1 = rw e at n in (now-asked, others-wait q (omega arith) (s .1))
+      go true e (suc k) z ih = let y : zero ≡ suc k = cc in absurd (omega arith)
+      go false e zero z ih = absurd (no-shift (lowest (waitsFor (r .who)) q) z)
+        where
+          no-shift : (o : Option ℕ) → shift o ≡ some zero → ⊥
+          no-shift none h = let y : _≡_ {A = ℕ} 0 1 = cc in omega arith
+          no-shift (some n) h = let y : suc n ≡ zero = cc in omega arith
+      go false e (suc k) z ih = let m : 0 + countQ (r .who) q ≤ 1 = rw e at n in (rw e (s .0), ih k (shift-some _ k z) (omega arith))
+
+  -- ── rules d to g ───────────────────────────────────────────────────────────
+
+  module _ (st : Station) (k : Known a st) (n : countS (r .who) (st .slots) ≡ 0) where
+    ruleF-said : countQ (r .who) (st .queue) ≡ 0 → Said (callRequest r) a b (ruleF st r)
+    unfolding ruleF setQueue
+    ruleF-said m = record { repeats = (tt, tt); again = tt; known = record { waiting = each-append (Asked now) (st .queue) (record { request = r; due = dueAfter (st .clock) queueWait } ∷ []) (others-wait (st .queue) m (k .waiting)) (now-asked, tt); ringing = others-ring (st .slots) n (k .ringing) } }
+
+    ruleD-said : (j : ℕ) → placeOf (r .who) st ≡ some j → countQ (r .who) (st .queue) ≤ 1 → Said (callRequest r) a b (ruleD j st r)
+    unfolding ruleD setQueue
+    ruleD-said j h m = record { repeats = (tt, tt); again = tt; known = record { waiting = replaced j (st .queue) h m (k .waiting); ringing = others-ring (st .slots) n (k .ringing) } }
+
+    eToG-said : placeOf (r .who) st ≡ none → (o : Option ℕ) → Said (callRequest r) a b (eToG st r o)
+    unfolding eToG offer afresh ruleG
+    eToG-said h (some i) = calm-said _ a b _ (record { repeats = (tt, (refl, tt)); again = tt; untold = λ x. refl; known = set-known (callRequest r) a b i (offerOf r st) st tt k })
+    eToG-said h none = go (ltb (length (st .queue)) 32)
+      where
+        go : (t : Bool) → Said (callRequest r) a b (cond t (ruleF st r) (ruleG st r))
+        go true = ruleF-said (waiting-count (r .who) (st .queue) h)
+        go false = calm-said _ a b _ (record { repeats = (tt, tt); again = tt; untold = λ x. refl; known = k })
+
+    newcomer-said : placeOf (r .who) st ≡ none → Said (callRequest r) a b (newcomer st r)
+    unfolding newcomer
+    newcomer-said h = eToG-said h (lowest isFree (st .slots))
+
+    dToG-said : (o : Option ℕ) → placeOf (r .who) st ≡ o → countQ (r .who) (st .queue) ≤ 1 → Said (callRequest r) a b (dToG st r o)
+    unfolding dToG
+    dToG-said none h m = newcomer-said h
+    dToG-said (some j) h m = ruleD-said j h m
+
+  -- ── rules b and c ──────────────────────────────────────────────────────────
+
+  afresh-calm : (i : ℕ) (st : Station) → Known a st → Calm (callRequest r) a b (afresh i st r)
+  unfolding afresh
+  afresh-calm i st k = record { repeats = (refl, tt); again = tt; untold = λ x. refl; known = set-known (callRequest r) a b i (offerOf r st) st tt k }
+
+  repeated-calm : (i : ℕ) (st : Station) → Known a st → Calm (callRequest r) a b (repeated i st r)
+  unfolding repeated
+  repeated-calm i st k = record { repeats = (refl, tt); again = tt; untold = λ x. refl; known = k }
+
+-- what is said behind a calm piece
+told-append : (x : Party) (ds es : List Deed) → toldToWait x ds ≡ false → toldToWait x (ds ++ es) ≡ toldToWait x es
+told-append x [] es h = refl
+told-append x (d ∷ ds) es h = go (putsOff x d) h (told-append x ds es)
+  where
+    go : (b : Bool) → (b || toldToWait x ds) ≡ false → (toldToWait x ds ≡ false → toldToWait x (ds ++ es) ≡ toldToWait x es) → (b || toldToWait x (ds ++ es)) ≡ toldToWait x es
+    go true e ih = let y : true ≡ false = e in cc
+    go false e ih = ih e
+
+also-said : (h : Heard) (a : Party → Heard) (b : Book) (p o : Out) → Calm h a b p → Again b (deedsOf (p .acts ++ o .acts)) → Said h a b o → Said h a b (also (p .acts) o)
+also-said h a b p o c f s = record {
+  repeats = rw (deeds-append (p .acts) (o .acts)) (each-append (Repeats h a) (deedsOf (p .acts)) (deedsOf (o .acts)) (c .repeats) (s .repeats));
+  again = f;
+  known = subst (λ z. Known z (o .next)) (λ i x. cond (sym (same-told x) i) h (a x)) (s .known);
+}
+  where
+    same-told : (x : Party) → toldToWait x (deedsOf (p .acts ++ o .acts)) ≡ toldToWait x (deedsOf (o .acts))
+    same-told x = ap (toldToWait x) (deeds-append (p .acts) (o .acts)) ∙ told-append x (deedsOf (p .acts)) (deedsOf (o .acts)) (c .untold x)
+
+-- the coast's end begins with the release of the line
+coastEnd-first : (i : ℕ) (r : Request) (g : Stage) (st : Station) (b : Book) (l : List Action) → Again b (deedsOf (coastEnd i r g st .acts ++ l))
+unfolding coastEnd
+coastEnd-first i r (dialling d) st b l = tt
+coastEnd-first i r (answered t) st b l = tt
+
+freedFor-fewer : (i : ℕ) (x : Party) (st : Station) (q : List Waiting) → st .queue ≡ q → countQ x (st .queue) ≤ 1 → countQ x (freedFor i st q .next .queue) ≤ 1
+unfolding freedFor rungBack setSlot setQueue
+freedFor-fewer i x st [] e n = n
+freedFor-fewer i x st (w ∷ q) e n = let m : bit (is x (w .request .who)) + countQ x q ≤ 1 = rw e at n in omega arith
+
+coastEnd-fewer : (i : ℕ) (x : Party) (o : Request) (g : Stage) (st : Station) → countQ x (st .queue) ≤ 1 → countQ x (coastEnd i o g st .next .queue) ≤ 1
+unfolding coastEnd freed
+coastEnd-fewer i x o g st n = freedFor-fewer i x st (st .queue) refl n
+
+module _ (r : Request) (a : Party → Heard) (b : Book) (st : Station) (k : Known a st) (once : Once st) where
+  waits-once : countQ (r .who) (st .queue) ≤ 1
+  waits-once = omega (arith, once (r .who))
+
+  ruleC-said : (i : ℕ) (o : Request) (g : Stage) (m : Mode) (c : Option ℕ) → owns (r .who) (getD (st .slots) i free) ≡ true → Said (callRequest r) a b (ruleC i o g m c st r)
+  unfolding ruleC redial
+  ruleC-said i o g duplex c h = calm-said _ a b _ (still (callRequest r) a b 1 st k)
+  ruleC-said i o g simplex none h = calm-said _ a b _ (still (callRequest r) a b 1 st k)
+  ruleC-said i o g simplex (some d) h =
+      let end = coastEnd-calm (callRequest r) a b i st k o g in
+      also-said (callRequest r) a b (coastEnd i o g st) _ end (coastEnd-first i o g st b _) (dToG-said r a b (coastEnd i o g st .next) (end .known) (coastEnd-gone i (r .who) o g st once h) (placeOf (r .who) (coastEnd i o g st .next)) refl (coastEnd-fewer i (r .who) o g st waits-once))
+
+  ruleB-calm : (i : ℕ) (j : Kind) (o : Request) → Calm (callRequest r) a b (ruleB i j o st r)
+  unfolding ruleB
+  ruleB-calm i offered o = calm-if (callRequest r) a b (same r o) (repeated i st r) (afresh i st r) (repeated-calm r a b i st k) (afresh-calm r a b i st k)
+  ruleB-calm i firstRing o = afresh-calm r a b i st k
+  ruleB-calm i secondRing o = afresh-calm r a b i st k
+  ruleB-calm i acknowledged o = afresh-calm r a b i st k
+
+  bOrC-said : (i : ℕ) (p : Slot) → getD (st .slots) i free ≡ p → owns (r .who) p ≡ true → Said (callRequest r) a b (bOrC i p st r)
+  unfolding bOrC
+  bOrC-said i free e h = calm-said _ a b _ (still (callRequest r) a b 1 st k)
+  bOrC-said i taken e h = calm-said _ a b _ (still (callRequest r) a b 1 st k)
+  bOrC-said i (pending j o d) e h = calm-said _ a b _ (ruleB-calm i j o)
+  bOrC-said i (busy o g c) e h = ruleC-said i o g (o .mode) c (rw e h)
+  bOrC-said i (held o n d) e h = calm-said _ a b _ (still (callRequest r) a b 1 st k)
+
+  request-said : (o q : Option ℕ) → slotOf (r .who) st ≡ o → placeOf (r .who) st ≡ q → Said (callRequest r) a b (requested st r (standsAt o q))
+  unfolding requested
+  request-said none none e h = newcomer-said r a b st k (none-count (r .who) (st .slots) e) h
+  request-said none (some j) e h = ruleD-said r a b st k (none-count (r .who) (st .slots) e) j h waits-once
+  request-said (some i) q e h = bOrC-said i (getD (st .slots) i free) refl (lowest-is free (owns (r .who)) (st .slots) i e)
+
+-- ── any event ────────────────────────────────────────────────────────────────
+
+module _ (a : Party → Heard) where
+  heard-said : (b : Book) (st : Station) → Known a st → Once st → (m : Heard) → Said m a b (heardOn70 st m)
+  unfolding heardOn70 ruleA standing
+  heard-said b st k once (callRequest r) = request-said r a b st k once (slotOf (r .who) st) (placeOf (r .who) st) refl refl
+  heard-said b st k once (dataRequest x n) = calm-said _ a b _ (record { repeats = (tt, tt); again = tt; untold = λ x. refl; known = k })
+  heard-said b st k once (bq i x) = calm-said _ a b _ (agree-calm (bq i x) a b i st k x (getD (st .slots) i free))
+  heard-said b st k once (workingCall x) = calm-said _ a b _ (still (workingCall x) a b 1 st k)
+  heard-said b st k once (endOfCall x) = calm-said _ a b _ (still (endOfCall x) a b 1 st k)
+  heard-said b st k once nothing = calm-said _ a b _ (still nothing a b 1 st k)
+
+  act-said : (cfg : Config) (st : Station) → Known a st → Once st → (t : ℕ) (w : What) → Said (heardAt cfg w) a (seen st) (actAt cfg st t w)
+  unfolding actAt setClock seen
+  act-said cfg st k once t tick = calm-said _ a (seen st) _ (tick-calm nothing a (seen st) st refl k t (fires t st))
+  act-said cfg st k once t (onChannel70 m) = heard-said (seen st) (setClock t st) (clock-known nothing a (seen st) t st k) once (meaning cfg m)
+  act-said cfg st k once t (onSlot i h) = calm-said _ a (seen st) _ (happened-calm nothing a (seen st) i (setClock t st) (clock-known nothing a (seen st) t st k) refl cfg (getD (st .slots) i free) refl h)
+
+-- ── the run ──────────────────────────────────────────────────────────────────
+
+next-said : (cfg : Config) (a : Party → Heard) (st : Station) (e : Event) → Known a st → verdict cfg st e ≡ none → Said (heardAt cfg (e .what)) a (seen st) (act cfg st e)
+next-said cfg a st e k v = act-said a cfg st k (distinct-once st (sounds cfg st (accepted cfg st e v .is-sound) .no-twice)) (e .time) (e .what)
+
+-- of one entry, where a is what was asked for before it, and b the book before it
+record Answered (cfg : Config) (a : Party → Heard) (b : Book) (n : Note) : Type 0 where
+  repeats : Each (Repeats (heardIn cfg n) a) (n .deeds)
+  again : Again b (n .deeds)
+
+-- of every entry of a list, where a is what was asked for before the list, and b the book before it
+abbrev AllAnswered : Config → (Party → Heard) → Book → List Note → Type 0
+AllAnswered cfg a b l = (before : List Note) (n : Note) (after : List Note) → l ≡ before ++ n ∷ after → Answered cfg (λ x. lastAsked cfg x (a x) before) (readAll cfg before b) n
+
+none-answered : (cfg : Config) (a : Party → Heard) (b : Book) → AllAnswered cfg a b []
+none-answered cfg a b [] n after e = let y : _≡_ {A = ℕ} 0 1 = cc in absurd (omega arith)
+none-answered cfg a b (m ∷ before) n after e = let y : _≡_ {A = ℕ} 0 1 = cc in absurd (omega arith)
+
+one-more : (cfg : Config) (a : Party → Heard) (b : Book) (m : Note) (l : List Note) → Answered cfg a b m → AllAnswered cfg (told (heardIn cfg m) a (m .deeds)) (turn cfg b m) l → AllAnswered cfg a b (m ∷ l)
+unfolding lastAsked readAll
+one-more cfg a b m l p f [] n after e = let y : m ≡ n = cc in rw (← y) p
+one-more cfg a b m l p f (o ∷ before) n after e = let y : m ≡ o = cc in let z : l ≡ before ++ n ∷ after = cc in rw (← y) (f before n after z)
+
+run-answered : (cfg : Config) (es : List Event) (a : Party → Heard) (st : Station) → Known a st → AllAnswered cfg a (seen st) (notes (play cfg es st))
+unfolding play notes
+run-answered cfg [] a st k = none-answered cfg a (seen st)
+run-answered cfg (e ∷ es) a st k = go (verdict cfg st e) refl (λ c s. run-answered cfg es c s)
+  where
+    go : (o : Option ℕ) → verdict cfg st e ≡ o → ((c : Party → Heard) (s : Station) → Known c s → AllAnswered cfg c (seen s) (notes (play cfg es s))) → AllAnswered cfg a (seen st) (notes (play cfg (e ∷ es) st))
+    go none v ih =
+        let s = next-said cfg a st e k v in
+        let n = noteOf e (act cfg st e .acts) in
+        let rest = notes (play cfg es (act cfg st e .next)) in
+        rw (play-on cfg e es st v) (one-more cfg a (seen st) n rest (record { repeats = s .repeats; again = s .again }) (rw (turn-is cfg st e v) (ih (told (heardIn cfg n) a (n .deeds)) (act cfg st e .next) (s .known))))
+    go (some n) v ih = rw (play-past cfg e es st n v) (ih a st k)
+
+no-rings : (a : Party → Heard) (n : ℕ) → Each (Rung a) (replicate n free)
+no-rings a zero = tt
+no-rings a (suc n) = (tt, no-rings a n)
+
+all-answered : (cfg : Config) (es : List Event) → AllAnswered cfg (λ x. nothing) (blankBook cfg) (notes (play cfg es (fresh cfg)))
+unfolding fresh
+all-answered cfg es = rw (← (fresh-seen cfg)) (run-answered cfg es (λ x. nothing) (fresh cfg) (record { waiting = tt; ringing = no-rings (λ x. nothing) (length (cfg .channels)) }))
+
+-- every acknowledgement and every ring-back repeats what was asked
+pub answers-repeat : AnswersRepeat
+unfolding AnswersRepeat
+answers-repeat cfg set es before n after e = all-answered cfg es before n after e .repeats
+
+-- and the second ring-back repeats the first
+pub second-ring-repeats : SecondRingRepeats
+unfolding SecondRingRepeats
+second-ring-repeats cfg set es before n after e i r ds h = rw h at (all-answered cfg es before n after e .again)
+
+-- and the number dialled is the one asked for
+pub dials-asked : DialsAsked
+unfolding DialsAsked
+dials-asked cfg set es before n after e i digits ds h = rw h at (all-answered cfg es before n after e .again)
