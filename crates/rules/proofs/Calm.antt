@@ -3,9 +3,9 @@ use mathlib.Core.Path.{_≡_, refl, ap, _∙_}
 use mathlib.Core.List.{List, [], _∷_, map}
 use mathlib.Core.Bool.{Bool, true, false, cond}
 use mathlib.Core.Option.{Option, none, some}
-use Prim.Native.Nat.{ℕ, zero, suc}
+use Prim.Native.Nat.{ℕ}
 use lib.ListN.{getD, List·getD-map}
-use Rattle.rules.specs.Places.{modAt, dropAt, Each}
+use Rattle.rules.specs.Places.{dropAt, Each}
 use Rattle.rules.specs.Words.{Party, is, Request, Config, Happened, heard, offHook, onHook, carrierUp, carrierDown, takes, givesBack, Deed}
 use Rattle.rules.specs.Waits.{Wait, ofQueue, loss, main, Due}
 use Rattle.rules.specs.Heard.{Heard, callRequest, dataRequest, bq, workingCall, endOfCall, nothing, meaning}
@@ -16,6 +16,7 @@ use Rattle.rules.specs.Book.{silent, Line, Book, atLine, line}
 use Rattle.rules.specs.Reading.{letGo, hush}
 use Rattle.rules.specs.Repeated.{toldToWait, Repeats, RingsSame, DialsNamed, EachRead}
 use Rattle.rules.specs.Statement.{deedsOf}
+use Rattle.rules.proofs.PlaceLaws.{each-set, each-at, each-dropped}
 use Rattle.rules.proofs.Base.{view}
 use Rattle.rules.proofs.Laws.{there}
 
@@ -49,21 +50,6 @@ pub record Calm (h : Heard) (a : Party → Heard) (b : Book) (o : Out) : Type 0 
   pub fits : (t : ℕ) (on : Option ℕ) → EachRead Fits t on b (deedsOf (o .acts))
   pub untold : (x : Party) → toldToWait x (deedsOf (o .acts)) ≡ false
   pub known : Known a (o .next)
-
-each-set : {A : Type 0} (P : A → Type 0) (i : ℕ) (x : A) (l : List A) → P x → Each P l → Each P (modAt (λ y. x) i l)
-each-set P i x [] p k = tt
-each-set P zero x (y ∷ l) p k = (p, k .1)
-each-set P (suc i) x (y ∷ l) p k = (k .0, each-set P i x l p (k .1))
-
-each-at : {A : Type 0} (P : A → Type 0) (d : A) → P d → (i : ℕ) (l : List A) → Each P l → P (getD l i d)
-each-at P d p i [] k = p
-each-at P d p zero (y ∷ l) k = k .0
-each-at P d p (suc i) (y ∷ l) k = each-at P d p i l (k .1)
-
-each-dropped : {A : Type 0} (P : A → Type 0) (i : ℕ) (l : List A) → Each P l → Each P (dropAt i l)
-each-dropped P i [] k = tt
-each-dropped P zero (y ∷ l) k = k .1
-each-dropped P (suc i) (y ∷ l) k = (k .0, each-dropped P i l (k .1))
 
 -- ── the pieces ───────────────────────────────────────────────────────────────
 
