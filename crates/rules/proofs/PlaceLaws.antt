@@ -94,3 +94,18 @@ each-append P (x ∷ a) b h k = (h .0, each-append P a b (h .1) k)
 pub each-weaken : {A : Type 0} (P Q : A → Type 0) → ((x : A) → P x → Q x) → (l : List A) → Each P l → Each Q l
 each-weaken P Q f [] h = tt
 each-weaken P Q f (x ∷ l) h = (f x (h .0), each-weaken P Q f l (h .1))
+
+pub each-set : {A : Type 0} (P : A → Type 0) (i : ℕ) (x : A) (l : List A) → P x → Each P l → Each P (modAt (λ y. x) i l)
+each-set P i x [] p k = tt
+each-set P zero x (y ∷ l) p k = (p, k .1)
+each-set P (suc i) x (y ∷ l) p k = (k .0, each-set P i x l p (k .1))
+
+pub each-at : {A : Type 0} (P : A → Type 0) (d : A) → P d → (i : ℕ) (l : List A) → Each P l → P (getD l i d)
+each-at P d p i [] k = p
+each-at P d p zero (y ∷ l) k = k .0
+each-at P d p (suc i) (y ∷ l) k = each-at P d p i l (k .1)
+
+pub each-dropped : {A : Type 0} (P : A → Type 0) (i : ℕ) (l : List A) → Each P l → Each P (dropAt i l)
+each-dropped P i [] k = tt
+each-dropped P zero (y ∷ l) k = k .1
+each-dropped P (suc i) (y ∷ l) k = (k .0, each-dropped P i l (k .1))
