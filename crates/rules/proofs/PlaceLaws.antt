@@ -94,3 +94,7 @@ each-append P (x ∷ a) b h k = (h .0, each-append P a b (h .1) k)
 pub each-weaken : {A : Type 0} (P Q : A → Type 0) → ((x : A) → P x → Q x) → (l : List A) → Each P l → Each Q l
 each-weaken P Q f [] h = tt
 each-weaken P Q f (x ∷ l) h = (f x (h .0), each-weaken P Q f l (h .1))
+
+pub each-of : {A : Type 0} (f : A → Bool) (P : A → Type 0) → ((x : A) → f x ≡ true → P x) → (l : List A) → all f l ≡ true → Each P l
+each-of f P g [] h = tt
+each-of f P g (x ∷ l) h = let a = and-true (f x) (all f l) h in (g x (a .0), each-of f P g l (a .1))

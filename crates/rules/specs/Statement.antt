@@ -135,25 +135,42 @@ AlwaysSound = OfEveryRun (λ c es. sound c (stationAfter c es) ≡ true)
 unfoldable pub AlwaysFits : Type 0
 AlwaysFits = OfEveryRun (λ c es. (length (stationAfter c es .slots) ≤ 16) × (length (stationAfter c es .queue) ≤ 32))
 
--- "dial", "release line" and off-hook alone say of every slot what the book says of its line, after every entry
-unfoldable pub Literally : Type 0
-Literally = OfEveryRun (λ c es. (i : ℕ) → i < length (c .channels) → wordAfter i (listOf c es) idle ≡ wordOf (line (bookOf c es) i .call))
+-- what holds of every run's list
+abbrev pub OfEveryList : (Config → List Note → Type 0) → Type 0
+OfEveryList P = OfEveryRun (λ c es. P c (listOf c es))
 
--- what holds of every entry n of every run's list, with the entries before it
-abbrev pub OfEveryEntry : (Config → List Note → Note → Type 0) → Type 0
-OfEveryEntry P = OfEveryRun (λ c es. (before : List Note) (n : Note) (after : List Note) → listOf c es ≡ before ++ n ∷ after → P c before n)
+-- "dial", "release line" and off-hook alone say of every slot what the book says of its line, after the last entry
+abbrev pub WordsAgree : Config → List Note → Type 0
+WordsAgree c ns = (i : ℕ) → i < length (c .channels) → wordAfter i ns idle ≡ wordOf (line (readAll c ns (blankBook c)) i .call)
+
+-- of every list, so after every entry
+unfoldable pub Literally : Type 0
+Literally = OfEveryList WordsAgree
+
+-- what holds of every entry n of a list, with the entries before it
+abbrev pub AtEveryEntry : (Config → List Note → Note → Type 0) → Config → List Note → Type 0
+AtEveryEntry P c ns = (before : List Note) (n : Note) (after : List Note) → ns ≡ before ++ n ∷ after → P c before n
 
 -- an acknowledgement repeats the call request that its own entry heard, a ring-back the one that its ship was last told to wait with
+abbrev pub AnsweredAsAsked : Config → List Note → Note → Type 0
+AnsweredAsAsked c before n = Each (Repeats (heardIn c n) (λ x. lastAsked c x nothing before)) (n .deeds)
+
 unfoldable pub AnswersRepeat : Type 0
-AnswersRepeat = OfEveryEntry (λ c before n. Each (Repeats (heardIn c n) (λ x. lastAsked c x nothing before)) (n .deeds))
+AnswersRepeat = OfEveryList (AtEveryEntry AnsweredAsAsked)
 
 -- a ring-back that its entry begins with, the second sending, repeats the one that channel 70 last carried about that slot
+abbrev pub RungAgainAsBefore : Config → List Note → Note → Type 0
+RungAgainAsBefore c before n = (i : ℕ) (r : Request) (ds : List Deed) → n .deeds ≡ ringBack i r ∷ ds → line (readAll c before (blankBook c)) i .said ≡ toldRQ r
+
 unfoldable pub SecondRingRepeats : Type 0
-SecondRingRepeats = OfEveryEntry (λ c before n. (i : ℕ) (r : Request) (ds : List Deed) → n .deeds ≡ ringBack i r ∷ ds → line (readAll c before (blankBook c)) i .said ≡ toldRQ r)
+SecondRingRepeats = OfEveryList (AtEveryEntry RungAgainAsBefore)
 
 -- a number that is dialled is that of the request which channel 70 last named for that slot
+abbrev pub DialledAsAsked : Config → List Note → Note → Type 0
+DialledAsAsked c before n = (i : ℕ) (digits : List ℕ) (ds : List Deed) → n .deeds ≡ dial i digits ∷ ds → Dials digits (line (readAll c before (blankBook c)) i .said)
+
 unfoldable pub DialsAsked : Type 0
-DialsAsked = OfEveryEntry (λ c before n. (i : ℕ) (digits : List ℕ) (ds : List Deed) → n .deeds ≡ dial i digits ∷ ds → Dials digits (line (readAll c before (blankBook c)) i .said))
+DialsAsked = OfEveryList (AtEveryEntry DialledAsAsked)
 
 -- while a ship waits no slot is free
 unfoldable pub NoChannelIdle : Type 0
