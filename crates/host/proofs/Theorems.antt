@@ -12,7 +12,8 @@ use Rattle.sequence.proofs.Tests.{Either, yes!, no!, which}
 use Rattle.rules.specs.Places.{Each}
 use Rattle.rules.specs.Words.{Config, Event}
 use Rattle.rules.specs.Sound.{configKeeps}
-use Rattle.rules.specs.Statement.{notes, WordsAgree, AtEveryEntry, AnsweredAsAsked, RungAgainAsBefore, DialledAsAsked}
+use Rattle.rules.specs.Statement.{notes, WordsAgree, EveryEntry}
+use Rattle.rules.specs.Repeated.{Answers, RingsSame, DialsNamed, DeedByDeed}
 use Rattle.rules.specs.Verdict.{setUpVerdict, Entry}
 use Rattle.station.specs.declared.Station.{Station}
 use Rattle.station.specs.declared.Stepped.{Stepped}
@@ -134,15 +135,15 @@ host-literally = carried (λ c es s. WordsAgree c (notes es)) rack-literally
 
 pub host-answers-repeat : HostAnswersRepeat
 unfolding HostAnswersRepeat RackAnswersRepeat
-host-answers-repeat = carried (λ c es s. AtEveryEntry AnsweredAsAsked c (notes es)) rack-answers-repeat
+host-answers-repeat = carried (λ c es s. EveryEntry Answers c (notes es)) rack-answers-repeat
 
 pub host-second-ring-repeats : HostSecondRingRepeats
 unfolding HostSecondRingRepeats RackSecondRingRepeats
-host-second-ring-repeats = carried (λ c es s. AtEveryEntry RungAgainAsBefore c (notes es)) rack-second-ring-repeats
+host-second-ring-repeats = carried (λ c es s. EveryEntry (DeedByDeed RingsSame) c (notes es)) rack-second-ring-repeats
 
 pub host-dials-asked : HostDialsAsked
 unfolding HostDialsAsked RackDialsAsked
-host-dials-asked = carried (λ c es s. AtEveryEntry DialledAsAsked c (notes es)) rack-dials-asked
+host-dials-asked = carried (λ c es s. EveryEntry (DeedByDeed DialsNamed) c (notes es)) rack-dials-asked
 
 pub host-no-channel-idle : HostNoChannelIdle
 unfolding HostNoChannelIdle RackNoChannelIdle

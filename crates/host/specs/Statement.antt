@@ -8,7 +8,8 @@ use contract.Lifetimes.{Lfts}
 use Rattle.rules.specs.Places.{Each}
 use Rattle.rules.specs.Words.{Config}
 use Rattle.rules.specs.Verdict.{Entry}
-use Rattle.rules.specs.Statement.{notes, WordsAgree, AtEveryEntry, AnsweredAsAsked, RungAgainAsBefore, DialledAsAsked}
+use Rattle.rules.specs.Statement.{notes, WordsAgree, EveryEntry}
+use Rattle.rules.specs.Repeated.{Answers, RingsSame, DialsNamed, DeedByDeed}
 use Rattle.station.specs.declared.Station.{Station}
 use Rattle.lent.specs.Stations.{stationFrom}
 use Rattle.exchange.proofs.setting.coast_set_up.Reads as set-up
@@ -47,13 +48,13 @@ HostLiterally = OfEveryHost (λ c es s. WordsAgree c (notes es))
 
 -- what is acknowledged, rung back, rung back again and dialled is what was heard
 unfoldable pub HostAnswersRepeat : Type 0
-HostAnswersRepeat = OfEveryHost (λ c es s. AtEveryEntry AnsweredAsAsked c (notes es))
+HostAnswersRepeat = OfEveryHost (λ c es s. EveryEntry Answers c (notes es))
 
 unfoldable pub HostSecondRingRepeats : Type 0
-HostSecondRingRepeats = OfEveryHost (λ c es s. AtEveryEntry RungAgainAsBefore c (notes es))
+HostSecondRingRepeats = OfEveryHost (λ c es s. EveryEntry (DeedByDeed RingsSame) c (notes es))
 
 unfoldable pub HostDialsAsked : Type 0
-HostDialsAsked = OfEveryHost (λ c es s. AtEveryEntry DialledAsAsked c (notes es))
+HostDialsAsked = OfEveryHost (λ c es s. EveryEntry (DeedByDeed DialsNamed) c (notes es))
 
 -- while a ship waits no slot in use is free
 unfoldable pub HostNoChannelIdle : Type 0

@@ -16,7 +16,8 @@ use Rattle.rules.specs.Calls.{act}
 use Rattle.rules.specs.Book.{Note}
 use Rattle.rules.specs.Bytes.{blocks}
 use Rattle.rules.specs.Verdict.{setUpVerdict, final}
-use Rattle.rules.specs.Statement.{notes, OfEveryList, ChargesAreStops, TenthsAgree, AlwaysSound, Literally, WordsAgree, AtEveryEntry, AnsweredAsAsked, AnswersRepeat, RungAgainAsBefore, SecondRingRepeats, DialledAsAsked, DialsAsked, NoChannelIdle, stationAfter}
+use Rattle.rules.specs.Statement.{notes, OfEveryList, ChargesAreStops, TenthsAgree, AlwaysSound, Literally, WordsAgree, EveryEntry, AnswersRepeat, SecondRingRepeats, DialsAsked, NoChannelIdle, stationAfter}
+use Rattle.rules.specs.Repeated.{Answers, RingsSame, DialsNamed, DeedByDeed}
 use Rattle.rules.proofs.Run.{charges-are-stops}
 use Rattle.rules.proofs.Tenths.{tenths-agree}
 use Rattle.rules.proofs.Kept.{always-sound}
@@ -83,15 +84,15 @@ rack-literally = carried WordsAgree literally
 
 pub rack-answers-repeat : RackAnswersRepeat
 unfolding RackAnswersRepeat AnswersRepeat
-rack-answers-repeat = carried (AtEveryEntry AnsweredAsAsked) answers-repeat
+rack-answers-repeat = carried (EveryEntry Answers) answers-repeat
 
 pub rack-second-ring-repeats : RackSecondRingRepeats
 unfolding RackSecondRingRepeats SecondRingRepeats
-rack-second-ring-repeats = carried (AtEveryEntry RungAgainAsBefore) second-ring-repeats
+rack-second-ring-repeats = carried (EveryEntry (DeedByDeed RingsSame)) second-ring-repeats
 
 pub rack-dials-asked : RackDialsAsked
 unfolding RackDialsAsked DialsAsked
-rack-dials-asked = carried (AtEveryEntry DialledAsAsked) dials-asked
+rack-dials-asked = carried (EveryEntry (DeedByDeed DialsNamed)) dials-asked
 
 -- a station that was laid out for a model with no free slot while a ship waits
 laid-idle : (c : Config) (m : R.Station) → Fits c m → ((w : R.Waiting) (q : List R.Waiting) → m .queue ≡ w ∷ q → lowest isFree (m .slots) ≡ none) → NoneIdle (imageOf c m)

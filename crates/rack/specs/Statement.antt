@@ -16,7 +16,8 @@ use Rattle.rules.specs.Bytes.{block, blocks}
 use Rattle.rules.specs.Book.{blankBook}
 use Rattle.rules.specs.Reading.{stops, counted}
 use Rattle.rules.specs.Printed.{printed}
-use Rattle.rules.specs.Statement.{notes, charged, owedFor, tenthsIn, stationAfter, WordsAgree, AtEveryEntry, AnsweredAsAsked, RungAgainAsBefore, DialledAsAsked}
+use Rattle.rules.specs.Statement.{notes, charged, owedFor, tenthsIn, stationAfter, WordsAgree, EveryEntry}
+use Rattle.rules.specs.Repeated.{Answers, RingsSame, DialsNamed, DeedByDeed}
 use Rattle.slots.specs.declared.Phase.{Phase}
 use Rattle.slots.specs.declared.Phase.the-variants.{Free, Offered, RingBack, RingAgain, Acknowledged, Dialling, Answered, Hold, Taken}
 use Rattle.slots.specs.declared.Slot.{Slot}
@@ -95,13 +96,13 @@ RackLiterally = OfEveryTrace (λ c es s. WordsAgree c (notes es))
 
 -- what is acknowledged, rung back, rung back again and dialled is what was heard
 unfoldable pub RackAnswersRepeat : Type 0
-RackAnswersRepeat = OfEveryTrace (λ c es s. AtEveryEntry AnsweredAsAsked c (notes es))
+RackAnswersRepeat = OfEveryTrace (λ c es s. EveryEntry Answers c (notes es))
 
 unfoldable pub RackSecondRingRepeats : Type 0
-RackSecondRingRepeats = OfEveryTrace (λ c es s. AtEveryEntry RungAgainAsBefore c (notes es))
+RackSecondRingRepeats = OfEveryTrace (λ c es s. EveryEntry (DeedByDeed RingsSame) c (notes es))
 
 unfoldable pub RackDialsAsked : Type 0
-RackDialsAsked = OfEveryTrace (λ c es s. AtEveryEntry DialledAsAsked c (notes es))
+RackDialsAsked = OfEveryTrace (λ c es s. EveryEntry (DeedByDeed DialsNamed) c (notes es))
 
 -- while a ship waits no slot in use is free
 abbrev pub NoneIdle : Station → Type 0

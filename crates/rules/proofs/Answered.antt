@@ -11,28 +11,24 @@ use Rattle.sequence.specs.declared.Answer.{Answer}
 use Rattle.sequence.specs.declared.Answer.the-variants.{Done, BadLength, BadSymbol, BadCheck, BadFormat, BadIdentities, BadCategory, BadTelecommands, BadField, BadNumber, BadEnd, ShortRoom}
 use Rattle.sequence.specs.Refusals.{Row, firstRefusal}
 use Rattle.sequence.specs.Answers.{answerNumber, isDone}
-use Rattle.rules.specs.Places.{all, Each}
+use Rattle.rules.specs.Places.{all, Each, elem}
 use Rattle.rules.specs.Words.{Config, Event}
 use Rattle.rules.specs.Station.{Station}
 use Rattle.rules.specs.Sound.{sound}
 use Rattle.rules.specs.Verdict.{readIn, refusals, verdict}
 use Rattle.rules.specs.Statement.{ZeroOrOne}
-use Rattle.rules.proofs.PlaceLaws.{each-of}
+use Rattle.rules.proofs.PlaceLaws.{all-elem}
 use Rattle.rules.proofs.Accepted.{accepted}
 use Rattle.rules.proofs.Eight.{answers-few}
 
--- the reader's numbers, and those of the tests behind 29
-abbrev readerNumbers : List ℕ
-readerNumbers = 11 ∷ 12 ∷ 13 ∷ 14 ∷ 15 ∷ 16 ∷ 17 ∷ 18 ∷ 19 ∷ 20 ∷ 21 ∷ []
+-- the number of every refusal but 29
+abbrev pub otherNumbers : List ℕ
+otherNumbers = 11 ∷ 12 ∷ 13 ∷ 14 ∷ 15 ∷ 16 ∷ 17 ∷ 18 ∷ 19 ∷ 20 ∷ 21 ∷ 30 ∷ 31 ∷ 32 ∷ 33 ∷ 34 ∷ 35 ∷ []
 
-abbrev laterNumbers : List ℕ
-laterNumbers = 30 ∷ 31 ∷ 32 ∷ 33 ∷ 34 ∷ 35 ∷ []
-
--- ── what every number of a refusal passes ────────────────────────────────────
-
-module _ (p : ℕ → Bool) where
-  abbrev Passes : ℕ → Type 0
-  Passes n = p n ≡ true
+-- a test that all of them pass
+module _ (p : ℕ → Bool) (others : all p otherNumbers ≡ true) where
+  other : (k : ℕ) → elem eqb k otherNumbers ≡ true → p k ≡ true
+  other k h = all-elem p otherNumbers others k h
 
   abbrev GivesSuch : Row (Option ℕ) → Type 0
   GivesSuch r = r .holds ≡ false → (n : ℕ) → r .refusal ≡ some n → p n ≡ true
@@ -46,63 +42,47 @@ module _ (p : ℕ → Bool) where
       go true one h later = later h
       go false one h later = one refl n h
 
-  the-number : (k : ℕ) → p k ≡ true → (n : ℕ) → _≡_ {A = Option ℕ} (some k) (some n) → p n ≡ true
-  the-number k h n e = let q : k ≡ n = cc in rw (← q) h
+  one-such : (k : ℕ) → p k ≡ true → (n : ℕ) → _≡_ {A = Option ℕ} (some k) (some n) → p n ≡ true
+  one-such k h n e = let q : k ≡ n = cc in rw (← q) h
 
-  read-such : (a : Answer) → isDone a ≡ false → Each Passes readerNumbers → p (answerNumber a) ≡ true
-  read-such Done f h = cc
-  read-such BadLength f h = h .0
-  read-such BadSymbol f h = h .1 .0
-  read-such BadCheck f h = h .1 .1 .0
-  read-such BadFormat f h = h .1 .1 .1 .0
-  read-such BadIdentities f h = h .1 .1 .1 .1 .0
-  read-such BadCategory f h = h .1 .1 .1 .1 .1 .0
-  read-such BadTelecommands f h = h .1 .1 .1 .1 .1 .1 .0
-  read-such BadField f h = h .1 .1 .1 .1 .1 .1 .1 .0
-  read-such BadNumber f h = h .1 .1 .1 .1 .1 .1 .1 .1 .0
-  read-such BadEnd f h = h .1 .1 .1 .1 .1 .1 .1 .1 .1 .0
-  read-such ShortRoom f h = h .1 .1 .1 .1 .1 .1 .1 .1 .1 .1 .0
+  row-such : (k : ℕ) → elem eqb k otherNumbers ≡ true → (b : Bool) → b ≡ false → (n : ℕ) → _≡_ {A = Option ℕ} (some k) (some n) → p n ≡ true
+  row-such k h b f = one-such k (other k h)
 
-  pub refused-such : (c : Config) (st : Station) (e : Event) → (sound c st ≡ false → p 29 ≡ true) → all p readerNumbers ≡ true → all p laterNumbers ≡ true
-      → (n : ℕ) → verdict c st e ≡ some n → p n ≡ true
+  read-such : (a : Answer) → isDone a ≡ false → p (answerNumber a) ≡ true
+  read-such Done f = cc
+  read-such BadLength f = other 11 refl
+  read-such BadSymbol f = other 12 refl
+  read-such BadCheck f = other 13 refl
+  read-such BadFormat f = other 14 refl
+  read-such BadIdentities f = other 15 refl
+  read-such BadCategory f = other 16 refl
+  read-such BadTelecommands f = other 17 refl
+  read-such BadField f = other 18 refl
+  read-such BadNumber f = other 19 refl
+  read-such BadEnd f = other 20 refl
+  read-such ShortRoom f = other 21 refl
+
+  pub refused-such : (c : Config) (st : Station) (e : Event) → (sound c st ≡ false → p 29 ≡ true) → (n : ℕ) → verdict c st e ≡ some n → p n ≡ true
   unfolding verdict refusals
-  refused-such c st e unsound read later =
-      let l = each-of p Passes (λ k h. h) laterNumbers later in
+  refused-such c st e unsound =
+      let read = readIn (e .what) in
       first-such (refusals c st e) (
-        λ f. the-number 29 (unsound f),
-        (
-          λ f. the-number 30 (l .0),
-          (
-            λ f. the-number 31 (l .1 .0),
-            (
-              λ f. the-number 32 (l .1 .1 .0),
-              (
-                λ f. the-number 33 (l .1 .1 .1 .0),
-                (
-                  λ f. the-number 34 (l .1 .1 .1 .1 .0),
-                  (
-                    λ f. the-number (answerNumber (readIn (e .what))) (read-such (readIn (e .what)) f (each-of p Passes (λ k h. h) readerNumbers read)),
-                    (λ f. the-number 35 (l .1 .1 .1 .1 .1 .0), tt),
-                  ),
-                ),
-              ),
-            ),
-          ),
-        ),
+        λ f. one-such 29 (unsound f),
+        (row-such 30 refl _, (row-such 31 refl _, (row-such 32 refl _, (row-such 33 refl _, (row-such 34 refl _, (λ f. one-such (answerNumber read) (read-such read f), (row-such 35 refl _, tt))))))),
       )
 
 pub zero-or-one : ZeroOrOne
 unfolding ZeroOrOne
 zero-or-one c st e = (
   λ v. answers-few c st e (accepted c st e v .is-sound),
-  λ n v. leb-true 11 n (refused-such (leb 11) c st e (λ f. refl) refl refl n v),
+  λ n v. leb-true 11 n (refused-such (leb 11) refl c st e (λ f. refl) n v),
 )
 
--- 29 is for a station that is not sound
+-- a sound station answers no event with 29
 pub sound-not-29 : (c : Config) (st : Station) (e : Event) → sound c st ≡ true → (n : ℕ) → verdict c st e ≡ some n → n ≡ 29 → ⊥
 sound-not-29 c st e s n v h =
     let unsound : sound c st ≡ false → not (eqb 29 29) ≡ true = λ f. cc in
-    let k : not (eqb n 29) ≡ true = refused-such (λ n. not (eqb n 29)) c st e unsound refl refl n v in
+    let k : not (eqb n 29) ≡ true = refused-such (λ k. not (eqb k 29)) refl c st e unsound n v in
     let z : not true ≡ true = rw (eq-eqb n 29 h) at k in
     let q : _≡_ {A = ℕ} 0 1 = cc in
     omega (arith, q)

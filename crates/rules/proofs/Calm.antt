@@ -3,19 +3,22 @@ use mathlib.Core.Path.{_≡_, refl, ap, _∙_}
 use mathlib.Core.List.{List, [], _∷_, map}
 use mathlib.Core.Bool.{Bool, true, false, cond}
 use mathlib.Core.Option.{Option, none, some}
-use Prim.Native.Nat.{ℕ, zero, suc}
+use Prim.Native.Nat.{ℕ}
 use lib.ListN.{getD, List·getD-map}
-use Rattle.rules.specs.Places.{modAt, dropAt, Each}
-use Rattle.rules.specs.Words.{Party, is, Request, Config, Happened, heard, offHook, onHook, carrierUp, carrierDown, takes, givesBack, Deed, carrierOn, carrierOff, acknowledge, ringBack, unable, dial, releaseLine}
+use Rattle.rules.specs.Places.{dropAt, Each}
+use Rattle.rules.specs.Words.{Party, is, Request, Config, Happened, heard, offHook, onHook, carrierUp, carrierDown, takes, givesBack, Deed}
 use Rattle.rules.specs.Waits.{Wait, ofQueue, loss, main, Due}
 use Rattle.rules.specs.Heard.{Heard, callRequest, dataRequest, bq, workingCall, endOfCall, nothing, meaning}
 use Rattle.rules.specs.Station.{Kind, offered, firstRing, secondRing, acknowledged, Stage, dialling, answered, Slot, free, taken, pending, busy, held, Waiting, Station, setSlot, setClock, setQueue, dueAfter, kindWait, replyWait, holdWait}
 use Rattle.rules.specs.Requests.{Out, ignored, rungBack, freedFor, freed, lasted, coastEnd}
 use Rattle.rules.specs.Calls.{dialNow, workingKind, workingOn, agreed, bqKind, bqFor, offHookStage, offHookOn, startLoss, downOn, upOn, shipEnd, sayAgain, shipEndOn, endOn, takeOn, giveOn, offerDue, ringAgain, pendingDue, replyDue, mainOn, fire, ticked, heardOn, happenedOn}
-use Rattle.rules.specs.Book.{toldRQ, Line, Book, line}
-use Rattle.rules.specs.Repeated.{toldToWait, Repeats, Dials}
+use Rattle.rules.specs.Book.{silent, Line, Book, atLine, line}
+use Rattle.rules.specs.Reading.{letGo, hush}
+use Rattle.rules.specs.Repeated.{toldToWait, Repeats, RingsSame, DialsNamed, EachRead}
 use Rattle.rules.specs.Statement.{deedsOf}
+use Rattle.rules.proofs.PlaceLaws.{each-set, each-at, each-dropped}
 use Rattle.rules.proofs.Base.{view}
+use Rattle.rules.proofs.Laws.{there}
 
 -- ── what a station knows: a is what each ship last asked for that was told to wait ──
 
@@ -37,50 +40,20 @@ pub record Known (a : Party → Heard) (st : Station) : Type 0 where
   pub waiting : Each (Asked a) (st .queue)
   pub ringing : Each (Rung a) (st .slots)
 
--- a ring-back or a number dialled that comes first, where b is the book before the entry
-abbrev pub Again : Book → List Deed → Type 0
-Again b [] = Unit {0}
-Again b (carrierOn i ∷ ds) = Unit {0}
-Again b (carrierOff i ∷ ds) = Unit {0}
-Again b (acknowledge i r ∷ ds) = Unit {0}
-Again b (ringBack i r ∷ ds) = line b i .said ≡ toldRQ r
-Again b (unable n x digits ∷ ds) = Unit {0}
-Again b (dial i digits ∷ ds) = Dials digits (line b i .said)
-Again b (releaseLine i ∷ ds) = Unit {0}
+-- a deed that fits what channel 70 last said of its slot
+abbrev pub Fits : Option ℕ → Book → Deed → Type 0
+Fits on b d = RingsSame on b d × DialsNamed on b d
 
 -- an outcome that repeats, and tells nobody to wait
 pub record Calm (h : Heard) (a : Party → Heard) (b : Book) (o : Out) : Type 0 where
   pub repeats : Each (Repeats h a) (deedsOf (o .acts))
-  pub again : Again b (deedsOf (o .acts))
+  pub fits : (t : ℕ) (on : Option ℕ) → EachRead Fits t on b (deedsOf (o .acts))
   pub untold : (x : Party) → toldToWait x (deedsOf (o .acts)) ≡ false
   pub known : Known a (o .next)
 
-each-set : {A : Type 0} (P : A → Type 0) (i : ℕ) (x : A) (l : List A) → P x → Each P l → Each P (modAt (λ y. x) i l)
-each-set P i x [] p k = tt
-each-set P zero x (y ∷ l) p k = (p, k .1)
-each-set P (suc i) x (y ∷ l) p k = (k .0, each-set P i x l p (k .1))
-
-each-at : {A : Type 0} (P : A → Type 0) (d : A) → P d → (i : ℕ) (l : List A) → Each P l → P (getD l i d)
-each-at P d p i [] k = p
-each-at P d p zero (y ∷ l) k = k .0
-each-at P d p (suc i) (y ∷ l) k = each-at P d p i l (k .1)
-
-each-dropped : {A : Type 0} (P : A → Type 0) (i : ℕ) (l : List A) → Each P l → Each P (dropAt i l)
-each-dropped P i [] k = tt
-each-dropped P zero (y ∷ l) k = k .1
-each-dropped P (suc i) (y ∷ l) k = (k .0, each-dropped P i l (k .1))
-
 -- ── the pieces ───────────────────────────────────────────────────────────────
 
-module _ (h : Heard) (a : Party → Heard) (b : Book) where
-  pub calm-if : (t : Bool) (x y : Out) → Calm h a b x → Calm h a b y → Calm h a b (cond t x y)
-  calm-if true x y p q = p
-  calm-if false x y p q = q
-
-  -- no action
-  pub still : (n : ℕ) (st : Station) → Known a st → Calm h a b (record { answer = n; next = st; acts = [] })
-  still n st k = record { repeats = tt; again = tt; untold = λ x. refl; known = k }
-
+module _ (a : Party → Heard) where
   pub set-known : (i : ℕ) (q : Slot) (st : Station) → Rung a q → Known a st → Known a (setSlot i q st)
   unfolding setSlot
   set-known i q st p k = record { waiting = k .waiting; ringing = each-set (Rung a) i q (st .slots) p (k .ringing) }
@@ -89,31 +62,58 @@ module _ (h : Heard) (a : Party → Heard) (b : Book) where
   unfolding setQueue
   queue-known q st p k = record { waiting = p; ringing = k .ringing }
 
+  pub clock-known : (t : ℕ) (st : Station) → Known a st → Known a (setClock t st)
+  unfolding setClock
+  clock-known t st k = record { waiting = k .waiting; ringing = k .ringing }
+
+-- the carrier is off: channel 70 has said nothing
+hushed : (i : ℕ) (b : Book) → line (atLine i hush b) i .said ≡ silent
+hushed i b = ap (λ (l : Line). l .said) (there hush refl i (b .lines))
+
+module _ (h : Heard) (a : Party → Heard) (b : Book) (i : ℕ) (quiet : line b i .said ≡ silent) (st : Station) (k : Known a st) where
   -- the oldest is rung back with its request
-  freedFor-calm : (i : ℕ) (st : Station) → Known a st → (q : List Waiting) → st .queue ≡ q → Calm h a b (freedFor i st q)
+  freedFor-calm : (q : List Waiting) → st .queue ≡ q → Calm h a b (freedFor i st q)
   unfolding freedFor rungBack
-  freedFor-calm i st k [] e = still 0 (setSlot i free st) (set-known i free st tt k)
-  freedFor-calm i st k (w ∷ q) e =
+  freedFor-calm [] e = record { repeats = tt; fits = λ t on. tt; untold = λ x. refl; known = set-known a i free st tt k }
+  freedFor-calm (w ∷ q) e =
       let p : Each (Asked a) (w ∷ q) = rw e at (k .waiting) in
-      record { repeats = (tt, (p .0, tt)); again = tt; untold = λ x. refl; known = set-known i (pending firstRing (w .request) (dueAfter (st .clock) (kindWait firstRing))) (setQueue q st) (p .0) (queue-known q st (p .1) k) }
+      record {
+        repeats = (tt, (p .0, tt));
+        fits = λ t on. ((tt, tt), ((rw quiet refl, tt), tt));
+        untold = λ x. refl;
+        known = set-known a i (pending firstRing (w .request) (dueAfter (st .clock) (kindWait firstRing))) (setQueue q st) (p .0) (queue-known a q st (p .1) k);
+      }
+
+  freed-calm : Calm h a b (freed i st)
+  unfolding freed
+  freed-calm = freedFor-calm (st .queue) refl
+
+module _ (h : Heard) (a : Party → Heard) (b : Book) where
+  pub calm-if : (t : Bool) (x y : Out) → Calm h a b x → Calm h a b y → Calm h a b (cond t x y)
+  calm-if true x y p q = p
+  calm-if false x y p q = q
+
+  -- no action
+  pub still : (n : ℕ) (st : Station) → Known a st → Calm h a b (record { answer = n; next = st; acts = [] })
+  still n st k = record { repeats = tt; fits = λ t on. tt; untold = λ x. refl; known = k }
 
   module _ (i : ℕ) (st : Station) (k : Known a st) where
-    freed-calm : Calm h a b (freed i st)
-    unfolding freed
-    freed-calm = freedFor-calm i st k (st .queue) refl
+    -- behind the release of the line
+    released : Calm h a (atLine i hush (atLine i letGo b)) (freed i st)
+    released = freed-calm h a (atLine i hush (atLine i letGo b)) i (hushed i (atLine i letGo b)) st k
 
     pub coastEnd-calm : (r : Request) (g : Stage) → Calm h a b (coastEnd i r g st)
     unfolding coastEnd
-    coastEnd-calm r (dialling d) = let f = freed-calm in record { repeats = (tt, (tt, f .repeats)); again = tt; untold = f .untold; known = f .known }
-    coastEnd-calm r (answered b) = let f = freed-calm in record { repeats = (tt, (tt, f .repeats)); again = tt; untold = f .untold; known = f .known }
+    coastEnd-calm r (dialling d) = let f = released in record { repeats = (tt, (tt, f .repeats)); fits = λ t on. ((tt, tt), ((tt, tt), f .fits t none)); untold = f .untold; known = f .known }
+    coastEnd-calm r (answered s) = let f = released in record { repeats = (tt, (tt, f .repeats)); fits = λ t on. ((tt, tt), ((tt, tt), f .fits t none)); untold = f .untold; known = f .known }
 
     offerDue-calm : Calm h a b (offerDue i st)
     unfolding offerDue
-    offerDue-calm = let f = freed-calm in record { repeats = (tt, f .repeats); again = tt; untold = f .untold; known = f .known }
+    offerDue-calm = let f = freed-calm h a (atLine i hush b) i (hushed i b) st k in record { repeats = (tt, f .repeats); fits = λ t on. ((tt, tt), f .fits t none); untold = f .untold; known = f .known }
 
     -- nothing is done, and the slot becomes q
     turns : (n : ℕ) (q : Slot) → Rung a q → Calm h a b (record { answer = n; next = setSlot i q st; acts = [] })
-    turns n q p = still n (setSlot i q st) (set-known i q st p k)
+    turns n q p = still n (setSlot i q st) (set-known a i q st p k)
 
     said-is : b .lines ≡ map view (st .slots) → (p : Slot) → getD (st .slots) i free ≡ p → line b i .said ≡ view p .said
     said-is v p e = rw v (ap (λ (l : Line). l .said) (List·getD-map view (st .slots) i free ∙ ap view e))
@@ -122,15 +122,15 @@ module _ (h : Heard) (a : Party → Heard) (b : Book) where
 
     working-calm : b .lines ≡ map view (st .slots) → (x : Party) (j : Kind) (r : Request) (d : ℕ) → getD (st .slots) i free ≡ pending j r d → Calm h a b (cond (is x (r .who)) (workingKind i j r st) (ignored st))
     unfolding workingKind dialNow
-    working-calm v x offered r d e = calm-if (is x (r .who)) (workingKind i offered r st) (ignored st) (record { repeats = (tt, tt); again = rw (said-is v (pending offered r d) e) refl; untold = λ x. refl; known = set-known i (busy r (dialling (dueAfter (st .clock) replyWait)) none) st tt k }) (still 1 st k)
+    working-calm v x offered r d e = calm-if (is x (r .who)) (workingKind i offered r st) (ignored st) (record { repeats = (tt, tt); fits = λ t on. ((tt, rw (said-is v (pending offered r d) e) refl), tt); untold = λ x. refl; known = set-known a i (busy r (dialling (dueAfter (st .clock) replyWait)) none) st tt k }) (still 1 st k)
     working-calm v x firstRing r d e = calm-if (is x (r .who)) (ignored st) (ignored st) (still 1 st k) (still 1 st k)
     working-calm v x secondRing r d e = calm-if (is x (r .who)) (ignored st) (ignored st) (still 1 st k) (still 1 st k)
-    working-calm v x acknowledged r d e = calm-if (is x (r .who)) (workingKind i acknowledged r st) (ignored st) (record { repeats = (tt, tt); again = rw (said-is v (pending acknowledged r d) e) refl; untold = λ x. refl; known = set-known i (busy r (dialling (dueAfter (st .clock) replyWait)) none) st tt k }) (still 1 st k)
+    working-calm v x acknowledged r d e = calm-if (is x (r .who)) (workingKind i acknowledged r st) (ignored st) (record { repeats = (tt, tt); fits = λ t on. ((tt, rw (said-is v (pending acknowledged r d) e) refl), tt); untold = λ x. refl; known = set-known a i (busy r (dialling (dueAfter (st .clock) replyWait)) none) st tt k }) (still 1 st k)
 
     hold-calm : (r : Request) (g : Stage) → Calm h a b (shipEnd i r g st)
     unfolding shipEnd
-    hold-calm r (dialling d) = record { repeats = (tt, (tt, tt)); again = tt; untold = λ x. refl; known = set-known i (held r (lasted (dialling d) (st .clock)) (dueAfter (st .clock) holdWait)) st tt k }
-    hold-calm r (answered b) = record { repeats = (tt, (tt, tt)); again = tt; untold = λ x. refl; known = set-known i (held r (lasted (answered b) (st .clock)) (dueAfter (st .clock) holdWait)) st tt k }
+    hold-calm r (dialling d) = record { repeats = (tt, (tt, tt)); fits = λ t on. ((tt, tt), ((tt, tt), tt)); untold = λ x. refl; known = set-known a i (held r (lasted (dialling d) (st .clock)) (dueAfter (st .clock) holdWait)) st tt k }
+    hold-calm r (answered b) = record { repeats = (tt, (tt, tt)); fits = λ t on. ((tt, tt), ((tt, tt), tt)); untold = λ x. refl; known = set-known a i (held r (lasted (answered b) (st .clock)) (dueAfter (st .clock) holdWait)) st tt k }
 
     said-calm : b .lines ≡ map view (st .slots) → (p : Slot) → getD (st .slots) i free ≡ p → (m : Heard) → Calm h a b (heardOn i st p m)
     unfolding heardOn workingOn shipEndOn sayAgain
@@ -147,7 +147,7 @@ module _ (h : Heard) (a : Party → Heard) (b : Book) where
     said-calm v taken e (endOfCall x) = still 1 st k
     said-calm v (pending j r d) e (endOfCall x) = still 1 st k
     said-calm v (busy r g c) e (endOfCall x) = calm-if (is x (r .who)) (shipEnd i r g st) (ignored st) (hold-calm r g) (still 1 st k)
-    said-calm v (held r n d) e (endOfCall x) = calm-if (is x (r .who)) (sayAgain i r n st) (ignored st) (record { repeats = (tt, (tt, tt)); again = tt; untold = λ x. refl; known = k }) (still 1 st k)
+    said-calm v (held r n d) e (endOfCall x) = calm-if (is x (r .who)) (sayAgain i r n st) (ignored st) (record { repeats = (tt, (tt, tt)); fits = λ t on. ((tt, tt), ((tt, tt), tt)); untold = λ x. refl; known = k }) (still 1 st k)
 
     end-calm : (p : Slot) → Calm h a b (endOn i st p)
     unfolding endOn
@@ -183,7 +183,7 @@ module _ (h : Heard) (a : Party → Heard) (b : Book) where
     happened-calm v cfg (busy r g c) e takes = still 1 st k
     happened-calm v cfg (held r n d) e takes = still 1 st k
     happened-calm v cfg free e givesBack = still 1 st k
-    happened-calm v cfg taken e givesBack = freed-calm
+    happened-calm v cfg taken e givesBack = freed-calm h a b i (said-is v taken e) st k
     happened-calm v cfg (pending j r d) e givesBack = still 1 st k
     happened-calm v cfg (busy r g c) e givesBack = still 1 st k
     happened-calm v cfg (held r n d) e givesBack = still 1 st k
@@ -210,24 +210,20 @@ module _ (h : Heard) (a : Party → Heard) (b : Book) where
     main-calm v free e = still 1 st k
     main-calm v taken e = still 1 st k
     main-calm v (pending offered r d) e = offerDue-calm
-    main-calm v (pending firstRing r d) e = record { repeats = (rw e at (each-at (Rung a) free tt i (st .slots) (k .ringing)), tt); again = said-is v (pending firstRing r d) e; untold = λ x. refl; known = set-known i (pending secondRing r (dueAfter (st .clock) (kindWait secondRing))) st tt k }
+    main-calm v (pending firstRing r d) e = record { repeats = (rw e at (each-at (Rung a) free tt i (st .slots) (k .ringing)), tt); fits = λ t on. ((rw (said-is v (pending firstRing r d) e) refl, tt), tt); untold = λ x. refl; known = set-known a i (pending secondRing r (dueAfter (st .clock) (kindWait secondRing))) st tt k }
     main-calm v (pending secondRing r d) e = offerDue-calm
     main-calm v (pending acknowledged r d) e = offerDue-calm
     main-calm v (busy r (dialling d) c) e = coastEnd-calm r (dialling d)
     main-calm v (busy r (answered b) c) e = still 1 st k
-    main-calm v (held r n d) e = freed-calm
+    main-calm v (held r n d) e = freed-calm h a b i (said-is v (held r n d) e) st k
 
   fire-calm : (st : Station) → b .lines ≡ map view (st .slots) → Known a st → (w : Wait) → Calm h a b (fire st w)
   unfolding fire
-  fire-calm st v k (ofQueue j) = still 0 (setQueue (dropAt j (st .queue)) st) (queue-known (dropAt j (st .queue)) st (each-dropped (Asked a) j (st .queue) (k .waiting)) k)
+  fire-calm st v k (ofQueue j) = still 0 (setQueue (dropAt j (st .queue)) st) (queue-known a (dropAt j (st .queue)) st (each-dropped (Asked a) j (st .queue) (k .waiting)) k)
   fire-calm st v k (loss i) = end-calm i st k (getD (st .slots) i free)
   fire-calm st v k (main i) = main-calm i st k v (getD (st .slots) i free) refl
 
-  pub clock-known : (t : ℕ) (st : Station) → Known a st → Known a (setClock t st)
-  unfolding setClock
-  clock-known t st k = record { waiting = k .waiting; ringing = k .ringing }
-
   pub tick-calm : (st : Station) → b .lines ≡ map view (st .slots) → Known a st → (t : ℕ) (o : Option Due) → Calm h a b (ticked st t o)
   unfolding ticked setClock
-  tick-calm st v k t none = still 0 (setClock t st) (clock-known t st k)
-  tick-calm st v k t (some p) = fire-calm (setClock (p .at) st) v (clock-known (p .at) st k) (p .what)
+  tick-calm st v k t none = still 0 (setClock t st) (clock-known a t st k)
+  tick-calm st v k t (some p) = fire-calm (setClock (p .at) st) v (clock-known a (p .at) st k) (p .what)

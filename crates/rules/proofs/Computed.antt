@@ -6,7 +6,7 @@ use Rattle.sequence.specs.Field.{isCall, unableSecond, telecommandsOk, channelO
 use Rattle.sequence.specs.Number.{numberOk, parity, evened}
 use Rattle.sequence.specs.Layout.{endOk, valid, front, body, layout}
 use Rattle.sequence.specs.Reading as Reader
-use Rattle.rules.specs.Words.{is, simplex, carrierOn, ringBack, unable}
+use Rattle.rules.specs.Words.{is, simplex, duplex, carrierOn, ringBack, unable}
 use Rattle.rules.specs.Heard.{callRequest, nothing, kindOf, addressed, meaning}
 use Rattle.rules.specs.Station.{fresh, setSlot, setClock, setQueue, table, fires, nextDue}
 use Rattle.rules.specs.Sound.{identityKeeps, channelsKeep, configKeeps, oneSlotEach, numberKeeps, requestKeeps, durationKeeps, noShipTwice, storedKeeps, timesFit, sound}
@@ -19,9 +19,9 @@ use Rattle.rules.specs.Book.{alike, blankBook, falls}
 use Rattle.rules.specs.Reading.{reads, turn, stopsIn, stops}
 use Rattle.rules.specs.Repeated.{lastAsked}
 use Rattle.rules.specs.Statement.{charged, notes, owedFor}
-use Rattle.rules.specs.Runs.{station, seven, usual, runs}
+use Rattle.rules.specs.Runs.{station, seven, usual, asksAnew, runs}
 use Rattle.rules.specs.Cases.{cases, sample, sampleShows}
-use Rattle.rules.specs.RequestCases.{otherMode, requestCases}
+use Rattle.rules.specs.RequestCases.{requestCases}
 use Rattle.rules.specs.CallCases.{callCases}
 use Rattle.rules.specs.RefusalCases.{refusalCases}
 use Rattle.rules.specs.Phases.{rowOf, phases}
@@ -63,8 +63,8 @@ pub stops-computed : map (λ r. owedFor (stops (station (r .slots)) 0 (notes (pl
 unfolding notes isShip isCoast identitiesOk identityPairs identityOf isCall unableSecond telecommandsOk channelOk durationOk fieldOk numberOk parity evened endOk valid front body layout Reader.lengthIn Reader.checkIn Reader.formatIn Reader.identityAt Reader.identityPairsAt Reader.identitiesIn Reader.categoryIn Reader.telecommandsIn Reader.blankSymbols Reader.channelSymbols Reader.durationSymbols Reader.fieldSymbols Reader.fieldOf Reader.fieldIn Reader.pairsIn Reader.parityOk Reader.pairsOk Reader.numberIn Reader.zeroBefore Reader.sixteen Reader.numberOf Reader.endIn Reader.refusals Reader.answerOf Reader.meaningOf Reader.blankMeaning Reader.readingOf padded answerTo ableSaid unableSaid overSaid payloadOf is kindOf addressed meaning fresh setSlot setClock setQueue table fires nextDue identityKeeps channelsKeep configKeeps oneSlotEach numberKeeps requestKeeps durationKeeps noShipTwice storedKeeps timesFit sound rungBack freedFor freed coastEnd standing ruleA repeated afresh same ruleB ruleD offer ruleF ruleG eToG newcomer dToG redial ruleC bOrC requested dialNow workingKind workingOn agreed bqKind bqFor offHookStage offHookOn downOn upOn shipEnd sayAgain shipEndOn endOn takeOn giveOn offerDue ringAgain pendingDue replyDue mainOn fire ticked heardOn70 heardOn happenedOn actAt refusals verdict setUpVerdict step play final alike blankBook falls reads turn stopsIn stops
 stops-computed = refl
 
--- the list `otherMode`: what seven was last told to wait with, and what it is rung back with
-pub other-mode-computed : (lastAsked (station 1) (from seven simplex .who) nothing (notes (play (station 1) otherMode (fresh (station 1)))) ≡ callRequest (from seven simplex))
-    × (map (λ n. n .deeds) (notes (play (station 1) otherMode (fresh (station 1)))) ≡ [] ∷ (unable 103 (from seven simplex .who) usual ∷ []) ∷ (unable 103 (from seven simplex .who) usual ∷ []) ∷ (carrierOn 0 ∷ ringBack 0 (from seven simplex) ∷ []) ∷ [])
+-- duplex, then simplex: what seven was last told to wait with, and what it is rung back with
+pub other-mode-computed : (lastAsked (station 1) (from seven simplex .who) nothing (notes (play (station 1) (asksAnew duplex simplex []) (fresh (station 1)))) ≡ callRequest (from seven simplex))
+    × (map (λ n. n .deeds) (notes (play (station 1) (asksAnew duplex simplex []) (fresh (station 1)))) ≡ [] ∷ (unable 103 (from seven simplex .who) usual ∷ []) ∷ (unable 103 (from seven simplex .who) usual ∷ []) ∷ (carrierOn 0 ∷ ringBack 0 (from seven simplex) ∷ []) ∷ [])
 unfolding notes isShip isCoast identitiesOk identityPairs identityOf isCall unableSecond telecommandsOk channelOk durationOk fieldOk numberOk parity evened endOk valid front body layout Reader.lengthIn Reader.checkIn Reader.formatIn Reader.identityAt Reader.identityPairsAt Reader.identitiesIn Reader.categoryIn Reader.telecommandsIn Reader.blankSymbols Reader.channelSymbols Reader.durationSymbols Reader.fieldSymbols Reader.fieldOf Reader.fieldIn Reader.pairsIn Reader.parityOk Reader.pairsOk Reader.numberIn Reader.zeroBefore Reader.sixteen Reader.numberOf Reader.endIn Reader.refusals Reader.answerOf Reader.meaningOf Reader.blankMeaning Reader.readingOf padded answerTo ableSaid unableSaid overSaid payloadOf is kindOf addressed meaning fresh setSlot setClock setQueue table fires nextDue identityKeeps channelsKeep configKeeps oneSlotEach numberKeeps requestKeeps durationKeeps noShipTwice storedKeeps timesFit sound rungBack freedFor freed coastEnd standing ruleA repeated afresh same ruleB ruleD offer ruleF ruleG eToG newcomer dToG redial ruleC bOrC requested dialNow workingKind workingOn agreed bqKind bqFor offHookStage offHookOn downOn upOn shipEnd sayAgain shipEndOn endOn takeOn giveOn offerDue ringAgain pendingDue replyDue mainOn fire ticked heardOn70 heardOn happenedOn actAt refusals verdict setUpVerdict step play final lastAsked
 other-mode-computed = (refl, refl)

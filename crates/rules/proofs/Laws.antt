@@ -135,7 +135,7 @@ elsewhere f (suc i) (suc j) (l ∷ ls) = go (elsewhere f i j ls)
     go (inl p) = inl (ap suc p)
     go (inr q) = inr q
 
-there : (f : Line → Line) → f blank ≡ blank → (i : ℕ) (ls : List Line) → getD (modAt f i ls) i blank ≡ f (getD ls i blank)
+pub there : (f : Line → Line) → f blank ≡ blank → (i : ℕ) (ls : List Line) → getD (modAt f i ls) i blank ≡ f (getD ls i blank)
 there f h i [] = sym h
 there f h zero (l ∷ ls) = refl
 there f h (suc i) (l ∷ ls) = there f h i ls

@@ -5,8 +5,10 @@ use mathlib.Core.Bool.{Bool, true, false, cond, _&&_, _||_}
 use mathlib.Core.Option.{Option, none, some}
 use Prim.Native.Nat.{ℕ, zero, suc, _≤_}
 use native.Mathlib.Omega.{arith}
+use lib.Dec.{eqb}
 use lib.ListN.{getD, length}
-use Rattle.rules.specs.Places.{modAt, dropAt, shift, lowest, all, Each}
+use borrow.Author.Tests.{eqb-true}
+use Rattle.rules.specs.Places.{modAt, dropAt, shift, lowest, all, Each, elem}
 
 -- ── tests ────────────────────────────────────────────────────────────────────
 
@@ -85,6 +87,15 @@ dropped-length k [] = omega arith
 dropped-length zero (x ∷ l) = omega arith
 dropped-length (suc k) (x ∷ l) = omega (arith, dropped-length k l)
 
+-- of one that stands among them
+pub all-elem : (f : ℕ → Bool) (l : List ℕ) → all f l ≡ true → (k : ℕ) → elem eqb k l ≡ true → f k ≡ true
+all-elem f [] h k e = cc
+all-elem f (x ∷ l) h k e = let w = and-true (f x) (all f l) h in go (eqb k x) refl (w .0) (all-elem f l (w .1) k) e
+  where
+    go : (b : Bool) → eqb k x ≡ b → f x ≡ true → (elem eqb k l ≡ true → f k ≡ true) → (b || elem eqb k l) ≡ true → f k ≡ true
+    go true q one more e = rw (eqb-true k x q) one
+    go false q one more e = more e
+
 -- ── what is claimed of each ───────────────────────────────────────────────────
 
 pub each-append : {A : Type 0} (P : A → Type 0) (a b : List A) → Each P a → Each P b → Each P (a ++ b)
@@ -95,6 +106,17 @@ pub each-weaken : {A : Type 0} (P Q : A → Type 0) → ((x : A) → P x → Q x
 each-weaken P Q f [] h = tt
 each-weaken P Q f (x ∷ l) h = (f x (h .0), each-weaken P Q f l (h .1))
 
-pub each-of : {A : Type 0} (f : A → Bool) (P : A → Type 0) → ((x : A) → f x ≡ true → P x) → (l : List A) → all f l ≡ true → Each P l
-each-of f P g [] h = tt
-each-of f P g (x ∷ l) h = let a = and-true (f x) (all f l) h in (g x (a .0), each-of f P g l (a .1))
+pub each-set : {A : Type 0} (P : A → Type 0) (i : ℕ) (x : A) (l : List A) → P x → Each P l → Each P (modAt (λ y. x) i l)
+each-set P i x [] p k = tt
+each-set P zero x (y ∷ l) p k = (p, k .1)
+each-set P (suc i) x (y ∷ l) p k = (k .0, each-set P i x l p (k .1))
+
+pub each-at : {A : Type 0} (P : A → Type 0) (d : A) → P d → (i : ℕ) (l : List A) → Each P l → P (getD l i d)
+each-at P d p i [] k = p
+each-at P d p zero (y ∷ l) k = k .0
+each-at P d p (suc i) (y ∷ l) k = each-at P d p i l (k .1)
+
+pub each-dropped : {A : Type 0} (P : A → Type 0) (i : ℕ) (l : List A) → Each P l → Each P (dropAt i l)
+each-dropped P i [] k = tt
+each-dropped P zero (y ∷ l) k = k .1
+each-dropped P (suc i) (y ∷ l) k = (k .0, each-dropped P i l (k .1))

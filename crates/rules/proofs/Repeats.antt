@@ -10,14 +10,13 @@ use lib.ListN.{getD, length, replicate}
 use Rattle.rules.specs.Places.{modAt, shift, lowest, Each}
 use Rattle.rules.specs.Words.{Party, is, Mode, simplex, duplex, Request, Config, What, tick, onChannel70, onSlot, Event, Deed}
 use Rattle.rules.specs.Heard.{Heard, callRequest, dataRequest, bq, workingCall, endOfCall, nothing, meaning}
-use Rattle.rules.specs.Actions.{Action}
-use Rattle.rules.specs.Station.{Kind, offered, firstRing, secondRing, acknowledged, Stage, dialling, answered, Slot, free, taken, pending, busy, held, Waiting, Station, fresh, setSlot, setClock, setQueue, dueAfter, queueWait, fires}
+use Rattle.rules.specs.Station.{Kind, offered, firstRing, secondRing, acknowledged, Stage, Slot, free, taken, pending, busy, held, Waiting, Station, fresh, setSlot, setClock, setQueue, dueAfter, queueWait, fires}
 use Rattle.rules.specs.Requests.{Out, also, rungBack, freedFor, freed, coastEnd, owns, waitsFor, slotOf, placeOf, standsAt, standing, ruleA, repeated, afresh, same, ruleB, ruleD, offer, ruleF, ruleG, isFree, eToG, newcomer, dToG, redial, ruleC, bOrC, requested}
 use Rattle.rules.specs.Calls.{heardOn70, actAt, act}
 use Rattle.rules.specs.Verdict.{verdict, play}
 use Rattle.rules.specs.Book.{Note, Book, blankBook}
-use Rattle.rules.specs.Reading.{turn, readAll}
-use Rattle.rules.specs.Repeated.{heardAt, heardIn, putsOff, toldToWait, lastAsked, Repeats}
+use Rattle.rules.specs.Reading.{read, reads, turn, readAll}
+use Rattle.rules.specs.Repeated.{heardAt, heardIn, putsOff, toldToWait, lastAsked, Repeats, switchedOn, EachRead}
 use Rattle.rules.specs.Statement.{deedsOf, notes, AnswersRepeat, SecondRingRepeats, DialsAsked}
 use Rattle.rules.proofs.PlaceLaws.{shift-some, lowest-is, each-append}
 use Rattle.rules.proofs.Base.{seen, is-same, deeds-append}
@@ -25,7 +24,7 @@ use Rattle.rules.proofs.Accepted.{accepted, sounds}
 use Rattle.rules.proofs.Run.{noteOf, turn-is, play-on, play-past, fresh-seen}
 use Rattle.rules.proofs.Once.{bit, countS, countQ, Once, distinct-once, none-count, waiting-count, coastEnd-gone}
 use Rattle.rules.proofs.Walk.{offerOf}
-use Rattle.rules.proofs.Calm.{Asked, Rung, Known, Again, Calm, calm-if, still, set-known, coastEnd-calm, happened-calm, agree-calm, clock-known, tick-calm}
+use Rattle.rules.proofs.Calm.{Asked, Rung, Known, Fits, Calm, calm-if, still, set-known, coastEnd-calm, happened-calm, agree-calm, clock-known, tick-calm}
 
 -- what each ship last asked for, once the deeds are done
 abbrev told : Heard → (Party → Heard) → List Deed → Party → Heard
@@ -34,11 +33,11 @@ told h a ds x = cond (toldToWait x ds) h (a x)
 -- an outcome that repeats, and leaves the station with what it has told
 record Said (h : Heard) (a : Party → Heard) (b : Book) (o : Out) : Type 0 where
   repeats : Each (Repeats h a) (deedsOf (o .acts))
-  again : Again b (deedsOf (o .acts))
+  fits : (t : ℕ) (on : Option ℕ) → EachRead Fits t on b (deedsOf (o .acts))
   known : Known (told h a (deedsOf (o .acts))) (o .next)
 
 calm-said : (h : Heard) (a : Party → Heard) (b : Book) (o : Out) → Calm h a b o → Said h a b o
-calm-said h a b o c = record { repeats = c .repeats; again = c .again; known = subst (λ z. Known z (o .next)) (λ i x. cond (sym (c .untold x) i) h (a x)) (c .known) }
+calm-said h a b o c = record { repeats = c .repeats; fits = c .fits; known = subst (λ z. Known z (o .next)) (λ i x. cond (sym (c .untold x) i) h (a x)) (c .known) }
 
 -- ── the ship that is told to wait is the only one concerned ──────────────────
 
@@ -97,20 +96,20 @@ module _ (r : Request) (a : Party → Heard) (b : Book) where
   module _ (st : Station) (k : Known a st) (n : countS (r .who) (st .slots) ≡ 0) where
     ruleF-said : countQ (r .who) (st .queue) ≡ 0 → Said (callRequest r) a b (ruleF st r)
     unfolding ruleF setQueue
-    ruleF-said m = record { repeats = (tt, tt); again = tt; known = record { waiting = each-append (Asked now) (st .queue) (record { request = r; due = dueAfter (st .clock) queueWait } ∷ []) (others-wait (st .queue) m (k .waiting)) (now-asked, tt); ringing = others-ring (st .slots) n (k .ringing) } }
+    ruleF-said m = record { repeats = ((refl, refl), tt); fits = λ t on. ((tt, tt), tt); known = record { waiting = each-append (Asked now) (st .queue) (record { request = r; due = dueAfter (st .clock) queueWait } ∷ []) (others-wait (st .queue) m (k .waiting)) (now-asked, tt); ringing = others-ring (st .slots) n (k .ringing) } }
 
     ruleD-said : (j : ℕ) → placeOf (r .who) st ≡ some j → countQ (r .who) (st .queue) ≤ 1 → Said (callRequest r) a b (ruleD j st r)
     unfolding ruleD setQueue
-    ruleD-said j h m = record { repeats = (tt, tt); again = tt; known = record { waiting = replaced j (st .queue) h m (k .waiting); ringing = others-ring (st .slots) n (k .ringing) } }
+    ruleD-said j h m = record { repeats = ((refl, refl), tt); fits = λ t on. ((tt, tt), tt); known = record { waiting = replaced j (st .queue) h m (k .waiting); ringing = others-ring (st .slots) n (k .ringing) } }
 
     eToG-said : placeOf (r .who) st ≡ none → (o : Option ℕ) → Said (callRequest r) a b (eToG st r o)
     unfolding eToG offer afresh ruleG
-    eToG-said h (some i) = calm-said _ a b _ (record { repeats = (tt, (refl, tt)); again = tt; untold = λ x. refl; known = set-known (callRequest r) a b i (offerOf r st) st tt k })
+    eToG-said h (some i) = calm-said _ a b _ (record { repeats = (tt, (refl, tt)); fits = λ t on. ((tt, tt), ((tt, tt), tt)); untold = λ x. refl; known = set-known a i (offerOf r st) st tt k })
     eToG-said h none = go (ltb (length (st .queue)) 32)
       where
         go : (t : Bool) → Said (callRequest r) a b (cond t (ruleF st r) (ruleG st r))
         go true = ruleF-said (waiting-count (r .who) (st .queue) h)
-        go false = calm-said _ a b _ (record { repeats = (tt, tt); again = tt; untold = λ x. refl; known = k })
+        go false = calm-said _ a b _ (record { repeats = ((refl, refl), tt); fits = λ t on. ((tt, tt), tt); untold = λ x. refl; known = k })
 
     newcomer-said : placeOf (r .who) st ≡ none → Said (callRequest r) a b (newcomer st r)
     unfolding newcomer
@@ -125,11 +124,11 @@ module _ (r : Request) (a : Party → Heard) (b : Book) where
 
   afresh-calm : (i : ℕ) (st : Station) → Known a st → Calm (callRequest r) a b (afresh i st r)
   unfolding afresh
-  afresh-calm i st k = record { repeats = (refl, tt); again = tt; untold = λ x. refl; known = set-known (callRequest r) a b i (offerOf r st) st tt k }
+  afresh-calm i st k = record { repeats = (refl, tt); fits = λ t on. ((tt, tt), tt); untold = λ x. refl; known = set-known a i (offerOf r st) st tt k }
 
   repeated-calm : (i : ℕ) (st : Station) → Known a st → Calm (callRequest r) a b (repeated i st r)
   unfolding repeated
-  repeated-calm i st k = record { repeats = (refl, tt); again = tt; untold = λ x. refl; known = k }
+  repeated-calm i st k = record { repeats = (refl, tt); fits = λ t on. ((tt, tt), tt); untold = λ x. refl; known = k }
 
 -- what is said behind a calm piece
 told-append : (x : Party) (ds es : List Deed) → toldToWait x ds ≡ false → toldToWait x (ds ++ es) ≡ toldToWait x es
@@ -140,21 +139,20 @@ told-append x (d ∷ ds) es h = go (putsOff x d) h (told-append x ds es)
     go true e ih = let y : true ≡ false = e in cc
     go false e ih = ih e
 
-also-said : (h : Heard) (a : Party → Heard) (b : Book) (p o : Out) → Calm h a b p → Again b (deedsOf (p .acts ++ o .acts)) → Said h a b o → Said h a b (also (p .acts) o)
-also-said h a b p o c f s = record {
-  repeats = rw (deeds-append (p .acts) (o .acts)) (each-append (Repeats h a) (deedsOf (p .acts)) (deedsOf (o .acts)) (c .repeats) (s .repeats));
-  again = f;
-  known = subst (λ z. Known z (o .next)) (λ i x. cond (sym (same-told x) i) h (a x)) (s .known);
+fits-append : (t : ℕ) (on : Option ℕ) (b : Book) (ds es : List Deed) → EachRead Fits t on b ds → ((o : Option ℕ) → EachRead Fits t o (reads t ds b) es) → EachRead Fits t on b (ds ++ es)
+unfolding reads
+fits-append t on b [] es p q = q on
+fits-append t on b (d ∷ ds) es p q = (p .0, fits-append t (switchedOn d) (read t d b) ds es (p .1) q)
+
+also-said : (h : Heard) (a : Party → Heard) (b : Book) (p o : Out) → Calm h a b p → ((t : ℕ) → Said h a (reads t (deedsOf (p .acts)) b) o) → Said h a b (also (p .acts) o)
+also-said h a b p o c s = record {
+  repeats = rw (deeds-append (p .acts) (o .acts)) (each-append (Repeats h a) (deedsOf (p .acts)) (deedsOf (o .acts)) (c .repeats) (s 0 .repeats));
+  fits = λ t on. rw (deeds-append (p .acts) (o .acts)) (fits-append t on b (deedsOf (p .acts)) (deedsOf (o .acts)) (c .fits t on) (s t .fits t));
+  known = subst (λ z. Known z (o .next)) (λ i x. cond (sym (same-told x) i) h (a x)) (s 0 .known);
 }
   where
     same-told : (x : Party) → toldToWait x (deedsOf (p .acts ++ o .acts)) ≡ toldToWait x (deedsOf (o .acts))
     same-told x = ap (toldToWait x) (deeds-append (p .acts) (o .acts)) ∙ told-append x (deedsOf (p .acts)) (deedsOf (o .acts)) (c .untold x)
-
--- the coast's end begins with the release of the line
-coastEnd-first : (i : ℕ) (r : Request) (g : Stage) (st : Station) (b : Book) (l : List Action) → Again b (deedsOf (coastEnd i r g st .acts ++ l))
-unfolding coastEnd
-coastEnd-first i r (dialling d) st b l = tt
-coastEnd-first i r (answered t) st b l = tt
 
 freedFor-fewer : (i : ℕ) (x : Party) (st : Station) (q : List Waiting) → st .queue ≡ q → countQ x (st .queue) ≤ 1 → countQ x (freedFor i st q .next .queue) ≤ 1
 unfolding freedFor rungBack setSlot setQueue
@@ -175,7 +173,7 @@ module _ (r : Request) (a : Party → Heard) (b : Book) (st : Station) (k : Know
   ruleC-said i o g simplex none h = calm-said _ a b _ (still (callRequest r) a b 1 st k)
   ruleC-said i o g simplex (some d) h =
       let end = coastEnd-calm (callRequest r) a b i st k o g in
-      also-said (callRequest r) a b (coastEnd i o g st) _ end (coastEnd-first i o g st b _) (dToG-said r a b (coastEnd i o g st .next) (end .known) (coastEnd-gone i (r .who) o g st once h) (placeOf (r .who) (coastEnd i o g st .next)) refl (coastEnd-fewer i (r .who) o g st waits-once))
+      also-said (callRequest r) a b (coastEnd i o g st) _ end (λ t. dToG-said r a (reads t (deedsOf (coastEnd i o g st .acts)) b) (coastEnd i o g st .next) (end .known) (coastEnd-gone i (r .who) o g st once h) (placeOf (r .who) (coastEnd i o g st .next)) refl (coastEnd-fewer i (r .who) o g st waits-once))
 
   ruleB-calm : (i : ℕ) (j : Kind) (o : Request) → Calm (callRequest r) a b (ruleB i j o st r)
   unfolding ruleB
@@ -204,7 +202,7 @@ module _ (a : Party → Heard) where
   heard-said : (b : Book) (st : Station) → Known a st → Once st → (m : Heard) → Said m a b (heardOn70 st m)
   unfolding heardOn70 ruleA standing
   heard-said b st k once (callRequest r) = request-said r a b st k once (slotOf (r .who) st) (placeOf (r .who) st) refl refl
-  heard-said b st k once (dataRequest x n) = calm-said _ a b _ (record { repeats = (tt, tt); again = tt; untold = λ x. refl; known = k })
+  heard-said b st k once (dataRequest x n) = calm-said _ a b _ (record { repeats = ((refl, refl), tt); fits = λ t on. ((tt, tt), tt); untold = λ x. refl; known = k })
   heard-said b st k once (bq i x) = calm-said _ a b _ (agree-calm (bq i x) a b i st k x (getD (st .slots) i free))
   heard-said b st k once (workingCall x) = calm-said _ a b _ (still (workingCall x) a b 1 st k)
   heard-said b st k once (endOfCall x) = calm-said _ a b _ (still (endOfCall x) a b 1 st k)
@@ -213,8 +211,8 @@ module _ (a : Party → Heard) where
   act-said : (cfg : Config) (st : Station) → Known a st → Once st → (t : ℕ) (w : What) → Said (heardAt cfg w) a (seen st) (actAt cfg st t w)
   unfolding actAt setClock seen
   act-said cfg st k once t tick = calm-said _ a (seen st) _ (tick-calm nothing a (seen st) st refl k t (fires t st))
-  act-said cfg st k once t (onChannel70 m) = heard-said (seen st) (setClock t st) (clock-known nothing a (seen st) t st k) once (meaning cfg m)
-  act-said cfg st k once t (onSlot i h) = calm-said _ a (seen st) _ (happened-calm nothing a (seen st) i (setClock t st) (clock-known nothing a (seen st) t st k) refl cfg (getD (st .slots) i free) refl h)
+  act-said cfg st k once t (onChannel70 m) = heard-said (seen st) (setClock t st) (clock-known a t st k) once (meaning cfg m)
+  act-said cfg st k once t (onSlot i h) = calm-said _ a (seen st) _ (happened-calm nothing a (seen st) i (setClock t st) (clock-known a t st k) refl cfg (getD (st .slots) i free) refl h)
 
 -- ── the run ──────────────────────────────────────────────────────────────────
 
@@ -224,7 +222,7 @@ next-said cfg a st e k v = act-said a cfg st k (distinct-once st (sounds cfg st 
 -- of one entry, where a is what was asked for before it, and b the book before it
 record Answered (cfg : Config) (a : Party → Heard) (b : Book) (n : Note) : Type 0 where
   repeats : Each (Repeats (heardIn cfg n) a) (n .deeds)
-  again : Again b (n .deeds)
+  fits : (t : ℕ) (on : Option ℕ) → EachRead Fits t on b (n .deeds)
 
 -- of every entry of a list, where a is what was asked for before the list, and b the book before it
 abbrev AllAnswered : Config → (Party → Heard) → Book → List Note → Type 0
@@ -249,7 +247,7 @@ run-answered cfg (e ∷ es) a st k = go (verdict cfg st e) refl (λ c s. run-ans
         let s = next-said cfg a st e k v in
         let n = noteOf e (act cfg st e .acts) in
         let rest = notes (play cfg es (act cfg st e .next)) in
-        rw (play-on cfg e es st v) (one-more cfg a (seen st) n rest (record { repeats = s .repeats; again = s .again }) (rw (turn-is cfg st e v) (ih (told (heardIn cfg n) a (n .deeds)) (act cfg st e .next) (s .known))))
+        rw (play-on cfg e es st v) (one-more cfg a (seen st) n rest (record { repeats = s .repeats; fits = s .fits }) (rw (turn-is cfg st e v) (ih (told (heardIn cfg n) a (n .deeds)) (act cfg st e .next) (s .known))))
     go (some n) v ih = rw (play-past cfg e es st n v) (ih a st k)
 
 no-rings : (a : Party → Heard) (n : ℕ) → Each (Rung a) (replicate n free)
@@ -265,12 +263,18 @@ pub answers-repeat : AnswersRepeat
 unfolding AnswersRepeat
 answers-repeat cfg set es before n after e = all-answered cfg es before n after e .repeats
 
+each-read : {P Q : Option ℕ → Book → Deed → Type 0} → ((on : Option ℕ) (b : Book) (d : Deed) → P on b d → Q on b d) → (t : ℕ) (on : Option ℕ) (b : Book) (ds : List Deed) → EachRead P t on b ds → EachRead Q t on b ds
+each-read f t on b [] p = tt
+each-read f t on b (d ∷ ds) p = (f on b d (p .0), each-read f t (switchedOn d) (read t d b) ds (p .1))
+
 -- and the second ring-back repeats the first
 pub second-ring-repeats : SecondRingRepeats
 unfolding SecondRingRepeats
-second-ring-repeats cfg set es before n after e i r ds h = rw h at (all-answered cfg es before n after e .again)
+second-ring-repeats cfg set es before n after e =
+    each-read (λ on b d p. p .0) _ none _ (n .deeds) (all-answered cfg es before n after e .fits _ none)
 
 -- and the number dialled is the one asked for
 pub dials-asked : DialsAsked
 unfolding DialsAsked
-dials-asked cfg set es before n after e i digits ds h = rw h at (all-answered cfg es before n after e .again)
+dials-asked cfg set es before n after e =
+    each-read (λ on b d p. p .1) _ none _ (n .deeds) (all-answered cfg es before n after e .fits _ none)

@@ -2,11 +2,14 @@
 use mathlib.Core.Path.{_≡_}
 use mathlib.Core.List.{List, [], _∷_}
 use mathlib.Core.Bool.{Bool, false, cond, _&&_, _||_}
+use mathlib.Core.Option.{Option, none, some}
 use Prim.Native.Nat.{ℕ}
 use lib.Dec.{eqb}
-use Rattle.rules.specs.Words.{Party, is, Config, What, tick, onChannel70, onSlot, Deed, carrierOn, carrierOff, acknowledge, ringBack, unable, dial, releaseLine}
-use Rattle.rules.specs.Heard.{Heard, callRequest, nothing, meaning}
-use Rattle.rules.specs.Book.{Note, Said, silent, toldBQ, toldRQ, settled}
+use Rattle.rules.specs.Places.{Each}
+use Rattle.rules.specs.Words.{Party, is, Request, Config, What, tick, onChannel70, onSlot, Deed, carrierOn, carrierOff, acknowledge, ringBack, unable, dial, releaseLine}
+use Rattle.rules.specs.Heard.{Heard, callRequest, dataRequest, bq, workingCall, endOfCall, nothing, meaning}
+use Rattle.rules.specs.Book.{Note, Said, silent, toldBQ, toldRQ, settled, Book, blankBook, line, moment}
+use Rattle.rules.specs.Reading.{read, readAll}
 
 -- what channel 70 says to this station
 abbrev pub heardAt : Config → What → Heard
@@ -37,19 +40,81 @@ unfoldable pub lastAsked : Config → Party → Heard → List Note → Heard
 lastAsked c x o [] = o
 lastAsked c x o (n ∷ ns) = lastAsked c x (cond (toldToWait x (n .deeds)) (heardIn c n) o) ns
 
--- an acknowledgement repeats the request h of its own entry, a ring-back what its ship last asked for
+-- ── of each deed: what was heard ─────────────────────────────────────────────
+
+-- who asks, and for which number
+abbrev pub Asks : Party → List ℕ → Heard → Type 0
+Asks x digits (callRequest r) = (r .who ≡ x) × (r .number ≡ digits)
+Asks x digits (dataRequest y n) = (y ≡ x) × (n ≡ digits)
+Asks x digits (bq i y) = ⊥
+Asks x digits (workingCall y) = ⊥
+Asks x digits (endOfCall y) = ⊥
+Asks x digits nothing = ⊥
+
+-- an acknowledgement and a 104 repeat the request h of their own entry, a ring-back what its ship last asked for
 abbrev pub Repeats : Heard → (Party → Heard) → Deed → Type 0
 Repeats h asked (carrierOn i) = Unit {0}
 Repeats h asked (carrierOff i) = Unit {0}
 Repeats h asked (acknowledge i r) = h ≡ callRequest r
 Repeats h asked (ringBack i r) = asked (r .who) ≡ callRequest r
-Repeats h asked (unable n x digits) = Unit {0}
+Repeats h asked (unable n x digits) = Asks x digits h
 Repeats h asked (dial i digits) = Unit {0}
 Repeats h asked (releaseLine i) = Unit {0}
 
--- the digits are those of the request that channel 70 last named for a slot, acknowledged or agreed to
+-- ── and what channel 70 last carried about its slot ──────────────────────────
+
+-- the slot whose carrier a deed switches on
+abbrev pub switchedOn : Deed → Option ℕ
+switchedOn (carrierOn i) = some i
+switchedOn (carrierOff i) = none
+switchedOn (acknowledge i r) = none
+switchedOn (ringBack i r) = none
+switchedOn (unable n x digits) = none
+switchedOn (dial i digits) = none
+switchedOn (releaseLine i) = none
+
+-- a first ring-back of slot i comes just behind its carrier, a second is the first once more
+abbrev pub Rings : ℕ → Request → Option ℕ → Said → Type 0
+Rings i r on silent = on ≡ some i
+Rings i r on (toldBQ o) = ⊥
+Rings i r on (toldRQ o) = o ≡ r
+Rings i r on (settled o) = ⊥
+
+-- the digits are those of the request acknowledged, or rung back and agreed to
 abbrev pub Dials : List ℕ → Said → Type 0
 Dials digits silent = ⊥
 Dials digits (toldBQ r) = r .number ≡ digits
 Dials digits (toldRQ r) = ⊥
 Dials digits (settled r) = r .number ≡ digits
+
+-- where b is the book just before the deed, and on the slot whose carrier the deed before it switched on
+abbrev pub RingsSame : Option ℕ → Book → Deed → Type 0
+RingsSame on b (carrierOn i) = Unit {0}
+RingsSame on b (carrierOff i) = Unit {0}
+RingsSame on b (acknowledge i r) = Unit {0}
+RingsSame on b (ringBack i r) = Rings i r on (line b i .said)
+RingsSame on b (unable n x digits) = Unit {0}
+RingsSame on b (dial i digits) = Unit {0}
+RingsSame on b (releaseLine i) = Unit {0}
+
+abbrev pub DialsNamed : Option ℕ → Book → Deed → Type 0
+DialsNamed on b (carrierOn i) = Unit {0}
+DialsNamed on b (carrierOff i) = Unit {0}
+DialsNamed on b (acknowledge i r) = Unit {0}
+DialsNamed on b (ringBack i r) = Unit {0}
+DialsNamed on b (unable n x digits) = Unit {0}
+DialsNamed on b (dial i digits) = Dials digits (line b i .said)
+DialsNamed on b (releaseLine i) = Unit {0}
+
+-- each deed with the book just before it, the deeds being read from b on at the time t
+abbrev pub EachRead : (Option ℕ → Book → Deed → Type 0) → ℕ → Option ℕ → Book → List Deed → Type 0
+EachRead P t on b [] = Unit {0}
+EachRead P t on b (d ∷ ds) = P on b d × EachRead P t (switchedOn d) (read t d b) ds
+
+-- ── of an entry, with the entries before it ──────────────────────────────────
+
+abbrev pub Answers : Config → List Note → Note → Type 0
+Answers c before n = Each (Repeats (heardIn c n) (λ x. lastAsked c x nothing before)) (n .deeds)
+
+abbrev pub DeedByDeed : (Option ℕ → Book → Deed → Type 0) → Config → List Note → Note → Type 0
+DeedByDeed P c before n = EachRead P (moment (readAll c before (blankBook c)) (n .event)) none (readAll c before (blankBook c)) (n .deeds)

@@ -1,12 +1,12 @@
 -- A case for each rule of a request, of the working call and of ring-back: what the last event of a short script prints.
 use mathlib.Core.List.{List, [], _∷_}
 use Rattle.sequence.specs.declared.Field.the-variants.{Blank}
-use Rattle.rules.specs.Words.{simplex, duplex, heard, offHook, onHook, carrierDown, takes, givesBack, onChannel70, Event}
+use Rattle.rules.specs.Words.{simplex, duplex, heard, offHook, onHook, carrierDown, takes, givesBack, onChannel70}
 use Rattle.rules.specs.Verdict.{step}
 use Rattle.rules.specs.Printed.{lines}
-use Rattle.rules.specs.Runs.{station, seven, eight, nine, sends, at, usual, callsFor, calls, accepts, on, works, ticks}
+use Rattle.rules.specs.Runs.{station, seven, eight, nine, sends, at, usual, callsFor, calls, accepts, on, works, ticks, asksAnew, fades}
 use Rattle.rules.specs.Cases.{Row}
-use Rattle.rules.specs.Scripts.{gives, dataCalls, elsewhere, crowded, charges, unable109Seven, ackSeven26, ackSeven26Again, ackSeven26Simplex, ackEight26, overSevenByCoast15, ringEight26, unable103Seven, ringSeven26Again, ringSeven26Simplex, ackSeven27, unable103Eight, unable102Nine, ringNine26}
+use Rattle.rules.specs.Scripts.{gives, dataCalls, elsewhere, crowded, charges, unable109Seven, ackSeven26, ackSeven26Again, ackSeven26Simplex, ackEight26, overSevenByCoast15, overSevenByCoast55, ringEight26, unable103Seven, ringSeven26, ringSeven26Again, ringSeven26Simplex, ackSeven27, unable103Eight, unable102Nine, ringNine26}
 
 -- ── what is ignored ───────────────────────────────────────────────────────────
 
@@ -118,13 +118,42 @@ ruleDReplaced = record {
 }
 
 -- d. in its new mode
-abbrev pub otherMode : List Event
-otherMode = on 50 0 takes ∷ calls 100 seven duplex ∷ calls 200 seven simplex ∷ on 300 0 givesBack ∷ []
-
 abbrev pub ruleDOtherMode : Row
 ruleDOtherMode = record {
-  computed = gives 1 otherMode;
+  computed = gives 1 (asksAnew duplex simplex []);
   expected = (0 ∷ 300 ∷ 2 ∷ 351 ∷ []) ∷ (1 ∷ 0 ∷ []) ∷ (3 ∷ 0 ∷ ringSeven26Simplex) ∷ [];
+}
+
+-- d. which then holds for its call: 45 s without carrier, charged to the due time
+abbrev pub ruleDSimplexFades : Row
+ruleDSimplexFades = record {
+  computed = gives 1 (asksAnew duplex simplex (fades []));
+  expected = (0 ∷ 600 ∷ 0 ∷ 1051 ∷ []) ∷ [];
+}
+
+abbrev pub ruleDSimplexLost : Row
+ruleDSimplexLost = record {
+  computed = gives 1 (asksAnew duplex simplex (fades (ticks 9999 ∷ [])));
+  expected = (0 ∷ 1051 ∷ 4 ∷ []) ∷ (charges 0 seven 500 1051 55) ∷ (6 ∷ 0 ∷ []) ∷ (4 ∷ 0 ∷ overSevenByCoast55) ∷ (2 ∷ 0 ∷ []) ∷ [];
+}
+
+-- d. and from simplex to duplex: 5 s
+abbrev pub ruleDOtherModeBack : Row
+ruleDOtherModeBack = record {
+  computed = gives 1 (asksAnew simplex duplex []);
+  expected = (0 ∷ 300 ∷ 2 ∷ 351 ∷ []) ∷ (1 ∷ 0 ∷ []) ∷ (3 ∷ 0 ∷ ringSeven26) ∷ [];
+}
+
+abbrev pub ruleDDuplexFades : Row
+ruleDDuplexFades = record {
+  computed = gives 1 (asksAnew simplex duplex (fades []));
+  expected = (0 ∷ 600 ∷ 0 ∷ 651 ∷ []) ∷ [];
+}
+
+abbrev pub ruleDDuplexLost : Row
+ruleDDuplexLost = record {
+  computed = gives 1 (asksAnew simplex duplex (fades (ticks 9999 ∷ [])));
+  expected = (0 ∷ 651 ∷ 4 ∷ []) ∷ (charges 0 seven 500 651 15) ∷ (6 ∷ 0 ∷ []) ∷ (4 ∷ 0 ∷ overSevenByCoast15) ∷ (2 ∷ 0 ∷ []) ∷ [];
 }
 
 -- e. the lowest free slot
@@ -253,4 +282,4 @@ queueEntryDue = record {
 -- ── all of them ──────────────────────────────────────────────────────────────
 
 abbrev pub requestCases : List Row
-requestCases = ignoredPhase ∷ ignoredAddress ∷ ignoredChannel ∷ ruleAShown ∷ ruleBRepeated ∷ ruleBDiffers ∷ ruleBOtherMode ∷ ruleBInRingBack ∷ ruleBAcknowledged ∷ ruleCDuplex ∷ ruleCPresent ∷ ruleCAbsent ∷ ruleCRingsBack ∷ ruleDShown ∷ ruleDReplaced ∷ ruleDOtherMode ∷ ruleELowest ∷ ruleFShown ∷ ruleGShown ∷ workingDials ∷ workingMode ∷ workingStranger ∷ workingInRingBack ∷ workingAcknowledged ∷ offerFallsDue ∷ ringBackOldest ∷ ringBackAgain ∷ ringBackDropped ∷ bqAcknowledged ∷ bqOtherChannel ∷ bqSecond ∷ acknowledgedDue ∷ queueEntryDue ∷ []
+requestCases = ignoredPhase ∷ ignoredAddress ∷ ignoredChannel ∷ ruleAShown ∷ ruleBRepeated ∷ ruleBDiffers ∷ ruleBOtherMode ∷ ruleBInRingBack ∷ ruleBAcknowledged ∷ ruleCDuplex ∷ ruleCPresent ∷ ruleCAbsent ∷ ruleCRingsBack ∷ ruleDShown ∷ ruleDReplaced ∷ ruleDOtherMode ∷ ruleDSimplexFades ∷ ruleDSimplexLost ∷ ruleDOtherModeBack ∷ ruleDDuplexFades ∷ ruleDDuplexLost ∷ ruleELowest ∷ ruleFShown ∷ ruleGShown ∷ workingDials ∷ workingMode ∷ workingStranger ∷ workingInRingBack ∷ workingAcknowledged ∷ offerFallsDue ∷ ringBackOldest ∷ ringBackAgain ∷ ringBackDropped ∷ bqAcknowledged ∷ bqOtherChannel ∷ bqSecond ∷ acknowledgedDue ∷ queueEntryDue ∷ []

@@ -6,7 +6,7 @@ use Rattle.units.specs.declared.Channel.{Channel as ChannelNumber}
 use Rattle.sequence.specs.declared.Field.{Field}
 use Rattle.sequence.specs.declared.Field.the-variants.{Blank, Channel}
 use Rattle.sequence.specs.Layout.{layout}
-use Rattle.rules.specs.Words.{Mode, simplex, duplex, modeNumber, Config, Happened, heard, offHook, onHook, carrierUp, carrierDown, tick, onChannel70, onSlot, What, Event}
+use Rattle.rules.specs.Words.{Mode, simplex, duplex, modeNumber, Config, Happened, heard, offHook, onHook, carrierUp, carrierDown, takes, givesBack, tick, onChannel70, onSlot, What, Event}
 use Rattle.rules.specs.Actions.{Charge}
 use Rattle.rules.specs.Bytes.{numberOf}
 use Rattle.rules.specs.Reading.{Numbered}
@@ -65,6 +65,14 @@ ends t i x = on t i (heard (sends x 105 117 Blank usual))
 abbrev pub ticks : ℕ → Event
 ticks t = at t tick
 
+-- a waiting ship asks again in another mode, and is rung back
+abbrev pub asksAnew : Mode → Mode → List Event → List Event
+asksAnew o m es = on 50 0 takes ∷ calls 100 seven o ∷ calls 200 seven m ∷ on 300 0 givesBack ∷ es
+
+-- it agrees, is dialled, is answered at 500, and loses its carrier at 600
+abbrev pub fades : List Event → List Event
+fades es = accepts 310 26 seven ∷ works 400 0 seven ∷ on 500 0 offHook ∷ on 600 0 carrierDown ∷ es
+
 -- entry, slot, ship, beginning, end, seconds
 abbrev pub paid : ℕ → ℕ → ℕ → ℕ → ℕ → ℕ → Numbered Charge
 paid k i x b e s = record { entry = k; it = record { slot = i; ship = x; start = record { 0 = b }; stop = record { 0 = e }; seconds = record { 0 = s } } }
@@ -116,6 +124,21 @@ late = record {
   slots = 2;
   events = calls 100 seven duplex ∷ works 200 0 seven ∷ on 700 0 offHook ∷ on 2000 0 carrierDown ∷ ticks 9999 ∷ ticks 9999 ∷ [];
   owing = paid 4 0 seven 700 2051 135 ∷ [];
+}
+
+-- a waiting ship asked in duplex and then in simplex: it has its 45 s; the other way round, 5 s
+abbrev pub anewSimplex : Run
+anewSimplex = record {
+  slots = 1;
+  events = asksAnew duplex simplex (fades (ticks 9999 ∷ []));
+  owing = paid 8 0 seven 500 1051 55 ∷ [];
+}
+
+abbrev pub anewDuplex : Run
+anewDuplex = record {
+  slots = 1;
+  events = asksAnew simplex duplex (fades (ticks 9999 ∷ []));
+  owing = paid 8 0 seven 500 651 15 ∷ [];
 }
 
 -- two carriers lost with one due time: the lower slot by the first tick, the other by the second
@@ -206,4 +229,4 @@ hundredHours = record {
 }
 
 abbrev pub runs : List Run
-runs = shipEnded ∷ hungUp ∷ silent ∷ redialled ∷ late ∷ together ∷ hurried ∷ unanswered ∷ repeated ∷ renumbered ∷ holding ∷ replying ∷ queueing ∷ ringing ∷ hundredHours ∷ []
+runs = shipEnded ∷ hungUp ∷ silent ∷ redialled ∷ late ∷ anewSimplex ∷ anewDuplex ∷ together ∷ hurried ∷ unanswered ∷ repeated ∷ renumbered ∷ holding ∷ replying ∷ queueing ∷ ringing ∷ hundredHours ∷ []

@@ -7,8 +7,7 @@ use Prim.Native.Nat.{ℕ, suc, _+_, _-_, _/_, _<_, _≤_}
 use lib.ListN.{length}
 use Rattle.units.specs.declared.Seconds.{Seconds}
 use Rattle.rules.specs.Places.{lowest, Each}
-use Rattle.rules.specs.Words.{Request, Config, Event, Deed, ringBack, dial}
-use Rattle.rules.specs.Heard.{nothing}
+use Rattle.rules.specs.Words.{Config, Event, Deed}
 use Rattle.rules.specs.Actions.{Charge, Action, does, over, charge}
 use Rattle.rules.specs.Station.{Stage, dialling, answered, Slot, free, taken, pending, busy, held, Waiting, Station, fresh}
 use Rattle.rules.specs.Sound.{sound}
@@ -16,10 +15,10 @@ use Rattle.rules.specs.Requests.{isFree}
 use Rattle.rules.specs.Calls.{act}
 use Rattle.rules.specs.Verdict.{verdict, setUpVerdict, Entry, play, final}
 use Rattle.rules.specs.Bytes.{payloadOf}
-use Rattle.rules.specs.Book.{Book, Note, Stop, toldRQ, line, blankBook}
+use Rattle.rules.specs.Book.{Book, Note, Stop, line, blankBook}
 use Rattle.rules.specs.Reading.{Numbered, numbered, stops, counted, countedByCalls, readAll}
 use Rattle.rules.specs.ThreeWords.{idle, wordAfter, wordOf}
-use Rattle.rules.specs.Repeated.{heardIn, lastAsked, Repeats, Dials}
+use Rattle.rules.specs.Repeated.{Answers, RingsSame, DialsNamed, DeedByDeed}
 
 -- ── the list, and the charges in it ──────────────────────────────────────────
 
@@ -141,36 +140,32 @@ OfEveryList P = OfEveryRun (λ c es. P c (listOf c es))
 
 -- "dial", "release line" and off-hook alone say of every slot what the book says of its line, after the last entry
 abbrev pub WordsAgree : Config → List Note → Type 0
-WordsAgree c ns = (i : ℕ) → i < length (c .channels) → wordAfter i ns idle ≡ wordOf (line (readAll c ns (blankBook c)) i .call)
+WordsAgree c l = (i : ℕ) → i < length (c .channels) → wordAfter i l idle ≡ wordOf (line (readAll c l (blankBook c)) i .call)
 
 -- of every list, so after every entry
 unfoldable pub Literally : Type 0
 Literally = OfEveryList WordsAgree
 
 -- what holds of every entry n of a list, with the entries before it
-abbrev pub AtEveryEntry : (Config → List Note → Note → Type 0) → Config → List Note → Type 0
-AtEveryEntry P c ns = (before : List Note) (n : Note) (after : List Note) → ns ≡ before ++ n ∷ after → P c before n
+abbrev pub EveryEntry : (Config → List Note → Note → Type 0) → Config → List Note → Type 0
+EveryEntry P c l = (before : List Note) (n : Note) (after : List Note) → l ≡ before ++ n ∷ after → P c before n
 
--- an acknowledgement repeats the call request that its own entry heard, a ring-back the one that its ship was last told to wait with
-abbrev pub AnsweredAsAsked : Config → List Note → Note → Type 0
-AnsweredAsAsked c before n = Each (Repeats (heardIn c n) (λ x. lastAsked c x nothing before)) (n .deeds)
+abbrev pub OfEveryEntry : (Config → List Note → Note → Type 0) → Type 0
+OfEveryEntry P = OfEveryList (EveryEntry P)
 
+-- What is answered or dialled was heard. Whether anything is, and which waiting ship is rung back, the next three leave to the rules.
+
+-- an acknowledgement or a 104 repeats the request that its own entry heard, a ring-back the one that its ship was last told to wait with
 unfoldable pub AnswersRepeat : Type 0
-AnswersRepeat = OfEveryList (AtEveryEntry AnsweredAsAsked)
+AnswersRepeat = OfEveryEntry Answers
 
--- a ring-back that its entry begins with, the second sending, repeats the one that channel 70 last carried about that slot
-abbrev pub RungAgainAsBefore : Config → List Note → Note → Type 0
-RungAgainAsBefore c before n = (i : ℕ) (r : Request) (ds : List Deed) → n .deeds ≡ ringBack i r ∷ ds → line (readAll c before (blankBook c)) i .said ≡ toldRQ r
-
+-- a ring-back comes just behind its slot's carrier, nothing having been said of that slot, or repeats the one that channel 70 said last
 unfoldable pub SecondRingRepeats : Type 0
-SecondRingRepeats = OfEveryList (AtEveryEntry RungAgainAsBefore)
+SecondRingRepeats = OfEveryEntry (DeedByDeed RingsSame)
 
 -- a number that is dialled is that of the request which channel 70 last named for that slot
-abbrev pub DialledAsAsked : Config → List Note → Note → Type 0
-DialledAsAsked c before n = (i : ℕ) (digits : List ℕ) (ds : List Deed) → n .deeds ≡ dial i digits ∷ ds → Dials digits (line (readAll c before (blankBook c)) i .said)
-
 unfoldable pub DialsAsked : Type 0
-DialsAsked = OfEveryList (AtEveryEntry DialledAsAsked)
+DialsAsked = OfEveryEntry (DeedByDeed DialsNamed)
 
 -- while a ship waits no slot is free
 unfoldable pub NoChannelIdle : Type 0

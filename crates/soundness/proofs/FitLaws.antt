@@ -1,6 +1,7 @@
 -- A sound station fits its arrays.
 use Prim.Native.Nat.{_≤_}
-use mathlib.Core.Bool.{true}
+use mathlib.Core.Bool.{Bool, true}
+use mathlib.Core.List.{List, [], _∷_}
 use mathlib.Core.Path.{_≡_, sym}
 use native.Mathlib.Omega.{arith}
 use lib.Dec.{leb, eqb}
@@ -9,12 +10,17 @@ use borrow.Author.Tests.{leb-true, eqb-true}
 use Rattle.sequence.specs.Identity.{isShip}
 use Rattle.sequence.specs.Symbols.{within}
 use Rattle.rules.specs.Words.{Config, Request}
+use Rattle.rules.specs.Places.{all, Each}
 use Rattle.rules.specs.Station as R
 use Rattle.rules.specs.Station.{free, taken, pending, busy, held}
 use Rattle.rules.specs.Sound.{identityKeeps, channelsKeep, configKeeps, oneSlotEach, numberKeeps, requestKeeps, slotKeeps, waitingKeeps, sound}
-use Rattle.rules.proofs.PlaceLaws.{and-true, each-of}
+use Rattle.rules.proofs.PlaceLaws.{and-true}
 use Rattle.rules.proofs.Accepted.{sounds}
 use Rattle.slots.specs.Images.{Short, ShortSlot, Fits}
+
+each-of : {A : Type 0} (f : A → Bool) (P : A → Type 0) → ((x : A) → f x ≡ true → P x) → (l : List A) → all f l ≡ true → Each P l
+each-of f P g [] h = tt
+each-of f P g (x ∷ l) h = let a = and-true (f x) (all f l) h in (g x (a .0), each-of f P g l (a .1))
 
 module _ (c : Config) where
   short : (r : Request) → requestKeeps c r ≡ true → Short r
