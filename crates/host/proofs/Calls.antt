@@ -1,11 +1,9 @@
 -- What the contract of a call's entry says.
 use Prim.Native.Nat.{ℕ}
 use mathlib.Core.Path.{_≡_, refl}
-use mathlib.Core.List.{[]}
 use lib.ListN.{length}
 use Rattle.rules.specs.Words.{heard, offHook, onHook, carrierUp, carrierDown, takes, givesBack, What, tick, onChannel70, onSlot}
 use Rattle.exchange.specs.Events.{returned, stationAfter, roomLeft}
-use Rattle.rack.specs.Steps as Rack
 use Rattle.host.specs.Calls.{Call, Entered, by-tick, by-heard-on-channel-70, by-heard-on-slot, by-carrier-up, by-carrier-down, by-off-hook, by-on-hook, by-take-slot, by-give-back}
 
 pub record Called (x : Call) : Type 0 where

@@ -1,4 +1,4 @@
--- What is claimed of every host that hands on the bytes it was left: the theorem on charges and what stands beside it, from the bytes alone.
+-- What is claimed of every host that hands on the bytes it was left, from the bytes alone: the theorem on charges and what stands beside it.
 use Prim.Native.Nat.{ℕ, _/_, _%_, _<_}
 use mathlib.Core.Path.{_≡_}
 use mathlib.Core.Bool.{true, cond}

@@ -95,7 +95,8 @@ unfolding RackDialsAsked DialsAsked
 rack-dials-asked = carried (EveryEntry (DeedByDeed DialsNamed)) dials-asked
 
 -- a station that was laid out for a model with no free slot while a ship waits
-laid-idle : (c : Config) (m : R.Station) → Fits c m → ((w : R.Waiting) (q : List R.Waiting) → m .queue ≡ w ∷ q → lowest isFree (m .slots) ≡ none) → NoneIdle (imageOf c m)
+laid-idle : (c : Config) (m : R.Station) → Fits c m → ((w : R.Waiting) (q : List R.Waiting) → m .queue ≡ w ∷ q → lowest isFree (m .slots) ≡ none)
+    → NoneIdle (imageOf c m)
 unfolding modelOf viewed imageOf
 laid-idle c m f h = go (m .queue) refl
   where
@@ -117,4 +118,5 @@ unfolding RackAlwaysSound AlwaysSound
 rack-always-sound c xs t =
     let m = stationAfter c (eventsIn xs) in
     let f = run-fits c (set-up c xs t) (eventsIn xs) in
-    (runs c xs t .no-29, rw (last-is c xs t, records-keep c m f, config-back c m f, model-back c m f) (always-sound c (set-up c xs t) (eventsIn xs)))
+    let good = always-sound c (set-up c xs t) (eventsIn xs) in
+    (runs c xs t .no-29, rw (last-is c xs t, records-keep c m f, config-back c m f, model-back c m f) good)
