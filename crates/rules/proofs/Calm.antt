@@ -1,4 +1,4 @@
--- What each event answers on channel 70, and what the station knows of what was asked: whatever is no call request.
+-- What each event answers and dials, and what the station knows of what was asked: whatever is no call request.
 use mathlib.Core.Path.{_≡_, refl, ap, _∙_}
 use mathlib.Core.List.{List, [], _∷_, map}
 use mathlib.Core.Bool.{Bool, true, false, cond}

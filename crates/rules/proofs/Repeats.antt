@@ -1,4 +1,4 @@
--- `AnswersRepeat`: a call request, any event, and then the run.
+-- `AnswersRepeat`, `SecondRingRepeats` and `DialsAsked`: a call request, any event, and then the run.
 use mathlib.Core.Path.{_≡_, refl, sym, ap, subst, _∙_}
 use mathlib.Core.List.{List, [], _∷_, _++_}
 use mathlib.Core.Bool.{Bool, true, false, cond, _||_}

@@ -1,4 +1,4 @@
--- What an answer on channel 70 repeats, by the list alone: neither the station nor a rule is used here.
+-- What an answer on channel 70 and a number dialled repeat, by the list alone: neither the station nor a rule is used here.
 use mathlib.Core.Path.{_≡_}
 use mathlib.Core.List.{List, [], _∷_}
 use mathlib.Core.Bool.{Bool, false, cond, _&&_, _||_}
