@@ -89,7 +89,7 @@ taken-apart r h k = apart (r .answer) (r .count) (r .due) h k
 -- ── a host that hands on what it was left ────────────────────────────────────
 
 module _ (s : Station) (f : FoundAgain s) (e : Event) where
-  pub returned-is : returned (stationBytes s) e ≡ told (steppedBy s e)
+  returned-is : returned (stationBytes s) e ≡ told (steppedBy s e)
   unfolding returned
   returned-is = rw (f .1)
 

@@ -1,6 +1,6 @@
 -- A refusal, known by the returned number, leaves every byte.
-use Prim.Native.Nat.{ℕ, _<_, _/_, _%_}
-use mathlib.Core.Path.{_≡_, refl, ap, _∙_}
+use Prim.Native.Nat.{ℕ}
+use mathlib.Core.Path.{_≡_, refl, _∙_}
 use mathlib.Core.Bool.{Bool, true, false, cond}
 use mathlib.Core.List.{List}
 use mathlib.Core.Option.{Option, none, some}
@@ -9,33 +9,13 @@ use lib.Dec.{eqb}
 use lib.ListN.{length}
 use borrow.Author.Tests.{ne-eqb}
 use Rattle.sequence.proofs.Tests.{Either, yes!, no!, which}
-use Rattle.station.specs.declared.Stepped.{Stepped}
 use Rattle.station.specs.Step.{refusal, steppedBy, setUpBy}
 use Rattle.lent.specs.Stations.{stationFrom, stationLaid}
-use Rattle.exchange.specs.Events.{told, returned, setUpReturned, stationSetUp}
-use Rattle.exchange.proofs.Theorems.{taken-apart, refusal-leaves-all}
-use Rattle.host.specs.Calls.{Call, Entered}
-use Rattle.host.specs.Statement.{answerIn, countIn, HostRefusalsLeaveAll, HostSetUpRefusalLeavesAll}
-use Rattle.host.proofs.Small.{accepted-few, stepped-in-byte}
-use Rattle.host.proofs.Calls.{called}
-
--- the answer and the count in the number are those of the step
-module _ (x : Call) (a : Entered x) where
-  abbrev stepped : Stepped
-  stepped = steppedBy (stationFrom (x .station)) (x .event)
-
-  number-is : x .number ≡ told stepped
-  unfolding returned
-  number-is = called x a .number-is
-
-  small : (stepped .answer < 256) × (stepped .count < 256)
-  small = stepped-in-byte (stationFrom (x .station)) (x .event)
-
-  answer-is : answerIn x ≡ stepped .answer
-  answer-is = ap (λ n. n % 256) number-is ∙ taken-apart stepped (small .0) (small .1) .0
-
-  count-is : countIn x ≡ stepped .count
-  count-is = ap (λ n. n / 256 % 256) number-is ∙ taken-apart stepped (small .0) (small .1) .1
+use Rattle.exchange.specs.Events.{setUpReturned, stationSetUp}
+use Rattle.exchange.proofs.Theorems.{refusal-leaves-all}
+use Rattle.host.specs.Statement.{countIn, HostRefusalsLeaveAll, HostSetUpRefusalLeavesAll}
+use Rattle.host.proofs.Small.{accepted-few}
+use Rattle.host.proofs.Calls.{called, answer-is, count-is}
 
 pub host-refusals-leave-all : HostRefusalsLeaveAll
 unfolding HostRefusalsLeaveAll steppedBy

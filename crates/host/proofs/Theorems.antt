@@ -21,8 +21,8 @@ use Rattle.station.specs.Step.{given, refusal, steppedBy, roomAfter, setUpBy}
 use Rattle.lent.specs.Stations.{stationBytes, stationFrom}
 use Rattle.lent.specs.Statement.{FoundAgain}
 use Rattle.lent.proofs.FoundAgain.{handed-out-is-found-again}
-use Rattle.exchange.specs.Events.{told, roomLeft, setUpReturned}
-use Rattle.exchange.proofs.Theorems.{taken-apart, returned-is, left-is, set-up}
+use Rattle.exchange.specs.Events.{roomLeft, setUpReturned}
+use Rattle.exchange.proofs.Theorems.{left-is, set-up}
 use Rattle.rack.specs.Rooms.{actionsIn}
 use Rattle.rack.specs.Steps.{Step, stepOf, Allowed, SetUpAs, by-set-up, Trace}
 use Rattle.rack.specs.Steps as Rack
@@ -33,8 +33,7 @@ use Rattle.rack.proofs.Theorems.{rack-obeys, rack-literally, rack-answers-repea
 use Rattle.host.specs.Calls as Host
 use Rattle.host.specs.Calls.{Call, HandsOn, lastOf, SetUpIn, HostRun}
 use Rattle.host.specs.Statement.{answerIn, entriesIn, OfEveryHost, HostObeys, HostLiterally, HostAnswersRepeat, HostSecondRingRepeats, HostDialsAsked, HostNoChannelIdle, HostAlwaysSound}
-use Rattle.host.proofs.Small.{stepped-in-byte}
-use Rattle.host.proofs.Calls.{called}
+use Rattle.host.proofs.Calls.{called, answer-is, count-is}
 
 -- ── a list of calls as a list of steps ───────────────────────────────────────
 
@@ -58,11 +57,10 @@ walk s f [] h = record { steps = []; hands = tt; entries = refl; last = f .1; no
 walk s f (x ∷ xs) h =
     let k = called x (h .1 .0) in
     let e = x .event in
-    let small = stepped-in-byte s e in
-    let parts = taken-apart (steppedBy s e) (small .0) (small .1) in
-    let number : x .number ≡ told (steppedBy s e) = k .number-is ∙ (rw (h .0) (returned-is s f e)) in
-    let answer : x .number % 256 ≡ steppedBy s e .answer = ap (λ n. n % 256) number ∙ parts .0 in
-    let left : x .left ≡ roomAfter s (x .lent) e = k .left-is ∙ (rw (h .0, f .1)) in
+    let from : stationFrom (x .station) ≡ s = ap stationFrom (h .0) ∙ f .1 in
+    let answer : x .number % 256 ≡ steppedBy s e .answer = rw from at (answer-is x (h .1 .0)) in
+    let count : x .number / 256 % 256 ≡ steppedBy s e .count = rw from at (count-is x (h .1 .0)) in
+    let left : x .left ≡ roomAfter s (x .lent) e = k .left-is ∙ (rw from) in
     let next = left-is s f e (refusal s e) refl in
     let kept : x .kept ≡ stationBytes (steppedBy s e .station) = k .kept-is ∙ (rw (h .0) (next .0)) in
     let step = stepOf e s (x .lent) (steppedBy s e) (roomAfter s (x .lent) e) in
@@ -71,7 +69,7 @@ walk s f (x ∷ xs) h =
     record {
       steps = step ∷ more .steps;
       hands = (refl, (allowed, more .hands));
-      entries = same-entry e (x .number) (x .left) (roomAfter s (x .lent) e) (steppedBy s e) _ _ answer (ap (λ n. n / 256 % 256) number ∙ parts .1) left (more .entries);
+      entries = same-entry e (x .number) (x .left) (roomAfter s (x .lent) e) (steppedBy s e) _ _ answer count left (more .entries);
       last = ap (λ b. stationFrom (lastOf b xs)) kept ∙ more .last;
       no-29 = λ h. (λ z. h .0 (sym answer ∙ z), more .no-29 (h .1));
     }
