@@ -1,12 +1,12 @@
 -- What the rules accept C can hand in.
 use Prim.Native.Nat.{ℕ, _≤_}
-use mathlib.Core.Path.{_≡_}
+use mathlib.Core.Path.{_≡_, refl}
 use mathlib.Core.Bool.{true}
 use mathlib.Core.List.{List, [], _∷_}
 use native.Mathlib.Omega.{arith}
 use lib.Dec.{leb}
 use lib.ListN.{length}
-use borrow.Author.Tests.{leb-true, ltb-true}
+use borrow.Author.Tests.{le-leb, leb-true, ltb-true}
 use Rattle.sequence.specs.Symbols.{allAtMost}
 use Rattle.sequence.specs.Answers.{isDone}
 use Rattle.sequence.specs.Reading.{readingOf}
@@ -20,8 +20,10 @@ use Rattle.soundness.proofs.FitLaws.{sound-fits}
 use Rattle.host.specs.Scripts.{InBytes, HappenedInC, WhatInC, AcceptedIsInC}
 
 in-bytes : (l : List ℕ) → allAtMost 127 l ≡ true → InBytes l
-in-bytes [] h = tt
-in-bytes (a ∷ l) h = let w = and-true (leb a 127) (allAtMost 127 l) h in let k = leb-true a 127 (w .0) in (omega arith, in-bytes l (w .1))
+in-bytes [] h = refl
+in-bytes (a ∷ l) h =
+    let w = and-true (leb a 127) (allAtMost 127 l) h in
+    rw (le-leb a 255 (omega (arith, leb-true a 127 (w .0)))) (in-bytes l (w .1))
 
 read-in-bytes : (m : List ℕ) → isDone (readerSays m) ≡ true → InBytes m
 unfolding readingOf

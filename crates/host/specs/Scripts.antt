@@ -1,10 +1,11 @@
 -- Every list of events is one that a host can hand in: what is claimed of a host's calls is claimed of something.
 use Prim.Native.Nat.{ℕ, _<_}
 use mathlib.Core.Path.{_≡_}
+use mathlib.Core.Bool.{true}
 use mathlib.Core.List.{List, map}
 use mathlib.Core.Option.{none}
 use lib.ListN.{length}
-use Rattle.rules.specs.Places.{Each}
+use Rattle.sequence.specs.Symbols.{allAtMost}
 use Rattle.rules.specs.Words.{Config, Happened, heard, offHook, onHook, carrierUp, carrierDown, takes, givesBack, What, tick, onChannel70, onSlot, Event}
 use Rattle.rules.specs.Station.{Station}
 use Rattle.rules.specs.Verdict.{verdict, setUpVerdict}
@@ -21,10 +22,11 @@ unfoldable pub EveryScriptIsHosted : Type 0
 EveryScriptIsHosted = (c : Config) → setUpVerdict c ≡ none
     → (es : List Event) (rooms : List (List ℕ)) → map length rooms ≡ map (λ e. e .room) es → Hosted c es rooms
 
--- what C's types hold of an event: a slot of 32 bits, symbols of a byte each
+-- what memory holds
 abbrev pub InBytes : List ℕ → Type 0
-InBytes symbols = Each (λ n. n < 256) symbols
+InBytes b = allAtMost 255 b ≡ true
 
+-- what C's types hold of an event: a slot of 32 bits, symbols in bytes
 abbrev pub HappenedInC : Happened → Type 0
 HappenedInC (heard symbols) = InBytes symbols
 HappenedInC offHook = Unit {0}
