@@ -5,11 +5,12 @@ use mathlib.Core.Bool.{Bool, true, false, cond}
 use mathlib.Core.List.{List, [], _∷_}
 use mathlib.Core.Option.{Option, none, some}
 use native.Mathlib.Omega.{arith}
-use lib.Dec.{eqb}
+use lib.Dec.{ltb, eqb}
 use lib.ListN.{length}
-use borrow.Author.Tests.{le-leb, lt-leb, eq-eqb, ne-eqb, eqb-true, eqb-false}
+use borrow.Author.Tests.{le-leb, lt-leb, ltb-true, eq-eqb, ne-eqb, eqb-true, eqb-false}
 use Rattle.sequence.specs.Identity.{isCoast}
 use Rattle.sequence.proofs.Tests.{Either, yes!, no!, which}
+use Rattle.rules.specs.Places.{all}
 use Rattle.rules.specs.Words.{Event}
 use Rattle.rules.specs.Calls.{act}
 use Rattle.rules.specs.Bytes.{padded}
@@ -17,7 +18,8 @@ use Rattle.rules.specs.Station.{fresh}
 use Rattle.rules.specs.Sound.{identityKeeps, configKeeps, sound}
 use Rattle.rules.specs.Statement.{ZeroOrOne}
 use Rattle.rules.specs.Verdict.{verdict, setUpVerdict}
-use Rattle.rules.proofs.Answered.{zero-or-one}
+use Rattle.rules.proofs.Answered as Rules
+use Rattle.rules.proofs.Answered.{otherNumbers, zero-or-one}
 use Rattle.requests.specs.Views.{viewed}
 use Rattle.station.specs.declared.NextDue.{NextDue}
 use Rattle.station.specs.declared.NextDue.the-variants.{Never, At}
@@ -37,17 +39,18 @@ laid-whole : (s : Station) (b : List ℕ) → length b ≡ 1722 → stationLaid 
 unfolding stationLaid
 laid-whole s b w = rw (eq-eqb (length b) 1722 w)
 
-refused-from-11 : (s : Station) (e : Event) (n : ℕ) → refusal s e ≡ some n → 1 < n
-unfolding refusal verdict ZeroOrOne
-refused-from-11 s e n h = go (recordsKeep s) h
+-- a test that every number of a refusal passes
+pub refused-such : (p : ℕ → Bool) → all p otherNumbers ≡ true → p 29 ≡ true → (s : Station) (e : Event) (n : ℕ) → refusal s e ≡ some n → p n ≡ true
+unfolding refusal verdict
+refused-such p others unsound s e n h = go (recordsKeep s) h
   where
-    go : (t : Bool) → cond t (verdict (configOf s) (modelOf s) e) (some 29) ≡ some n → 1 < n
-    go true v = omega (arith, zero-or-one (configOf s) (modelOf s) e .1 n v)
-    go false v = let q : 29 ≡ n = cc in omega arith
+    go : (t : Bool) → cond t (verdict (configOf s) (modelOf s) e) (some 29) ≡ some n → p n ≡ true
+    go true v = Rules.refused-such p others (configOf s) (modelOf s) e (λ f. unsound) n v
+    go false v = let q : 29 ≡ n = cc in rw (← q) unsound
 
 pub refusal-leaves-all : RefusalLeavesAll
 unfolding stationAfter kept steppedBy roomLeft roomAfter
-refusal-leaves-all b room e n h = (rw (h, lt-leb n 1 (refused-from-11 (stationFrom b) e n h)), rw h)
+refusal-leaves-all b room e n h = (rw (h, lt-leb n 1 (ltb-true 1 n (refused-such (ltb 1) refl refl (stationFrom b) e n h))), rw h)
 
 -- an event is accepted on bytes of the right size alone
 right-size : (b : List ℕ) (e : Event) → refusal (stationFrom b) e ≡ none → length b ≡ 1722
@@ -86,7 +89,7 @@ taken-apart r h k = apart (r .answer) (r .count) (r .due) h k
 -- ── a host that hands on what it was left ────────────────────────────────────
 
 module _ (s : Station) (f : FoundAgain s) (e : Event) where
-  pub returned-is : returned (stationBytes s) e ≡ told (steppedBy s e)
+  returned-is : returned (stationBytes s) e ≡ told (steppedBy s e)
   unfolding returned
   returned-is = rw (f .1)
 

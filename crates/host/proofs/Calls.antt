@@ -1,12 +1,16 @@
--- What the contract of a call's entry says.
-use Prim.Native.Nat.{ℕ}
-use mathlib.Core.Path.{_≡_, refl}
-use mathlib.Core.List.{[]}
+-- What the contract of a call's entry says, and the answer and the count in the number that it returns.
+use Prim.Native.Nat.{ℕ, _<_, _/_, _%_}
+use mathlib.Core.Path.{_≡_, refl, ap, _∙_}
 use lib.ListN.{length}
 use Rattle.rules.specs.Words.{heard, offHook, onHook, carrierUp, carrierDown, takes, givesBack, What, tick, onChannel70, onSlot}
-use Rattle.exchange.specs.Events.{returned, stationAfter, roomLeft}
-use Rattle.rack.specs.Steps as Rack
+use Rattle.station.specs.declared.Stepped.{Stepped}
+use Rattle.station.specs.Step.{steppedBy}
+use Rattle.lent.specs.Stations.{stationFrom}
+use Rattle.exchange.specs.Events.{told, returned, stationAfter, roomLeft}
+use Rattle.exchange.proofs.Theorems.{taken-apart}
 use Rattle.host.specs.Calls.{Call, Entered, by-tick, by-heard-on-channel-70, by-heard-on-slot, by-carrier-up, by-carrier-down, by-off-hook, by-on-hook, by-take-slot, by-give-back}
+use Rattle.host.specs.Statement.{answerIn, countIn}
+use Rattle.host.proofs.Small.{stepped-in-byte}
 
 pub record Called (x : Call) : Type 0 where
   pub time : ℕ
@@ -26,3 +30,21 @@ called _ (by-off-hook κs a r s p) = record { time = a .1 .0; what = onSlot (a .
 called _ (by-on-hook κs a r s p) = record { time = a .1 .0; what = onSlot (a .1 .1 .0) onHook; event-is = refl; number-is = p .0; kept-is = p .1 .0; left-is = p .1 .1 }
 called _ (by-take-slot κs a r s p) = record { time = a .1 .0; what = onSlot (a .1 .1 .0) takes; event-is = refl; number-is = p .0; kept-is = p .1 .0; left-is = p .1 .1 }
 called _ (by-give-back κs a r s p) = record { time = a .1 .0; what = onSlot (a .1 .1 .0) givesBack; event-is = refl; number-is = p .0; kept-is = p .1 .0; left-is = p .1 .1 }
+
+-- the answer and the count in the number are those of the step
+module _ (x : Call) (a : Entered x) where
+  abbrev stepped : Stepped
+  stepped = steppedBy (stationFrom (x .station)) (x .event)
+
+  number-is : x .number ≡ told stepped
+  unfolding returned
+  number-is = called x a .number-is
+
+  small : (stepped .answer < 256) × (stepped .count < 256)
+  small = stepped-in-byte (stationFrom (x .station)) (x .event)
+
+  pub answer-is : answerIn x ≡ stepped .answer
+  answer-is = ap (λ n. n % 256) number-is ∙ taken-apart stepped (small .0) (small .1) .0
+
+  pub count-is : countIn x ≡ stepped .count
+  count-is = ap (λ n. n / 256 % 256) number-is ∙ taken-apart stepped (small .0) (small .1) .1

@@ -1,3 +1,6 @@
 pub mod Small
 pub mod Calls
 pub mod Theorems
+pub mod Refusals
+pub mod Scripted
+pub mod InC

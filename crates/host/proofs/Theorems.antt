@@ -1,5 +1,5 @@
--- The theorem on charges, carried to a host in C.
-use Prim.Native.Nat.{ℕ, _+_, _/_, _%_}
+-- What holds of every trace, carried to a host in C.
+use Prim.Native.Nat.{ℕ, _/_, _%_}
 use mathlib.Core.Path.{_≡_, refl, sym, ap, _∙_}
 use mathlib.Core.Bool.{Bool, true, false, cond}
 use mathlib.Core.List.{List, [], _∷_}
@@ -9,11 +9,11 @@ use lib.Dec.{leb, eqb}
 use lib.ListN.{length}
 use borrow.Author.Tests.{eqb-true}
 use Rattle.sequence.proofs.Tests.{Either, yes!, no!, which}
+use Rattle.rules.specs.Places.{Each}
 use Rattle.rules.specs.Words.{Config, Event}
 use Rattle.rules.specs.Sound.{configKeeps}
-use Rattle.rules.specs.Book.{blankBook}
-use Rattle.rules.specs.Reading.{stops, counted}
-use Rattle.rules.specs.Statement.{notes, charged, owedFor, tenthsIn}
+use Rattle.rules.specs.Statement.{notes, WordsAgree, EveryEntry}
+use Rattle.rules.specs.Repeated.{Answers, RingsSame, DialsNamed, DeedByDeed}
 use Rattle.rules.specs.Verdict.{setUpVerdict, Entry}
 use Rattle.station.specs.declared.Station.{Station}
 use Rattle.station.specs.declared.Stepped.{Stepped}
@@ -21,20 +21,19 @@ use Rattle.station.specs.Step.{given, refusal, steppedBy, roomAfter, setUpBy}
 use Rattle.lent.specs.Stations.{stationBytes, stationFrom}
 use Rattle.lent.specs.Statement.{FoundAgain}
 use Rattle.lent.proofs.FoundAgain.{handed-out-is-found-again}
-use Rattle.exchange.specs.Events.{told, roomLeft, setUpReturned}
-use Rattle.exchange.proofs.Theorems.{taken-apart, returned-is, left-is, set-up}
+use Rattle.exchange.specs.Events.{roomLeft, setUpReturned}
+use Rattle.exchange.proofs.Theorems.{left-is, set-up}
 use Rattle.rack.specs.Rooms.{actionsIn}
-use Rattle.rack.specs.Steps.{Step, stepOf, Allowed, SetUpAs, by-set-up}
+use Rattle.rack.specs.Steps.{Step, stepOf, Allowed, SetUpAs, by-set-up, Trace}
 use Rattle.rack.specs.Steps as Rack
 use Rattle.rack.specs.Statement as Said
-use Rattle.rack.specs.Statement.{heldBy, RackObeys}
+use Rattle.rack.specs.Statement.{OfEveryTrace, Obeys, RackObeys, RackLiterally, RackAnswersRepeat, RackSecondRingRepeats, RackDialsAsked, NoneIdle, RackNoChannelIdle, isSound, RackAlwaysSound}
 use Rattle.rack.proofs.Scripted.{step-allowed}
-use Rattle.rack.proofs.Theorems.{rack-obeys}
+use Rattle.rack.proofs.Theorems.{rack-obeys, rack-literally, rack-answers-repeat, rack-second-ring-repeats, rack-dials-asked, rack-no-channel-idle, rack-always-sound}
 use Rattle.host.specs.Calls as Host
-use Rattle.host.specs.Calls.{Call, HandsOn, lastOf, SetUpIn}
-use Rattle.host.specs.Statement.{entriesIn, HostObeys}
-use Rattle.host.proofs.Small.{stepped-in-byte}
-use Rattle.host.proofs.Calls.{called}
+use Rattle.host.specs.Calls.{Call, HandsOn, lastOf, SetUpIn, HostRun}
+use Rattle.host.specs.Statement.{answerIn, entriesIn, OfEveryHost, HostObeys, HostLiterally, HostAnswersRepeat, HostSecondRingRepeats, HostDialsAsked, HostNoChannelIdle, HostAlwaysSound}
+use Rattle.host.proofs.Calls.{called, answer-is, count-is}
 
 -- ── a list of calls as a list of steps ───────────────────────────────────────
 
@@ -43,6 +42,7 @@ record Steps (s : Station) (xs : List Call) : Type 0 where
   hands : Rack.HandsOn s steps
   entries : Said.entriesIn steps ≡ entriesIn xs
   last : stationFrom (lastOf (stationBytes s) xs) ≡ Rack.lastOf s steps
+  no-29 : Each (λ x. x .back .answer ≡ 29 → ⊥) steps → Each (λ x. answerIn x ≡ 29 → ⊥) xs
 
 -- the entry of a call is that of its step
 same-entry : (e : Event) (number : ℕ) (left room : List ℕ) (r : Stepped) (more these : List Entry)
@@ -53,14 +53,14 @@ same-entry e number left room r more these p q l m = rw (p, q, l, m)
 
 walk : (s : Station) → FoundAgain s → (xs : List Call) → HandsOn (stationBytes s) xs → Steps s xs
 unfolding entriesIn Said.entriesIn roomLeft
-walk s f [] h = record { steps = []; hands = tt; entries = refl; last = f .1 }
+walk s f [] h = record { steps = []; hands = tt; entries = refl; last = f .1; no-29 = λ h. tt }
 walk s f (x ∷ xs) h =
     let k = called x (h .1 .0) in
     let e = x .event in
-    let small = stepped-in-byte s e in
-    let parts = taken-apart (steppedBy s e) (small .0) (small .1) in
-    let number : x .number ≡ told (steppedBy s e) = k .number-is ∙ (rw (h .0) (returned-is s f e)) in
-    let left : x .left ≡ roomAfter s (x .lent) e = k .left-is ∙ (rw (h .0, f .1)) in
+    let from : stationFrom (x .station) ≡ s = ap stationFrom (h .0) ∙ f .1 in
+    let answer : x .number % 256 ≡ steppedBy s e .answer = rw from at (answer-is x (h .1 .0)) in
+    let count : x .number / 256 % 256 ≡ steppedBy s e .count = rw from at (count-is x (h .1 .0)) in
+    let left : x .left ≡ roomAfter s (x .lent) e = k .left-is ∙ (rw from) in
     let next = left-is s f e (refusal s e) refl in
     let kept : x .kept ≡ stationBytes (steppedBy s e .station) = k .kept-is ∙ (rw (h .0) (next .0)) in
     let step = stepOf e s (x .lent) (steppedBy s e) (roomAfter s (x .lent) e) in
@@ -69,8 +69,9 @@ walk s f (x ∷ xs) h =
     record {
       steps = step ∷ more .steps;
       hands = (refl, (allowed, more .hands));
-      entries = same-entry e (x .number) (x .left) (roomAfter s (x .lent) e) (steppedBy s e) _ _ (ap (λ n. n % 256) number ∙ parts .0) (ap (λ n. n / 256 % 256) number ∙ parts .1) left (more .entries);
+      entries = same-entry e (x .number) (x .left) (roomAfter s (x .lent) e) (steppedBy s e) _ _ answer count left (more .entries);
       last = ap (λ b. stationFrom (lastOf b xs)) kept ∙ more .last;
+      no-29 = λ h. (λ z. h .0 (sym answer ∙ z), more .no-29 (h .1));
     }
 
 -- ── set-up ───────────────────────────────────────────────────────────────────
@@ -104,22 +105,50 @@ begun _ _ (Host.by-set-up κs a r s p z) =
       bytes = p .1 ∙ set-up (a .0) (a .1 .0 .now) (a .1 .1 .0 .now) (w .1) (w .0);
     }
 
--- ── the theorem ──────────────────────────────────────────────────────────────
+-- ── what holds of traces holds of hosts ──────────────────────────────────────
 
--- of a list of entries and the last station
-abbrev Obeys : Config → List Entry → Station → Type 0
-Obeys c es s =
-    (charged 0 es ≡ owedFor (stops c 0 (notes es) (blankBook c)))
-    × (tenthsIn (charged 0 es) + heldBy s ≡ counted c (notes es) (blankBook c))
+module _ (c : Config) (xs : List Call) (t : HostRun c xs) where
+  begins : Begun c (t .first)
+  begins = begun c (t .first) (t .begun)
 
-carried : (c : Config) (es these : List Entry) (s last : Station) → es ≡ these → last ≡ s → Obeys c es s → Obeys c these last
-carried c es these s last p q o = rw (← p, q) o
+  walked : Steps (begins .station) xs
+  walked = walk (begins .station) (begins .found) xs (rw (begins .bytes) at (t .calls))
+
+  abbrev trace : Trace c (walked .steps)
+  trace = record { first = begins .station; begun = begins .begins; steps = walked .hands }
+
+  last-is : stationFrom (lastOf (t .first) xs) ≡ Rack.lastOf (begins .station) (walked .steps)
+  last-is = ap (λ b. stationFrom (lastOf b xs)) (begins .bytes) ∙ walked .last
+
+carried : (P : Config → List Entry → Station → Type 0) → OfEveryTrace P → OfEveryHost P
+carried P h c xs t = rw (← (walked c xs t .entries), last-is c xs t) (h c (walked c xs t .steps) (trace c xs t))
 
 pub host-obeys : HostObeys
 unfolding HostObeys RackObeys
-host-obeys c xs t =
-    let g = begun c (t .first) (t .begun) in
-    let w = walk (g .station) (g .found) xs (rw (g .bytes) at (t .calls)) in
-    let last : stationFrom (lastOf (t .first) xs) ≡ Rack.lastOf (g .station) (w .steps) = ap (λ b. stationFrom (lastOf b xs)) (g .bytes) ∙ w .last in
-    carried c (Said.entriesIn (w .steps)) (entriesIn xs) (Rack.lastOf (g .station) (w .steps)) (stationFrom (lastOf (t .first) xs)) (w .entries) last
-    (rack-obeys c (w .steps) (record { first = g .station; begun = g .begins; steps = w .hands }))
+host-obeys = carried Obeys rack-obeys
+
+pub host-literally : HostLiterally
+unfolding HostLiterally RackLiterally
+host-literally = carried (λ c es s. WordsAgree c (notes es)) rack-literally
+
+pub host-answers-repeat : HostAnswersRepeat
+unfolding HostAnswersRepeat RackAnswersRepeat
+host-answers-repeat = carried (λ c es s. EveryEntry Answers c (notes es)) rack-answers-repeat
+
+pub host-second-ring-repeats : HostSecondRingRepeats
+unfolding HostSecondRingRepeats RackSecondRingRepeats
+host-second-ring-repeats = carried (λ c es s. EveryEntry (DeedByDeed RingsSame) c (notes es)) rack-second-ring-repeats
+
+pub host-dials-asked : HostDialsAsked
+unfolding HostDialsAsked RackDialsAsked
+host-dials-asked = carried (λ c es s. EveryEntry (DeedByDeed DialsNamed) c (notes es)) rack-dials-asked
+
+pub host-no-channel-idle : HostNoChannelIdle
+unfolding HostNoChannelIdle RackNoChannelIdle
+host-no-channel-idle = carried (λ c es s. NoneIdle s) rack-no-channel-idle
+
+pub host-always-sound : HostAlwaysSound
+unfolding HostAlwaysSound RackAlwaysSound
+host-always-sound c xs t =
+    let r = rack-always-sound c (walked c xs t .steps) (trace c xs t) in
+    (walked c xs t .no-29 (r .0), ap isSound (last-is c xs t) ∙ r .1)

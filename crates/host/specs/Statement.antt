@@ -1,18 +1,21 @@
--- What is claimed of every host that hands on the bytes it was left: the theorem on charges, from the bytes alone.
-use Prim.Native.Nat.{ℕ, _+_, _/_, _%_}
+-- What is claimed of every host that hands on the bytes it was left, from the bytes alone: the theorem on charges and what stands beside it.
+use Prim.Native.Nat.{ℕ, _/_, _%_, _<_}
 use mathlib.Core.Path.{_≡_}
-use mathlib.Core.Bool.{cond}
+use mathlib.Core.Bool.{true, cond}
 use mathlib.Core.List.{List, [], _∷_}
 use lib.Dec.{leb}
+use contract.Lifetimes.{Lfts}
+use Rattle.rules.specs.Places.{Each}
 use Rattle.rules.specs.Words.{Config}
 use Rattle.rules.specs.Verdict.{Entry}
-use Rattle.rules.specs.Book.{blankBook}
-use Rattle.rules.specs.Reading.{stops, counted}
-use Rattle.rules.specs.Statement.{notes, charged, owedFor, tenthsIn}
+use Rattle.rules.specs.Statement.{notes, WordsAgree, EveryEntry}
+use Rattle.rules.specs.Repeated.{Answers, RingsSame, DialsNamed, DeedByDeed}
+use Rattle.station.specs.declared.Station.{Station}
 use Rattle.lent.specs.Stations.{stationFrom}
+use Rattle.exchange.proofs.setting.coast_set_up.Reads as set-up
 use Rattle.rack.specs.Rooms.{actionsIn}
-use Rattle.rack.specs.Statement.{heldBy}
-use Rattle.host.specs.Calls.{Call, HostRun, lastOf}
+use Rattle.rack.specs.Statement.{Obeys, NoneIdle, isSound}
+use Rattle.host.specs.Calls.{Call, Entered, HostRun, lastOf}
 
 -- the answer and the count of actions, as `coast_answer` and `coast_count` take them
 abbrev pub answerIn : Call → ℕ
@@ -29,9 +32,45 @@ unfoldable pub entriesIn : List Call → List Entry
 entriesIn [] = []
 entriesIn (x ∷ xs) = cond (leb (answerIn x) 1) (entryOf x ∷ entriesIn xs) (entriesIn xs)
 
--- every stopped call has one charge, given at its stop, and no other charge exists; charged tenths and those that the last bytes hold are
--- those counted from the list
+-- what holds of every host's run: of the list that its calls show, and of the station in the bytes left last
+abbrev pub OfEveryHost : (Config → List Entry → Station → Type 0) → Type 0
+OfEveryHost P = (c : Config) (xs : List Call) (t : HostRun c xs) → P c (entriesIn xs) (stationFrom (lastOf (t .first) xs))
+
+-- the theorem on charges
 unfoldable pub HostObeys : Type 0
-HostObeys = (c : Config) (xs : List Call) (t : HostRun c xs)
-    → (charged 0 (entriesIn xs) ≡ owedFor (stops c 0 (notes (entriesIn xs)) (blankBook c)))
-    × (tenthsIn (charged 0 (entriesIn xs)) + heldBy (stationFrom (lastOf (t .first) xs)) ≡ counted c (notes (entriesIn xs)) (blankBook c))
+HostObeys = OfEveryHost Obeys
+
+-- ── beside it ────────────────────────────────────────────────────────────────
+
+-- "dial", "release line" and off-hook alone say of every slot what the book says of its line
+unfoldable pub HostLiterally : Type 0
+HostLiterally = OfEveryHost (λ c es s. WordsAgree c (notes es))
+
+-- what is acknowledged, rung back, rung back again and dialled is what was heard
+unfoldable pub HostAnswersRepeat : Type 0
+HostAnswersRepeat = OfEveryHost (λ c es s. EveryEntry Answers c (notes es))
+
+unfoldable pub HostSecondRingRepeats : Type 0
+HostSecondRingRepeats = OfEveryHost (λ c es s. EveryEntry (DeedByDeed RingsSame) c (notes es))
+
+unfoldable pub HostDialsAsked : Type 0
+HostDialsAsked = OfEveryHost (λ c es s. EveryEntry (DeedByDeed DialsNamed) c (notes es))
+
+-- while a ship waits no slot in use is free
+unfoldable pub HostNoChannelIdle : Type 0
+HostNoChannelIdle = OfEveryHost (λ c es s. NoneIdle s)
+
+-- no call of a run is answered 29, and the station in the bytes is sound
+unfoldable pub HostAlwaysSound : Type 0
+HostAlwaysSound = (c : Config) (xs : List Call) (t : HostRun c xs)
+    → Each (λ x. answerIn x ≡ 29 → ⊥) xs × (isSound (stationFrom (lastOf (t .first) xs)) ≡ true)
+
+-- ── refusals, by the returned number, on any bytes, in a run or not ──────────
+
+-- "leaves lent bytes untouched": answered 2 or more, not a byte of station or room is changed, and no action is told
+unfoldable pub HostRefusalsLeaveAll : Type 0
+HostRefusalsLeaveAll = (x : Call) → Entered x → 1 < answerIn x → (x .kept ≡ x .station) × ((x .left ≡ x .lent) × (countIn x ≡ 0))
+
+-- and set-up, returning anything but 0, leaves the station's bytes
+unfoldable pub HostSetUpRefusalLeavesAll : Type 0
+HostSetUpRefusalLeavesAll = (κs : Lfts 2) (a : _) (r : _) (s : _) → set-up.Post κs a r s → (r ≡ 0 → ⊥) → s .1 .1 .0 .now ≡ a .1 .1 .0 .now

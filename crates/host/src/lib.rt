@@ -1,1 +1,1 @@
-// No code: the theorem on charges, carried to a host in C that hands on the bytes it was left.
+// No code: what holds of every trace, carried to a host in C that hands on the bytes it was left.

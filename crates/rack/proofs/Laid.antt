@@ -1,20 +1,23 @@
--- A station that was laid out keeps its records, and holds as answered what its model does.
+-- A station that was laid out keeps its records; what it holds as answered, and which slots are free, as its model says.
 use Prim.Native.Nat.{ℕ, zero, suc, _≤_}
 use mathlib.Core.Path.{_≡_, refl, ap}
-use mathlib.Core.Bool.{Bool, true, _&&_}
+use mathlib.Core.Bool.{Bool, true, false, cond, _&&_}
 use mathlib.Core.List.{List, [], _∷_, map}
+use mathlib.Core.Option.{none, some}
+use native.Mathlib.Omega.{arith}
 use lib.ListN.{length, take, drop}
 use borrow.Author.Tests.{le-leb}
 use Rattle.units.specs.declared.Channel.{Channel}
 use Rattle.sequence.specs.Symbols.{allAtMost}
 use Rattle.rules.specs.Words.{Request, Config, Event}
-use Rattle.rules.specs.Places.{all, Each}
+use Rattle.rules.specs.Places.{shift, lowest, all, Each}
 use Rattle.rules.specs.Station as R
 use Rattle.rules.specs.Station.{free, taken, pending, busy, held, offered, firstRing, secondRing, acknowledged, dialling, answered}
+use Rattle.rules.specs.Requests.{isFree}
 use Rattle.rules.specs.Verdict.{verdict}
 use Rattle.rules.specs.Bytes.{padded, numberOf}
 use Rattle.rules.specs.Statement.{heldSlot, heldSlots, heldTenths}
-use Rattle.rules.proofs.PlaceLaws.{and-true}
+use Rattle.rules.proofs.PlaceLaws.{and-true, shift-none}
 use Rattle.requests.specs.Views.{viewed, itself, requestOf}
 use Rattle.requests.specs.Images.{requestImage, blankRequest}
 use Rattle.slots.specs.declared.Slot.{Slot}
@@ -94,7 +97,7 @@ unfolding waitingExact numberExact blankWaiting blankRequest
 blank-waiting = refl
 
 module _ (c : Config) (m : R.Station) (f : Fits c m) where
-  records-keep : recordsKeep (imageOf c m) ≡ true
+  pub records-keep : recordsKeep (imageOf c m) ≡ true
   unfolding recordsKeep imageOf
   records-keep =
       let a = slots-exact (c .channels) (m .slots) (f .shortSlots) in
@@ -127,3 +130,16 @@ slots-held t (s ∷ l) = rw (phase-held t (s .phase) (requestOf (s .request)), s
 pub held-is : (s : Station) → heldBy s ≡ heldTenths (modelOf s)
 unfolding heldBy heldTenths modelOf viewed
 held-is s = slots-held (s .clock .0) (take (s .count) (s .slots))
+
+-- ── the slots that are free ──────────────────────────────────────────────────
+
+pub none-free : (l : List Slot) → lowest isFree (map slotView l) ≡ none → Each (λ x. x .phase ≡ Free → ⊥) l
+none-free [] h = tt
+none-free (x ∷ l) h = go (isFree (slotView x)) refl h (none-free l)
+  where
+    go : (b : Bool) → isFree (slotView x) ≡ b → cond b (some zero) (shift (lowest isFree (map slotView l))) ≡ none
+        → (lowest isFree (map slotView l) ≡ none → Each (λ x. x .phase ≡ Free → ⊥) l) → Each (λ x. x .phase ≡ Free → ⊥) (x ∷ l)
+    go true f h more = let q : _≡_ {A = ℕ} 0 1 = cc in absurd (omega (arith, q))
+    go false f h more =
+        let busy : x .phase ≡ Free → ⊥ = λ e. let z : true ≡ false = rw e at f in let q : _≡_ {A = ℕ} 0 1 = cc in omega (arith, q) in
+        (busy, more (shift-none (lowest isFree (map slotView l)) h))

@@ -1,5 +1,5 @@
 -- A trace is a run of the rules: the same entries, the same station, the same print.
-use Prim.Native.Nat.{ℕ, _*_}
+use Prim.Native.Nat.{ℕ, _*_, _≤_}
 use mathlib.Core.Path.{_≡_, refl, ap, _∙_}
 use mathlib.Core.Bool.{Bool, true, false, cond}
 use mathlib.Core.List.{List, [], _∷_, _++_}
@@ -7,6 +7,7 @@ use mathlib.Core.Option.{Option, none, some}
 use native.Mathlib.Omega.{arith}
 use lib.ListN.{length, drop}
 use borrow.Author.Tests.{le-leb, lt-leb}
+use Rattle.rules.specs.Places.{Each}
 use Rattle.rules.specs.Words.{Config, Event}
 use Rattle.rules.specs.Station as R
 use Rattle.rules.specs.Station.{fresh, nextDue}
@@ -19,7 +20,7 @@ use Rattle.rules.specs.Statement.{ZeroOrOne, AtMostEight}
 use Rattle.rules.proofs.Run.{play-on, play-past, final-on, final-past}
 use Rattle.rules.proofs.Kept.{stays-sound}
 use Rattle.rules.proofs.Eight.{at-most-eight}
-use Rattle.rules.proofs.Answered.{zero-or-one}
+use Rattle.rules.proofs.Answered.{zero-or-one, sound-not-29}
 use Rattle.slots.specs.Images.{Fits}
 use Rattle.soundness.proofs.FitLaws.{sound-fits}
 use Rattle.station.specs.declared.SetUp.{SetUp}
@@ -113,6 +114,10 @@ module _ (c : Config) (m : R.Station) (good : sound c m ≡ true) (x : Step) (on
     unfolding ZeroOrOne
     next-taken = rw (done-back c m good x on allowed v) (le-leb (act c m (x .event) .answer) 1 (zero-or-one c m (x .event) .0 v))
 
+    next-not-29 : x .back .answer ≡ 29 → ⊥
+    unfolding ZeroOrOne
+    next-not-29 h = let n : x .back .answer ≤ 1 = rw (done-back c m good x on allowed v) (zero-or-one c m (x .event) .0 v) in omega arith
+
     next-entry : S.entryIn x ≡ record { event = x .event; given = act c m (x .event) .acts }
     next-entry =
         rw (done-back c m good x on allowed v, done-left c m good x on allowed v, blocks-tell c m (x .event) v (drop (40 * length (act c m (x .event) .acts)) (x .lent))) refl
@@ -132,6 +137,9 @@ module _ (c : Config) (m : R.Station) (good : sound c m ≡ true) (x : Step) (on
     unfolding ZeroOrOne
     not-taken = let k = zero-or-one c m (x .event) .1 n v in rw (refused-back c m good x on allowed n v) (lt-leb n 1 (omega arith))
 
+    same-not-29 : x .back .answer ≡ 29 → ⊥
+    same-not-29 h = sound-not-29 c m (x .event) good n v (rw (refused-back c m good x on allowed n v) at h)
+
     same-shown : shownBy x ≡ lines c (step c m (x .event))
     unfolding imageOf shownIn
     same-shown = rw (refused-back c m good x on allowed n v, step-past c m (x .event) n v, due-back (nextDue m)) refl
@@ -142,10 +150,11 @@ pub record IsRun (c : Config) (m : R.Station) (xs : List Step) : Type 0 where
   pub entries : entriesIn xs ≡ play c (eventsIn xs) m
   pub last : lastOf (imageOf c m) xs ≡ imageOf c (final c (eventsIn xs) m)
   pub print : allShown xs ≡ printed c (eventsIn xs) m
+  pub no-29 : Each (λ x. x .back .answer ≡ 29 → ⊥) xs
 
 pub is-run : (c : Config) (xs : List Step) (m : R.Station) → sound c m ≡ true → HandsOn (imageOf c m) xs → IsRun c m xs
 unfolding entriesIn play final printed
-is-run c [] m good t = record { entries = refl; last = refl; print = refl }
+is-run c [] m good t = record { entries = refl; last = refl; print = refl; no-29 = tt }
 is-run c (x ∷ xs) m good t = go (verdict c m (x .event)) refl (λ m good t. is-run c xs m good t)
   where
     go : (o : Option ℕ) → verdict c m (x .event) ≡ o → ((m : R.Station) → sound c m ≡ true → HandsOn (imageOf c m) xs → IsRun c m xs) → IsRun c m (x ∷ xs)
@@ -157,6 +166,7 @@ is-run c (x ∷ xs) m good t = go (verdict c m (x .event)) refl (λ m good t. is
           entries = rw (next-taken c m good x (t .0) (t .1 .0) v, next-entry c m good x (t .0) (t .1 .0) v, play-on c (x .event) (eventsIn xs) m v, w .entries) refl;
           last = rw (s, final-on c (x .event) (eventsIn xs) m v) (w .last);
           print = rw (next-shown c m good x (t .0) (t .1 .0) v, step-on c m (x .event) v, w .print) refl;
+          no-29 = (next-not-29 c m good x (t .0) (t .1 .0) v, w .no-29);
         }
     go (some n) v more =
         let s = same-station c m good x (t .0) (t .1 .0) n v in
@@ -165,4 +175,5 @@ is-run c (x ∷ xs) m good t = go (verdict c m (x .event)) refl (λ m good t. is
           entries = rw (not-taken c m good x (t .0) (t .1 .0) n v, play-past c (x .event) (eventsIn xs) m n v) (w .entries);
           last = rw (s, final-past c (x .event) (eventsIn xs) m n v) (w .last);
           print = rw (same-shown c m good x (t .0) (t .1 .0) n v, step-past c m (x .event) n v, w .print) refl;
+          no-29 = (same-not-29 c m good x (t .0) (t .1 .0) n v, w .no-29);
         }

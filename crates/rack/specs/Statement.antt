@@ -1,20 +1,23 @@
--- What is claimed of every trace: the theorem on charges, carried from the rules to the station as it runs.
-use Prim.Native.Nat.{ℕ, _+_, _-_, _*_}
+-- What is claimed of every trace: the theorem on charges and what stands beside it, carried from the rules to the station as it runs.
+use Prim.Native.Nat.{ℕ, _+_, _-_, _*_, _<_}
 use mathlib.Core.Path.{_≡_}
-use mathlib.Core.Bool.{Bool, false, cond}
+use mathlib.Core.Bool.{Bool, true, false, cond, _&&_}
 use mathlib.Core.List.{List, [], _∷_, _++_}
 use mathlib.Core.Option.{none}
 use lib.Dec.{leb}
 use lib.ListN.{length, take, drop, getD}
+use Rattle.rules.specs.Places.{Each}
 use Rattle.rules.specs.Words.{Config, Event}
 use Rattle.rules.specs.Station as R
+use Rattle.rules.specs.Sound.{sound}
 use Rattle.rules.specs.Calls.{act}
 use Rattle.rules.specs.Verdict.{verdict, Entry}
 use Rattle.rules.specs.Bytes.{block, blocks}
 use Rattle.rules.specs.Book.{blankBook}
 use Rattle.rules.specs.Reading.{stops, counted}
 use Rattle.rules.specs.Printed.{printed}
-use Rattle.rules.specs.Statement.{notes, charged, owedFor, tenthsIn, stationAfter}
+use Rattle.rules.specs.Statement.{notes, charged, owedFor, tenthsIn, stationAfter, WordsAgree, EveryEntry}
+use Rattle.rules.specs.Repeated.{Answers, RingsSame, DialsNamed, DeedByDeed}
 use Rattle.slots.specs.declared.Phase.{Phase}
 use Rattle.slots.specs.declared.Phase.the-variants.{Free, Offered, RingBack, RingAgain, Acknowledged, Dialling, Answered, Hold, Taken}
 use Rattle.slots.specs.declared.Slot.{Slot}
@@ -23,6 +26,7 @@ use Rattle.station.specs.declared.NextDue.{NextDue}
 use Rattle.station.specs.declared.NextDue.the-variants.{Never, At}
 use Rattle.station.specs.declared.Station.{Station}
 use Rattle.station.specs.Model.{modelOf, configOf}
+use Rattle.station.specs.Step.{recordsKeep}
 use Rattle.rack.specs.Rooms.{actionsIn, shownIn}
 use Rattle.rack.specs.Steps.{Step, Allowed, Trace, lastOf, eventsIn}
 
@@ -66,10 +70,17 @@ unfoldable pub heldBy : Station → ℕ
 heldBy s = heldOn (s .clock .0) (take (s .count) (s .slots))
 
 -- every stopped call has one charge, given at its stop, and no other charge exists; charged and held tenths are those counted from the list
+abbrev pub Obeys : Config → List Entry → Station → Type 0
+Obeys c es s =
+    (charged 0 es ≡ owedFor (stops c 0 (notes es) (blankBook c)))
+    × (tenthsIn (charged 0 es) + heldBy s ≡ counted c (notes es) (blankBook c))
+
+-- what holds of every trace: of the list that it shows, and of the station that was handed back last
+abbrev pub OfEveryTrace : (Config → List Entry → Station → Type 0) → Type 0
+OfEveryTrace P = (c : Config) (xs : List Step) (t : Trace c xs) → P c (entriesIn xs) (lastOf (t .first) xs)
+
 unfoldable pub RackObeys : Type 0
-RackObeys = (c : Config) (xs : List Step) (t : Trace c xs)
-    → (charged 0 (entriesIn xs) ≡ owedFor (stops c 0 (notes (entriesIn xs)) (blankBook c)))
-    × (tenthsIn (charged 0 (entriesIn xs)) + heldBy (lastOf (t .first) xs) ≡ counted c (notes (entriesIn xs)) (blankBook c))
+RackObeys = OfEveryTrace Obeys
 
 -- ── beside it ────────────────────────────────────────────────────────────────
 
@@ -78,6 +89,36 @@ unfoldable pub RackStands : Type 0
 RackStands = (c : Config) (xs : List Step) (t : Trace c xs)
     → (configOf (lastOf (t .first) xs) ≡ c)
     × ((modelOf (lastOf (t .first) xs) ≡ stationAfter c (eventsIn xs)) × Fits c (stationAfter c (eventsIn xs)))
+
+-- "dial", "release line" and off-hook alone say of every slot what the book says of its line
+unfoldable pub RackLiterally : Type 0
+RackLiterally = OfEveryTrace (λ c es s. WordsAgree c (notes es))
+
+-- what is acknowledged, rung back, rung back again and dialled is what was heard
+unfoldable pub RackAnswersRepeat : Type 0
+RackAnswersRepeat = OfEveryTrace (λ c es s. EveryEntry Answers c (notes es))
+
+unfoldable pub RackSecondRingRepeats : Type 0
+RackSecondRingRepeats = OfEveryTrace (λ c es s. EveryEntry (DeedByDeed RingsSame) c (notes es))
+
+unfoldable pub RackDialsAsked : Type 0
+RackDialsAsked = OfEveryTrace (λ c es s. EveryEntry (DeedByDeed DialsNamed) c (notes es))
+
+-- while a ship waits no slot in use is free
+abbrev pub NoneIdle : Station → Type 0
+NoneIdle s = 0 < s .waiting → Each (λ x. x .phase ≡ Free → ⊥) (take (s .count) (s .slots))
+
+unfoldable pub RackNoChannelIdle : Type 0
+RackNoChannelIdle = OfEveryTrace (λ c es s. NoneIdle s)
+
+-- as `is_sound` finds it
+abbrev pub isSound : Station → Bool
+isSound s = recordsKeep s && sound (configOf s) (modelOf s)
+
+-- no step of a trace is answered 29, and every station handed back is sound
+unfoldable pub RackAlwaysSound : Type 0
+RackAlwaysSound = (c : Config) (xs : List Step) (t : Trace c xs)
+    → Each (λ x. x .back .answer ≡ 29 → ⊥) xs × (isSound (lastOf (t .first) xs) ≡ true)
 
 -- "hands back the station unchanged, clock included", "leaves lent bytes untouched": of every station, in a trace or not
 unfoldable pub RefusalsLeaveAll : Type 0

@@ -43,6 +43,7 @@ pub record Accepted (cfg : Config) (st : Station) (e : Event) : Type 0 where
   pub in-limit : leb (e .time) limit ≡ true
   pub in-time : leb (st .clock) (e .time) ≡ true
   pub none-due : overtaken st (e .time) (e .what) ≡ false
+  pub there : slotThere (length (st .slots)) (e .what) ≡ true
   pub readable : isDone (readIn (e .what)) ≡ true
 
 pub accepted : (cfg : Config) (st : Station) (e : Event) → verdict cfg st e ≡ none → Accepted cfg st e
@@ -56,7 +57,7 @@ accepted cfg st e h =
     let d = and-true (not (overtaken st (e .time) (e .what))) _ (b .1) in
     let s = and-true (slotThere (length (st .slots)) (e .what)) _ (d .1) in
     let u = and-true (isDone (readIn (e .what))) _ (s .1) in
-    record { is-sound = a .0; in-limit = l .0; in-time = b .0; none-due = not-true _ (d .0); readable = u .0 }
+    record { is-sound = a .0; in-limit = l .0; in-time = b .0; none-due = not-true _ (d .0); there = s .0; readable = u .0 }
 
 -- ── what soundness gives ─────────────────────────────────────────────────────
 

@@ -5,8 +5,10 @@ use mathlib.Core.Bool.{Bool, true, false, cond, _&&_, _||_}
 use mathlib.Core.Option.{Option, none, some}
 use Prim.Native.Nat.{ℕ, zero, suc, _≤_}
 use native.Mathlib.Omega.{arith}
+use lib.Dec.{eqb}
 use lib.ListN.{getD, length}
-use Rattle.rules.specs.Places.{modAt, dropAt, shift, lowest, all, Each}
+use borrow.Author.Tests.{eqb-true}
+use Rattle.rules.specs.Places.{modAt, dropAt, shift, lowest, all, Each, elem}
 
 -- ── tests ────────────────────────────────────────────────────────────────────
 
@@ -84,6 +86,15 @@ pub dropped-length : {A : Type 0} (k : ℕ) (l : List A) → length (dropAt k l)
 dropped-length k [] = omega arith
 dropped-length zero (x ∷ l) = omega arith
 dropped-length (suc k) (x ∷ l) = omega (arith, dropped-length k l)
+
+-- of one that stands among them
+pub all-elem : (f : ℕ → Bool) (l : List ℕ) → all f l ≡ true → (k : ℕ) → elem eqb k l ≡ true → f k ≡ true
+all-elem f [] h k e = cc
+all-elem f (x ∷ l) h k e = let w = and-true (f x) (all f l) h in go (eqb k x) refl (w .0) (all-elem f l (w .1) k) e
+  where
+    go : (b : Bool) → eqb k x ≡ b → f x ≡ true → (elem eqb k l ≡ true → f k ≡ true) → (b || elem eqb k l) ≡ true → f k ≡ true
+    go true q one more e = rw (eqb-true k x q) one
+    go false q one more e = more e
 
 -- ── what is claimed of each ───────────────────────────────────────────────────
 

@@ -134,16 +134,24 @@ AlwaysSound = OfEveryRun (λ c es. sound c (stationAfter c es) ≡ true)
 unfoldable pub AlwaysFits : Type 0
 AlwaysFits = OfEveryRun (λ c es. (length (stationAfter c es .slots) ≤ 16) × (length (stationAfter c es .queue) ≤ 32))
 
--- "dial", "release line" and off-hook alone say of every slot what the book says of its line, after every entry
-unfoldable pub Literally : Type 0
-Literally = OfEveryRun (λ c es. (i : ℕ) → i < length (c .channels) → wordAfter i (listOf c es) idle ≡ wordOf (line (bookOf c es) i .call))
+-- what holds of every run's list
+abbrev pub OfEveryList : (Config → List Note → Type 0) → Type 0
+OfEveryList P = OfEveryRun (λ c es. P c (listOf c es))
 
--- what holds of every entry n of every run's list, with the entries before it
+-- "dial", "release line" and off-hook alone say of every slot what the book says of its line, after the last entry
+abbrev pub WordsAgree : Config → List Note → Type 0
+WordsAgree c l = (i : ℕ) → i < length (c .channels) → wordAfter i l idle ≡ wordOf (line (readAll c l (blankBook c)) i .call)
+
+-- of every list, so after every entry
+unfoldable pub Literally : Type 0
+Literally = OfEveryList WordsAgree
+
+-- what holds of every entry n of a list, with the entries before it
 abbrev pub EveryEntry : (Config → List Note → Note → Type 0) → Config → List Note → Type 0
 EveryEntry P c l = (before : List Note) (n : Note) (after : List Note) → l ≡ before ++ n ∷ after → P c before n
 
 abbrev pub OfEveryEntry : (Config → List Note → Note → Type 0) → Type 0
-OfEveryEntry P = OfEveryRun (λ c es. EveryEntry P c (listOf c es))
+OfEveryEntry P = OfEveryList (EveryEntry P)
 
 -- What is answered or dialled was heard. Whether anything is, and which waiting ship is rung back, the next three leave to the rules.
 
