@@ -3,10 +3,10 @@ use mathlib.Core.Bool.{Bool, true, false, cond}
 use mathlib.Core.List.{List, [], _∷_, _++_, map, flatMap, append-nil}
 use mathlib.Core.Option.{Option, none, some}
 use mathlib.Core.Path.{_≡_, refl, sym, _∙_, ap}
-use Prim.Native.Nat.{ℕ, _*_}
+use Prim.Native.Nat.{ℕ}
 use native.Mathlib.Omega.{arith}
 use lib.Dec.{eqb}
-use lib.ListN.{length, drop}
+use lib.ListN.{length}
 use Rattle.sequence.proofs.Tests.{Either, yes!, no!, which}
 use Rattle.rules.specs.Places.{Each}
 use Rattle.rules.specs.Words.{Config, What, Event}
@@ -16,7 +16,6 @@ use Rattle.rules.specs.Sound.{configKeeps, sound}
 use Rattle.rules.specs.Requests.{done}
 use Rattle.rules.specs.Calls.{act}
 use Rattle.rules.specs.Verdict.{verdict, setUpVerdict, step, final}
-use Rattle.rules.specs.Bytes.{blocks}
 use Rattle.rules.specs.Printed.{lines, printed}
 use Rattle.rules.specs.Statement.{AtMostEight, AlwaysSound}
 use Rattle.rules.proofs.Eight.{at-most-eight}
@@ -28,9 +27,13 @@ use Rattle.lines.specs.Readable.{readsAs}
 use Rattle.station.specs.declared.Station.{Station}
 use Rattle.station.specs.declared.NextDue.the-variants.{Never}
 use Rattle.station.specs.Model.{modelOf, imageOf}
-use Rattle.station.specs.Step.{dueImage, given, steppedBy, roomAfter, setUpFor, setUpBy}
-use Rattle.station.proofs.ImageLaws.{model-back, config-back}
+use Rattle.station.specs.Step.{dueImage, given, setUpFor, setUpBy}
+use Rattle.station.proofs.ImageLaws.{model-back}
+use Rattle.rack.specs.Steps.{Step, Allowed}
 use Rattle.rack.proofs.Laid.{refusal-is}
+use Rattle.rack.proofs.Steps.{allowed-does, left-for}
+use Rattle.rack.proofs.Traces.{done-back, done-left, refused-back}
+use Rattle.rack.proofs.Scripted.{stepFor, step-allowed}
 use Rattle.printing.specs.Replies.{actionTexts, replyText}
 use Rattle.printing.specs.Statement.{linesText}
 use Rattle.printing.proofs.PrintedLaws.{first-is, reply-is}
@@ -88,47 +91,35 @@ module _ (c : Config) (m : R.Station) (good : sound c m ≡ true) (time : ℕ) (
   abbrev this : Event
   this = eventOf time what
 
-  module _ (v : verdict c m this ≡ none) where
-    stepped-on : steppedBy (imageOf c m) this ≡ record {
-      answer = act c m this .answer;
-      count = length (act c m this .acts);
-      due = dueImage (nextDue (act c m this .next));
-      station = imageOf c (act c m this .next);
-    }
-    unfolding steppedBy
-    stepped-on = rw (refusal-is c m (fits c m good) this, v, config-back c m (fits c m good), model-back c m (fits c m good))
+  -- the rack's own step
+  abbrev taken : Step
+  taken = stepFor (imageOf c m) noBlocks time what
 
-    left-on : roomAfter (imageOf c m) noBlocks this ≡ blocks c (act c m this .acts) ++ drop (40 * length (act c m this .acts)) noBlocks
-    unfolding roomAfter
-    left-on = rw (refusal-is c m (fits c m good) this, v, config-back c m (fits c m good), model-back c m (fits c m good))
+  allowed : Allowed taken
+  allowed = step-allowed (imageOf c m) noBlocks time what
 
-    accepted-comes : Comes c m (some (happens time what))
-    unfolding replyTo deskAfter AtMostEight
-    accepted-comes =
-        let o = act c m this in
-        let eight = at-most-eight c m this good in
-        let on : step c m this ≡ o = unfold step in rw v in
-        let next = stays-sound c m this v in
-        record {
-          reply = rw (stepped-on, left-on, on) (shows c (o .next) next (o .answer) (length (o .acts)) _ ∙ reply-is c o (eight .0) (eight .1) _);
-          after = rw (stepped-on, on);
-          sounds = rw on next;
-        }
+  accepted-comes : verdict c m this ≡ none → Comes c m (some (happens time what))
+  unfolding replyTo deskAfter AtMostEight
+  accepted-comes v =
+      let o = act c m this in
+      let eight = at-most-eight c m this good in
+      let on : step c m this ≡ o = unfold step in rw v in
+      let back = done-back c m good taken refl allowed v in
+      let left = done-left c m good taken refl allowed v in
+      let next = stays-sound c m this v in
+      record {
+        reply = rw (back, left, on) (shows c (o .next) next (o .answer) (length (o .acts)) _ ∙ reply-is c o (eight .0) (eight .1) _);
+        after = rw (back, on);
+        sounds = rw on next;
+      }
 
-  module _ (n : ℕ) (v : verdict c m this ≡ some n) where
-    stepped-past : steppedBy (imageOf c m) this ≡ record { answer = n; count = 0; due = dueImage (nextDue m); station = imageOf c m }
-    unfolding steppedBy
-    stepped-past = rw (refusal-is c m (fits c m good) this, v, model-back c m (fits c m good))
-
-    left-past : roomAfter (imageOf c m) noBlocks this ≡ noBlocks
-    unfolding roomAfter
-    left-past = rw (refusal-is c m (fits c m good) this, v)
-
-    refused-comes : Comes c m (some (happens time what))
-    unfolding replyTo deskAfter
-    refused-comes =
-        let past : step c m this ≡ nothingBut n m = unfold step in rw v in
-        record { reply = rw (stepped-past, left-past, past) (only c m good n); after = rw (stepped-past, past); sounds = rw past good }
+  refused-comes : (n : ℕ) → verdict c m this ≡ some n → Comes c m (some (happens time what))
+  unfolding replyTo deskAfter
+  refused-comes n v =
+      let past : step c m this ≡ nothingBut n m = unfold step in rw v in
+      let back = refused-back c m good taken refl allowed n v in
+      let left = left-for taken (allowed-does taken allowed) (some n) (refusal-is c m (fits c m good) this ∙ v) in
+      record { reply = rw (back, left, past) (only c m good n); after = rw (back, past); sounds = rw past good }
 
   event-comes : Comes c m (some (happens time what))
   event-comes = go (verdict c m this) refl
