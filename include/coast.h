@@ -63,7 +63,9 @@ extern "C" {
 
 /* Reads the sequence of `count` symbols into the `size` bytes at `meaning`.
  * Returns 0 and fills the first 32 of those bytes; or returns the first of 22, 11, 12, 13, 14, 15, 16, 17, 18, 19, 20
- * that fits, in this order, and leaves every byte as it was. Bytes after the first 32 are never touched. */
+ * that fits, in this order, and leaves every byte as it was. Bytes after the first 32 are never touched.
+ * Proved of this and the next: what was written is read back to the same 32 bytes, every one of them; what was read is
+ * written to the same symbols; two different meanings never give one sequence, nor two different sequences one meaning. */
 uint32_t coast_read_sequence(const uint8_t *symbols, size_t count, uint8_t *meaning, size_t size);
 
 /* Writes the sequence that has the meaning laid out at `meaning` (`size` bytes, the first 32 of which count) into the

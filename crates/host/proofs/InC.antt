@@ -17,7 +17,8 @@ use Rattle.rules.specs.Verdict.{slotThere, readerSays, readOn, readIn}
 use Rattle.rules.proofs.PlaceLaws.{and-true}
 use Rattle.rules.proofs.Accepted.{accepted}
 use Rattle.soundness.proofs.FitLaws.{sound-fits}
-use Rattle.host.specs.Scripts.{InBytes, HappenedInC, WhatInC, AcceptedIsInC}
+use Rattle.host.specs.Sequences.{InBytes}
+use Rattle.host.specs.Scripts.{HappenedInC, WhatInC, AcceptedIsInC}
 
 in-bytes : (l : List ℕ) → allAtMost 127 l ≡ true → InBytes l
 in-bytes [] h = refl

@@ -1,15 +1,14 @@
 -- Every list of events is one that a host can hand in: what is claimed of a host's calls is claimed of something.
 use Prim.Native.Nat.{ℕ, _<_}
 use mathlib.Core.Path.{_≡_}
-use mathlib.Core.Bool.{true}
 use mathlib.Core.List.{List, map}
 use mathlib.Core.Option.{none}
 use lib.ListN.{length}
-use Rattle.sequence.specs.Symbols.{allAtMost}
 use Rattle.rules.specs.Words.{Config, Happened, heard, offHook, onHook, carrierUp, carrierDown, takes, givesBack, What, tick, onChannel70, onSlot, Event}
 use Rattle.rules.specs.Station.{Station}
 use Rattle.rules.specs.Verdict.{verdict, setUpVerdict}
 use Rattle.host.specs.Calls.{Call, HostRun}
+use Rattle.host.specs.Sequences.{InBytes}
 
 pub record Hosted (c : Config) (es : List Event) (rooms : List (List ℕ)) : Type 0 where
   pub calls : List Call
@@ -21,10 +20,6 @@ pub record Hosted (c : Config) (es : List Event) (rooms : List (List ℕ)) : Typ
 unfoldable pub EveryScriptIsHosted : Type 0
 EveryScriptIsHosted = (c : Config) → setUpVerdict c ≡ none
     → (es : List Event) (rooms : List (List ℕ)) → map length rooms ≡ map (λ e. e .room) es → Hosted c es rooms
-
--- what memory holds
-abbrev pub InBytes : List ℕ → Type 0
-InBytes b = allAtMost 255 b ≡ true
 
 -- what C's types hold of an event: a slot of 32 bits, symbols in bytes
 abbrev pub HappenedInC : Happened → Type 0

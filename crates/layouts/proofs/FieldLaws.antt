@@ -1,15 +1,16 @@
--- What was laid out by a list of fields is read back by it.
+-- What was laid out by a list of fields is read back by it, and what was read is laid out again.
 use Prim.Native.Nat.{ℕ, zero, suc, _+_, _*_, _/_, _%_, _≤_}
 use mathlib.Core.Path.{_≡_, refl, sym, ap, _∙_}
 use mathlib.Core.Bool.{true, _&&_}
 use mathlib.Core.List.{List, [], _∷_, _++_, append-assoc, append-nil, flatten}
 use native.Mathlib.Omega.{arith}
 use lib.Dec.{leb, eqb}
-use lib.ListN.{length, take, drop, length-append}
-use lib.Seq.{getD-at, append-snoc, take-length, drop-drop, take-paste, drop-paste}
+use lib.ListN.{length, getD, take, drop, length-append}
+use lib.Seq.{getD-at, append-snoc, take-add, take-length, drop-drop, take-paste, drop-paste}
 use borrow.Author.Tests.{eqb-true, leb-true}
 use Rattle.sequence.proofs.Tests.{both-true}
 use Rattle.sequence.proofs.Paste.{paste-whole}
+use Rattle.sequence.proofs.Rest.{rest}
 use Rattle.layouts.specs.Fields.{Field, lowFirst, numberAt, encode, decode, ordered, size, laid}
 
 -- ── one number ───────────────────────────────────────────────────────────────
@@ -47,6 +48,30 @@ there-and-back (f ∷ fs) (n ∷ ns) before rest p o l h e =
     let longer : length (before ++ bytes) ≡ p + (o + f .width) = length-append before bytes ∙ (rw (e, lowFirst-length (f .width) n) (omega arith)) in
     let others = there-and-back fs ns (before ++ bytes) rest p (o + f .width) (omega arith) (b .1) longer in
     rw (append-assoc bytes (encode fs ns) rest, place, first, ← append-assoc before bytes (encode fs ns ++ rest), others)
+
+-- ── bytes that were read are laid out again ──────────────────────────────────
+
+number-again : (w : ℕ) (b : List ℕ) (i : ℕ) → ((j : ℕ) → getD b j 0 ≤ 255) → i + w ≤ length b → lowFirst w (numberAt b i w) ≡ take w (drop i b)
+number-again zero b i small h = refl
+number-again (suc zero) b i small h = rw (rest b i (omega arith))
+number-again (suc (suc w)) b i small h =
+    let more = numberAt b (i + 1) (suc w) in
+    let low : (getD b i 0 + 256 * more) % 256 ≡ getD b i 0 = omega (arith, small i) in
+    let high : (getD b i 0 + 256 * more) / 256 ≡ more = omega (arith, small i) in
+    rw (low, high, rest b i (omega arith), number-again (suc w) b (i + 1) small (omega arith))
+
+pub back-and-there : (fs : List Field) (b : List ℕ) (p o : ℕ) → ((j : ℕ) → getD b j 0 ≤ 255) → ordered o fs ≡ true → p + o + size fs ≤ length b
+    → encode fs (decode fs b p) ≡ take (size fs) (drop (p + o) b)
+back-and-there [] b p o small h l = refl
+back-and-there (f ∷ fs) b p o small h l =
+    let a = both-true (eqb (f .place) o) (leb 1 (f .width) && ordered (o + f .width) fs) h in
+    let c = both-true (leb 1 (f .width)) (ordered (o + f .width) fs) (a .1) in
+    let place : f .place ≡ o = eqb-true (f .place) o (a .0) in
+    let next : p + (o + f .width) ≡ p + o + f .width = omega arith in
+    let others = back-and-there fs b p (o + f .width) small (c .1) (omega arith) in
+    rw (place, number-again (f .width) b (p + o) small (omega arith), others, next, take-add (f .width) (size fs) (drop (p + o) b), drop-drop (f .width) (p + o) b)
+
+-- ── lengths ──────────────────────────────────────────────────────────────────
 
 pub encode-length : (fs : List Field) (ns : List ℕ) → length ns ≡ length fs → length (encode fs ns) ≡ size fs
 encode-length [] ns e = refl

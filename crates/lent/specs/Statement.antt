@@ -1,11 +1,12 @@
 -- What is claimed of the lent bytes: whatever is handed out is found again in them.
-use Prim.Native.Nat.{ℕ}
+use Prim.Native.Nat.{ℕ, _≤_}
 use mathlib.Core.Path.{_≡_}
 use mathlib.Core.Bool.{true}
 use mathlib.Core.List.{List, _++_}
 use mathlib.Core.Option.{none, some}
-use lib.ListN.{length}
+use lib.ListN.{length, take}
 use Rattle.sequence.specs.declared.Meaning.{Meaning}
+use Rattle.sequence.specs.Symbols.{allAtMost}
 use Rattle.sequence.specs.Layout.{valid}
 use Rattle.rules.specs.Words.{Event}
 use Rattle.station.specs.declared.Station.{Station}
@@ -16,6 +17,11 @@ use Rattle.lent.specs.Stations.{stationBytes, stationFrom}
 -- the 32 bytes of a valid meaning, whatever stands behind them
 abbrev pub MeaningIsFoundAgain : Type 0
 MeaningIsFoundAgain = (m : Meaning) (rest : List ℕ) → (length (meaningBytes m) ≡ 32) × (valid m ≡ true → meaningFrom (meaningBytes m ++ rest) ≡ m)
+
+-- and bytes that tell a valid meaning are that meaning's, all 32 of them
+abbrev pub MeaningIsLaidAgain : Type 0
+MeaningIsLaidAgain = (b : List ℕ) → allAtMost 255 b ≡ true → valid (meaningFrom b) ≡ true
+    → (32 ≤ length b) × (meaningBytes (meaningFrom b) ≡ take 32 b)
 
 -- decoding what was encoded gives the station back, and it takes 1722 bytes
 abbrev pub FoundAgain : Station → Type 0

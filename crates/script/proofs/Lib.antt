@@ -2,4 +2,5 @@ pub mod LineLaws
 pub mod TextLaws
 pub mod SessionLaws
 pub mod TalkLaws
+pub mod PrintedLaws
 pub mod Settled

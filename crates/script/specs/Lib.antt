@@ -2,3 +2,4 @@ pub mod Answering
 pub mod Lining
 pub mod Session
 pub mod Transcript
+pub mod Printed
