@@ -7,7 +7,7 @@ use lib.Dec.{eqb}
 use lib.ListN.{length, take}
 use borrow.Author.Tests.{ne-eqb}
 use Rattle.rules.specs.Bytes.{padded}
-use Rattle.actions.proofs.ActionLaws.{take-padded}
+use Rattle.requests.proofs.ArrayLaws.{padded-front}
 use Rattle.station.specs.declared.SetUp.{SetUp}
 use Rattle.lent.specs.Stations.{stationLaid}
 use Rattle.exchange.specs.Events.{setUpLeaves}
@@ -23,4 +23,4 @@ nowhere u b h = rw (ne-eqb (length b) 1722 h) (either-way (eqb (u .answer) 0) b)
 
 -- the channels in their array
 pub listed-whole : (channels wide : List ℕ) → length channels ≤ 16 → wide ≡ padded 0 16 channels → take (length channels) wide ≡ channels
-listed-whole channels wide h e = rw e (take-padded 16 channels h)
+listed-whole channels wide h e = rw e (padded-front 0 16 channels h)

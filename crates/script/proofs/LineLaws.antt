@@ -13,11 +13,11 @@ use Rattle.sequence.proofs.Tests.{both-true}
 use Rattle.rules.specs.Places.{all}
 use Rattle.rules.specs.Words.{heard, offHook, onHook, carrierUp, carrierDown, takes, givesBack, What, tick, onChannel70, onSlot}
 use Rattle.rules.specs.Bytes.{padded}
+use Rattle.requests.proofs.ArrayLaws.{padded-front}
 use Rattle.lines.specs.declared.Kind.{Kind}
 use Rattle.lines.specs.declared.Line.{Line}
 use Rattle.lines.specs.Lines.{Said, setsUp, happens, whatLetter, numbersOf, isSymbol, isNumber, inRange}
 use Rattle.lines.specs.Readable.{kindOf, lineImage}
-use Rattle.lines.proofs.ReadLaws.{padded-front}
 use Rattle.station.specs.declared.Station.{Station}
 use Rattle.station.specs.declared.SetUp.{SetUp}
 use Rattle.script.specs.Answering.{desk, unchanged, afterSetUp, eventAt, handledFor, blocksFor}
