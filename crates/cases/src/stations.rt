@@ -79,8 +79,10 @@ fn made(
     slot: Slot,
     first: Waiting,
 ) -> Station {
-    let channels = [26u32, 27];
-    let u = Station::set_up(2001234, &channels);
+    let mut channels = [Channel(0); 16];
+    channels[0] = Channel(26);
+    channels[1] = Channel(27);
+    let u = Station::set_up(2001234, channels, 2);
     let fresh = u.station;
     let mut slots = fresh.slots;
     let mut queue = fresh.queue;
