@@ -33,7 +33,7 @@ pub extern "C" fn coast_set_up(identity: u32, channels: &[u8], station: &mut [u8
     ensures { λ _. ⌜ now (station .exit) ≡ stationSetUp identity (now (channels .entry)) (now (station .entry)) ⌝ }
 {
     if station.len() != 1722 {
-        return 29;
+        return 23;
     }
     let n = channels.len();
     if 16 < n {

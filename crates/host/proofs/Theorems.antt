@@ -85,7 +85,7 @@ begun-well identity channels size h = go (which (eqb size 1722))
 
     go : Either (eqb size 1722) → (size ≡ 1722) × (setUpVerdict (given identity channels) ≡ none)
     go (yes! p) = (eqb-true size 1722 p, judged (configKeeps (given identity channels)) refl (rw p at h))
-    go (no! p) = let q : _≡_ {A = ℕ} 29 0 = rw p at h in absurd (omega (arith, q))
+    go (no! p) = let q : _≡_ {A = ℕ} 23 0 = rw p at h in absurd (omega (arith, q))
 
 record Begun (c : Config) (b : List ℕ) : Type 0 where
   station : Station
