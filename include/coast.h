@@ -52,7 +52,8 @@ extern "C" {
 #define COAST_BAD_END 20           /* the end of sequence is not 117, 122 or 127 */
 #define COAST_ROOM_SHORT 21        /* the room to write a sequence in is under 28 bytes */
 #define COAST_MEANING_SHORT 22     /* the meaning's bytes are fewer than 32 */
-#define COAST_NOT_SOUND 29         /* the station is not sound, or its bytes are not 1722 */
+#define COAST_WRONG_SIZE 23        /* the bytes to set a station up in are not 1722 */
+#define COAST_NOT_SOUND 29         /* the station handed in is not sound, or its bytes are not 1722 */
 #define COAST_ACTIONS_SHORT 30     /* the room for actions is under 320 bytes */
 #define COAST_TIME_TOO_LATE 31     /* the time is over 4,000,000,000 */
 #define COAST_TIME_BEFORE_CLOCK 32 /* the time is before the station's clock */
@@ -128,7 +129,7 @@ uint32_t coast_write_sequence(const uint8_t *meaning, size_t size, uint8_t *room
 /* What the entries below return is one number: coast_answer, coast_count, coast_waits and coast_due take it apart.
  *
  * Sets a station up in the `size` bytes at `station`, with a slot for each of the `count` channels, one a byte: slot 0
- * for the first, and so on; all slots free, the clock at 0. Answers 0; or 29 where the size is not 1722, or else 36, and no byte
+ * for the first, and so on; all slots free, the clock at 0. Answers 0; or 23 where the size is not 1722, or else 36, and no byte
  * changes. */
 uint64_t coast_set_up(uint32_t identity, const uint8_t *channels, size_t count, uint8_t *station, size_t size);
 

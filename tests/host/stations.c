@@ -113,7 +113,7 @@ static void try_sizes(void) {
         for (size_t j = 0; j < sizeof sizes / sizeof sizes[0]; j++) {
             want_refused("a size", &course[i].event, own.station, sizes[j], COAST_ACTIONS_SIZE, COAST_NOT_SOUND);
             want_refused("a size and no room", &course[i].event, own.station, sizes[j], 0, COAST_NOT_SOUND);
-            want_refused("a size to set up", &set_up, own.station, sizes[j], 0, COAST_NOT_SOUND);
+            want_refused("a size to set up", &set_up, own.station, sizes[j], 0, COAST_WRONG_SIZE);
         }
         for (size_t j = 0; j < sizeof rooms / sizeof rooms[0]; j++)
             want_refused("a room", &course[i].event, own.station, COAST_STATION_SIZE, rooms[j], COAST_ACTIONS_SHORT);

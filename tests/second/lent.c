@@ -196,7 +196,7 @@ static uint64_t handed_back(const struct step *step, uint8_t *bytes) {
 uint64_t second_set_up_bytes(uint32_t identity, const uint8_t *channels, size_t count, uint8_t *station, size_t size) {
     uint32_t numbers[MOST_SLOTS] = {0};
     if (size != STATION_BYTES)
-        return NOT_SOUND;
+        return WRONG_SIZE;
     for (size_t i = 0; i < count && i < MOST_SLOTS; i++)
         numbers[i] = channels[i];
     struct step step = second_set_up(identity, numbers, count);

@@ -52,18 +52,19 @@ void note_sound(uint64_t returned) {
         tally.accepted++;
 }
 
-/* By include/coast.h; the ones before 29 behind a sequence only. */
+/* By include/coast.h; 11 to 20 behind a sequence only. */
 static bool may_answer(char letter, uint32_t answer) {
     bool hears = letter == 'Q' || letter == 'W', hand = letter == 'M' || letter == 'F';
     bool plain = letter == 'T' || letter == 'S' || letter == NEXT_DUE_LETTER;
     switch (answer) {
-    case 0: case 29: return true;
+    case 0: return true;
+    case 29: return letter != 'S';
     case 1: return !plain && !hand;
     case 30: case 31: case 32: return letter == 'T' || !plain;
     case 33: return !plain;
     case 34: return !plain && letter != 'Q';
     case 35: return hand;
-    case 36: return letter == 'S';
+    case 23: case 36: return letter == 'S';
     default: return hears && answer >= 11u && answer <= 20u;
     }
 }

@@ -17,20 +17,14 @@ use Rattle.writing.proofs.Valid.{parts, valid-done, written, layout-length}
 use Rattle.writing.proofs.EvenedLaws.{fit}
 use Rattle.rules.specs.Bytes.{padded, numberOf, block}
 use Rattle.requests.specs.Views.{viewed, itself, digitsOf}
-use Rattle.requests.proofs.ArrayLaws.{viewed-length, viewed-min}
+use Rattle.requests.proofs.ArrayLaws.{padded-front, viewed-length, viewed-min}
 use Rattle.actions.specs.declared.Action.{Action}
 use Rattle.actions.specs.Blocks.{actionOf, actionBlock}
 use Rattle.actions.specs.Sent.{sent}
 
-pub take-padded : (n : ℕ) (l : List ℕ) → length l ≤ n → take (length l) (padded 0 n l) ≡ l
-unfolding padded
-take-padded n [] h = refl
-take-padded zero (x ∷ l) h = absurd (not-suc-le-zero h)
-take-padded (suc n) (x ∷ l) h = ap (λ r. x ∷ r) (take-padded n l (le-of-suc-le-suc h))
-
 pub shown : (kind slot : ℕ) (p : List ℕ) → length p ≤ 36 → actionBlock (actionOf kind slot p) ≡ block kind slot p
 unfolding actionOf actionBlock
-shown kind slot p h = ap (block kind slot) (take-padded 36 p h)
+shown kind slot p h = ap (block kind slot) (padded-front 0 36 p h)
 
 -- the two clauses of an action: what it is, and the block that it shows
 pub both : (kind slot : ℕ) (p : List ℕ) (a : Action) → length p ≤ 36 → a ≡ actionOf kind slot p → (a ≡ actionOf kind slot p) × (actionBlock a ≡ block kind slot p)

@@ -18,15 +18,15 @@ pub(crate) fn untouched_from(room: [u8; 320], from: usize) -> bool {
     same(&room[from..], &before[from..])
 }
 
-fn tick_in_part(station: Station, time: u32, room: &mut [u8], n: usize) -> Stepped {
+fn tick_in_part(station: Station, time: Tenths, room: &mut [u8], n: usize) -> Stepped {
     if n < room.len() {
-        return station.tick(Tenths(time), &mut room[0..n]);
+        return station.tick(time, &mut room[0..n]);
     }
-    station.tick(Tenths(time), room)
+    station.tick(time, room)
 }
 
 // The answer to a tick in the first n bytes of a room. A refusal has no action.
-fn ticked_in(station: Station, time: u32, n: usize) -> u8 {
+fn ticked_in(station: Station, time: Tenths, n: usize) -> u8 {
     let mut room = [165u8; 320];
     let stepped = tick_in_part(station, time, &mut room, n);
     if untouched_from(room, stepped.count as usize * 40) {
@@ -38,7 +38,7 @@ fn ticked_in(station: Station, time: u32, n: usize) -> u8 {
 // The answer to a tick at the station's own clock.
 pub(crate) fn ticked(station: Station) -> u8 {
     let clock = station.clock;
-    ticked_in(station, clock.0, 320)
+    ticked_in(station, clock, 320)
 }
 
 // How many actions rule c gives where a slot is free and a ship waits, which no run leads to.
@@ -75,16 +75,20 @@ fn most_actions() -> u8 {
 }
 
 pub(crate) fn try_rooms(tally: Tally) -> Tally {
-    let enough = ticked_in(busy(), 1000, 320);
-    let six = ticked_in(busy(), 1451, 320);
-    let unsound = ticked_in(named(200056789), 1000, 319);
-    let late = ticked_in(busy(), 4000000001, 319);
-    let t = tally.answered(b"30 a room of 319 bytes", ticked_in(busy(), 1000, 319), 30);
-    let t = t.answered(b"30 no room at all", ticked_in(busy(), 1000, 0), 30);
+    let enough = ticked_in(busy(), Tenths(1000), 320);
+    let six = ticked_in(busy(), Tenths(1451), 320);
+    let unsound = ticked_in(named(200056789), Tenths(1000), 319);
+    let late = ticked_in(busy(), Tenths(4000000001), 319);
+    let t = tally.answered(
+        b"30 a room of 319 bytes",
+        ticked_in(busy(), Tenths(1000), 319),
+        30,
+    );
+    let t = t.answered(b"30 no room at all", ticked_in(busy(), Tenths(1000), 0), 30);
     let t = t.answered(b"a room of 320 bytes is enough", enough, 0);
     let t = t.answered(b"six actions, and the bytes after them stay", six, 0);
     let t = t.answered(b"eight actions are the most: rule c", most_actions(), 8);
     let t = t.answered(b"29 before 30", unsound, 29);
     let t = t.answered(b"30 before 31", late, 30);
-    t.answered(b"30 before 32", ticked_in(busy(), 999, 319), 30)
+    t.answered(b"30 before 32", ticked_in(busy(), Tenths(999), 319), 30)
 }

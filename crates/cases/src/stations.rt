@@ -37,10 +37,10 @@ pub(crate) fn request_of(ship: u32, station: u32, number: Number) -> Request {
     }
 }
 
-fn slot_of(channel: u32, phase: Phase, request: Request) -> Slot {
+fn slot_of(channel: Channel, phase: Phase, request: Request) -> Slot {
     Slot {
         phase: phase,
-        channel: Channel(channel),
+        channel: channel,
         request: request,
     }
 }
@@ -55,32 +55,41 @@ fn usual_phase() -> Phase {
 }
 
 fn usual_slot() -> Slot {
-    slot_of(26, usual_phase(), usual_request())
+    slot_of(Channel(26), usual_phase(), usual_request())
 }
 
-fn waiting(ship: u32, due: u32) -> Waiting {
+fn waiting(ship: u32, due: Tenths) -> Waiting {
     let request = request_of(ship, 2001234, number_of(7, 0));
     Waiting {
-        due: Tenths(due),
+        due: due,
         request: request,
     }
 }
 
 fn usual_waiting() -> Waiting {
-    waiting(200056790, 2000)
+    waiting(200056790, Tenths(2000))
 }
 
 // Slots of channel 26, which is given, and 27, which is free; one ship given for the queue's first place.
-fn made(clock: u32, identity: u32, count: u8, waiting: u8, slot: Slot, first: Waiting) -> Station {
-    let channels = [26u32, 27];
-    let u = Station::set_up(2001234, &channels);
+fn made(
+    clock: Tenths,
+    identity: u32,
+    count: u8,
+    waiting: u8,
+    slot: Slot,
+    first: Waiting,
+) -> Station {
+    let mut channels = [Channel(0); 16];
+    channels[0] = Channel(26);
+    channels[1] = Channel(27);
+    let u = Station::set_up(2001234, channels, 2);
     let fresh = u.station;
     let mut slots = fresh.slots;
     let mut queue = fresh.queue;
     slots[0] = slot;
     queue[0] = first;
     Station {
-        clock: Tenths(clock),
+        clock: clock,
         identity: identity,
         count: count,
         waiting: waiting,
@@ -90,45 +99,59 @@ fn made(clock: u32, identity: u32, count: u8, waiting: u8, slot: Slot, first: Wa
 }
 
 pub(crate) fn busy() -> Station {
-    made(1000, 2001234, 2, 1, usual_slot(), usual_waiting())
+    made(Tenths(1000), 2001234, 2, 1, usual_slot(), usual_waiting())
 }
 
 // With nobody in a slot or waiting.
-fn idle(clock: u32, identity: u32) -> Station {
-    let slot = slot_of(26, Phase::Free, usual_request());
+fn idle(clock: Tenths, identity: u32) -> Station {
+    let slot = slot_of(Channel(26), Phase::Free, usual_request());
     made(clock, identity, 2, 0, slot, usual_waiting())
 }
 
-pub(crate) fn at_clock(clock: u32) -> Station {
+pub(crate) fn at_clock(clock: Tenths) -> Station {
     idle(clock, 2001234)
 }
 
 pub(crate) fn named(identity: u32) -> Station {
-    idle(1000, identity)
+    idle(Tenths(1000), identity)
 }
 
 pub(crate) fn with_counts(count: u8, waiting: u8) -> Station {
-    made(1000, 2001234, count, waiting, usual_slot(), usual_waiting())
+    made(
+        Tenths(1000),
+        2001234,
+        count,
+        waiting,
+        usual_slot(),
+        usual_waiting(),
+    )
 }
 
 fn with_slot(slot: Slot) -> Station {
-    made(1000, 2001234, 2, 1, slot, usual_waiting())
+    made(Tenths(1000), 2001234, 2, 1, slot, usual_waiting())
 }
 
 pub(crate) fn in_phase(phase: Phase) -> Station {
-    with_slot(slot_of(26, phase, usual_request()))
+    with_slot(slot_of(Channel(26), phase, usual_request()))
 }
 
 pub(crate) fn storing(request: Request) -> Station {
-    with_slot(slot_of(26, usual_phase(), request))
+    with_slot(slot_of(Channel(26), usual_phase(), request))
 }
 
-pub(crate) fn on_channel(channel: u32) -> Station {
+pub(crate) fn on_channel(channel: Channel) -> Station {
     with_slot(slot_of(channel, usual_phase(), usual_request()))
 }
 
-pub(crate) fn with_waiting(ship: u32, due: u32) -> Station {
-    made(1000, 2001234, 2, 1, usual_slot(), waiting(ship, due))
+pub(crate) fn with_waiting(ship: u32, due: Tenths) -> Station {
+    made(
+        Tenths(1000),
+        2001234,
+        2,
+        1,
+        usual_slot(),
+        waiting(ship, due),
+    )
 }
 
 pub(crate) fn hold_of_sixty_minutes() -> Phase {

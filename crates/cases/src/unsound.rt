@@ -16,6 +16,7 @@ use crate::stations::with_waiting;
 use slots::Carrier;
 use slots::Phase;
 use station::Station;
+use units::Channel;
 use units::Tenths;
 use units::Told;
 
@@ -28,14 +29,14 @@ fn unsound(tally: Tally, title: &[u8], station: Station) -> Tally {
 }
 
 fn try_records(tally: Tally) -> Tally {
-    let talks = with_waiting(200056789, 2000);
-    let coast = with_waiting(2001235, 2000);
+    let talks = with_waiting(200056789, Tenths(2000));
+    let coast = with_waiting(2001235, Tenths(2000));
     let t = sound(tally, b"a busy station made by hand is sound", busy());
     let t = unsound(t, b"29 its identity is a ship's", named(200056789));
     let t = unsound(t, b"29 it has no channel", with_counts(0, 1));
     let t = unsound(t, b"29 it has 17 channels", with_counts(17, 1));
-    let t = unsound(t, b"29 it works on channel 16", on_channel(16));
-    let t = unsound(t, b"29 it has a channel twice", on_channel(27));
+    let t = unsound(t, b"29 it works on channel 16", on_channel(Channel(16)));
+    let t = unsound(t, b"29 it has a channel twice", on_channel(Channel(27)));
     let t = unsound(t, b"29 33 ships wait", with_counts(2, 33));
     let t = unsound(t, b"29 a ship talks and waits", talks);
     unsound(t, b"29 a coast station waits", coast)
@@ -52,19 +53,35 @@ fn try_stored(tally: Tally) -> Tally {
     unsound(t, b"29 a hold tells of 60 minutes", sixty)
 }
 
-fn offered_to(due: u32) -> Station {
-    in_phase(Phase::Offered(Tenths(due)))
+fn offered_to(due: Tenths) -> Station {
+    in_phase(Phase::Offered(due))
 }
 
 fn try_times(tally: Tally) -> Tally {
     let later = in_phase(Phase::Answered(Tenths(1001), Carrier::Present));
-    let t = sound(tally, b"a clock at the limit", at_clock(4000000000));
-    let t = unsound(t, b"29 its clock is past the limit", at_clock(4000000001));
+    let t = sound(tally, b"a clock at the limit", at_clock(Tenths(4000000000)));
+    let t = unsound(
+        t,
+        b"29 its clock is past the limit",
+        at_clock(Tenths(4000000001)),
+    );
     let t = unsound(t, b"29 a call is answered after the clock", later);
-    let t = sound(t, b"an offer due at the clock is sound", offered_to(1000));
-    let t = unsound(t, b"29 an offer due before the clock", offered_to(999));
-    let t = sound(t, b"an offer due 161 later is sound", offered_to(1161));
-    unsound(t, b"29 an offer due 162 later", offered_to(1162))
+    let t = sound(
+        t,
+        b"an offer due at the clock is sound",
+        offered_to(Tenths(1000)),
+    );
+    let t = unsound(
+        t,
+        b"29 an offer due before the clock",
+        offered_to(Tenths(999)),
+    );
+    let t = sound(
+        t,
+        b"an offer due 161 later is sound",
+        offered_to(Tenths(1161)),
+    );
+    unsound(t, b"29 an offer due 162 later", offered_to(Tenths(1162)))
 }
 
 fn try_waits(tally: Tally) -> Tally {
@@ -74,8 +91,8 @@ fn try_waits(tally: Tally) -> Tally {
     let agreed = in_phase(Phase::Acknowledged(Tenths(1162)));
     let reply = in_phase(Phase::Dialling(Tenths(1602), Carrier::Present));
     let hold = in_phase(Phase::Hold(Tenths(1042), Told::Nothing));
-    let patient = with_waiting(200056790, 10001);
-    let longer = with_waiting(200056790, 10002);
+    let patient = with_waiting(200056790, Tenths(10001));
+    let longer = with_waiting(200056790, Tenths(10002));
     let t = unsound(tally, b"29 a simplex ship's loss due 452 later", silent);
     let t = unsound(t, b"29 a ring-back due 52 later", ring);
     let t = unsound(t, b"29 a second ring-back due 52 later", again);

@@ -9,7 +9,7 @@ use Rattle.dues.proofs.falls_due.Reads as falls-due
 use Rattle.dues.proofs.earliest_due.Reads as earliest-due
 
 pub carrier-wait-settled : (κs : Lfts 0) (a : _) (r r' : _) (s s' : _) → carrier-wait.Post κs a r s → carrier-wait.Post κs a r' s' → r ≡ r'
-carrier-wait-settled κs a r r' s s' p q = p ∙ sym q
+carrier-wait-settled κs a r r' s s' p q = ap (λ n. record { 0 = n }) (p ∙ sym q)
 
 pub due-after-settled : (κs : Lfts 0) (a : _) (r r' : _) (s s' : _) → due-after.Post κs a r s → due-after.Post κs a r' s' → r ≡ r'
 due-after-settled κs a r r' s s' p q = ap (λ n. record { 0 = n }) (p ∙ sym q)

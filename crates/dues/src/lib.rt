@@ -21,20 +21,20 @@ use units::SlotNumber;
 use units::Tenths;
 
 // "a wait of 50 duplex, 450 simplex"
-pub fn carrier_wait(m: Mode) -> u32
-    ensures { λ r. ⌜ r ≡ carrierWait (modeOf m) ⌝ }
+pub fn carrier_wait(m: Mode) -> Tenths
+    ensures { λ r. ⌜ r .0 ≡ carrierWait (modeOf m) ⌝ }
 {
     match m {
-        Mode::Simplex => 450,
-        Mode::Duplex => 50,
+        Mode::Simplex => Tenths(450),
+        Mode::Duplex => Tenths(50),
     }
 }
 
 // A wait of p begun at s; the greatest time stands for all that lie past it.
-pub fn due_after(s: Tenths, p: u32) -> Tenths
-    ensures { λ r. ⌜ r .0 ≡ min (dueAfter (s .0) p) 4294967295 ⌝ }
+pub fn due_after(s: Tenths, p: Tenths) -> Tenths
+    ensures { λ r. ⌜ r .0 ≡ min (dueAfter (s .0) (p .0)) 4294967295 ⌝ }
 {
-    let d = s.0 as u64 + (p as u64 + 1);
+    let d = s.0 as u64 + (p.0 as u64 + 1);
     if d <= 4294967295 {
         return Tenths(d as u32);
     }

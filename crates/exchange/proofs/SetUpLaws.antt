@@ -1,13 +1,11 @@
 -- Set-up in lent bytes.
-use Prim.Native.Nat.{ℕ, _≤_}
+use Prim.Native.Nat.{ℕ}
 use mathlib.Core.Path.{_≡_, refl}
 use mathlib.Core.Bool.{Bool, true, false, cond}
 use mathlib.Core.List.{List}
 use lib.Dec.{eqb}
-use lib.ListN.{length, take}
+use lib.ListN.{length}
 use borrow.Author.Tests.{ne-eqb}
-use Rattle.rules.specs.Bytes.{padded}
-use Rattle.actions.proofs.ActionLaws.{take-padded}
 use Rattle.station.specs.declared.SetUp.{SetUp}
 use Rattle.lent.specs.Stations.{stationLaid}
 use Rattle.exchange.specs.Events.{setUpLeaves}
@@ -20,7 +18,3 @@ either-way false b = refl
 pub nowhere : (u : SetUp) (b : List ℕ) → (length b ≡ 1722 → ⊥) → b ≡ setUpLeaves u b
 unfolding stationLaid
 nowhere u b h = rw (ne-eqb (length b) 1722 h) (either-way (eqb (u .answer) 0) b)
-
--- the channels in their array
-pub listed-whole : (channels wide : List ℕ) → length channels ≤ 16 → wide ≡ padded 0 16 channels → take (length channels) wide ≡ channels
-listed-whole channels wide h e = rw e (take-padded 16 channels h)

@@ -117,5 +117,6 @@ unfolding stationSetUp setUpBy
 set-up identity channels lent h w = rw h (laid-whole _ lent w)
 
 pub host-hands-on : HostHandsOn
+unfolding setUpBy
 host-hands-on identity channels lent h w es =
-    rw (set-up identity channels lent h w) (along (setUpBy identity channels .station) (handed-out-is-found-again .0 identity channels) es)
+    rw (set-up identity channels lent h w) (along (setUpBy identity channels .station) (handed-out-is-found-again .0 (given identity channels)) es)

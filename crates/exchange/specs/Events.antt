@@ -52,12 +52,12 @@ roomLeft b room e = roomAfter (stationFrom b) room e
 
 -- ── set-up, and the next due time ────────────────────────────────────────────
 
--- 29 where the lent bytes have another size, tested first; then 36
+-- 23 where the lent bytes have another size, tested first; then 36
 abbrev pub setUpLeaves : SetUp → List ℕ → List ℕ
 setUpLeaves u b = cond (eqb (u .answer) 0) (stationLaid (u .station) b) b
 
 unfoldable pub setUpReturned : ℕ → List ℕ → ℕ → ℕ
-setUpReturned identity channels size = cond (eqb size 1722) (setUpBy identity channels .answer) 29
+setUpReturned identity channels size = cond (eqb size 1722) (setUpBy identity channels .answer) 23
 
 unfoldable pub stationSetUp : ℕ → List ℕ → List ℕ → List ℕ
 stationSetUp identity channels b = setUpLeaves (setUpBy identity channels) b

@@ -2,26 +2,28 @@
 ghost use mathlib.Core.Path.{_≡_};
 ghost use Prim.Native.Nat.{_≤_};
 ghost use lib.ListN.{length};
-ghost use Rattle.rules.specs.Bytes.{padded};
+ghost use Rattle.station.specs.Step.{sixteenOf};
 ghost use Rattle.lent.specs.Stations.{stationFrom};
 ghost use Rattle.exchange.specs.Events.{setUpReturned, stationSetUp, dueReturned};
 use crate::events::due_number;
 use lent::lay_station;
 use lent::station_from;
 use station::Station;
+use units::Channel;
 
-fn widened(channels: &[u8]) -> [u32; 16]
-    requires { ⌜ length (now channels) ≤ 16 ⌝ }
-    ensures { λ r. ⌜ r ≡ padded 0 16 (now (channels .entry)) ⌝ }
+fn channels_in(bytes: &[u8]) -> [Channel; 16]
+    requires { ⌜ length (now bytes) ≤ 16 ⌝ }
+    ensures { λ r. ⌜ r ≡ sixteenOf (now (bytes .entry)) ⌝ }
 {
-    let mut wide = [0u32; 16];
-    let n = channels.len();
+    let mut channels = [Channel(0); 16];
+    let n = bytes.len();
     let mut i = 0;
     while i < n {
-        wide[i] = channels[i] as u32;
+        let number = bytes[i] as u32;
+        channels[i] = Channel(number);
         i += 1;
     }
-    wide
+    channels
 }
 
 // Sets a station up in 1722 lent bytes: a slot for each channel, one a byte, in the list's order.
@@ -31,15 +33,14 @@ pub extern "C" fn coast_set_up(identity: u32, channels: &[u8], station: &mut [u8
     ensures { λ _. ⌜ now (station .exit) ≡ stationSetUp identity (now (channels .entry)) (now (station .entry)) ⌝ }
 {
     if station.len() != 1722 {
-        return 29;
+        return 23;
     }
     let n = channels.len();
     if 16 < n {
         return 36;
     }
-    let wide = widened(channels);
-    let all: &[u32] = &wide;
-    let u = Station::set_up(identity, &all[..n]);
+    let all = channels_in(channels);
+    let u = Station::set_up(identity, all, n as u8);
     let answer = u.answer;
     let fresh = u.station;
     if answer == 0 {

@@ -24,11 +24,11 @@ use Rattle.lent.proofs.FoundAgain.{handed-out-is-found-again}
 use Rattle.exchange.specs.Events.{roomLeft, setUpReturned}
 use Rattle.exchange.proofs.Theorems.{left-is, set-up}
 use Rattle.rack.specs.Rooms.{actionsIn}
-use Rattle.rack.specs.Steps.{Step, stepOf, Allowed, SetUpAs, by-set-up, Trace}
+use Rattle.rack.specs.Steps.{Step, stepOf, Allowed, SetUpAs, Trace}
 use Rattle.rack.specs.Steps as Rack
 use Rattle.rack.specs.Statement as Said
 use Rattle.rack.specs.Statement.{OfEveryTrace, Obeys, RackObeys, RackLiterally, RackAnswersRepeat, RackSecondRingRepeats, RackDialsAsked, NoneIdle, RackNoChannelIdle, isSound, RackAlwaysSound}
-use Rattle.rack.proofs.Scripted.{step-allowed}
+use Rattle.rack.proofs.Scripted.{step-allowed, beginning}
 use Rattle.rack.proofs.Theorems.{rack-obeys, rack-literally, rack-answers-repeat, rack-second-ring-repeats, rack-dials-asked, rack-no-channel-idle, rack-always-sound}
 use Rattle.host.specs.Calls as Host
 use Rattle.host.specs.Calls.{Call, HandsOn, lastOf, SetUpIn, HostRun}
@@ -86,7 +86,7 @@ begun-well identity channels size h = go (which (eqb size 1722))
 
     go : Either (eqb size 1722) → (size ≡ 1722) × (setUpVerdict (given identity channels) ≡ none)
     go (yes! p) = (eqb-true size 1722 p, judged (configKeeps (given identity channels)) refl (rw p at h))
-    go (no! p) = let q : _≡_ {A = ℕ} 29 0 = rw p at h in absurd (omega (arith, q))
+    go (no! p) = let q : _≡_ {A = ℕ} 23 0 = rw p at h in absurd (omega (arith, q))
 
 record Begun (c : Config) (b : List ℕ) : Type 0 where
   station : Station
@@ -100,8 +100,8 @@ begun _ _ (Host.by-set-up κs a r s p z) =
     let w = begun-well (a .0) (a .1 .0 .now) (length (a .1 .1 .0 .now)) (sym (p .0) ∙ z) in
     record {
       station = setUpBy (a .0) (a .1 .0 .now) .station;
-      found = handed-out-is-found-again .0 (a .0) (a .1 .0 .now);
-      begins = by-set-up ([], tt) (a .0, (record { ptr = (0, 0); name = 0; now = a .1 .0 .now }, tt)) (setUpBy (a .0) (a .1 .0 .now)) (a .0, (record { ptr = (0, 0); name = 0; now = a .1 .0 .now }, tt)) refl (rw (w .1));
+      found = handed-out-is-found-again .0 (given (a .0) (a .1 .0 .now));
+      begins = rw (w .1) (beginning (given (a .0) (a .1 .0 .now)) (w .1));
       bytes = p .1 ∙ set-up (a .0) (a .1 .0 .now) (a .1 .1 .0 .now) (w .1) (w .0);
     }
 

@@ -17,15 +17,16 @@ use slots::Waiting;
 use units::Tenths;
 
 // "each due time lies from the clock to the clock plus its wait and 1"
-fn fits_wait(c: Tenths, p: u32, d: Tenths) -> bool
-    ensures { λ r. ⌜ r ≡ fits (c .0) p (d .0) ⌝ }
+fn fits_wait(c: Tenths, p: Tenths, d: Tenths) -> bool
+    ensures { λ r. ⌜ r ≡ fits (c .0) (p .0) (d .0) ⌝ }
 {
     let x = c.0;
     let y = d.0;
+    let w = p.0;
     if y < x {
         return false;
     }
-    y as u64 <= x as u64 + (p as u64 + 1)
+    y as u64 <= x as u64 + (w as u64 + 1)
 }
 
 fn loss_fits(c: Tenths, m: Mode, l: Carrier) -> bool
@@ -40,7 +41,7 @@ fn loss_fits(c: Tenths, m: Mode, l: Carrier) -> bool
 fn dialling_fits(c: Tenths, t: Tenths, m: Mode, l: Carrier) -> bool
     ensures { λ r. ⌜ r ≡ (fits (c .0) 600 (t .0) && lossFits (c .0) (modeOf m) (carrierOf l)) ⌝ }
 {
-    if !fits_wait(c, 600, t) {
+    if !fits_wait(c, Tenths(600), t) {
         return false;
     }
     loss_fits(c, m, l)
@@ -66,13 +67,13 @@ fn slot_fits(s: Slot, c: Tenths) -> bool
     let m = q.mode;
     match p {
         Phase::Free => true,
-        Phase::Offered(t) => fits_wait(c, 160, t),
-        Phase::RingBack(t) => fits_wait(c, 50, t),
-        Phase::RingAgain(t) => fits_wait(c, 50, t),
-        Phase::Acknowledged(t) => fits_wait(c, 160, t),
+        Phase::Offered(t) => fits_wait(c, Tenths(160), t),
+        Phase::RingBack(t) => fits_wait(c, Tenths(50), t),
+        Phase::RingAgain(t) => fits_wait(c, Tenths(50), t),
+        Phase::Acknowledged(t) => fits_wait(c, Tenths(160), t),
         Phase::Dialling(t, l) => dialling_fits(c, t, m, l),
         Phase::Answered(t, l) => answered_fits(c, t, m, l),
-        Phase::Hold(t, _) => fits_wait(c, 40, t),
+        Phase::Hold(t, _) => fits_wait(c, Tenths(40), t),
         Phase::Taken => true,
     }
 }
@@ -100,7 +101,7 @@ fn queue_fits(b: [Waiting; 32], m: u8, c: Tenths) -> bool
     while k < n {
         let w = b[k as usize];
         let d = w.due;
-        if !fits_wait(c, 9000, d) {
+        if !fits_wait(c, Tenths(9000), d) {
             return false;
         }
         k += 1;

@@ -34,7 +34,7 @@ use Rattle.slots.specs.declared.Waiting.{Waiting}
 use Rattle.slots.specs.Images.{slotImage, slotImages, waitingImage, blankSlot, blankWaiting}
 use Rattle.station.specs.declared.Station.{Station}
 use Rattle.station.specs.Model.{imageOf, configOf, modelOf}
-use Rattle.station.specs.Step.{recordsKeep, refusal, steppedBy, blankStation, given, setUpFor, setUpBy}
+use Rattle.station.specs.Step.{recordsKeep, refusal, steppedBy, blankStation, given, setUpFor}
 use Rattle.layouts.specs.Fields.{encode, decode}
 use Rattle.layouts.specs.Records.{recordsIn}
 use Rattle.layouts.proofs.FieldLaws.{there-and-back}
@@ -186,8 +186,7 @@ step-found s e h =
     rw h (found-again (imageOf (configOf s) (act (configOf s) (modelOf s) e .next)) (image-whole (configOf s) (act (configOf s) (modelOf s) e .next)))
 
 pub handed-out-is-found-again : HandedOutIsFoundAgain
-unfolding setUpBy
-handed-out-is-found-again = (λ identity channels. set-up-found (given identity channels) (setUpVerdict (given identity channels)), step-found)
+handed-out-is-found-again = (λ c. set-up-found c (setUpVerdict c), step-found)
 
 -- ── bytes of another size ────────────────────────────────────────────────────
 

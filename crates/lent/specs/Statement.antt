@@ -8,9 +8,9 @@ use lib.ListN.{length, take}
 use Rattle.sequence.specs.declared.Meaning.{Meaning}
 use Rattle.sequence.specs.Symbols.{allAtMost}
 use Rattle.sequence.specs.Layout.{valid}
-use Rattle.rules.specs.Words.{Event}
+use Rattle.rules.specs.Words.{Config, Event}
 use Rattle.station.specs.declared.Station.{Station}
-use Rattle.station.specs.Step.{refusal, steppedBy, setUpBy}
+use Rattle.station.specs.Step.{refusal, steppedBy, setUpOf}
 use Rattle.lent.specs.Meanings.{meaningBytes, meaningFrom}
 use Rattle.lent.specs.Stations.{stationBytes, stationFrom}
 
@@ -30,7 +30,7 @@ FoundAgain s = (length (stationBytes s) ≡ 1722) × (stationFrom (stationBytes 
 -- every station that set-up hands out, and every station that an accepted event does
 abbrev pub HandedOutIsFoundAgain : Type 0
 HandedOutIsFoundAgain =
-    ((identity : ℕ) (channels : List ℕ) → FoundAgain (setUpBy identity channels .station))
+    ((c : Config) → FoundAgain (setUpOf c .station))
     × ((s : Station) (e : Event) → refusal s e ≡ none → FoundAgain (steppedBy s e .station))
 
 -- bytes of another size stand for a station that every event refuses with 29

@@ -56,22 +56,22 @@ fn told_fields(n: Told) -> ToldFields
     }
 }
 
-fn fields_of(kind: u8, time: u32, c: Carrier, n: Told) -> PhaseFields
-    ensures { λ r. ⌜ r ≡ fieldsOf kind time c n ⌝ }
+fn fields_of(kind: u8, time: Tenths, c: Carrier, n: Told) -> PhaseFields
+    ensures { λ r. ⌜ r ≡ fieldsOf kind (time .0) c n ⌝ }
 {
     let carrier = carrier_fields(c);
     let told = told_fields(n);
     PhaseFields {
         kind: kind,
-        time: time,
+        time: time.0,
         carrier: carrier,
         told: told,
     }
 }
 
 // A phase that has neither a carrier nor a duration.
-fn plain(kind: u8, time: u32) -> PhaseFields
-    ensures { λ r. ⌜ r ≡ fieldsOf kind time Present Nothing ⌝ }
+fn plain(kind: u8, time: Tenths) -> PhaseFields
+    ensures { λ r. ⌜ r ≡ fieldsOf kind (time .0) Present Nothing ⌝ }
 {
     fields_of(kind, time, Carrier::Present, Told::Nothing)
 }
@@ -80,15 +80,15 @@ pub(crate) fn phase_fields(p: Phase) -> PhaseFields
     ensures { λ r. ⌜ r ≡ phaseFields p ⌝ }
 {
     match p {
-        Phase::Free => plain(0, 0),
-        Phase::Offered(t) => plain(1, t.0),
-        Phase::RingBack(t) => plain(2, t.0),
-        Phase::RingAgain(t) => plain(3, t.0),
-        Phase::Acknowledged(t) => plain(4, t.0),
-        Phase::Dialling(t, c) => fields_of(5, t.0, c, Told::Nothing),
-        Phase::Answered(t, c) => fields_of(6, t.0, c, Told::Nothing),
-        Phase::Hold(t, n) => fields_of(7, t.0, Carrier::Present, n),
-        Phase::Taken => plain(8, 0),
+        Phase::Free => plain(0, Tenths(0)),
+        Phase::Offered(t) => plain(1, t),
+        Phase::RingBack(t) => plain(2, t),
+        Phase::RingAgain(t) => plain(3, t),
+        Phase::Acknowledged(t) => plain(4, t),
+        Phase::Dialling(t, c) => fields_of(5, t, c, Told::Nothing),
+        Phase::Answered(t, c) => fields_of(6, t, c, Told::Nothing),
+        Phase::Hold(t, n) => fields_of(7, t, Carrier::Present, n),
+        Phase::Taken => plain(8, Tenths(0)),
     }
 }
 

@@ -2,26 +2,19 @@
 use mathlib.Core.Bool.{true, false}
 use mathlib.Core.List.{List, [], _∷_}
 use mathlib.Core.Option.{Option, none, some}
-use mathlib.Core.Path.{_≡_, refl, ap}
-use Prim.Native.Nat.{ℕ, zero, suc, _<_, _≤_}
+use mathlib.Core.Path.{_≡_, refl}
+use Prim.Native.Nat.{ℕ, _<_, _≤_}
 use native.Mathlib.Omega.{arith}
-use native.Mathlib.Nat.{le-of-suc-le-suc, not-suc-le-zero}
 use lib.ListN.{length, take, drop, getD}
 use borrow.Author.Tests.{le-leb, lt-leb}
 use Rattle.rules.specs.Places.{isSome}
 use Rattle.rules.specs.Bytes.{padded}
-use Rattle.requests.proofs.ArrayLaws.{padded-length}
+use Rattle.requests.proofs.ArrayLaws.{padded-length, padded-front}
 use Rattle.lines.specs.declared.Kind.{Kind}
 use Rattle.lines.specs.declared.Numbers.{Numbers}
 use Rattle.lines.specs.Lines.{Said}
 use Rattle.lines.specs.Readable.{between, scan, kindOf, says, saysOf, readsAs, numbersImage, lineImage}
 use Rattle.lines.proofs.SaidLaws.{told}
-
-pub padded-front : {A : Type 0} (b : A) (n : ℕ) (l : List A) → length l ≤ n → take (length l) (padded b n l) ≡ l
-unfolding padded
-padded-front b n [] h = refl
-padded-front b zero (x ∷ l) h = absurd (not-suc-le-zero h)
-padded-front b (suc n) (x ∷ l) h = ap (λ r. x ∷ r) (padded-front b n l (le-of-suc-le-suc h))
 
 module _ (text : List ℕ) where
   pub too-long : 200 < length text → readsAs text ≡ none

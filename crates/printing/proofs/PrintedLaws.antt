@@ -20,7 +20,7 @@ use Rattle.rules.specs.Statement.{AtMostEight}
 use Rattle.rules.proofs.Accepted.{accepted}
 use Rattle.rules.proofs.Eight.{at-most-eight}
 use Rattle.rules.proofs.Payloads.{Slim, block-length}
-use Rattle.lines.proofs.ReadLaws.{padded-front}
+use Rattle.requests.proofs.ArrayLaws.{padded-front}
 use Rattle.station.specs.declared.Station.{Station}
 use Rattle.station.specs.Model.{configOf, modelOf, imageOf}
 use Rattle.station.specs.Step.{dueImage, recordsKeep, refusal, steppedBy, roomAfter}

@@ -24,7 +24,7 @@ use Rattle.rules.specs.Bytes.{padded, numberOf, answerTo, ableSaid, unableSaid,
 use Rattle.rules.specs.Printed.{shown}
 use Rattle.rules.specs.Statement.{chargesOf}
 use Rattle.rules.proofs.Payloads.{block-length, Slim}
-use Rattle.actions.proofs.ActionLaws.{take-padded}
+use Rattle.requests.proofs.ArrayLaws.{padded-front}
 use Rattle.actions.specs.Sent.{speaks}
 use Rattle.actions.proofs.Speaking.{Speaks}
 use Rattle.rack.specs.Rooms.{modeIn, requestIn, answerIn, enderIn, toldIn, overIn, fourAt, chargeIn, payloadIn, actionAs, actionIn, actionsIn, shownIn}
@@ -37,7 +37,7 @@ meaning-back m v = ap (λ (r : Reading). r .meaning) (reads-back m v)
 
 -- the digits of a number that was laid out in sixteen places
 digits-back : (m : Meaning) (l : List ℕ) → valid m ≡ true → m .number ≡ numberOf l → take (length l) (padded 0 16 l) ≡ l
-digits-back m l v e = take-padded 16 l (rw e at (fit (m .number) (parts m v .number) .most))
+digits-back m l v e = padded-front 0 16 l (rw e at (fit (m .number) (parts m v .number) .most))
 
 mode-back : (w : Mode) → modeIn (modeNumber w) ≡ w
 mode-back simplex = refl
@@ -99,7 +99,7 @@ charge-back h f = rw (four-back (h .ship) (f .0), four-back (h .start .0) (f .1 
 
 payload-back : (k s : ℕ) (p : List ℕ) → length p ≤ 36 → payloadIn (block k s p) ≡ p
 unfolding block
-payload-back k s p h = take-padded 36 p h
+payload-back k s p h = padded-front 0 36 p h
 
 block-back : (c : Config) (a : Action) → Slim c a → actionIn (blockOf c a) ≡ actionAs (kindNumber a) (slotNumber a) (payloadOf c a)
 unfolding blockOf block

@@ -1,9 +1,11 @@
 -- A step for every event on every station, and so a trace for every script.
-use Prim.Native.Nat.{ℕ}
+use Prim.Native.Nat.{ℕ, _≤_}
 use mathlib.Core.Path.{_≡_, refl, ap, _∙_}
-use mathlib.Core.List.{List, [], _∷_, map}
+use mathlib.Core.List.{List, [], _∷_}
 use mathlib.Core.Option.{none}
 use lib.ListN.{length, replicate, length-replicate}
+use native.Mathlib.Omega.{arith}
+use borrow.Author.Tests.{le-leb}
 use contract.Lifetimes.{Lfts}
 use denote.Ref.{RefT}
 use Rattle.units.specs.declared.Channel.{Channel}
@@ -11,8 +13,11 @@ use Rattle.units.specs.declared.Tenths.{Tenths}
 use Rattle.units.specs.declared.SlotNumber.{SlotNumber}
 use Rattle.rules.specs.Words.{Config, Happened, heard, offHook, onHook, carrierUp, carrierDown, takes, givesBack, What, tick, onChannel70, onSlot, Event}
 use Rattle.rules.specs.Verdict.{setUpVerdict}
+use Rattle.rules.specs.Bytes.{padded}
+use Rattle.requests.proofs.ArrayLaws.{padded-front}
+use Rattle.station.proofs.ImageLaws.{run-fits}
 use Rattle.station.specs.declared.Station.{Station}
-use Rattle.station.specs.Step.{channelNumber, given, steppedBy, roomAfter, setUpFor, setUpBy}
+use Rattle.station.specs.Step.{channelNumber, chosen, steppedBy, roomAfter, setUpFor}
 use Rattle.rack.specs.Steps.{Step, stepOf, Allowed, by-heard-on-channel-70, by-heard-on-slot, by-off-hook, by-on-hook, by-carrier-up, by-carrier-down, by-take-slot, by-give-back, by-tick, SetUpAs, by-set-up, HandsOn, eventsIn}
 use Rattle.rack.specs.Scripts.{EveryScriptIsTraced}
 
@@ -73,19 +78,21 @@ walk (e ∷ es) s =
     let w = walk es (x .back .station) in
     record { steps = x ∷ w .steps; hands = (refl, (step-allowed s room (e .time) (e .what), w .hands)); script = ap (λ (f : Event). f ∷ eventsIn (w .steps)) named ∙ ap (λ l. e ∷ l) (w .script) }
 
-numbers : (l : List Channel) → map channelNumber (map (λ n. n .0) l) ≡ l
-numbers [] = refl
-numbers (n ∷ l) = ap (λ r. n ∷ r) (numbers l)
+-- the channels in sixteen places, and their count
+begun : (identity : ℕ) (channels : List Channel) (n : ℕ) → setUpVerdict (chosen identity channels n) ≡ none
+    → SetUpAs (chosen identity channels n) (setUpFor (chosen identity channels n) none .station)
+begun identity channels n v =
+    by-set-up tt (identity, (channels, (n, tt))) (setUpFor (chosen identity channels n) none) (identity, (channels, (n, tt))) (rw v) refl
 
-begun : (identity : ℕ) (l : List ℕ) → setUpVerdict (given identity l) ≡ none → SetUpAs (given identity l) (setUpFor (given identity l) none .station)
-unfolding setUpBy
-begun identity l v = by-set-up life (identity, (lent l, tt)) (setUpFor (given identity l) none) (identity, (lent l, tt)) (rw v) refl
+few : (c : Config) → setUpVerdict c ≡ none → length (c .channels) ≤ 16
+few c v = let f = run-fits c v [] in omega (arith, f .beside, f .few)
 
-beginning : (c : Config) → setUpVerdict c ≡ none → SetUpAs c (setUpFor c none .station)
+pub beginning : (c : Config) → setUpVerdict c ≡ none → SetUpAs c (setUpFor c none .station)
 beginning c v =
-    let l = map (λ (n : Channel). n .0) (c .channels) in
-    let e : given (c .identity) l ≡ c = ap (λ (r : List Channel). record { identity = c .identity; channels = r }) (numbers (c .channels)) in
-    rw e at (begun (c .identity) l (rw e v))
+    let n = length (c .channels) in
+    let places = padded (channelNumber 0) 16 (c .channels) in
+    let e : chosen (c .identity) places n ≡ c = rw (le-leb n 16 (few c v), padded-front (channelNumber 0) 16 (c .channels) (few c v)) in
+    rw e at (begun (c .identity) places n (rw e v))
 
 pub every-script-is-traced : EveryScriptIsTraced
 unfolding EveryScriptIsTraced

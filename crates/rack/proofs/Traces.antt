@@ -27,7 +27,7 @@ use Rattle.station.specs.declared.SetUp.{SetUp}
 use Rattle.station.specs.declared.Stepped.{Stepped}
 use Rattle.station.specs.declared.Station.{Station}
 use Rattle.station.specs.Model.{modelOf, configOf, imageOf}
-use Rattle.station.specs.Step.{dueImage, refusal, given, setUpFor, setUpBy}
+use Rattle.station.specs.Step.{dueImage, refusal, chosen, setUpFor}
 use Rattle.station.proofs.ImageLaws.{model-back, config-back}
 use Rattle.rack.specs.Rooms.{shownIn}
 use Rattle.rack.specs.Steps.{Step, Allowed, SetUpAs, by-set-up, HandsOn, lastOf, eventsIn}
@@ -57,8 +57,7 @@ set-up-done c r p z = go (setUpVerdict c) refl p
         absurd (omega (arith, only-36 c n e))
 
 pub started : (c : Config) (s : Station) → SetUpAs c s → (setUpVerdict c ≡ none) × (s ≡ imageOf c (fresh c))
-unfolding setUpBy
-started _ _ (by-set-up κs a r s p z) = set-up-done (given (a .0) (a .1 .0 .now)) r p z
+started _ _ (by-set-up κs a r s p z) = set-up-done (chosen (a .0) (a .1 .0) (a .1 .1 .0)) r p z
 
 -- ── one step, on a station that was laid out for a sound model ───────────────
 

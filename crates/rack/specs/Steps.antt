@@ -6,7 +6,7 @@ use contract.Lifetimes.{Lfts}
 use Rattle.rules.specs.Words.{Config, heard, offHook, onHook, carrierUp, carrierDown, takes, givesBack, Event}
 use Rattle.station.specs.declared.Station.{Station}
 use Rattle.station.specs.declared.Stepped.{Stepped}
-use Rattle.station.specs.Step.{tickAt, channel70At, slotAt, given}
+use Rattle.station.specs.Step.{tickAt, channel70At, slotAt, chosen}
 use Rattle.station.proofs.Station.set_up.Reads as set-up
 use Rattle.station.proofs.Station.heard_on_channel_70.Reads as heard-on-channel-70
 use Rattle.station.proofs.Station.heard_on_slot.Reads as heard-on-slot
@@ -52,8 +52,8 @@ pub data Allowed : Step → Type 0 where
 
 -- what set-up handed back with the answer 0, for an identity and a channel list
 pub data SetUpAs : Config → Station → Type 0 where
-  by-set-up : (κs : Lfts 1) (a : _) (r : _) (s : _) → set-up.Post κs a r s → r .answer ≡ 0
-      → SetUpAs (given (a .0) (a .1 .0 .now)) (r .station)
+  by-set-up : (κs : Lfts 0) (a : _) (r : _) (s : _) → set-up.Post κs a r s → r .answer ≡ 0
+      → SetUpAs (chosen (a .0) (a .1 .0) (a .1 .1 .0)) (r .station)
 
 -- steps one after the other, each on the station that the one before handed back
 abbrev pub HandsOn : Station → List Step → Type 0

@@ -18,6 +18,12 @@ padded-length b zero l = refl
 padded-length b (suc m) [] = ap suc (padded-length b m [])
 padded-length b (suc m) (x ∷ l) = ap suc (padded-length b m l)
 
+pub padded-front : {B : Type 0} (b : B) (m : ℕ) (l : List B) → length l ≤ m → take (length l) (padded b m l) ≡ l
+unfolding padded
+padded-front b m [] h = refl
+padded-front b zero (x ∷ l) h = absurd (not-suc-le-zero h)
+padded-front b (suc m) (x ∷ l) h = ap (λ r. x ∷ r) (padded-front b m l (le-of-suc-le-suc h))
+
 pub padded-snoc : {B : Type 0} (b : B) (m : ℕ) (l : List B) (x : B) → length l < m → set (padded b m l) (length l) x ≡ padded b m (l ++ (x ∷ []))
 unfolding padded
 padded-snoc b zero l x h = absurd (not-suc-le-zero h)

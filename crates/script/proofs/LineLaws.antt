@@ -5,21 +5,24 @@ use mathlib.Core.Option.{Option, none, some}
 use mathlib.Core.Path.{_≡_, refl, _∙_, ap}
 use Prim.Native.Nat.{ℕ, zero, suc, _+_, _-_, _<_, _≤_, min}
 use native.Mathlib.Omega.{arith}
-use lib.ListN.{length, getD, set, replicate, length-map, List·getD-map}
+use lib.ListN.{length, take, drop, getD, set, replicate, length-map, List·getD-map}
 use lib.Seq.{paste}
 use borrow.Author.Tests.{leb-true, eq-eqb, ne-eqb}
+use Rattle.units.specs.declared.Channel.{Channel}
 use Rattle.sequence.proofs.Paste.{front-turn}
 use Rattle.sequence.proofs.Tests.{both-true}
 use Rattle.rules.specs.Places.{all}
 use Rattle.rules.specs.Words.{heard, offHook, onHook, carrierUp, carrierDown, takes, givesBack, What, tick, onChannel70, onSlot}
 use Rattle.rules.specs.Bytes.{padded}
+use Rattle.requests.proofs.ArrayLaws.{padded-front}
 use Rattle.lines.specs.declared.Kind.{Kind}
 use Rattle.lines.specs.declared.Line.{Line}
 use Rattle.lines.specs.Lines.{Said, setsUp, happens, whatLetter, numbersOf, isSymbol, isNumber, inRange}
 use Rattle.lines.specs.Readable.{kindOf, lineImage}
-use Rattle.lines.proofs.ReadLaws.{padded-front}
 use Rattle.station.specs.declared.Station.{Station}
 use Rattle.station.specs.declared.SetUp.{SetUp}
+use Rattle.station.specs.Step.{chosen, sixteenOf, setUpOf, setUpBy}
+use Rattle.station.proofs.SetLaws.{set-up-numbers}
 use Rattle.script.specs.Answering.{desk, unchanged, afterSetUp, eventAt, handledFor, blocksFor}
 use Rattle.script.specs.Lining.{byteOf, part, kindWhat, isUnreadable, isSetUp, lineEvent, lineHandled, lineBlocks}
 
@@ -123,6 +126,14 @@ module _ (stands : Bool) (station : Station) (room : List ℕ) where
 pub event-by : (k : Kind) (line : Line) (room : List ℕ) → line .kind ≡ k → lineEvent line room ≡ eventAt (getD (line .numbers) 0 0) (kindWhat k line) room
 unfolding lineEvent
 event-by k line room e = ap (λ x. eventAt (getD (line .numbers) 0 0) (kindWhat x line) room) e
+
+-- the numbers behind the identity, as channels
+pub channels-as : (l : List ℕ) (f k : ℕ) (a : List Channel) → f ≡ min 1 k → a ≡ sixteenOf (take (k - f) (drop f l))
+    → setUpOf (chosen (getD l 0 0) a (length (take (k - f) (drop f l)))) ≡ setUpBy (getD l 0 0) (part 1 k l)
+channels-as l f k a e g =
+    let ns = take (k - f) (drop f l) in
+    let u : setUpOf (chosen (getD l 0 0) a (length ns)) ≡ setUpBy (getD l 0 0) ns = rw g (set-up-numbers (getD l 0 0) ns _ refl) in
+    u ∙ ap (λ i. setUpBy (getD l 0 0) (take (k - i) (drop i l))) e
 
 module _ (station : Station) (u v : SetUp) (p : u ≡ v) where
   pub set-as : u .answer ≡ 0 → unchanged (desk true (u .station)) 0 ≡ afterSetUp (desk false station) v

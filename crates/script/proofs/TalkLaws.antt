@@ -12,10 +12,10 @@ use lib.Seq.{take-at, take-all}
 use borrow.Author.Tests.{le-leb, lt-leb, ltb-true, ltb-false, leb-true, leb-false, eqb-true, ne-eqb}
 use Rattle.sequence.proofs.Tests.{Either, yes!, no!, which}
 use Rattle.rules.specs.Bytes.{padded}
-use Rattle.requests.proofs.ArrayLaws.{padded-snoc}
+use Rattle.requests.proofs.ArrayLaws.{padded-front, padded-snoc}
 use Rattle.lines.specs.Lines.{Said}
 use Rattle.lines.specs.Readable.{readsAs}
-use Rattle.lines.proofs.ReadLaws.{padded-front, too-long}
+use Rattle.lines.proofs.ReadLaws.{too-long}
 use Rattle.printing.specs.Texts.{putAt}
 use Rattle.printing.specs.Replies.{putText, putLength}
 use Rattle.printing.proofs.ReplyLaws.{reply-length}

@@ -9,7 +9,7 @@ use Rattle.lines.specs.Lines.{Said}
 use Rattle.lines.specs.Readable.{readsAs}
 use Rattle.printing.specs.Replies.{putText, putLength}
 use Rattle.station.specs.declared.Station.{Station}
-use Rattle.station.specs.Step.{setUpBy}
+use Rattle.station.specs.Step.{blankStation}
 use Rattle.script.specs.declared.Text.{Text}
 use Rattle.script.specs.declared.Session.{Session}
 use Rattle.script.specs.declared.Fed.{Fed}
@@ -43,7 +43,7 @@ beforeFeed (b ∷ l) = cond (eqb b 10) 0 (suc (beforeFeed l))
 
 -- no station: what a refused set-up hands back
 unfoldable pub begun : Session
-begun = record { desk = desk false (setUpBy 0 [] .station); text = noText }
+begun = record { desk = desk false blankStation; text = noText }
 
 abbrev pub untaken : Session → Fed
 untaken s = record { used = 0; count = 0; session = s }

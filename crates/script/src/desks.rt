@@ -5,7 +5,7 @@ ghost use mathlib.Core.List.{map};
 ghost use Prim.Native.Nat.{_≤_, min};
 ghost use lib.ListN.{getD};
 ghost use Rattle.rules.specs.Words.{heard, onChannel70, onSlot};
-ghost use Rattle.station.specs.Step.{steppedBy, roomAfter, setUpBy};
+ghost use Rattle.station.specs.Step.{sixteenOf, steppedBy, roomAfter, setUpBy};
 ghost use Rattle.script.specs.Answering.{desk, unchanged, afterSetUp, eventAt, clockOf, dueOf};
 ghost use Rattle.script.specs.Lining.{byteOf, part, symbolsFrom, isUnreadable, isSetUp, lineEvent, lineHandled, lineBlocks};
 use crate::Desk;
@@ -16,6 +16,7 @@ use station::NextDue;
 use station::SetUp;
 use station::Station;
 use station::Stepped;
+use units::Channel;
 use units::SlotNumber;
 use units::Tenths;
 
@@ -104,6 +105,20 @@ fn kept(stands: bool, station: Station, answer: u8) -> Handled
     }
 }
 
+// The first sixteen of them.
+fn channels_of(numbers: &[u32]) -> [Channel; 16]
+    ensures { λ r. ⌜ r ≡ sixteenOf (now (numbers .entry)) ⌝ }
+{
+    let mut channels = [Channel(0); 16];
+    let n = least_of(16, numbers.len());
+    let mut i = 0;
+    while i < n {
+        channels[i] = Channel(numbers[i]);
+        i += 1;
+    }
+    channels
+}
+
 // "set-up": where no station stands.
 fn setting(station: Station, line: Line) -> Handled
     requires { ⌜ line .count ≤ 99 ⌝ }
@@ -111,8 +126,11 @@ fn setting(station: Station, line: Line) -> Handled
 {
     let numbers = line.numbers;
     let n = line.count;
+    let identity = numbers[0];
     let from = least_of(1, n);
-    let u = Station::set_up(numbers[0], &numbers[from..n]);
+    let listed = &numbers[from..n];
+    let channels = channels_of(listed);
+    let u = Station::set_up(identity, channels, listed.len() as u8);
     let answer = u.answer;
     let next = u.station;
     if answer == 0 {

@@ -43,9 +43,7 @@ impl Session {
     pub fn begin() -> Session
         ensures { λ r. ⌜ r ≡ begun ⌝ }
     {
-        let none = [0u32; 1];
-        let u = Station::set_up(0, &none[..0]);
-        let s = u.station;
+        let s = Station::blank();
         let d = Desk {
             stands: false,
             station: s,

@@ -4,6 +4,7 @@ use mathlib.Core.Bool.{Bool, cond}
 use mathlib.Core.List.{List, [], _∷_, _++_, map}
 use mathlib.Core.Option.{Option, none, some}
 use lib.ListN.{getD}
+use Rattle.units.specs.declared.Channel.{Channel}
 use Rattle.units.specs.declared.Told.{Told}
 use Rattle.rules.specs.Actions.{does, over, theCoast, theShip}
 use Rattle.rules.specs.Words.{carrierOff, releaseLine, Config, Request}
@@ -133,5 +134,5 @@ unfoldable pub finishedRoom : Draft → List ℕ → List ℕ
 finishedRoom d room = putRoom (d .blocks) room
 
 -- a free slot on a channel
-unfoldable pub freeOn : ℕ → Slot
-freeOn n = slotImage (record { 0 = n }) free
+unfoldable pub freeOn : Channel → Slot
+freeOn n = slotImage n free

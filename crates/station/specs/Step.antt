@@ -1,10 +1,10 @@
 -- What an event does to the station of the rack and to the room, from the rules alone.
 use Prim.Native.Nat.{ℕ, _*_}
-use mathlib.Core.Bool.{Bool, _&&_}
+use mathlib.Core.Bool.{Bool, _&&_, cond}
 use mathlib.Core.List.{List, [], _∷_, _++_, map}
 use mathlib.Core.Option.{Option, none, some}
 use lib.Dec.{leb}
-use lib.ListN.{length, drop}
+use lib.ListN.{length, take, drop}
 use Rattle.units.specs.declared.Channel.{Channel}
 use Rattle.units.specs.declared.Tenths.{Tenths}
 use Rattle.units.specs.declared.SlotNumber.{SlotNumber}
@@ -15,7 +15,7 @@ use Rattle.rules.specs.Station.{nextDue, fresh}
 use Rattle.rules.specs.Requests.{Out}
 use Rattle.rules.specs.Calls.{act}
 use Rattle.rules.specs.Verdict.{unless, refusals, setUpVerdict}
-use Rattle.rules.specs.Bytes.{blocks}
+use Rattle.rules.specs.Bytes.{padded, blocks}
 use Rattle.requests.specs.Views.{viewed, itself}
 use Rattle.slots.specs.Images.{tenths}
 use Rattle.keeping.specs.Kept.{slotExact, waitingExact}
@@ -83,9 +83,17 @@ roomAfter s room e = roomFor (configOf s) room (act (configOf s) (modelOf s) e) 
 abbrev pub channelNumber : ℕ → Channel
 channelNumber n = record { 0 = n }
 
--- slots in the list's order
+-- slots in the list's order, the channels told as numbers
 abbrev pub given : ℕ → List ℕ → Config
 given identity channels = record { identity = identity; channels = map channelNumber channels }
+
+-- the first `count` of sixteen channels; a count over 16 is no list, and neither is an empty one
+abbrev pub chosen : ℕ → List Channel → ℕ → Config
+chosen identity channels count = record { identity = identity; channels = cond (leb count 16) (take count channels) [] }
+
+-- numbers in the sixteen places for channels
+unfoldable pub sixteenOf : List ℕ → List Channel
+sixteenOf l = padded (channelNumber 0) 16 (viewed channelNumber 16 l)
 
 -- beside a refusal, "no value"
 unfoldable pub blankStation : Station
@@ -95,5 +103,8 @@ abbrev pub setUpFor : Config → Option ℕ → SetUp
 setUpFor c none = record { answer = 0; station = imageOf c (fresh c) }
 setUpFor c (some n) = record { answer = n; station = blankStation }
 
+abbrev pub setUpOf : Config → SetUp
+setUpOf c = setUpFor c (setUpVerdict c)
+
 unfoldable pub setUpBy : ℕ → List ℕ → SetUp
-setUpBy identity channels = setUpFor (given identity channels) (setUpVerdict (given identity channels))
+setUpBy identity channels = setUpOf (given identity channels)

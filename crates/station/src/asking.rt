@@ -31,6 +31,7 @@ use slots::places::in_line;
 use slots::queue::join_in;
 use slots::queue::replace_in;
 use units::SlotNumber;
+use units::Tenths;
 
 impl Plan {
     // a. "Data: answer 104/109."
@@ -56,7 +57,7 @@ impl Plan {
     {
         let s = self.station;
         let c = s.channel_at(i);
-        let t = wait_from(s.clock, 160);
+        let t = wait_from(s.clock, Tenths(160));
         let p = self.place(i, Phase::Offered(t), q);
         p.say(acknowledgement(i, c, q)).answering(0)
     }
@@ -100,7 +101,7 @@ impl Plan {
         let s = self.station;
         let b = s.queue;
         let n = in_line(b, s.waiting);
-        let t = wait_from(s.clock, 9000);
+        let t = wait_from(s.clock, Tenths(9000));
         let w = Waiting { due: t, request: q };
         let z = join_in(b, n, w);
         self.lined(n + 1, z).say(unable_to(103, q)).answering(0)

@@ -61,7 +61,7 @@ impl Plan {
         let y = s.slot_at(i);
         let q = y.request;
         if rung(y, x) {
-            let t = wait_from(s.clock, 160);
+            let t = wait_from(s.clock, Tenths(160));
             return self.place(i, Phase::Acknowledged(t), q).answering(0);
         }
         self.answering(1)

@@ -95,7 +95,7 @@ impl Plan {
         let w = s.first_waiting();
         let q = w.request;
         let c = s.channel_at(i);
-        let t = wait_from(s.clock, 50);
+        let t = wait_from(s.clock, Tenths(50));
         let p = self.without(QueuePlace(0)).place(i, Phase::RingBack(t), q);
         p.say(carrier_on(i)).say(ring_back(i, c, q)).answering(0)
     }

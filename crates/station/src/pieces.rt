@@ -66,9 +66,9 @@ pub(crate) fn is_taken(s: Slot) -> bool
 }
 
 // A wait of p begun at t.
-pub(crate) fn wait_from(t: Tenths, p: u32) -> Tenths
-    requires { ⌜ (t .0 ≤ 4_000_000_000) × (p ≤ 9_000) ⌝ }
-    ensures { λ r. ⌜ r .0 ≡ dueAfter (t .0) p ⌝ }
+pub(crate) fn wait_from(t: Tenths, p: Tenths) -> Tenths
+    requires { ⌜ (t .0 ≤ 4_000_000_000) × (p .0 ≤ 9_000) ⌝ }
+    ensures { λ r. ⌜ r .0 ≡ dueAfter (t .0) (p .0) ⌝ }
 {
     due_after(t, p)
 }

@@ -1,11 +1,10 @@
 // Set-up from an identity and a channel list.
 ghost use mathlib.Core.Path.{_≡_};
-ghost use mathlib.Core.List.{map};
 ghost use Prim.Native.Nat.{_≤_};
-ghost use lib.ListN.{length};
 ghost use Rattle.rules.specs.Bytes.{padded};
+ghost use Rattle.requests.specs.Views.{viewed};
 ghost use Rattle.slots.specs.Images.{blankSlot};
-ghost use Rattle.station.specs.Step.{blankStation, setUpBy};
+ghost use Rattle.station.specs.Step.{blankStation, chosen, setUpOf};
 ghost use Rattle.station.specs.Draft.{freeOn};
 use crate::SetUp;
 use crate::Station;
@@ -18,29 +17,28 @@ use soundness::config_keeps;
 use units::Channel;
 use units::Tenths;
 
-fn free_on(n: u32) -> Slot
+fn free_on(n: Channel) -> Slot
     ensures { λ r. ⌜ r ≡ freeOn n ⌝ }
 {
     let b = blank_request();
     Slot {
         phase: Phase::Free,
-        channel: Channel(n),
+        channel: n,
         request: b,
     }
 }
 
 // "one slot each", in the list's order.
-fn listed(channels: &[u32]) -> [Slot; 16]
-    requires { ⌜ length (now channels) ≤ 16 ⌝ }
-    ensures { λ r. ⌜ r ≡ padded blankSlot 16 (map freeOn (now (channels .entry))) ⌝ }
+fn listed(channels: [Channel; 16], n: u8) -> [Slot; 16]
+    requires { ⌜ n ≤ 16 ⌝ }
+    ensures { λ r. ⌜ r ≡ padded blankSlot 16 (viewed freeOn n channels) ⌝ }
 {
     let blank = blank_slot();
     let mut a = [blank; 16];
-    let n = channels.len();
-    let mut i = 0;
+    let mut i: u8 = 0;
     while i < n {
-        let s = free_on(channels[i]);
-        a[i] = s;
+        let s = free_on(channels[i as usize]);
+        a[i as usize] = s;
         i += 1;
     }
     a
@@ -63,21 +61,19 @@ impl Station {
         }
     }
 
-    // "All slots begin free at clock 0."
-    pub fn set_up(identity: u32, channels: &[u32]) -> SetUp
-        ensures { λ r. ⌜ r ≡ setUpBy identity (now (channels .entry)) ⌝ }
+    // The first `count` channels. "All slots begin free at clock 0."
+    pub fn set_up(identity: u32, channels: [Channel; 16], count: u8) -> SetUp
+        ensures { λ r. ⌜ r ≡ setUpOf (chosen identity channels count) ⌝ }
     {
-        let n = channels.len();
-        if 16 < n {
+        if 16 < count {
             let s = Station::blank();
             return SetUp {
                 answer: 36,
                 station: s,
             };
         }
-        let a = listed(channels);
-        let k = n as u8;
-        if !config_keeps(identity, a, k) {
+        let a = listed(channels, count);
+        if !config_keeps(identity, a, count) {
             let s = Station::blank();
             return SetUp {
                 answer: 36,
@@ -88,7 +84,7 @@ impl Station {
         let s = Station {
             clock: Tenths(0),
             identity: identity,
-            count: k,
+            count: count,
             waiting: 0,
             slots: a,
             queue: [w; 32],

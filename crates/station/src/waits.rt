@@ -41,7 +41,7 @@ impl Plan {
     {
         let s = self.station;
         let c = s.channel_at(i);
-        let t = wait_from(s.clock, 50);
+        let t = wait_from(s.clock, Tenths(50));
         let p = self.place(i, Phase::RingAgain(t), q);
         p.say(ring_back(i, c, q)).answering(0)
     }

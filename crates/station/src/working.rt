@@ -69,7 +69,7 @@ impl Plan {
     {
         let s = self.station;
         let n = q.number;
-        let t = wait_from(s.clock, 600);
+        let t = wait_from(s.clock, Tenths(600));
         let p = self.place(i, Phase::Dialling(t, Carrier::Present), q);
         p.say(dial(i, n)).answering(0)
     }
@@ -93,7 +93,7 @@ impl Plan {
         ensures { λ r. ⌜ draftOf r ≡ doing (holding (i .0) (requestOf q) told) (draftOf self) ⌝ }
     {
         let s = self.station;
-        let t = wait_from(s.clock, 40);
+        let t = wait_from(s.clock, Tenths(40));
         let a = self.place(i, Phase::Hold(t, told), q);
         let b = a.say(release_line(i));
         let c = b.say(over(i, Ender::Ship, q, told));

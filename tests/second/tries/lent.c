@@ -56,8 +56,8 @@ static void set_up(void) {
     static const uint8_t channels[3] = {26, 88, 26};
     memset(station, 77, sizeof station);
     memset(wanted, 77, sizeof wanted);
-    want("1721 bytes", second_set_up_bytes(1, channels, 2, station, SIZE - 1u), 29);
-    want("1723 bytes", second_set_up_bytes(2001234, channels, 2, station, SIZE + 1u), 29);
+    want("1721 bytes", second_set_up_bytes(1, channels, 2, station, SIZE - 1u), 23);
+    want("1723 bytes", second_set_up_bytes(2001234, channels, 2, station, SIZE + 1u), 23);
     want("a ship's identity", second_set_up_bytes(200056789, channels, 2, station, SIZE), 36);
     want("a channel twice", second_set_up_bytes(2001234, channels, 3, station, SIZE), 36);
     want("no channel", second_set_up_bytes(2001234, NULL, 0, station, SIZE), 36);

@@ -11,4 +11,5 @@ returns-2 c = rw (le-leb _ _ (c .if1 .left))
 
 pub fits-wait-spec : {M : Type 1} → statement M
 fits-wait-spec =
-    tie.close (tie.spec returns (λ c. search needs) (λ c. search needs) (λ c. search needs) (λ c. search needs) returns-2)
+    tie.close
+    (tie.spec returns (λ c. search needs) (λ c. search needs) (λ c. search needs) (λ c. search needs) (λ c. search needs) returns-2)

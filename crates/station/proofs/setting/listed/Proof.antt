@@ -7,29 +7,29 @@ use Rattle.requests.specs.Views.{viewed}
 use Rattle.requests.proofs.ArrayLaws.{laid-more}
 use Rattle.slots.specs.Images.{blankSlot}
 use Rattle.station.specs.Draft.{freeOn}
-use Rattle.station.proofs.SetLaws.{whole}
 use borrow.Author.Needs.{needs}
 use Rattle.station.proofs.setting.listed.Statement.{statement}
 use Rattle.station.proofs.setting.listed.Tie as tie
 
 abbrev Inv-loop : tie.InvT-loop
-Inv-loop l a₀ n i₀ a i = (length l ≤ 16) × (i ≤ n) × (n ≡ length l) × (length a ≡ 16) × (a ≡ padded blankSlot 16 (viewed freeOn i l))
+Inv-loop n l a₀ i₀ a i = (n ≤ 16) × (length l ≡ 16) × (i ≤ n) × (length a ≡ 16) × (a ≡ padded blankSlot 16 (viewed freeOn i l))
 
 abbrev μ-loop : tie.MeasureT-loop
-μ-loop l a₀ n i₀ a i = n - i
+μ-loop n l a₀ i₀ a i = n - i
 
 loop-holds : tie.Need-loop-holds Inv-loop μ-loop
 unfolding padded viewed
-loop-holds c = (c .before .before .pre, omega arith, refl, search needs, rw (c .blank-slot .ensures) refl)
+loop-holds c = (c .before .pre, search needs, omega arith, search needs, rw (c .blank-slot .ensures) refl)
 
 loop-less : tie.Need-loop-less Inv-loop μ-loop
 loop-less c = omega arith
 
 loop-again : tie.Need-loop-again Inv-loop μ-loop
-loop-again c = (c .before .before .before .loop .inv .0, omega arith, c .before .before .before .loop .inv .2, search needs, rw (c .before .before .before .loop .inv .4, c .free-on .ensures) (laid-more freeOn blankSlot 16 _ _ 0 (omega arith) (omega arith)))
+loop-again c = let l = c .before .before .before .loop in
+    (l .inv .0, l .inv .1, omega arith, search needs, rw (l .inv .4, c .free-on .ensures) (laid-more freeOn blankSlot 16 _ _ (record { 0 = 0 }) (omega arith) (omega arith)))
 
 returns : tie.Need-returns Inv-loop μ-loop
-returns c = c .before .loop .inv .4 ∙ ap (padded blankSlot 16) (whole _ _ (omega arith))
+returns c = let e : c .before .loop .i ≡ c .before .before .before .args .n = omega arith in rw (c .before .loop .inv .4, e)
 
 pub listed-spec : {M : Type 1} → statement M
 listed-spec =
@@ -41,7 +41,9 @@ listed-spec =
     loop-holds
     (λ c. search needs)
     (λ c. search needs)
+    (λ c. search needs)
     (λ c κs. search needs)
+    (λ c. search needs)
     (λ c. search needs)
     (λ c. search needs)
     (λ c. search needs)
