@@ -1,0 +1,2 @@
+pub mod ShutOut
+pub mod Events
