@@ -94,7 +94,7 @@ unfolding waitingExact numberExact blankWaiting blankRequest
 blank-waiting = refl
 
 module _ (c : Config) (m : R.Station) (f : Fits c m) where
-  records-keep : recordsKeep (imageOf c m) ≡ true
+  pub records-keep : recordsKeep (imageOf c m) ≡ true
   unfolding recordsKeep imageOf
   records-keep =
       let a = slots-exact (c .channels) (m .slots) (f .shortSlots) in

@@ -56,17 +56,17 @@ use Rattle.useless.proofs.ShutOut.{Tried, shut-out}
 -- ── the scripts ──────────────────────────────────────────────────────────────
 
 -- on a station with channel 26: what comes before, what is done at a time, and what is refused at a time right behind it
-record Script : Type 0 where
-  past : List Event
-  time : ℕ
-  does : What
-  later : ℕ
-  refused : What
+pub record Script : Type 0 where
+  pub past : List Event
+  pub time : ℕ
+  pub does : What
+  pub later : ℕ
+  pub refused : What
 
 abbrev dialled : List Event
 dialled = asks 100 ∷ works 200 ∷ []
 
-abbrev scripts : Method → Script
+abbrev pub scripts : Method → Script
 scripts heard-on-channel-70 = record { past = []; time = 100; does = onChannel70 p1; later = 110; refused = onChannel70 [] }
 scripts heard-on-slot = record { past = asks 100 ∷ []; time = 200; does = onSlot 0 (heard p4); later = 210; refused = onSlot 0 (heard []) }
 scripts off-hook = record { past = dialled; time = 300; does = onSlot 0 offHook; later = 310; refused = onSlot 1 offHook }
@@ -77,7 +77,7 @@ scripts take-slot = record { past = []; time = 50; does = onSlot 0 takes; later 
 scripts give-back = record { past = on 50 0 takes ∷ []; time = 60; does = onSlot 0 givesBack; later = 70; refused = onSlot 0 givesBack }
 scripts on-tick = record { past = asks 100 ∷ []; time = 261; does = tick; later = 260; refused = tick }
 
-does-method : (k : Method) → methodOf (scripts k .does) ≡ k
+pub does-method : (k : Method) → methodOf (scripts k .does) ≡ k
 does-method heard-on-channel-70 = refl
 does-method heard-on-slot = refl
 does-method off-hook = refl
@@ -88,7 +88,7 @@ does-method take-slot = refl
 does-method give-back = refl
 does-method on-tick = refl
 
-refused-method : (k : Method) → methodOf (scripts k .refused) ≡ k
+pub refused-method : (k : Method) → methodOf (scripts k .refused) ≡ k
 refused-method heard-on-channel-70 = refl
 refused-method heard-on-slot = refl
 refused-method off-hook = refl
@@ -121,14 +121,14 @@ abbrev firstSign : List Slot → ℕ
 firstSign [] = 0
 firstSign (s ∷ ss) = phaseSign (s .phase)
 
-abbrev house : Config
+abbrev pub house : Config
 house = station 1
 
 -- the models before and after what is done
-abbrev before : Script → R.Station
+abbrev pub before : Script → R.Station
 before s = stationAfter house (s .past)
 
-abbrev doing : Script → Event
+abbrev pub doing : Script → Event
 doing s = at (s .time) (s .does)
 
 abbrev refusing : Script → Event
@@ -190,27 +190,27 @@ told s h =
 
 -- ── a call on the station that a script leads to ─────────────────────────────
 
-set-up : setUpVerdict house ≡ none
+pub set-up : setUpVerdict house ≡ none
 unfolding setUpVerdict configKeeps identityKeeps channelsKeep isCoast channelOk
 set-up = refl
 
-leads : (es : List Event) → Traced house es
+pub leads : (es : List Event) → Traced house es
 unfolding EveryScriptIsTraced
 leads es = every-script-is-traced house set-up es
 
-abbrev reached : List Event → Station
+abbrev pub reached : List Event → Station
 reached es = lastOf (leads es .trace .first) (leads es .steps)
 
-abbrev calling : List Event → ℕ → What → Call
+abbrev pub calling : List Event → ℕ → What → Call
 calling es t w = record { time = t; what = w; before = reached es; lent = replicate 320 0 }
 
 as-event : (es : List Event) (t : ℕ) (w : What) → eventOf (calling es t w) ≡ at t w
 as-event es t w = ap (λ (n : ℕ). record { time = t; room = n; what = w }) (length-replicate {A = ℕ} 320 0)
 
-reached-is : (es : List Event) → reached es ≡ imageOf house (stationAfter house es)
+pub reached-is : (es : List Event) → reached es ≡ imageOf house (stationAfter house es)
 reached-is es = last-is house (leads es .steps) (leads es .trace) ∙ ap (λ (l : List Event). imageOf house (stationAfter house l)) (leads es .script)
 
-good : (es : List Event) → sound house (stationAfter house es) ≡ true
+pub good : (es : List Event) → sound house (stationAfter house es) ≡ true
 unfolding AlwaysSound
 good es = always-sound house set-up es
 
@@ -237,28 +237,28 @@ module _ (k : Method) where
   abbrev it : Told (scripts k)
   it = told (scripts k) (computed k)
 
-  abbrev doable : Call
+  abbrev pub doable : Call
   doable = calling (s .past) (s .time) (s .does)
 
-  abbrev bad : Call
+  abbrev pub bad : Call
   bad = calling (s .past ++ doing s ∷ []) (s .later) (s .refused)
 
-  module _ (y : Back) (m : Meets k doable y) where
-    accepted : verdict house (before s) (eventOf doable) ≡ none
-    accepted = ap (verdict house (before s)) (as-event (s .past) (s .time) (s .does)) ∙ it .accepted
+  pub accepted : verdict house (before s) (eventOf doable) ≡ none
+  accepted = ap (verdict house (before s)) (as-event (s .past) (s .time) (s .does)) ∙ it .accepted
 
-    answered : y .stepped .answer ≡ 0
+  module _ (y : Back) (m : Meets k doable y) where
+    pub answered : y .stepped .answer ≡ 0
     answered =
         ap (λ (r : Stepped). r .answer) (done-back house (before s) (good (s .past)) (stepBy doable y) (reached-is (s .past)) (m (does-method k)) accepted)
         ∙ it .done
 
-    not-idle : y .stepped .station .slots ≡ doable .before .slots → ⊥
+    pub not-idle : y .stepped .station .slots ≡ doable .before .slots → ⊥
     not-idle same =
         let next = ap (λ (r : Stepped). firstSign (r .station .slots)) (done-back house (before s) (good (s .past)) (stepBy doable y) (reached-is (s .past)) (m (does-method k)) accepted) in
         let came = ap (λ (z : Station). firstSign (z .slots)) (reached-is (s .past)) in
         it .changed (sym came ∙ sym (ap firstSign same) ∙ next)
 
-  refused : (y : Back) → Meets k bad y → 1 < y .stepped .answer
+  pub refused : (y : Back) → Meets k bad y → 1 < y .stepped .answer
   unfolding ZeroOrOne
   refused y m =
       let es = s .past ++ doing s ∷ [] in

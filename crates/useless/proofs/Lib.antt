@@ -1,2 +1,9 @@
 pub mod ShutOut
 pub mod Events
+pub mod Hosted
+pub mod Begun
+pub mod Entries
+pub mod Sequences
+pub mod SetUps
+pub mod Dues
+pub mod Feeds

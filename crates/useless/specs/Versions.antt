@@ -32,3 +32,7 @@ pub data Useless {In Out : Type 0} (comes : List In → In → Type 0) (v : Sign
 -- no version that meets a contract is one of them
 abbrev pub NoneUseless : {In Out : Type 0} → (List In → In → Type 0) → Signs In Out → (In → Out → Type 0) → Type 0
 NoneUseless {In} {Out} comes v meets = (f : List In → In → Out) → ((past : List In) (x : In) → meets x (f past x)) → Useless comes v f → ⊥
+
+-- where anything may be handed in
+abbrev pub Anything : {In : Type 0} → List In → In → Type 0
+Anything past x = Unit {0}
