@@ -34,7 +34,7 @@ first-in-byte (r ∷ rows) each n e = go (r .holds) e (first-in-byte rows (each 
 plain : (k : ℕ) → k < 256 → (n : ℕ) → _≡_ {A = Option ℕ} (some k) (some n) → n < 256
 plain k h n e = let q : k ≡ n = cc in omega arith
 
-answer-in-byte : (a : Answer) → answerNumber a < 256
+pub answer-in-byte : (a : Answer) → answerNumber a < 256
 answer-in-byte Done = omega arith
 answer-in-byte BadLength = omega arith
 answer-in-byte BadSymbol = omega arith

@@ -1,6 +1,6 @@
 -- What set-up leaves in lent bytes for a station with channel 26, and that a host's run may begin with it.
 use Prim.Native.Nat.{ℕ}
-use mathlib.Core.Path.{_≡_, refl, _∙_}
+use mathlib.Core.Path.{_≡_, refl}
 use mathlib.Core.List.{List, [], _∷_}
 use lib.ListN.{length, replicate, length-replicate}
 use Rattle.rules.specs.Station.{fresh}

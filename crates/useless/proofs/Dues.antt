@@ -3,9 +3,8 @@ use Prim.Native.Nat.{ℕ, _%_}
 use mathlib.Core.Path.{_≡_, refl, sym, ap, _∙_}
 use mathlib.Core.Bool.{true}
 use mathlib.Core.List.{List, [], _∷_}
-use mathlib.Core.Option.{Option, none, some}
+use mathlib.Core.Option.{none, some}
 use native.Mathlib.Omega.{arith}
-use lib.ListN.{length}
 use Rattle.sequence.specs.Identity.{isShip, isCoast, identitiesOk, identityPairs, identityOf}
 use Rattle.sequence.specs.Field.{isCall, unableSecond, telecommandsOk, channelOk, durationOk, fieldOk}
 use Rattle.sequence.specs.Number.{numberOk, parity, evened}
@@ -24,8 +23,8 @@ use Rattle.soundness.proofs.FitLaws.{sound-fits}
 use Rattle.station.specs.declared.NextDue.{NextDue}
 use Rattle.station.specs.declared.NextDue.the-variants.{Never, At}
 use Rattle.station.specs.declared.Station.{Station}
-use Rattle.station.specs.Model.{configOf, modelOf, imageOf}
-use Rattle.station.specs.Step.{recordsKeep, dueImage}
+use Rattle.station.specs.Model.{modelOf}
+use Rattle.station.specs.Step.{dueImage}
 use Rattle.station.proofs.ImageLaws.{model-back, config-back}
 use Rattle.lent.specs.Stations.{stationFrom}
 use Rattle.exchange.specs.Events.{dueReturned}
@@ -33,7 +32,7 @@ use Rattle.exchange.proofs.Theorems.{wrong-size-has-no-due}
 use Rattle.rack.proofs.Laid.{records-keep}
 use Rattle.useless.specs.Versions.{Anything}
 use Rattle.useless.specs.Dues.{DueBy, by-next-due, HandedOut, NoUselessNextDue, DueInC, by-coast-next-due, dueSigns, NoUselessNextDueInC}
-use Rattle.useless.proofs.ShutOut.{shut-out}
+use Rattle.useless.proofs.ShutOut.{one, shut-out}
 use Rattle.useless.proofs.Events.{house, leads, reached, reached-is, good}
 use Rattle.useless.proofs.Begun.{first, first-is, found}
 
@@ -78,7 +77,7 @@ no-useless-next-due f m = (
   λ d h. differ _ _ (never f m []) (at-261 f m []) (h [] (reached []) (handed [] []) ∙ sym (h [] (reached asked) (handed [] asked))),
   λ h.
       let past : List Station = reached [] ∷ [] in
-      differ Never _ refl (at-261 f m past) (sym (h past (reached asked) (λ e. let q : _≡_ {A = ℕ} 1 0 = ap length e in omega (arith, q)) (handed past asked))),
+      differ Never _ refl (at-261 f m past) (sym (h past (reached asked) one (handed past asked))),
 )
 
 -- ── the entry in C ───────────────────────────────────────────────────────────
@@ -103,13 +102,14 @@ pub no-useless-next-due-in-c : NoUselessNextDueInC
 unfolding NoUselessNextDueInC
 no-useless-next-due-in-c =
     shut-out Anything dueSigns DueInC (record {
-      past = [];
+      past = first ∷ [];
+      begun = one;
       doable = first;
       doable-comes = tt;
       done = λ y m. ap (λ n. n % 256) (c-due-is first y m ∙ fresh-due);
       busy = λ y m i. i;
       later = first ∷ [];
-      not-first = λ e. let q : _≡_ {A = ℕ} 1 0 = ap length e in omega (arith, q);
+      begun-later = one;
       bad = [];
       bad-comes = tt;
       refused = λ y m. omega (arith, no-bytes y m);

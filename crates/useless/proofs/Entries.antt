@@ -10,7 +10,6 @@ use Rattle.rules.specs.Station.{fresh}
 use Rattle.rules.specs.Verdict.{final}
 use Rattle.rules.specs.Statement.{stationAfter}
 use Rattle.soundness.proofs.FitLaws.{sound-fits}
-use Rattle.slots.specs.declared.Slot.{Slot}
 use Rattle.station.specs.declared.Station.{Station}
 use Rattle.station.specs.Model.{imageOf}
 use Rattle.station.specs.Step.{refusal, steppedBy, roomAfter}
@@ -30,7 +29,7 @@ use Rattle.useless.specs.Events.{Method, methodOf, laidIn}
 use Rattle.useless.specs.Entries.{Call, Back, eventOf, callBy, callIn, Meets, Comes, signs, NoUselessEntry}
 use Rattle.useless.proofs.ShutOut.{shut-out}
 use Rattle.useless.proofs.Events as Shown
-use Rattle.useless.proofs.Events.{house, scripts, doing, does-method, refused-method, reached, reached-is, good}
+use Rattle.useless.proofs.Events.{house, past, scripts, doing, does-method, refused-method, reached, reached-is, good}
 use Rattle.useless.proofs.Hosted.{callsFor, hands-on, last-left, handed-on}
 use Rattle.useless.proofs.Begun.{first, begun, first-is, found}
 
@@ -103,10 +102,10 @@ not-first es e p = omega (arith, ap length p, many first es)
 
 module _ (k : Method) where
   abbrev doable : Call
-  doable = calling (scripts k .past) (scripts k .time) (scripts k .does)
+  doable = calling (past (scripts k)) (scripts k .time) (scripts k .does)
 
   abbrev later : List Event
-  later = scripts k .past ++ doing (scripts k) ∷ []
+  later = past (scripts k) ++ doing (scripts k) ∷ []
 
   abbrev bad : Call
   bad = calling later (scripts k .later) (scripts k .refused)
@@ -115,18 +114,18 @@ module _ (k : Method) where
     answered : y .number % 256 ≡ 0
     unfolding calling
     answered =
-        let s = reached (scripts k .past) in
-        number-is doable y (m (does-method k)) s (stands (scripts k .past)) .0
+        let s = reached (past (scripts k)) in
+        number-is doable y (m (does-method k)) s (stands (past (scripts k))) .0
         ∙ Shown.answered k (stepOn s doable) (λ e. step-allowed s (replicate 320 0) (scripts k .time) (scripts k .does))
 
     not-idle : stationFrom (y .kept) .slots ≡ stationFrom (doable .station) .slots → ⊥
     unfolding calling
     not-idle same =
-        let s = reached (scripts k .past) in
-        let model = stationAfter house (scripts k .past) in
-        let accepted : refusal s (eventOf doable) ≡ none = rw (reached-is (scripts k .past)) (refusal-is house model (sound-fits house model (good (scripts k .past))) (eventOf doable) ∙ Shown.accepted k) in
-        let next : stationFrom (y .kept) .slots ≡ steppedBy s (eventOf doable) .station .slots = ap (λ (z : Station). z .slots) (kept-as doable y (m (does-method k)) s (stands (scripts k .past)) accepted) in
-        let came : stationFrom (doable .station) .slots ≡ s .slots = ap (λ (z : Station). z .slots) (stands (scripts k .past)) in
+        let s = reached (past (scripts k)) in
+        let model = stationAfter house (past (scripts k)) in
+        let accepted : refusal s (eventOf doable) ≡ none = rw (reached-is (past (scripts k))) (refusal-is house model (sound-fits house model (good (past (scripts k)))) (eventOf doable) ∙ Shown.accepted k) in
+        let next : stationFrom (y .kept) .slots ≡ steppedBy s (eventOf doable) .station .slots = ap (λ (z : Station). z .slots) (kept-as doable y (m (does-method k)) s (stands (past (scripts k))) accepted) in
+        let came : stationFrom (doable .station) .slots ≡ s .slots = ap (λ (z : Station). z .slots) (stands (past (scripts k))) in
         Shown.not-idle k (stepOn s doable) (λ e. step-allowed s (replicate 320 0) (scripts k .time) (scripts k .does)) (sym next ∙ same ∙ came)
 
   refused : (y : Back) → Meets k bad y → 1 < y .number % 256
@@ -141,13 +140,14 @@ pub no-useless-entry : NoUselessEntry
 unfolding NoUselessEntry
 no-useless-entry k =
     shut-out (Comes k) (signs k) (Meets k) (record {
-      past = map callIn (callsFor first (scripts k .past));
+      past = map callIn (callsFor first (past (scripts k)));
+      begun = not-first (scripts k .early) (scripts k .last);
       doable = doable k;
-      doable-comes = comes (scripts k .past) (scripts k .time) (scripts k .does) k (does-method k);
+      doable-comes = comes (past (scripts k)) (scripts k .time) (scripts k .does) k (does-method k);
       done = answered k;
       busy = not-idle k;
       later = map callIn (callsFor first (later k));
-      not-first = not-first (scripts k .past) (doing (scripts k));
+      begun-later = not-first (past (scripts k)) (doing (scripts k));
       bad = bad k;
       bad-comes = comes (later k) (scripts k .later) (scripts k .refused) k (refused-method k);
       refused = refused k;

@@ -26,7 +26,7 @@ use Rattle.rules.specs.Calls.{dialNow, workingKind, workingOn, agreed, bqKind, 
 use Rattle.rules.specs.Verdict.{refusals, verdict, setUpVerdict, step, play, final}
 use Rattle.rules.specs.Bytes.{padded, block, blockOf, blocks}
 use Rattle.rules.specs.Statement.{ZeroOrOne, AtMostEight, AlwaysSound, stationAfter}
-use Rattle.rules.specs.Runs.{station, at, on}
+use Rattle.rules.specs.Runs.{station, at, on, ticks}
 use Rattle.rules.specs.Cases.{p1, p4, asks, works}
 use Rattle.rules.proofs.Answered.{zero-or-one}
 use Rattle.rules.proofs.Kept.{always-sound}
@@ -36,7 +36,7 @@ use Rattle.slots.specs.declared.Carrier.the-variants.{Present, Lost}
 use Rattle.slots.specs.declared.Phase.{Phase}
 use Rattle.slots.specs.declared.Phase.the-variants.{Free, Offered, RingBack, RingAgain, Acknowledged, Dialling, Answered, Hold, Taken}
 use Rattle.slots.specs.declared.Slot.{Slot}
-use Rattle.slots.specs.Images.{slotImage, blankSlot}
+use Rattle.slots.specs.Images.{slotImage}
 use Rattle.station.specs.declared.Station.{Station}
 use Rattle.station.specs.declared.Stepped.{Stepped}
 use Rattle.station.specs.Model.{imageOf, modelOf, configOf}
@@ -50,32 +50,34 @@ use Rattle.rack.proofs.Steps.{allowed-does, back-for, left-for}
 use Rattle.rack.proofs.Traces.{done-back, refused-back}
 use Rattle.rack.proofs.Theorems.{last-is}
 use Rattle.rack.proofs.Scripted.{every-script-is-traced}
-use Rattle.useless.specs.Events.{Method, heard-on-channel-70, heard-on-slot, off-hook, on-hook, carrier-up, carrier-down, take-slot, give-back, on-tick, methodOf, Call, Back, eventOf, stepBy, callIn, Meets, Comes, laidIn, Miscounted, signs, NoUselessEvent}
-use Rattle.useless.proofs.ShutOut.{Tried, shut-out}
+use Rattle.useless.specs.Events.{Method, heard-on-channel-70, heard-on-slot, off-hook, on-hook, carrier-up, carrier-down, take-slot, give-back, on-tick, methodOf, Call, Back, eventOf, stepBy, callIn, Meets, Comes, laidIn, signs, NoUselessEvent}
+use Rattle.useless.proofs.ShutOut.{shut-out}
 
 -- ── the scripts ──────────────────────────────────────────────────────────────
 
--- on a station with channel 26: what comes before, what is done at a time, and what is refused at a time right behind it
+-- on a station with channel 26: what came before, what is done at a time, and what is refused at a time right behind it
 pub record Script : Type 0 where
-  pub past : List Event
+  pub early : List Event
+  pub last : Event
   pub time : ℕ
   pub does : What
   pub later : ℕ
   pub refused : What
 
-abbrev dialled : List Event
-dialled = asks 100 ∷ works 200 ∷ []
+abbrev pub past : Script → List Event
+past s = s .early ++ s .last ∷ []
 
 abbrev pub scripts : Method → Script
-scripts heard-on-channel-70 = record { past = []; time = 100; does = onChannel70 p1; later = 110; refused = onChannel70 [] }
-scripts heard-on-slot = record { past = asks 100 ∷ []; time = 200; does = onSlot 0 (heard p4); later = 210; refused = onSlot 0 (heard []) }
-scripts off-hook = record { past = dialled; time = 300; does = onSlot 0 offHook; later = 310; refused = onSlot 1 offHook }
-scripts on-hook = record { past = dialled; time = 300; does = onSlot 0 onHook; later = 310; refused = onSlot 1 onHook }
-scripts carrier-up = record { past = dialled ++ on 300 0 carrierDown ∷ []; time = 310; does = onSlot 0 carrierUp; later = 320; refused = onSlot 1 carrierUp }
-scripts carrier-down = record { past = dialled; time = 300; does = onSlot 0 carrierDown; later = 310; refused = onSlot 1 carrierDown }
-scripts take-slot = record { past = []; time = 50; does = onSlot 0 takes; later = 60; refused = onSlot 0 takes }
-scripts give-back = record { past = on 50 0 takes ∷ []; time = 60; does = onSlot 0 givesBack; later = 70; refused = onSlot 0 givesBack }
-scripts on-tick = record { past = asks 100 ∷ []; time = 261; does = tick; later = 260; refused = tick }
+scripts heard-on-channel-70 = record { early = []; last = ticks 10; time = 100; does = onChannel70 p1; later = 110; refused = onChannel70 [] }
+scripts heard-on-slot = record { early = []; last = asks 100; time = 200; does = onSlot 0 (heard p4); later = 210; refused = onSlot 0 (heard []) }
+scripts off-hook = record { early = asks 100 ∷ []; last = works 200; time = 300; does = onSlot 0 offHook; later = 310; refused = onSlot 1 offHook }
+scripts on-hook = record { early = asks 100 ∷ []; last = works 200; time = 300; does = onSlot 0 onHook; later = 310; refused = onSlot 1 onHook }
+scripts carrier-up =
+    record { early = asks 100 ∷ works 200 ∷ []; last = on 300 0 carrierDown; time = 310; does = onSlot 0 carrierUp; later = 320; refused = onSlot 1 carrierUp }
+scripts carrier-down = record { early = asks 100 ∷ []; last = works 200; time = 300; does = onSlot 0 carrierDown; later = 310; refused = onSlot 1 carrierDown }
+scripts take-slot = record { early = []; last = ticks 10; time = 50; does = onSlot 0 takes; later = 60; refused = onSlot 0 takes }
+scripts give-back = record { early = []; last = on 50 0 takes; time = 60; does = onSlot 0 givesBack; later = 70; refused = onSlot 0 givesBack }
+scripts on-tick = record { early = []; last = asks 100; time = 261; does = tick; later = 260; refused = tick }
 
 pub does-method : (k : Method) → methodOf (scripts k .does) ≡ k
 does-method heard-on-channel-70 = refl
@@ -126,7 +128,7 @@ house = station 1
 
 -- the models before and after what is done
 abbrev pub before : Script → R.Station
-before s = stationAfter house (s .past)
+before s = stationAfter house (past s)
 
 abbrev pub doing : Script → Event
 doing s = at (s .time) (s .does)
@@ -135,7 +137,7 @@ abbrev refusing : Script → Event
 refusing s = at (s .later) (s .refused)
 
 abbrev after : Script → R.Station
-after s = stationAfter house (s .past ++ doing s ∷ [])
+after s = stationAfter house (past s ++ doing s ∷ [])
 
 abbrev signOf : R.Station → ℕ
 signOf m = firstSign (imageOf house m .slots)
@@ -238,30 +240,30 @@ module _ (k : Method) where
   it = told (scripts k) (computed k)
 
   abbrev pub doable : Call
-  doable = calling (s .past) (s .time) (s .does)
+  doable = calling (past s) (s .time) (s .does)
 
   abbrev pub bad : Call
-  bad = calling (s .past ++ doing s ∷ []) (s .later) (s .refused)
+  bad = calling (past s ++ doing s ∷ []) (s .later) (s .refused)
 
   pub accepted : verdict house (before s) (eventOf doable) ≡ none
-  accepted = ap (verdict house (before s)) (as-event (s .past) (s .time) (s .does)) ∙ it .accepted
+  accepted = ap (verdict house (before s)) (as-event (past s) (s .time) (s .does)) ∙ it .accepted
 
   module _ (y : Back) (m : Meets k doable y) where
     pub answered : y .stepped .answer ≡ 0
     answered =
-        ap (λ (r : Stepped). r .answer) (done-back house (before s) (good (s .past)) (stepBy doable y) (reached-is (s .past)) (m (does-method k)) accepted)
+        ap (λ (r : Stepped). r .answer) (done-back house (before s) (good (past s)) (stepBy doable y) (reached-is (past s)) (m (does-method k)) accepted)
         ∙ it .done
 
     pub not-idle : y .stepped .station .slots ≡ doable .before .slots → ⊥
     not-idle same =
-        let next = ap (λ (r : Stepped). firstSign (r .station .slots)) (done-back house (before s) (good (s .past)) (stepBy doable y) (reached-is (s .past)) (m (does-method k)) accepted) in
-        let came = ap (λ (z : Station). firstSign (z .slots)) (reached-is (s .past)) in
+        let next = ap (λ (r : Stepped). firstSign (r .station .slots)) (done-back house (before s) (good (past s)) (stepBy doable y) (reached-is (past s)) (m (does-method k)) accepted) in
+        let came = ap (λ (z : Station). firstSign (z .slots)) (reached-is (past s)) in
         it .changed (sym came ∙ sym (ap firstSign same) ∙ next)
 
   pub refused : (y : Back) → Meets k bad y → 1 < y .stepped .answer
   unfolding ZeroOrOne
   refused y m =
-      let es = s .past ++ doing s ∷ [] in
+      let es = past s ++ doing s ∷ [] in
       let v : verdict house (after s) (eventOf bad) ≡ some (it .number) = ap (verdict house (after s)) (as-event es (s .later) (s .refused)) ∙ it .refused in
       let b = ap (λ (r : Stepped). r .answer) (refused-back house (after s) (good es) (stepBy bad y) (reached-is es) (m (refused-method k)) (it .number) v) in
       let n = zero-or-one house (after s) (eventOf bad) .1 (it .number) v in
@@ -287,10 +289,11 @@ none-laid zero size = refl
 none-laid (suc n) zero = refl
 none-laid (suc n) (suc size) = refl
 
-zeros-behind : (n size : ℕ) → (m : ℕ) × (drop n (replicate {A = ℕ} size 0) ≡ replicate m 0)
-zeros-behind zero size = (size, refl)
-zeros-behind (suc n) zero = (0, refl)
-zeros-behind (suc n) (suc size) = zeros-behind n size
+-- behind the front of a room that was blank it is blank
+pub blank-behind : (b n size : ℕ) → (m : ℕ) × (drop n (replicate size b) ≡ replicate m b)
+blank-behind b zero size = (size, refl)
+blank-behind b (suc n) zero = (0, refl)
+blank-behind b (suc n) (suc size) = blank-behind b n size
 
 all-laid : (c : Config) (l : List Action) (n size : ℕ) → length l ≤ n → laidIn n (blocks c l ++ replicate size 0) ≡ length l
 unfolding laidIn
@@ -309,7 +312,7 @@ counted x y a size zeros = go (refusal (x .before) (eventOf x)) refl
         let c = configOf (x .before) in
         let acts = act (configOf (x .before)) (modelOf (x .before)) (eventOf x) .acts in
         let n = ap (λ (r : Stepped). r .count) (back-for (stepBy x y) (allowed-does (stepBy x y) a) none e) in
-        let more = zeros-behind (40 * length acts) size in
+        let more = blank-behind 0 (40 * length acts) size in
         let left : y .left ≡ blocks c acts ++ replicate (more .0) 0 = left-for (stepBy x y) (allowed-does (stepBy x y) a) none e ∙ (rw (zeros, more .1)) in
         let few = at-most-eight c (modelOf (x .before)) (eventOf x) (passed (x .before) (eventOf x) (sym e) .sounds) .0 in
         n ∙ sym (rw left (all-laid c acts 8 (more .0) few))
@@ -324,15 +327,16 @@ pub no-useless-event : NoUselessEvent
 unfolding NoUselessEvent
 no-useless-event k =
     shut-out (Comes k) (signs k) (Meets k) (record {
-      past = map callIn (leads (scripts k .past) .steps);
+      past = map callIn (leads (past (scripts k)) .steps);
+      begun = not-first (scripts k .early) (scripts k .last);
       doable = doable k;
-      doable-comes = comes (scripts k .past) (scripts k .time) (scripts k .does) k (does-method k);
+      doable-comes = comes (past (scripts k)) (scripts k .time) (scripts k .does) k (does-method k);
       done = answered k;
       busy = not-idle k;
-      later = map callIn (leads (scripts k .past ++ doing (scripts k) ∷ []) .steps);
-      not-first = not-first (scripts k .past) (doing (scripts k));
+      later = map callIn (leads (past (scripts k) ++ doing (scripts k) ∷ []) .steps);
+      begun-later = not-first (past (scripts k)) (doing (scripts k));
       bad = bad k;
-      bad-comes = comes (scripts k .past ++ doing (scripts k) ∷ []) (scripts k .later) (scripts k .refused) k (refused-method k);
+      bad-comes = comes (past (scripts k) ++ doing (scripts k) ∷ []) (scripts k .later) (scripts k .refused) k (refused-method k);
       refused = refused k;
       counted = λ x y m u. u .other (counted x y (m (u .method)) (u .size) (u .zeros));
     })

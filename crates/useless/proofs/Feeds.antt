@@ -1,7 +1,7 @@
 -- `feed`: an S line sets a station up, and an empty line behind it is unreadable; the count printed is that of the lines behind it.
-use Prim.Native.Nat.{ℕ, zero, suc, _+_, _-_, _*_, _/_, _%_, _<_, _≤_, min}
+use Prim.Native.Nat.{ℕ, zero, suc, _+_, _/_, _%_, _≤_, min}
 use mathlib.Core.Path.{_≡_, refl, sym, ap, _∙_}
-use mathlib.Core.Bool.{Bool, true, false, _&&_, cond, true≢false}
+use mathlib.Core.Bool.{Bool, true, false, cond, true≢false}
 use mathlib.Core.List.{List, [], _∷_, _++_, map, append-assoc, append-nil}
 use mathlib.Core.Option.{Option, none, some}
 use native.Mathlib.Omega.{arith}
@@ -29,10 +29,11 @@ use Rattle.printing.specs.Replies.{lineFeed, dueText, headText, payloadIn, acti
 use Rattle.script.specs.declared.Desk.{Desk}
 use Rattle.script.specs.declared.Fed.{Fed}
 use Rattle.script.specs.declared.Session.{Session}
-use Rattle.script.specs.Answering.{desk, unchanged, afterSetUp, afterEvent, eventAt, handledFor, blocksFor, clockOf, dueOf, shownFor, noBlocks, deskAfter, replyTo}
-use Rattle.script.specs.Session.{noText, addByte, saysText, beforeFeed, begun, answered, textWith, fedWith, roomWith}
-use Rattle.useless.specs.Feeds.{Feeding, Answered, FedBy, by-feed, Talked, begins, goes-on, Ends, Comes, printedBy, numberFrom, behindSpace, lineFeeds, Miscounted, signs, NoUselessFeed}
-use Rattle.useless.proofs.ShutOut.{shut-out}
+use Rattle.script.specs.declared.Text.{Text}
+use Rattle.script.specs.Answering.{desk, unchanged, afterSetUp, afterEvent, eventAt, handledFor, blocksFor, clockOf, dueOf, noBlocks, deskAfter, replyTo}
+use Rattle.script.specs.Session.{noText, addByte, addBytes, saysText, beforeFeed, begun, answered, textWith, fedWith, roomWith}
+use Rattle.useless.specs.Feeds.{Feeding, Answered, FedBy, by-feed, Talked, begins, goes-on, Ends, Comes, printedBy, numberFrom, behindSpace, lineFeeds, signs, NoUselessFeed}
+use Rattle.useless.proofs.ShutOut.{one, shut-out}
 use Rattle.useless.proofs.SetUps.{answers-0}
 use Rattle.useless.proofs.Hosted.{lives, lent}
 
@@ -78,28 +79,24 @@ module _ (x : Feeding) (e : Ends x) where
 abbrev letterS : List ℕ
 letterS = 83 ∷ 32 ∷ 48 ∷ 48 ∷ 50 ∷ 48 ∷ 48 ∷ 49 ∷ 50 ∷ 51 ∷ 52 ∷ 32 ∷ 50 ∷ 54 ∷ 10 ∷ []
 
-abbrev setting : Feeding
-setting = record { session = begun; bytes = letterS; room = replicate 4096 0 }
-
-abbrev saidS : Option Said
-saidS = some (setsUp 2001234 (26 ∷ []))
-
-says-s : saidIn setting ≡ saidS
-unfolding begun addByte saysText readsAs scan kindOf isDigit
-says-s = refl
+abbrev feeding : Session → List ℕ → Feeding
+feeding s bytes = record { session = s; bytes = bytes; room = replicate 4096 0 }
 
 big : 4096 ≤ length (replicate {A = ℕ} 4096 0)
 big = rw (length-replicate {A = ℕ} 4096 0) (omega arith)
 
-setting-ends : Ends setting
-setting-ends = record { ends = omega arith; roomy = big }
+s-ends : (s : Session) → Ends (feeding s letterS)
+s-ends s = record { ends = omega arith; roomy = big }
 
-none-stands : begun .desk .stands ≡ false
-unfolding begun
-none-stands = refl
+empty-ends : (s : Session) → Ends (feeding s (10 ∷ []))
+empty-ends s = record { ends = omega arith; roomy = big }
 
-handled-s : (d : Desk) → d .stands ≡ false → handledFor d noBlocks saidS ≡ record { answer = 0; count = 0; desk = desk true (setUpBy 2001234 (26 ∷ []) .station) }
-handled-s d f = rw (f, answers-0) refl
+abbrev saidS : Option Said
+saidS = some (setsUp 2001234 (26 ∷ []))
+
+read-s : saysText (addBytes noText (take (beforeFeed letterS) letterS)) ≡ saidS
+unfolding addByte saysText readsAs scan kindOf isDigit
+read-s = refl
 
 stands-s : (d : Desk) → d .stands ≡ false → handledFor d noBlocks saidS .desk .stands ≡ true
 stands-s d f = rw (f, answers-0) refl
@@ -112,23 +109,22 @@ told-40 : (t n : ℕ) (d : NextDue) (blocks : List ℕ) → numberFrom 0 (replyT
 unfolding replyText headText decimal shortened tenDigits isDigit
 told-40 t n d blocks = refl
 
-s-answered : numberFrom 0 (replyTo (begun .desk) (saidIn setting)) ≡ 0
-unfolding replyTo
-s-answered = rw (says-s, handled-s (begun .desk) none-stands) (told-0 _ _ _ _)
+module _ (s : Session) (fresh : s .text ≡ noText) where
+  says-s : saidIn (feeding s letterS) ≡ saidS
+  says-s = ap (λ (t : Text). saysText (addBytes t (take (beforeFeed letterS) letterS))) fresh ∙ read-s
 
-s-stands : deskAfter (begun .desk) (saidIn setting) .stands ≡ true
-unfolding deskAfter
-s-stands = ap (λ (o : Option Said). deskAfter (begun .desk) o .stands) says-s ∙ stands-s (begun .desk) none-stands
+  empty-answered : numberFrom 0 (replyTo (s .desk) (saidIn (feeding s (10 ∷ [])))) ≡ 40
+  unfolding replyTo saysText readsAs
+  empty-answered = rw fresh (told-40 _ _ _ _)
 
-abbrev empty : Session → Feeding
-empty s = record { session = s; bytes = 10 ∷ []; room = replicate 4096 0 }
+  module _ (none-stands : s .desk .stands ≡ false) where
+    s-answered : numberFrom 0 (replyTo (s .desk) (saidIn (feeding s letterS))) ≡ 0
+    unfolding replyTo
+    s-answered = rw (says-s, none-stands, answers-0) (told-0 _ _ _ _)
 
-empty-ends : (s : Session) → Ends (empty s)
-empty-ends s = record { ends = omega arith; roomy = big }
-
-empty-answered : (s : Session) → s .text ≡ noText → numberFrom 0 (replyTo (s .desk) (saidIn (empty s))) ≡ 40
-unfolding replyTo saysText readsAs
-empty-answered s e = rw e (told-40 _ _ _ _)
+    s-stands : deskAfter (s .desk) (saidIn (feeding s letterS)) .stands ≡ true
+    unfolding deskAfter
+    s-stands = ap (λ (o : Option Said). deskAfter (s .desk) o .stands) says-s ∙ stands-s (s .desk) none-stands
 
 -- ── the count ────────────────────────────────────────────────────────────────
 
@@ -284,31 +280,45 @@ counted x y m e =
 
 -- ── the theorem ──────────────────────────────────────────────────────────────
 
-begun-talked : Talked [] begun
-begun-talked = begins tt tt begun tt refl
+-- a session that was fed an empty line
+abbrev first : Feeding
+first = feeding begun (10 ∷ [])
 
--- what the S line is answered
-abbrev setBack : Answered
-setBack = record { fed = fedWith begun letterS (replicate 4096 0); left = roomWith begun letterS (replicate 4096 0) }
+abbrev back : Answered
+back = record { fed = fedWith begun (10 ∷ []) (first .room); left = roomWith begun (10 ∷ []) (first .room) }
 
-set-fed : FedBy setting setBack
-set-fed = by-feed lives (begun, (lent letterS, (lent (replicate 4096 0), tt))) _ (begun, (lent letterS, (lent _, tt))) (refl, refl)
+abbrev next : Session
+next = back .fed .session
+
+talked : Talked (first ∷ []) next
+talked =
+    let fed = by-feed lives (begun, (lent (10 ∷ []), (lent (first .room), tt))) _ (begun, (lent (10 ∷ []), (lent _, tt))) (refl, refl) in
+    goes-on [] first back (begins tt tt begun tt refl) fed
+
+next-is : next ≡ answering first .session
+next-is = ap (λ (f : Fed). f .session) (fed-whole first (empty-ends begun))
+
+no-text : next .text ≡ noText
+no-text = ap (λ (s : Session). s .text) next-is
+
+none-stands : next .desk .stands ≡ false
+unfolding begun deskAfter saysText readsAs
+none-stands = ap (λ (s : Session). s .desk .stands) next-is
 
 pub no-useless-feed : NoUselessFeed
 unfolding NoUselessFeed
 no-useless-feed =
-    let s : Session = setBack .fed .session in
-    let text : s .text ≡ noText = ap (λ (f : Fed). f .session .text) (fed-whole setting setting-ends) in
     shut-out Comes signs FedBy (record {
-      past = [];
-      doable = setting;
-      doable-comes = record { talked = begun-talked; line = setting-ends };
-      done = λ y m. ap (numberFrom 0) (printed-as setting setting-ends y m) ∙ s-answered;
-      busy = λ y m i. true≢false (sym s-stands ∙ ap (λ (d : Desk). d .stands) (sym (desk-as setting setting-ends y m) ∙ i) ∙ none-stands);
-      later = setting ∷ [];
-      not-first = λ e. let q : _≡_ {A = ℕ} 1 0 = ap length e in omega (arith, q);
-      bad = empty s;
-      bad-comes = record { talked = goes-on [] setting setBack begun-talked set-fed; line = empty-ends s };
-      refused = λ y m. omega (arith, ap (numberFrom 0) (printed-as (empty s) (empty-ends s) y m) ∙ (empty-answered s text));
+      past = first ∷ [];
+      begun = one;
+      doable = feeding next letterS;
+      doable-comes = record { talked = talked; line = s-ends next };
+      done = λ y m. ap (numberFrom 0) (printed-as (feeding next letterS) (s-ends next) y m) ∙ s-answered next no-text none-stands;
+      busy = λ y m i. true≢false (sym (s-stands next no-text none-stands) ∙ ap (λ (d : Desk). d .stands) (sym (desk-as (feeding next letterS) (s-ends next) y m) ∙ i) ∙ none-stands);
+      later = first ∷ [];
+      begun-later = one;
+      bad = feeding next (10 ∷ []);
+      bad-comes = record { talked = talked; line = empty-ends next };
+      refused = λ y m. omega (arith, ap (numberFrom 0) (printed-as (feeding next (10 ∷ [])) (empty-ends next) y m) ∙ empty-answered next no-text);
       counted = λ x y m u. u .other (counted x y m (u .line));
     })

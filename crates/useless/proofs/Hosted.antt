@@ -1,8 +1,8 @@
 -- Every list of events is a host's run, and the bytes left last are those of the rules' station.
 use Prim.Native.Nat.{ℕ}
-use mathlib.Core.Path.{_≡_, refl, sym, ap, _∙_}
+use mathlib.Core.Path.{_≡_, refl, ap}
 use mathlib.Core.Bool.{true}
-use mathlib.Core.List.{List, [], _∷_, map}
+use mathlib.Core.List.{List, [], _∷_}
 use mathlib.Core.Option.{Option, none, some}
 use lib.ListN.{length, replicate, length-replicate}
 use contract.Lifetimes.{Lfts}
@@ -14,8 +14,8 @@ use Rattle.rules.specs.Calls.{act}
 use Rattle.rules.specs.Verdict.{verdict, judged, step, final}
 use Rattle.rules.proofs.Kept.{stays-sound}
 use Rattle.soundness.proofs.FitLaws.{sound-fits}
-use Rattle.station.specs.Model.{configOf, modelOf, imageOf}
-use Rattle.station.specs.Step.{refusal, steppedFor, steppedBy}
+use Rattle.station.specs.Model.{imageOf}
+use Rattle.station.specs.Step.{steppedFor, steppedBy}
 use Rattle.station.proofs.ImageLaws.{model-back, config-back}
 use Rattle.exchange.specs.Events.{returned, stationAfter, roomLeft}
 use Rattle.exchange.specs.Statement.{leftBy, handedBy}

@@ -1,14 +1,13 @@
 -- The reader and the writer: the request P1 is read and written, an empty list and an empty room are refused.
-use Prim.Native.Nat.{ℕ, zero, suc, _+_, _*_, _/_, _%_, _<_, _≤_}
+use Prim.Native.Nat.{ℕ, zero, suc, _+_, _/_, _%_, _≤_}
 use mathlib.Core.Path.{_≡_, refl, sym, ap, _∙_}
-use mathlib.Core.Bool.{Bool, true, false, cond, _&&_}
+use mathlib.Core.Bool.{true}
 use mathlib.Core.List.{List, [], _∷_, _++_, append-nil}
 use native.Mathlib.Omega.{arith}
 use lib.Dec.{leb}
 use lib.ListN.{length, getD, drop, replicate, length-replicate}
 use borrow.Author.Tests.{le-leb}
-use Rattle.sequence.specs.declared.Answer.{Answer}
-use Rattle.sequence.specs.declared.Answer.the-variants.{Done, BadLength, BadSymbol, BadCheck, BadFormat, BadIdentities, BadCategory, BadTelecommands, BadField, BadNumber, BadEnd, ShortRoom}
+use Rattle.sequence.specs.declared.Answer.the-variants.{Done, BadLength, ShortRoom}
 use Rattle.sequence.specs.declared.Field.the-variants.{Blank}
 use Rattle.sequence.specs.declared.Meaning.{Meaning}
 use Rattle.sequence.specs.declared.Reading.{Reading}
@@ -34,7 +33,9 @@ use Rattle.lent.proofs.MeaningBack.{meaning-is-found-again}
 use Rattle.exchange.specs.Sequences.{readAnswer, meaningAfter, answerAndCount, writeAnswer, roomAfterWriting}
 use Rattle.useless.specs.Versions.{Anything}
 use Rattle.useless.specs.Sequences.{ReadBy, by-read, readerSigns, NoUselessReader, ToWrite, Wrote, WrittenBy, by-write, symbolsIn, writerSigns, NoUselessWriter, Lent, Left, ReadInC, by-coast-read-sequence, readSigns, NoUselessReadInC, WrittenInC, by-coast-write-sequence, writeSigns, NoUselessWriteInC}
-use Rattle.useless.proofs.ShutOut.{shut-out}
+use Rattle.host.proofs.Small.{answer-in-byte}
+use Rattle.useless.proofs.ShutOut.{one, shut-out}
+use Rattle.useless.proofs.Events.{blank-behind}
 
 -- what P1 says
 abbrev asked : Meaning
@@ -64,13 +65,14 @@ pub no-useless-reader : NoUselessReader
 unfolding NoUselessReader
 no-useless-reader =
     shut-out Anything readerSigns ReadBy (record {
-      past = [];
+      past = layout asked ∷ [];
+      begun = one;
       doable = layout asked;
       doable-comes = tt;
       done = λ y m. ap (λ (r : Reading). answerNumber (r .answer)) (read-is _ y m ∙ read-asked);
       busy = λ y m i. not-blank (sym (ap (λ (r : Reading). r .meaning) (read-is _ y m ∙ read-asked)) ∙ i);
       later = layout asked ∷ [];
-      not-first = λ e. let q : _≡_ {A = ℕ} 1 0 = ap length e in omega (arith, q);
+      begun-later = one;
       bad = [];
       bad-comes = tt;
       refused = λ y m. let q = ap (λ (r : Reading). answerNumber (r .answer)) (read-is [] y m) ∙ ap answerNumber none-read in omega (arith, q);
@@ -95,11 +97,6 @@ no-symbols : (size : ℕ) → symbolsIn (replicate size 255) ≡ 0
 no-symbols zero = refl
 no-symbols (suc size) = refl
 
-none-behind : (n size : ℕ) → (m : ℕ) × (drop n (replicate {A = ℕ} size 255) ≡ replicate m 255)
-none-behind zero size = (size, refl)
-none-behind (suc n) zero = (0, refl)
-none-behind (suc n) (suc size) = none-behind n size
-
 symbols-laid : (l : List ℕ) (size : ℕ) → allAtMost 127 l ≡ true → symbolsIn (l ++ replicate size 255) ≡ length l
 symbols-laid [] size e = no-symbols size
 symbols-laid (x ∷ l) size e = let p = both-true (leb x 127) (allAtMost 127 l) e in rw (p .0) (ap suc (symbols-laid l size (p .1)))
@@ -114,7 +111,7 @@ write-counted m room size e = go (which (isDone (writingAnswer m (length room)))
   where
     go : Either (isDone (writingAnswer m (length room))) → writtenOf m (length room) .length ≡ symbolsIn (roomAfter m room)
     go (yes! d) =
-        let more = none-behind (length (layout m)) size in
+        let more = blank-behind 255 (length (layout m)) size in
         let rest : drop (length (layout m)) room ≡ replicate (more .0) 255 = ap (drop (length (layout m))) e ∙ more .1 in
         rw (d, rest) (sym (symbols-laid (layout m) (more .0) (small m (written m (length room) d .0))))
     go (no! d) = rw d (sym (ap symbolsIn e ∙ no-symbols size))
@@ -135,13 +132,14 @@ unfolding NoUselessWriter writtenOf
 no-useless-writer =
     let ask : List ℕ → ToWrite = λ room. record { meaning = asked; room = room } in
     shut-out Anything writerSigns WrittenBy (record {
-      past = [];
+      past = ask (replicate 28 0) ∷ [];
+      begun = one;
       doable = ask (replicate 28 0);
       doable-comes = tt;
       done = λ y m. ap (λ (w : Written). answerNumber (w .answer)) (written-is _ y m .0) ∙ ap answerNumber (write-done _ long);
       busy = λ y m i. not-zeros (y .left) (ap (λ (l : List ℕ). getD l 0 0) (written-is _ y m .1) ∙ first-written (replicate 28 0) long) i;
       later = ask (replicate 28 0) ∷ [];
-      not-first = λ e. let q : _≡_ {A = ℕ} 1 0 = ap length e in omega (arith, q);
+      begun-later = one;
       bad = ask [];
       bad-comes = tt;
       refused = λ y m. let q = ap (λ (w : Written). answerNumber (w .answer)) (written-is (ask []) y m .0) ∙ ap answerNumber (short asked) in omega (arith, q);
@@ -178,13 +176,14 @@ unfolding NoUselessReadInC
 no-useless-read-in-c =
     let lend : List ℕ → Lent = λ room. record { given = layout asked; room = room } in
     shut-out Anything readSigns ReadInC (record {
-      past = [];
+      past = lend (replicate 32 0) ∷ [];
+      begun = one;
       doable = lend (replicate 32 0);
       doable-comes = tt;
       done = λ y m. c-read-is _ y m .0 ∙ c-read-done _ enough;
       busy = λ y m i. let q : _≡_ {A = ℕ} 0 82 = ap (λ (l : List ℕ). getD l 0 0) (sym i ∙ c-read-is _ y m .1) ∙ c-first-read in omega (arith, q);
       later = lend (replicate 32 0) ∷ [];
-      not-first = λ e. let q : _≡_ {A = ℕ} 1 0 = ap length e in omega (arith, q);
+      begun-later = one;
       bad = lend [];
       bad-comes = tt;
       refused = λ y m. let q = c-read-is (lend []) y m .0 ∙ c-read-short (layout asked) in omega (arith, q);
@@ -210,23 +209,9 @@ c-first-written : (room : List ℕ) → 28 ≤ length room → getD (roomAfterWr
 unfolding roomAfterWriting
 c-first-written room h = rw (le-leb 28 _ h, le-leb 32 _ whole, asked-found) (first-written room h)
 
-in-byte : (a : Answer) → answerNumber a < 256
-in-byte Done = omega arith
-in-byte BadLength = omega arith
-in-byte BadSymbol = omega arith
-in-byte BadCheck = omega arith
-in-byte BadFormat = omega arith
-in-byte BadIdentities = omega arith
-in-byte BadCategory = omega arith
-in-byte BadTelecommands = omega arith
-in-byte BadField = omega arith
-in-byte BadNumber = omega arith
-in-byte BadEnd = omega arith
-in-byte ShortRoom = omega arith
-
 count-of : (w : Written) → answerAndCount w / 256 ≡ w .length
 unfolding answerAndCount
-count-of w = omega (arith, in-byte (w .answer))
+count-of w = omega (arith, answer-in-byte (w .answer))
 
 c-write-counted : (b room : List ℕ) (size : ℕ) → room ≡ replicate size 255 → writeAnswer b (length room) / 256 ≡ symbolsIn (roomAfterWriting b room)
 unfolding writeAnswer roomAfterWriting
@@ -246,13 +231,14 @@ unfolding NoUselessWriteInC
 no-useless-write-in-c =
     let lend : List ℕ → Lent = λ room. record { given = meaningBytes asked; room = room } in
     shut-out Anything writeSigns WrittenInC (record {
-      past = [];
+      past = lend (replicate 28 0) ∷ [];
+      begun = one;
       doable = lend (replicate 28 0);
       doable-comes = tt;
       done = λ y m. ap (λ n. n % 256) (c-written-is _ y m .0) ∙ c-write-done _ long;
       busy = λ y m i. not-zeros (y .left) (ap (λ (l : List ℕ). getD l 0 0) (c-written-is _ y m .1) ∙ c-first-written (replicate 28 0) long) i;
       later = lend (replicate 28 0) ∷ [];
-      not-first = λ e. let q : _≡_ {A = ℕ} 1 0 = ap length e in omega (arith, q);
+      begun-later = one;
       bad = lend [];
       bad-comes = tt;
       refused = λ y m. let q = ap (λ n. n % 256) (c-written-is (lend []) y m .0 ∙ c-write-short (meaningBytes asked)) in omega (arith, q);

@@ -20,7 +20,7 @@ use Rattle.exchange.specs.Events.{setUpReturned, stationSetUp}
 use Rattle.exchange.proofs.Theorems as Exchange
 use Rattle.useless.specs.Versions.{Anything}
 use Rattle.useless.specs.SetUps.{Wanted, SetUpBy, by-set-up, setUpSigns, NoUselessSetUp, Lent, Left, SetUpInC, by-coast-set-up, setUpSignsInC, NoUselessSetUpInC}
-use Rattle.useless.proofs.ShutOut.{shut-out}
+use Rattle.useless.proofs.ShutOut.{one, shut-out}
 use Rattle.useless.proofs.Events.{set-up}
 
 abbrev wanted : ℕ → Wanted
@@ -58,7 +58,8 @@ pub no-useless-set-up : NoUselessSetUp
 unfolding NoUselessSetUp
 no-useless-set-up =
     shut-out Anything setUpSigns SetUpBy (record {
-      past = [];
+      past = wanted 2001234 ∷ [];
+      begun = one;
       doable = wanted 2001234;
       doable-comes = tt;
       done = λ y m. ap (λ (u : SetUp). u .answer) (set-up-is _ y m) ∙ answers-0;
@@ -66,7 +67,7 @@ no-useless-set-up =
           let q : _≡_ {A = ℕ} 1 0 = sym has-a-slot ∙ ap (λ (s : Station). s .count) (sym (ap (λ (u : SetUp). u .station) (set-up-is (wanted 2001234) y m)) ∙ i) ∙ blank-has-none in
           omega (arith, q);
       later = wanted 2001234 ∷ [];
-      not-first = λ e. let q : _≡_ {A = ℕ} 1 0 = ap length e in omega (arith, q);
+      begun-later = one;
       bad = unfit;
       bad-comes = tt;
       refused = λ y m. omega (arith, ap (λ (u : SetUp). u .answer) (set-up-is unfit y m) ∙ answers-36);
@@ -119,13 +120,14 @@ unfolding NoUselessSetUpInC
 no-useless-set-up-in-c =
     let lend : Wanted → Lent = λ w. record { wanted = w; station = another } in
     shut-out Anything setUpSignsInC SetUpInC (record {
-      past = [];
+      past = lend (wanted 2001234) ∷ [];
+      begun = one;
       doable = lend (wanted 2001234);
       doable-comes = tt;
       done = λ y m. c-set-up-is _ y m .0 ∙ c-answers-0;
       busy = λ y m i. changed (y .kept) (c-set-up-is _ y m .1) i;
       later = lend (wanted 2001234) ∷ [];
-      not-first = λ e. let q : _≡_ {A = ℕ} 1 0 = ap length e in omega (arith, q);
+      begun-later = one;
       bad = lend unfit;
       bad-comes = tt;
       refused = λ y m. omega (arith, c-set-up-is (lend unfit) y m .0 ∙ c-answers-36);

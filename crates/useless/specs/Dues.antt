@@ -10,7 +10,7 @@ use Rattle.station.specs.declared.Station.{Station}
 use Rattle.station.proofs.Station.next_due.Reads as next-due
 use Rattle.exchange.proofs.setting.coast_next_due.Reads as coast-next-due
 use Rattle.rack.specs.Steps.{Step, Trace, lastOf}
-use Rattle.useless.specs.Versions.{Always, AfterTheFirst, Signs, NoneUseless, Anything}
+use Rattle.useless.specs.Versions.{Always, AfterTheFirst, Signs, NoUselessVersion, Anything}
 
 pub data DueBy : Station → NextDue → Type 0 where
   by-next-due : (κs : Lfts 0) (a : _) (r : _) (s : _) → next-due.Post κs a r s → DueBy (a .0) r
@@ -35,4 +35,4 @@ abbrev pub dueSigns : Signs (List ℕ) ℕ
 dueSigns = record { answer = λ y. y % 256; idle = λ b y. ⊥; miscounted = λ b y. ⊥ }
 
 unfoldable pub NoUselessNextDueInC : Type 0
-NoUselessNextDueInC = NoneUseless Anything dueSigns DueInC
+NoUselessNextDueInC = NoUselessVersion Anything dueSigns DueInC

@@ -7,7 +7,7 @@ use Rattle.rules.specs.Words.{Config, What, Event}
 use Rattle.lent.specs.Stations.{stationFrom}
 use Rattle.host.specs.Calls as Host
 use Rattle.host.specs.Calls.{callOf, Entered, HostRun, lastOf}
-use Rattle.useless.specs.Versions.{Signs, NoneUseless}
+use Rattle.useless.specs.Versions.{Signs, NoUselessVersion}
 use Rattle.useless.specs.Events.{Method, methodOf, laidIn}
 
 -- what a host hands in, and what it gets
@@ -60,4 +60,4 @@ signs k = record {
 }
 
 unfoldable pub NoUselessEntry : Type 0
-NoUselessEntry = (k : Method) → NoneUseless (Comes k) (signs k) (Meets k)
+NoUselessEntry = (k : Method) → NoUselessVersion (Comes k) (signs k) (Meets k)

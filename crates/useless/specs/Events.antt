@@ -10,7 +10,7 @@ use Rattle.station.specs.declared.Station.{Station}
 use Rattle.station.specs.declared.Stepped.{Stepped}
 use Rattle.rack.specs.Rooms.{kindIn}
 use Rattle.rack.specs.Steps.{Step, stepOf, Allowed, Trace, lastOf}
-use Rattle.useless.specs.Versions.{Signs, NoneUseless}
+use Rattle.useless.specs.Versions.{Signs, NoUselessVersion}
 
 -- ── the nine ─────────────────────────────────────────────────────────────────
 
@@ -88,4 +88,4 @@ signs k = record {
 }
 
 unfoldable pub NoUselessEvent : Type 0
-NoUselessEvent = (k : Method) → NoneUseless (Comes k) (signs k) (Meets k)
+NoUselessEvent = (k : Method) → NoUselessVersion (Comes k) (signs k) (Meets k)

@@ -12,7 +12,7 @@ use Rattle.script.specs.declared.Session.{Session}
 use Rattle.script.specs.Session.{beforeFeed}
 use Rattle.script.proofs.Session.begin.Reads as begin
 use Rattle.script.proofs.Session.feed.Reads as feed
-use Rattle.useless.specs.Versions.{Signs, NoneUseless}
+use Rattle.useless.specs.Versions.{Signs, NoUselessVersion}
 
 pub record Feeding : Type 0 where
   pub session : Session
@@ -69,4 +69,4 @@ abbrev pub signs : Signs Feeding Answered
 signs = record { answer = λ y. numberFrom 0 (printedBy y); idle = λ x y. y .fed .session .desk ≡ x .session .desk; miscounted = Miscounted }
 
 unfoldable pub NoUselessFeed : Type 0
-NoUselessFeed = NoneUseless Comes signs FedBy
+NoUselessFeed = NoUselessVersion Comes signs FedBy

@@ -15,7 +15,7 @@ use Rattle.reading.proofs.read.Reads as read
 use Rattle.writing.proofs.write.Reads as write
 use Rattle.exchange.proofs.sequences.coast_read_sequence.Reads as coast-read-sequence
 use Rattle.exchange.proofs.sequences.coast_write_sequence.Reads as coast-write-sequence
-use Rattle.useless.specs.Versions.{Signs, NoneUseless, Anything}
+use Rattle.useless.specs.Versions.{Signs, NoUselessVersion, Anything}
 
 -- ── reading ──────────────────────────────────────────────────────────────────
 
@@ -27,7 +27,7 @@ abbrev pub readerSigns : Signs (List ℕ) Reading
 readerSigns = record { answer = λ y. answerNumber (y .answer); idle = λ s y. y .meaning ≡ blankMeaning; miscounted = λ s y. ⊥ }
 
 unfoldable pub NoUselessReader : Type 0
-NoUselessReader = NoneUseless Anything readerSigns ReadBy
+NoUselessReader = NoUselessVersion Anything readerSigns ReadBy
 
 -- ── writing ──────────────────────────────────────────────────────────────────
 
@@ -62,7 +62,7 @@ writerSigns = record {
 }
 
 unfoldable pub NoUselessWriter : Type 0
-NoUselessWriter = NoneUseless Anything writerSigns WrittenBy
+NoUselessWriter = NoUselessVersion Anything writerSigns WrittenBy
 
 -- ── from C: what is lent for reading, and what is lent to be filled ──────────
 
@@ -82,7 +82,7 @@ abbrev pub readSigns : Signs Lent Left
 readSigns = record { answer = λ y. y .number; idle = λ x y. y .left ≡ x .room; miscounted = λ x y. ⊥ }
 
 unfoldable pub NoUselessReadInC : Type 0
-NoUselessReadInC = NoneUseless Anything readSigns ReadInC
+NoUselessReadInC = NoUselessVersion Anything readSigns ReadInC
 
 pub data WrittenInC : Lent → Left → Type 0 where
   by-coast-write-sequence : (κs : Lfts 2) (a : _) (r : _) (s : _) → coast-write-sequence.Post κs a r s
@@ -97,4 +97,4 @@ writeSigns = record {
 }
 
 unfoldable pub NoUselessWriteInC : Type 0
-NoUselessWriteInC = NoneUseless Anything writeSigns WrittenInC
+NoUselessWriteInC = NoUselessVersion Anything writeSigns WrittenInC

@@ -7,7 +7,7 @@ use Rattle.station.specs.declared.SetUp.{SetUp}
 use Rattle.station.specs.Step.{blankStation}
 use Rattle.station.proofs.Station.set_up.Reads as set-up
 use Rattle.exchange.proofs.setting.coast_set_up.Reads as coast-set-up
-use Rattle.useless.specs.Versions.{Signs, NoneUseless, Anything}
+use Rattle.useless.specs.Versions.{Signs, NoUselessVersion, Anything}
 
 pub record Wanted : Type 0 where
   pub identity : ℕ
@@ -21,7 +21,7 @@ abbrev pub setUpSigns : Signs Wanted SetUp
 setUpSigns = record { answer = λ y. y .answer; idle = λ x y. y .station ≡ blankStation; miscounted = λ x y. ⊥ }
 
 unfoldable pub NoUselessSetUp : Type 0
-NoUselessSetUp = NoneUseless Anything setUpSigns SetUpBy
+NoUselessSetUp = NoUselessVersion Anything setUpSigns SetUpBy
 
 -- ── from C ───────────────────────────────────────────────────────────────────
 
@@ -42,4 +42,4 @@ abbrev pub setUpSignsInC : Signs Lent Left
 setUpSignsInC = record { answer = λ y. y .number; idle = λ x y. y .kept ≡ x .station; miscounted = λ x y. ⊥ }
 
 unfoldable pub NoUselessSetUpInC : Type 0
-NoUselessSetUpInC = NoneUseless Anything setUpSignsInC SetUpInC
+NoUselessSetUpInC = NoUselessVersion Anything setUpSignsInC SetUpInC

@@ -18,20 +18,21 @@ pub record Signs (In Out : Type 0) : Type 1 where
   pub idle : In → Out → Type 0
   pub miscounted : In → Out → Type 0
 
-pub data Useless {In Out : Type 0} (comes : List In → In → Type 0) (v : Signs In Out) (f : List In → In → Out) : Type 0 where
+pub data UselessVersion {In Out : Type 0} (comes : List In → In → Type 0) (v : Signs In Out) (f : List In → In → Out) : Type 0 where
   -- "0 done, 1 ignored": every other answer is a refusal
-  refuses-everything : Always comes f (λ x y. 1 < v .answer y) → Useless comes v f
+  refuses-everything : Always comes f (λ x y. 1 < v .answer y) → UselessVersion comes v f
   -- a fixed reply has a fixed answer; the rest of it is not even asked
-  has-one-fixed-reply : (n : ℕ) → Always comes f (λ x y. v .answer y ≡ n) → Useless comes v f
-  does-nothing : Always comes f (λ x y. v .idle x y) → Useless comes v f
-  -- whatever it answers to the first
-  only-says-done-after-the-first : AfterTheFirst comes f (λ x y. v .answer y ≡ 0) → Useless comes v f
+  has-one-fixed-reply : (n : ℕ) → Always comes f (λ x y. v .answer y ≡ n) → UselessVersion comes v f
+  does-nothing : Always comes f (λ x y. v .idle x y) → UselessVersion comes v f
+  -- whatever it answers to the first: of the others it says "done", or it answers as it should and does no more
+  only-says-done-after-the-first : AfterTheFirst comes f (λ x y. v .answer y ≡ 0) → UselessVersion comes v f
+  only-answers-after-the-first : AfterTheFirst comes f (λ x y. v .idle x y) → UselessVersion comes v f
   -- at one call, whether it ever comes or not
-  invents-the-count : (past : List In) (x : In) → v .miscounted x (f past x) → Useless comes v f
+  invents-the-count : (past : List In) (x : In) → v .miscounted x (f past x) → UselessVersion comes v f
 
 -- no version that meets a contract is one of them
-abbrev pub NoneUseless : {In Out : Type 0} → (List In → In → Type 0) → Signs In Out → (In → Out → Type 0) → Type 0
-NoneUseless {In} {Out} comes v meets = (f : List In → In → Out) → ((past : List In) (x : In) → meets x (f past x)) → Useless comes v f → ⊥
+abbrev pub NoUselessVersion : {In Out : Type 0} → (List In → In → Type 0) → Signs In Out → (In → Out → Type 0) → Type 0
+NoUselessVersion {In} {Out} comes v meets = (f : List In → In → Out) → ((past : List In) (x : In) → meets x (f past x)) → UselessVersion comes v f → ⊥
 
 -- where anything may be handed in
 abbrev pub Anything : {In : Type 0} → List In → In → Type 0
