@@ -1,3 +1,4 @@
 pub mod Small
 pub mod Calls
 pub mod Theorems
+pub mod Scripted

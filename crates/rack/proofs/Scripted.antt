@@ -20,10 +20,10 @@ use Rattle.rack.specs.Scripts.{EveryScriptIsTraced}
 life : Lfts 1
 life = ([], tt)
 
-lives : Lfts 2
+pub lives : Lfts 2
 lives = ([], life)
 
-abbrev lent : List ℕ → RefT (List ℕ)
+abbrev pub lent : List ℕ → RefT (List ℕ)
 lent l = record { ptr = (0, 0); name = 0; now = l }
 
 -- ── a step ───────────────────────────────────────────────────────────────────

@@ -34,7 +34,7 @@ use Rattle.useless.specs.Versions.{Anything}
 use Rattle.useless.specs.Dues.{DueBy, by-next-due, HandedOut, NoUselessNextDue, DueInC, by-coast-next-due, dueSigns, NoUselessNextDueInC}
 use Rattle.useless.proofs.ShutOut.{one, shut-out}
 use Rattle.useless.proofs.Events.{house, leads, reached, reached-is, good}
-use Rattle.useless.proofs.Begun.{first, first-is, found}
+use Rattle.useless.proofs.Hosted.{bytesAfter, stands}
 
 -- ── the method ───────────────────────────────────────────────────────────────
 
@@ -85,15 +85,12 @@ no-useless-next-due f m = (
 c-due-is : (b : List ℕ) (y : ℕ) → DueInC b y → y ≡ dueReturned (stationFrom b)
 c-due-is _ _ (by-coast-next-due κs a r s p) = p
 
-fresh-sound : sound house (fresh house) ≡ true
-unfolding final
-fresh-sound = good []
-
-fresh-due : dueReturned (stationFrom first) ≡ 0
-unfolding dueReturned fresh table nextDue
+fresh-due : dueReturned (stationFrom (bytesAfter [])) ≡ 0
+unfolding dueReturned
 fresh-due =
-    let fits = sound-fits house (fresh house) fresh-sound in
-    rw (first-is, found .1, records-keep house (fresh house) fits, config-back house (fresh house) fits, model-back house (fresh house) fits, fresh-sound) refl
+    let m = stationAfter house [] in
+    let fits = sound-fits house m (good []) in
+    rw (stands [], records-keep house m fits, config-back house m fits, model-back house m fits, good [], nothing-due) refl
 
 no-bytes : (y : ℕ) → DueInC [] y → y ≡ 29
 no-bytes y m = c-due-is [] y m ∙ wrong-size-has-no-due [] (λ e. omega (arith, e))
@@ -102,13 +99,13 @@ pub no-useless-next-due-in-c : NoUselessNextDueInC
 unfolding NoUselessNextDueInC
 no-useless-next-due-in-c =
     shut-out Anything dueSigns DueInC (record {
-      past = first ∷ [];
+      past = bytesAfter [] ∷ [];
       begun = one;
-      doable = first;
+      doable = bytesAfter [];
       doable-comes = tt;
-      done = λ y m. ap (λ n. n % 256) (c-due-is first y m ∙ fresh-due);
+      done = λ y m. ap (λ n. n % 256) (c-due-is _ y m ∙ fresh-due);
       busy = λ y m i. i;
-      later = first ∷ [];
+      later = bytesAfter [] ∷ [];
       begun-later = one;
       bad = [];
       bad-comes = tt;

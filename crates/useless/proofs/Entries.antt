@@ -29,9 +29,8 @@ use Rattle.useless.specs.Events.{Method, methodOf, laidIn}
 use Rattle.useless.specs.Entries.{Call, Back, eventOf, callBy, callIn, Meets, Comes, signs, NoUselessEntry}
 use Rattle.useless.proofs.ShutOut.{shut-out}
 use Rattle.useless.proofs.Events as Shown
-use Rattle.useless.proofs.Events.{house, past, scripts, doing, does-method, refused-method, reached, reached-is, good}
-use Rattle.useless.proofs.Hosted.{callsFor, hands-on, last-left, handed-on}
-use Rattle.useless.proofs.Begun.{first, begun, first-is, found}
+use Rattle.useless.proofs.Events.{house, past, scripts, doing, does-method, refused-method, reached, reached-is, good, one-more}
+use Rattle.useless.proofs.Hosted.{hosting, bytesAfter, stands}
 
 -- ── any call ─────────────────────────────────────────────────────────────────
 
@@ -66,37 +65,22 @@ module _ (x : Call) (y : Back) (m : Entered (callBy x y)) (s : Station) (stands 
 
 -- ── a call on the bytes that a script leads to ───────────────────────────────
 
-found-on : (s : Station) → FoundAgain s → (es : List Event) → FoundAgain (handedBy s es)
-found-on s f [] = f
-found-on s f (e ∷ es) = found-on (steppedBy s e .station) (left-is s f e (refusal s e) refl .1) es
-
-left-on : (s : Station) → FoundAgain s → (es : List Event) → leftBy (stationBytes s) es ≡ stationBytes (handedBy s es)
-left-on s f [] = refl
-left-on s f (e ∷ es) = let l = left-is s f e (refusal s e) refl in rw (l .0) (left-on (steppedBy s e .station) (l .1) es)
-
-abbrev bytesAfter : List Event → List ℕ
-bytesAfter es = lastOf first (callsFor first es)
-
-stands : (es : List Event) → stationFrom (bytesAfter es) ≡ reached es
-stands es =
-    let s = imageOf house (fresh house) in
-    let bytes : bytesAfter es ≡ stationBytes (handedBy s es) = last-left first es ∙ ap (λ (b : List ℕ). leftBy b es) first-is ∙ left-on s found es in
-    ap stationFrom bytes ∙ found-on s found es .1 ∙ handed-on house (fresh house) (unfold final in good []) es ∙ sym (reached-is es)
+stands-for : (es : List Event) → stationFrom (bytesAfter es) ≡ reached es
+stands-for es = stands es ∙ sym (reached-is es)
 
 calling : List Event → ℕ → What → Call
 calling es t w = record { time = t; what = w; station = bytesAfter es; lent = replicate 320 0 }
 
-comes : (es : List Event) (t : ℕ) (w : What) (k : Method) → methodOf w ≡ k → Comes k (map callIn (callsFor first es)) (calling es t w)
+comes : (es : List Event) (t : ℕ) (w : What) (k : Method) → methodOf w ≡ k → Comes k (map callIn (hosting es .calls)) (calling es t w)
 unfolding calling
-comes es t w k e =
-    record { method = e; config = house; calls = callsFor first es; run = record { first = first; begun = begun; calls = hands-on first es }; before = refl; handed = refl }
+comes es t w k e = record { method = e; config = house; calls = hosting es .calls; run = hosting es .run; before = refl; handed = refl }
 
-not-first : (es : List Event) (e : Event) → map callIn (callsFor first (es ++ e ∷ [])) ≡ [] → ⊥
-not-first es e p = omega (arith, ap length p, many first es)
+not-first : (es : List Event) (e : Event) → map callIn (hosting (es ++ e ∷ []) .calls) ≡ [] → ⊥
+not-first es e p = omega (arith, ap length p, many (hosting (es ++ e ∷ []) .calls), ap length (hosting (es ++ e ∷ []) .script), one-more es e)
   where
-    many : (b : List ℕ) (es : List Event) → length (map callIn (callsFor b (es ++ e ∷ []))) ≡ suc (length es)
-    many b [] = refl
-    many b (d ∷ es) = ap suc (many _ es)
+    many : (l : List Host.Call) → length (map callIn l) ≡ length (map (λ x. x .event) l)
+    many [] = refl
+    many (x ∷ l) = ap suc (many l)
 
 -- ── what an entry's contract forces ──────────────────────────────────────────
 
@@ -115,7 +99,7 @@ module _ (k : Method) where
     unfolding calling
     answered =
         let s = reached (past (scripts k)) in
-        number-is doable y (m (does-method k)) s (stands (past (scripts k))) .0
+        number-is doable y (m (does-method k)) s (stands-for (past (scripts k))) .0
         ∙ Shown.answered k (stepOn s doable) (λ e. step-allowed s (replicate 320 0) (scripts k .time) (scripts k .does))
 
     not-idle : stationFrom (y .kept) .slots ≡ stationFrom (doable .station) .slots → ⊥
@@ -124,15 +108,15 @@ module _ (k : Method) where
         let s = reached (past (scripts k)) in
         let model = stationAfter house (past (scripts k)) in
         let accepted : refusal s (eventOf doable) ≡ none = rw (reached-is (past (scripts k))) (refusal-is house model (sound-fits house model (good (past (scripts k)))) (eventOf doable) ∙ Shown.accepted k) in
-        let next : stationFrom (y .kept) .slots ≡ steppedBy s (eventOf doable) .station .slots = ap (λ (z : Station). z .slots) (kept-as doable y (m (does-method k)) s (stands (past (scripts k))) accepted) in
-        let came : stationFrom (doable .station) .slots ≡ s .slots = ap (λ (z : Station). z .slots) (stands (past (scripts k))) in
+        let next : stationFrom (y .kept) .slots ≡ steppedBy s (eventOf doable) .station .slots = ap (λ (z : Station). z .slots) (kept-as doable y (m (does-method k)) s (stands-for (past (scripts k))) accepted) in
+        let came : stationFrom (doable .station) .slots ≡ s .slots = ap (λ (z : Station). z .slots) (stands-for (past (scripts k))) in
         Shown.not-idle k (stepOn s doable) (λ e. step-allowed s (replicate 320 0) (scripts k .time) (scripts k .does)) (sym next ∙ same ∙ came)
 
   refused : (y : Back) → Meets k bad y → 1 < y .number % 256
   unfolding calling
   refused y m =
       let s = reached later in
-      let n = number-is bad y (m (refused-method k)) s (stands later) .0 in
+      let n = number-is bad y (m (refused-method k)) s (stands-for later) .0 in
       let r = Shown.refused k (stepOn s bad) (λ e. step-allowed s (replicate 320 0) (scripts k .later) (scripts k .refused)) in
       omega (arith, n, r)
 
@@ -140,13 +124,13 @@ pub no-useless-entry : NoUselessEntry
 unfolding NoUselessEntry
 no-useless-entry k =
     shut-out (Comes k) (signs k) (Meets k) (record {
-      past = map callIn (callsFor first (past (scripts k)));
+      past = map callIn (hosting (past (scripts k)) .calls);
       begun = not-first (scripts k .early) (scripts k .last);
       doable = doable k;
       doable-comes = comes (past (scripts k)) (scripts k .time) (scripts k .does) k (does-method k);
       done = answered k;
       busy = not-idle k;
-      later = map callIn (callsFor first (later k));
+      later = map callIn (hosting (later k) .calls);
       begun-later = not-first (past (scripts k)) (doing (scripts k));
       bad = bad k;
       bad-comes = comes (later k) (scripts k .later) (scripts k .refused) k (refused-method k);

@@ -219,16 +219,16 @@ good es = always-sound house set-up es
 comes : (es : List Event) (t : ℕ) (w : What) (k : Method) → methodOf w ≡ k → Comes k (map callIn (leads es .steps)) (calling es t w)
 comes es t w k e = record { method = e; config = house; steps = leads es .steps; trace = leads es .trace; before = refl; handed = refl }
 
+pub one-more : (es : List Event) (e : Event) → length (es ++ e ∷ []) ≡ suc (length es)
+one-more [] e = refl
+one-more (d ∷ es) e = ap suc (one-more es e)
+
 not-first : (es : List Event) (e : Event) → map callIn (leads (es ++ e ∷ []) .steps) ≡ [] → ⊥
-not-first es e p = omega (arith, many (leads (es ++ e ∷ []) .steps), ap length p, ap length (leads (es ++ e ∷ []) .script), one-more es)
+not-first es e p = omega (arith, many (leads (es ++ e ∷ []) .steps), ap length p, ap length (leads (es ++ e ∷ []) .script), one-more es e)
   where
     many : (l : List Step) → length (map callIn l) ≡ length (eventsIn l)
     many [] = refl
     many (x ∷ l) = ap suc (many l)
-
-    one-more : (es : List Event) → length (es ++ e ∷ []) ≡ suc (length es)
-    one-more [] = refl
-    one-more (d ∷ es) = ap suc (one-more es)
 
 -- ── what its contract forces ─────────────────────────────────────────────────
 

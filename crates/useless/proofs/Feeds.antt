@@ -32,10 +32,10 @@ use Rattle.script.specs.declared.Session.{Session}
 use Rattle.script.specs.declared.Text.{Text}
 use Rattle.script.specs.Answering.{desk, unchanged, afterSetUp, afterEvent, eventAt, handledFor, blocksFor, clockOf, dueOf, noBlocks, deskAfter, replyTo}
 use Rattle.script.specs.Session.{noText, addByte, addBytes, saysText, beforeFeed, begun, answered, textWith, fedWith, roomWith}
+use Rattle.rack.proofs.Scripted.{lives, lent}
 use Rattle.useless.specs.Feeds.{Feeding, Answered, FedBy, by-feed, Talked, begins, goes-on, Ends, Comes, printedBy, numberFrom, behindSpace, lineFeeds, signs, NoUselessFeed}
 use Rattle.useless.proofs.ShutOut.{one, shut-out}
 use Rattle.useless.proofs.SetUps.{answers-0}
-use Rattle.useless.proofs.Hosted.{lives, lent}
 
 -- ── a line that ends is answered ─────────────────────────────────────────────
 

@@ -1,7 +1,6 @@
 pub mod ShutOut
 pub mod Events
 pub mod Hosted
-pub mod Begun
 pub mod Entries
 pub mod Sequences
 pub mod SetUps

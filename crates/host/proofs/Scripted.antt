@@ -1,0 +1,100 @@
+-- A call for every event on any bytes, and so a host's run for every script.
+use Prim.Native.Nat.{ℕ}
+use mathlib.Core.Path.{_≡_, refl, ap, _∙_}
+use mathlib.Core.List.{List, [], _∷_, map}
+use mathlib.Core.Option.{none}
+use native.Mathlib.Omega.{arith}
+use lib.ListN.{length, replicate, length-replicate}
+use borrow.Author.Tests.{eq-eqb}
+use contract.Lifetimes.{Lfts}
+use denote.Ref.{RefT}
+use Rattle.units.specs.declared.Channel.{Channel}
+use Rattle.rules.specs.Words.{Happened, heard, offHook, onHook, carrierUp, carrierDown, takes, givesBack, What, tick, onChannel70, onSlot, Event}
+use Rattle.rules.specs.Verdict.{setUpVerdict}
+use Rattle.station.specs.Step.{channelNumber, given, setUpBy}
+use Rattle.exchange.specs.Events.{returned, stationAfter, roomLeft, setUpReturned, stationSetUp}
+use Rattle.rack.proofs.Scripted.{lives, lent}
+use Rattle.host.specs.Calls.{Call, callOf, Entered, by-tick, by-heard-on-channel-70, by-heard-on-slot, by-carrier-up, by-carrier-down, by-off-hook, by-on-hook, by-take-slot, by-give-back, SetUpIn, by-set-up, HandsOn}
+use Rattle.host.specs.Scripts.{EveryScriptIsHosted}
+
+-- ── a call ───────────────────────────────────────────────────────────────────
+
+more-lives : Lfts 3
+more-lives = ([], lives)
+
+module _ (b room : List ℕ) (time : ℕ) where
+  abbrev eventOf : What → Event
+  eventOf w = record { time = time; room = length room; what = w }
+
+  abbrev callFor : What → Call
+  callFor w = callOf (eventOf w) b room (returned b (eventOf w)) (stationAfter b (eventOf w)) (roomLeft b room (eventOf w))
+
+  -- the parameters of an event on a slot
+  abbrev onto : ℕ → List ℕ → List ℕ → RefT (List ℕ) × (ℕ × (ℕ × (RefT (List ℕ) × Unit {0})))
+  onto i bytes l = (lent bytes, (time, (i, (lent l, tt))))
+
+  on-slot : (i : ℕ) (h : Happened) → Entered (callFor (onSlot i h))
+  on-slot i offHook = by-off-hook lives (onto i b room) _ (onto i _ _) (refl, (refl, refl))
+  on-slot i onHook = by-on-hook lives (onto i b room) _ (onto i _ _) (refl, (refl, refl))
+  on-slot i carrierUp = by-carrier-up lives (onto i b room) _ (onto i _ _) (refl, (refl, refl))
+  on-slot i carrierDown = by-carrier-down lives (onto i b room) _ (onto i _ _) (refl, (refl, refl))
+  on-slot i takes = by-take-slot lives (onto i b room) _ (onto i _ _) (refl, (refl, refl))
+  on-slot i givesBack = by-give-back lives (onto i b room) _ (onto i _ _) (refl, (refl, refl))
+  on-slot i (heard m) = by-heard-on-slot more-lives (lent b, (time, (i, (lent m, (lent room, tt))))) _ (lent _, (time, (i, (lent m, (lent _, tt))))) (refl, (refl, refl))
+
+  call-entered : (w : What) → Entered (callFor w)
+  call-entered tick = by-tick lives (lent b, (time, (lent room, tt))) _ (lent _, (time, (lent _, tt))) (refl, (refl, refl))
+  call-entered (onChannel70 m) = by-heard-on-channel-70 more-lives (lent b, (time, (lent m, (lent room, tt)))) _ (lent _, (time, (lent m, (lent _, tt)))) (refl, (refl, refl))
+  call-entered (onSlot i h) = on-slot i h
+
+-- ── a script ─────────────────────────────────────────────────────────────────
+
+record Walk (b : List ℕ) (es : List Event) (rooms : List (List ℕ)) : Type 0 where
+  calls : List Call
+  hands : HandsOn b calls
+  script : map (λ x. x .event) calls ≡ es
+  lent-are : map (λ x. x .lent) calls ≡ rooms
+
+walk : (es : List Event) (rooms : List (List ℕ)) → map length rooms ≡ map (λ e. e .room) es → (b : List ℕ) → Walk b es rooms
+walk [] [] h b = record { calls = []; hands = tt; script = refl; lent-are = refl }
+walk [] (room ∷ rooms) h b = let q : _≡_ {A = ℕ} 0 1 = cc in absurd (omega (arith, q))
+walk (e ∷ es) [] h b = let q : _≡_ {A = ℕ} 0 1 = cc in absurd (omega (arith, q))
+walk (e ∷ es) (room ∷ rooms) h b =
+    let size : length room ≡ e .room = cc in
+    let rest : map length rooms ≡ map (λ e. e .room) es = cc in
+    let x = callFor b room (e .time) (e .what) in
+    let named : x .event ≡ e = ap (λ (n : ℕ). record { time = e .time; room = n; what = e .what }) size in
+    let w = walk es rooms rest (x .kept) in
+    record {
+      calls = x ∷ w .calls;
+      hands = (refl, (call-entered b room (e .time) (e .what), w .hands));
+      script = ap (λ (f : Event). f ∷ map (λ x. x .event) (w .calls)) named ∙ ap (λ l. e ∷ l) (w .script);
+      lent-are = ap (λ l. room ∷ l) (w .lent-are);
+    }
+
+-- ── set-up ───────────────────────────────────────────────────────────────────
+
+numbers : (l : List Channel) → map channelNumber (map (λ n. n .0) l) ≡ l
+numbers [] = refl
+numbers (n ∷ l) = ap (λ r. n ∷ r) (numbers l)
+
+begun : (identity : ℕ) (l : List ℕ) → setUpVerdict (given identity l) ≡ none → (b : List ℕ) → length b ≡ 1722
+    → SetUpIn (given identity l) (stationSetUp identity l b)
+unfolding setUpReturned setUpBy
+begun identity l v b w =
+    by-set-up lives (identity, (lent l, (lent b, tt))) 0 (identity, (lent l, (lent _, tt))) (rw (eq-eqb (length b) 1722 w, v), refl) refl
+
+pub every-script-is-hosted : EveryScriptIsHosted
+unfolding EveryScriptIsHosted
+every-script-is-hosted c set es rooms h =
+    let l = map (λ (n : Channel). n .0) (c .channels) in
+    let e : given (c .identity) l ≡ c = ap (λ (r : List Channel). record { identity = c .identity; channels = r }) (numbers (c .channels)) in
+    let bytes = replicate {A = ℕ} 1722 0 in
+    let first = stationSetUp (c .identity) l bytes in
+    let w = walk es rooms h first in
+    record {
+      calls = w .calls;
+      run = record { first = first; begun = rw e at (begun (c .identity) l (rw e set) bytes (length-replicate {A = ℕ} 1722 0)); calls = w .hands };
+      script = w .script;
+      lent = w .lent-are;
+    }
