@@ -6,22 +6,17 @@ use mathlib.Core.Option.{none}
 use native.Mathlib.Omega.{arith}
 use lib.ListN.{length, replicate}
 use Rattle.rules.specs.Words.{What, Event}
-use Rattle.rules.specs.Station.{fresh}
-use Rattle.rules.specs.Verdict.{final}
 use Rattle.rules.specs.Statement.{stationAfter}
 use Rattle.soundness.proofs.FitLaws.{sound-fits}
 use Rattle.station.specs.declared.Station.{Station}
-use Rattle.station.specs.Model.{imageOf}
 use Rattle.station.specs.Step.{refusal, steppedBy, roomAfter}
-use Rattle.lent.specs.Stations.{stationBytes, stationFrom}
-use Rattle.lent.specs.Statement.{FoundAgain}
+use Rattle.lent.specs.Stations.{stationFrom}
 use Rattle.exchange.specs.Events.{returned, roomLeft}
-use Rattle.exchange.specs.Statement.{leftBy, handedBy}
 use Rattle.exchange.proofs.Theorems.{taken-apart, accepted-leaves-its-station, left-is}
 use Rattle.rack.proofs.Laid.{refusal-is}
 use Rattle.rack.proofs.Scripted.{step-allowed}
 use Rattle.host.specs.Calls as Host
-use Rattle.host.specs.Calls.{Entered, lastOf}
+use Rattle.host.specs.Calls.{Entered}
 use Rattle.host.proofs.Small.{stepped-in-byte}
 use Rattle.host.proofs.Calls.{called}
 use Rattle.useless.specs.Events as Rack

@@ -67,17 +67,19 @@ pub record Script : Type 0 where
 abbrev pub past : Script → List Event
 past s = s .early ++ s .last ∷ []
 
+abbrev script : List Event → Event → ℕ → What → ℕ → What → Script
+script es e t w u v = record { early = es; last = e; time = t; does = w; later = u; refused = v }
+
 abbrev pub scripts : Method → Script
-scripts heard-on-channel-70 = record { early = []; last = ticks 10; time = 100; does = onChannel70 p1; later = 110; refused = onChannel70 [] }
-scripts heard-on-slot = record { early = []; last = asks 100; time = 200; does = onSlot 0 (heard p4); later = 210; refused = onSlot 0 (heard []) }
-scripts off-hook = record { early = asks 100 ∷ []; last = works 200; time = 300; does = onSlot 0 offHook; later = 310; refused = onSlot 1 offHook }
-scripts on-hook = record { early = asks 100 ∷ []; last = works 200; time = 300; does = onSlot 0 onHook; later = 310; refused = onSlot 1 onHook }
-scripts carrier-up =
-    record { early = asks 100 ∷ works 200 ∷ []; last = on 300 0 carrierDown; time = 310; does = onSlot 0 carrierUp; later = 320; refused = onSlot 1 carrierUp }
-scripts carrier-down = record { early = asks 100 ∷ []; last = works 200; time = 300; does = onSlot 0 carrierDown; later = 310; refused = onSlot 1 carrierDown }
-scripts take-slot = record { early = []; last = ticks 10; time = 50; does = onSlot 0 takes; later = 60; refused = onSlot 0 takes }
-scripts give-back = record { early = []; last = on 50 0 takes; time = 60; does = onSlot 0 givesBack; later = 70; refused = onSlot 0 givesBack }
-scripts on-tick = record { early = []; last = asks 100; time = 261; does = tick; later = 260; refused = tick }
+scripts heard-on-channel-70 = script [] (ticks 10) 100 (onChannel70 p1) 110 (onChannel70 [])
+scripts heard-on-slot = script [] (asks 100) 200 (onSlot 0 (heard p4)) 210 (onSlot 0 (heard []))
+scripts off-hook = script (asks 100 ∷ []) (works 200) 300 (onSlot 0 offHook) 310 (onSlot 1 offHook)
+scripts on-hook = script (asks 100 ∷ []) (works 200) 300 (onSlot 0 onHook) 310 (onSlot 1 onHook)
+scripts carrier-up = script (asks 100 ∷ works 200 ∷ []) (on 300 0 carrierDown) 310 (onSlot 0 carrierUp) 320 (onSlot 1 carrierUp)
+scripts carrier-down = script (asks 100 ∷ []) (works 200) 300 (onSlot 0 carrierDown) 310 (onSlot 1 carrierDown)
+scripts take-slot = script [] (ticks 10) 50 (onSlot 0 takes) 60 (onSlot 0 takes)
+scripts give-back = script [] (on 50 0 takes) 60 (onSlot 0 givesBack) 70 (onSlot 0 givesBack)
+scripts on-tick = script [] (asks 100) 261 tick 260 tick
 
 pub does-method : (k : Method) → methodOf (scripts k .does) ≡ k
 does-method heard-on-channel-70 = refl

@@ -23,7 +23,8 @@ pub record Tried {In Out : Type 0} (comes : List In → In → Type 0) (v : Sign
 pub one : {A : Type 0} {x : A} → x ∷ [] ≡ [] → ⊥
 one e = let q : _≡_ {A = ℕ} 1 0 = ap length e in omega (arith, q)
 
-pub shut-out : {In Out : Type 0} (comes : List In → In → Type 0) (v : Signs In Out) (meets : In → Out → Type 0) → Tried comes v meets → NoUselessVersion comes v meets
+pub shut-out : {In Out : Type 0} (comes : List In → In → Type 0) (v : Signs In Out) (meets : In → Out → Type 0)
+    → Tried comes v meets → NoUselessVersion comes v meets
 shut-out comes v meets t f m (refuses-everything h) =
     let a = t .done _ (m (t .past) (t .doable)) in
     let b = h (t .past) (t .doable) (t .doable-comes) in

@@ -30,7 +30,8 @@ pub data FedBy : Feeding → Answered → Type 0 where
 -- a session from its beginning on, with what was fed to it
 pub data Talked : List Feeding → Session → Type 0 where
   begins : (κs : Lfts 0) (a : _) (r : _) (s : _) → begin.Post κs a r s → Talked [] r
-  goes-on : (past : List Feeding) (x : Feeding) (y : Answered) → Talked past (x .session) → FedBy x y → Talked (past ++ (x ∷ [])) (y .fed .session)
+  goes-on : (past : List Feeding) (x : Feeding) (y : Answered) → Talked past (x .session) → FedBy x y
+      → Talked (past ++ (x ∷ [])) (y .fed .session)
 
 -- a line ends among the bytes, and the room takes any answer
 pub record Ends (x : Feeding) : Type 0 where

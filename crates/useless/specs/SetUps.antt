@@ -35,7 +35,8 @@ pub record Left : Type 0 where
 
 pub data SetUpInC : Lent → Left → Type 0 where
   by-coast-set-up : (κs : Lfts 2) (a : _) (r : _) (s : _) → coast-set-up.Post κs a r s
-      → SetUpInC (record { wanted = record { identity = a .0; channels = a .1 .0 .now }; station = a .1 .1 .0 .now }) (record { number = r; kept = s .1 .1 .0 .now })
+      → SetUpInC (record { wanted = record { identity = a .0; channels = a .1 .0 .now }; station = a .1 .1 .0 .now })
+      (record { number = r; kept = s .1 .1 .0 .now })
 
 -- nothing done: the lent bytes as they were
 abbrev pub setUpSignsInC : Signs Lent Left

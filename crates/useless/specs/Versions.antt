@@ -3,8 +3,8 @@ use Prim.Native.Nat.{ℕ, _<_}
 use mathlib.Core.Path.{_≡_}
 use mathlib.Core.List.{List, []}
 
--- What a version hands back may depend on all that was handed in before, so it is a function of that too. It need be useless only where
--- `comes` says that it is called: what is told of it then, of every call or of every call but the first.
+-- A version has a memory: what it hands back is a function of what is handed in and of all that was handed in before. It is useless
+-- already where it is so in the calls that `comes` names, in each of them or in each but the first.
 module _ {In Out : Type 0} (comes : List In → In → Type 0) (f : List In → In → Out) where
   abbrev pub Always : (In → Out → Type 0) → Type 0
   Always P = (past : List In) (x : In) → comes past x → P x (f past x)
@@ -32,7 +32,8 @@ pub data UselessVersion {In Out : Type 0} (comes : List In → In → Type 0) (v
 
 -- no version that meets a contract is one of them
 abbrev pub NoUselessVersion : {In Out : Type 0} → (List In → In → Type 0) → Signs In Out → (In → Out → Type 0) → Type 0
-NoUselessVersion {In} {Out} comes v meets = (f : List In → In → Out) → ((past : List In) (x : In) → meets x (f past x)) → UselessVersion comes v f → ⊥
+NoUselessVersion {In} {Out} comes v meets =
+    (f : List In → In → Out) → ((past : List In) (x : In) → meets x (f past x)) → UselessVersion comes v f → ⊥
 
 -- where anything may be handed in
 abbrev pub Anything : {In : Type 0} → List In → In → Type 0
