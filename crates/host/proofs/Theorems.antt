@@ -88,13 +88,13 @@ begun-well identity channels size h = go (which (eqb size 1722))
     go (yes! p) = (eqb-true size 1722 p, judged (configKeeps (given identity channels)) refl (rw p at h))
     go (no! p) = let q : _≡_ {A = ℕ} 23 0 = rw p at h in absurd (omega (arith, q))
 
-record Begun (c : Config) (b : List ℕ) : Type 0 where
-  station : Station
-  found : FoundAgain station
-  begins : SetUpAs c station
-  bytes : b ≡ stationBytes station
+pub record Begun (c : Config) (b : List ℕ) : Type 0 where
+  pub station : Station
+  pub found : FoundAgain station
+  pub begins : SetUpAs c station
+  pub bytes : b ≡ stationBytes station
 
-begun : (c : Config) (b : List ℕ) → SetUpIn c b → Begun c b
+pub begun : (c : Config) (b : List ℕ) → SetUpIn c b → Begun c b
 unfolding setUpBy
 begun _ _ (Host.by-set-up κs a r s p z) =
     let w = begun-well (a .0) (a .1 .0 .now) (length (a .1 .1 .0 .now)) (sym (p .0) ∙ z) in

@@ -127,10 +127,10 @@ action-back c (charge h) v f = rw (charge-back h f)
 
 -- the first block, and what stands behind it
 module _ (c : Config) (a : Action) (more : List Action) (rest : List ℕ) where
-  first-block : take 40 ((blockOf c a ++ blocks c more) ++ rest) ≡ blockOf c a
+  pub first-block : take 40 ((blockOf c a ++ blocks c more) ++ rest) ≡ blockOf c a
   first-block = rw (append-assoc (blockOf c a) (blocks c more) rest) (take-at (blockOf c a) (blocks c more ++ rest) 40 (block-length c a))
 
-  behind-block : drop 40 ((blockOf c a ++ blocks c more) ++ rest) ≡ blocks c more ++ rest
+  pub behind-block : drop 40 ((blockOf c a ++ blocks c more) ++ rest) ≡ blocks c more ++ rest
   behind-block = rw (append-assoc (blockOf c a) (blocks c more) rest) (drop-at (blockOf c a) (blocks c more ++ rest) 40 (block-length c a))
 
 split : (a : Action) (l : List Action) → Each FourBytes (chargesOf (a ∷ l)) → Fitting a × Each FourBytes (chargesOf l)

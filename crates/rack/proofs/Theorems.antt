@@ -52,7 +52,7 @@ module _ (c : Config) (xs : List Step) (t : Trace c xs) where
   runs : IsRun c (fresh c) xs
   runs = is-run c xs (fresh c) fresh-sound (rw (started c (t .first) (t .begun) .1) at (t .steps))
 
-  last-is : lastOf (t .first) xs ≡ imageOf c (stationAfter c (eventsIn xs))
+  pub last-is : lastOf (t .first) xs ≡ imageOf c (stationAfter c (eventsIn xs))
   last-is = ap (λ (s : Station). lastOf s xs) (started c (t .first) (t .begun) .1) ∙ runs .last
 
   model-is : modelOf (lastOf (t .first) xs) ≡ stationAfter c (eventsIn xs)

@@ -1,0 +1,113 @@
+-- The next due time: none on a fresh station, 261 behind P1 at 100; and 29 for no bytes.
+use Prim.Native.Nat.{ℕ, _%_}
+use mathlib.Core.Path.{_≡_, refl, sym, ap, _∙_}
+use mathlib.Core.List.{List, [], _∷_}
+use mathlib.Core.Option.{none, some}
+use native.Mathlib.Omega.{arith}
+use Rattle.sequence.specs.Identity.{isShip, isCoast, identitiesOk, identityPairs, identityOf}
+use Rattle.sequence.specs.Field.{isCall, unableSecond, telecommandsOk, channelOk, durationOk, fieldOk}
+use Rattle.sequence.specs.Number.{numberOk, parity, evened}
+use Rattle.sequence.specs.Layout.{endOk, valid, front, body, layout}
+use Rattle.sequence.specs.Reading as Reader
+use Rattle.rules.specs.Words.{is, Event}
+use Rattle.rules.specs.Heard.{kindOf, addressed, meaning}
+use Rattle.rules.specs.Station.{fresh, setSlot, setClock, setQueue, table, fires, nextDue}
+use Rattle.rules.specs.Sound.{identityKeeps, channelsKeep, configKeeps, oneSlotEach, numberKeeps, requestKeeps, durationKeeps, noShipTwice, storedKeeps, timesFit, sound}
+use Rattle.rules.specs.Requests.{rungBack, freedFor, freed, coastEnd, standing, ruleA, repeated, afresh, same, ruleB, ruleD, offer, ruleF, ruleG, eToG, newcomer, dToG, redial, ruleC, bOrC, requested}
+use Rattle.rules.specs.Calls.{dialNow, workingKind, workingOn, agreed, bqKind, bqFor, offHookStage, offHookOn, downOn, upOn, shipEnd, sayAgain, shipEndOn, endOn, takeOn, giveOn, offerDue, ringAgain, pendingDue, replyDue, mainOn, fire, ticked, heardOn70, heardOn, happenedOn, actAt}
+use Rattle.rules.specs.Verdict.{refusals, verdict, setUpVerdict, step, play, final}
+use Rattle.rules.specs.Statement.{stationAfter}
+use Rattle.rules.specs.Cases.{asks}
+use Rattle.soundness.proofs.FitLaws.{sound-fits}
+use Rattle.station.specs.declared.NextDue.{NextDue}
+use Rattle.station.specs.declared.NextDue.the-variants.{Never, At}
+use Rattle.station.specs.declared.Station.{Station}
+use Rattle.station.specs.Model.{modelOf}
+use Rattle.station.specs.Step.{dueImage}
+use Rattle.station.proofs.ImageLaws.{model-back, config-back}
+use Rattle.lent.specs.Stations.{stationFrom}
+use Rattle.exchange.specs.Events.{dueReturned}
+use Rattle.exchange.proofs.Theorems.{wrong-size-has-no-due}
+use Rattle.rack.proofs.Laid.{records-keep}
+use Rattle.useless.specs.Versions.{Anything}
+use Rattle.useless.specs.Dues.{DueBy, by-next-due, HandedOut, NoUselessNextDue, DueInC, by-coast-next-due, dueSigns, NoUselessNextDueInC}
+use Rattle.useless.proofs.ShutOut.{one, shut-out}
+use Rattle.useless.proofs.Events.{house, leads, reached, reached-is, good}
+use Rattle.useless.proofs.Hosted.{bytesAfter, stands}
+
+-- ── the method ───────────────────────────────────────────────────────────────
+
+due-is : (s : Station) (y : NextDue) → DueBy s y → y ≡ dueImage (nextDue (modelOf s))
+due-is _ _ (by-next-due κs a r s p) = p
+
+model-is : (es : List Event) → modelOf (reached es) ≡ stationAfter house es
+model-is es = ap modelOf (reached-is es) ∙ model-back house (stationAfter house es) (sound-fits house (stationAfter house es) (good es))
+
+reached-due : (es : List Event) (y : NextDue) → DueBy (reached es) y → y ≡ dueImage (nextDue (stationAfter house es))
+reached-due es y m = due-is (reached es) y m ∙ ap (λ m. dueImage (nextDue m)) (model-is es)
+
+abbrev asked : List Event
+asked = asks 100 ∷ []
+
+nothing-due : nextDue (stationAfter house []) ≡ none
+unfolding final fresh table nextDue
+nothing-due = refl
+
+due-261 : nextDue (stationAfter house asked) ≡ some 261
+unfolding isShip isCoast identitiesOk identityPairs identityOf isCall unableSecond telecommandsOk channelOk durationOk fieldOk numberOk parity evened endOk valid front body layout Reader.lengthIn Reader.checkIn Reader.formatIn Reader.identityAt Reader.identityPairsAt Reader.identitiesIn Reader.categoryIn Reader.telecommandsIn Reader.blankSymbols Reader.channelSymbols Reader.durationSymbols Reader.fieldSymbols Reader.fieldOf Reader.fieldIn Reader.pairsIn Reader.parityOk Reader.pairsOk Reader.numberIn Reader.zeroBefore Reader.sixteen Reader.numberOf Reader.endIn Reader.refusals Reader.answerOf Reader.meaningOf Reader.blankMeaning Reader.readingOf is kindOf addressed meaning fresh setSlot setClock setQueue table fires nextDue identityKeeps channelsKeep configKeeps oneSlotEach numberKeeps requestKeeps durationKeeps noShipTwice storedKeeps timesFit sound rungBack freedFor freed coastEnd standing ruleA repeated afresh same ruleB ruleD offer ruleF ruleG eToG newcomer dToG redial ruleC bOrC requested dialNow workingKind workingOn agreed bqKind bqFor offHookStage offHookOn downOn upOn shipEnd sayAgain shipEndOn endOn takeOn giveOn offerDue ringAgain pendingDue replyDue mainOn fire ticked heardOn70 heardOn happenedOn actAt refusals verdict setUpVerdict step play final
+due-261 = refl
+
+handed : (past : List Station) (es : List Event) → HandedOut past (reached es)
+handed past es = record { config = house; steps = leads es .steps; trace = leads es .trace; handed = refl }
+
+differ : (y z : NextDue) → y ≡ Never → z ≡ At (record { 0 = 261 }) → y ≡ z → ⊥
+differ y z p q e = let r : _≡_ {A = ℕ} 0 1 = cc in omega (arith, r)
+
+module _ (f : List Station → Station → NextDue) (m : (past : List Station) (s : Station) → DueBy s (f past s)) where
+  never : (past : List Station) → f past (reached []) ≡ Never
+  never past = reached-due [] (f past (reached [])) (m past (reached [])) ∙ ap dueImage nothing-due
+
+  at-261 : (past : List Station) → f past (reached asked) ≡ At (record { 0 = 261 })
+  at-261 past = reached-due asked (f past (reached asked)) (m past (reached asked)) ∙ ap dueImage due-261
+
+pub no-useless-next-due : NoUselessNextDue
+unfolding NoUselessNextDue
+no-useless-next-due f m = (
+  λ d h. differ _ _ (never f m []) (at-261 f m []) (h [] (reached []) (handed [] []) ∙ sym (h [] (reached asked) (handed [] asked))),
+  λ h.
+      let past : List Station = reached [] ∷ [] in
+      differ Never _ refl (at-261 f m past) (sym (h past (reached asked) one (handed past asked))),
+)
+
+-- ── the entry in C ───────────────────────────────────────────────────────────
+
+c-due-is : (b : List ℕ) (y : ℕ) → DueInC b y → y ≡ dueReturned (stationFrom b)
+c-due-is _ _ (by-coast-next-due κs a r s p) = p
+
+fresh-due : dueReturned (stationFrom (bytesAfter [])) ≡ 0
+unfolding dueReturned
+fresh-due =
+    let m = stationAfter house [] in
+    let fits = sound-fits house m (good []) in
+    rw (stands [], records-keep house m fits, config-back house m fits, model-back house m fits, good [], nothing-due) refl
+
+no-bytes : (y : ℕ) → DueInC [] y → y ≡ 29
+no-bytes y m = c-due-is [] y m ∙ wrong-size-has-no-due [] (λ e. omega (arith, e))
+
+pub no-useless-next-due-in-c : NoUselessNextDueInC
+unfolding NoUselessNextDueInC
+no-useless-next-due-in-c =
+    shut-out Anything dueSigns DueInC (record {
+      past = bytesAfter [] ∷ [];
+      begun = one;
+      doable = bytesAfter [];
+      doable-comes = tt;
+      done = λ y m. ap (λ n. n % 256) (c-due-is _ y m ∙ fresh-due);
+      busy = λ y m i. i;
+      later = bytesAfter [] ∷ [];
+      begun-later = one;
+      bad = [];
+      bad-comes = tt;
+      refused = λ y m. omega (arith, no-bytes y m);
+      counted = λ x y m u. u;
+    })

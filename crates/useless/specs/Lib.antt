@@ -1,0 +1,7 @@
+pub mod Versions
+pub mod Events
+pub mod Entries
+pub mod Sequences
+pub mod SetUps
+pub mod Dues
+pub mod Feeds
