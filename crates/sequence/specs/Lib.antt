@@ -7,3 +7,4 @@ pub mod Number
 pub mod Layout
 pub mod Reading
 pub mod Writing
+pub mod Bounds

@@ -1,0 +1,335 @@
+-- What the list alone tells after each entry: its book, its three words, its stops and its tenths.
+use mathlib.Core.List.{List, [], _∷_, _++_, map}
+use mathlib.Core.Option.{Option, none, some}
+use Prim.Native.Nat.{ℕ, _+_}
+use lib.ListN.{length, take}
+use Rattle.sequence.specs.declared.Field.the-variants.{Blank, Channel}
+use Rattle.rules.specs.Words.{simplex, duplex, modeNumber, Request, Config, offHook, onHook, carrierUp, carrierDown, takes, givesBack, onChannel70, Event}
+use Rattle.rules.specs.Book.{Note, Said, silent, toldBQ, toldRQ, settled, Call, quiet, dialled, talking, Line, Place, Book, blankBook}
+use Rattle.rules.specs.Reading.{turn, counted, countedByCalls}
+use Rattle.rules.specs.ThreeWords.{Word, idle, ringing, since, wordAfter, wordOf}
+use Rattle.rules.specs.Statement.{charged, runOf, stationAfter, listOf, tenthsIn, heldTenths}
+use Rattle.rules.specs.Runs.{channel, station, seven, eight, nine, sends, at, usual, callsFor, calls, accepts, on, works, ends, ticks, paid, Run}
+use Rattle.rules.specs.Cases.{Row}
+use Rattle.rules.specs.BoundCases.{callsAs}
+
+-- ── a book as numbers ────────────────────────────────────────────────────────
+
+abbrev pub due : Option ℕ → List ℕ
+due none = 0 ∷ []
+due (some d) = 1 ∷ d ∷ []
+
+-- ship, mode, second telecommand, how many digits
+abbrev pub request : Request → List ℕ
+request r = r .who .ship ∷ modeNumber (r .mode) ∷ r .second ∷ length (r .number) ∷ []
+
+abbrev pub said : Said → List ℕ
+said silent = 0 ∷ []
+said (toldBQ r) = 1 ∷ request r
+said (toldRQ r) = 2 ∷ request r
+said (settled r) = 3 ∷ request r
+
+abbrev pub call : Call → List ℕ
+call quiet = 0 ∷ []
+call (dialled x m) = 1 ∷ x .ship ∷ modeNumber m ∷ []
+call (talking x m b) = 2 ∷ x .ship ∷ modeNumber m ∷ b ∷ []
+
+abbrev pub line : Line → List ℕ
+line l = said (l .said) ++ due (l .wait) ++ call (l .call) ++ due (l .gone)
+
+abbrev pub places : List Place → List ℕ
+places [] = []
+places (p ∷ ps) = p .who .ship ∷ p .due ∷ places ps
+
+-- the time, a line for each slot, the queue
+abbrev pub page : Book → List (List ℕ)
+page b = (b .now ∷ []) ∷ (map line (b .lines) ++ places (b .places) ∷ [])
+
+abbrev pub pagesFrom : Config → List Note → Book → List (List ℕ)
+pagesFrom c [] b = []
+pagesFrom c (n ∷ ns) b = page (turn c b n) ++ pagesFrom c ns (turn c b n)
+
+-- after each entry of a run
+abbrev pub pages : ℕ → List Event → List (List ℕ)
+pages n es = pagesFrom (station n) (listOf (station n) es) (blankBook (station n))
+
+-- ── the three words as numbers ───────────────────────────────────────────────
+
+abbrev pub word : Word → List ℕ
+word idle = 0 ∷ []
+word ringing = 1 ∷ []
+word (since b) = 2 ∷ b ∷ []
+
+abbrev pub wordsFrom : ℕ → List Note → Word → List (List ℕ)
+wordsFrom i [] v = []
+wordsFrom i (n ∷ ns) v = word (wordAfter i (n ∷ []) v) ∷ wordsFrom i ns (wordAfter i (n ∷ []) v)
+
+-- of a slot after each entry of a run
+abbrev pub words : ℕ → ℕ → List Event → List (List ℕ)
+words n i es = wordsFrom i (listOf (station n) es) idle
+
+-- the answered tenths: charged and held, counted by time, counted by calls
+abbrev pub tenths : ℕ → List Event → List ℕ
+tenths n es =
+    (tenthsIn (charged 0 (runOf (station n) es)) + heldTenths (stationAfter (station n) es))
+    ∷ counted (station n) (listOf (station n) es) (blankBook (station n))
+    ∷ countedByCalls (station n) (listOf (station n) es) (blankBook (station n))
+    ∷ []
+
+-- ── onSecond ──────────────────────────────────────────────────────────────────
+
+-- the second slot: offered, repeated, offered afresh, dialled, silent and heard again, answered, ended by its ship; a ring-back
+-- answered and dialled, hung up; another one asked afresh
+abbrev pub onSecond : List Event
+onSecond =
+    on 50 0 takes ∷ callsAs 100 usual 100 seven duplex ∷ callsAs 100 usual 110 seven duplex ∷
+    callsFor (4 ∷ 2 ∷ []) 120 seven duplex ∷ works 130 1 seven ∷ on 140 1 carrierDown ∷ on 145 1 carrierDown ∷
+    on 150 1 carrierUp ∷ on 155 1 carrierDown ∷ on 160 1 offHook ∷ on 165 1 offHook ∷ on 170 1 carrierUp ∷
+    on 172 1 carrierDown ∷ on 173 1 carrierDown ∷ calls 180 eight duplex ∷ calls 190 nine simplex ∷ calls 195 eight simplex ∷
+    ends 196 1 eight ∷ ends 200 1 seven ∷ ends 210 1 seven ∷ ticks 241 ∷ ticks 292 ∷ accepts 299 27 nine ∷
+    accepts 300 27 eight ∷ accepts 301 27 eight ∷ works 310 1 eight ∷ on 320 1 onHook ∷ calls 330 nine simplex ∷ ticks 491 ∷ []
+
+abbrev pub onSecondPages : Row
+onSecondPages = record {
+  computed = pages 2 onSecond;
+  expected = (50 ∷ []) ∷ (0 ∷ 0 ∷ 0 ∷ 0 ∷ []) ∷ (0 ∷ 0 ∷ 0 ∷ 0 ∷ []) ∷ ([]) ∷ (100 ∷ []) ∷ (0 ∷ 0 ∷ 0 ∷ 0 ∷ []) ∷
+      (1 ∷ 200000007 ∷ 101 ∷ 100 ∷ 7 ∷ 1 ∷ 261 ∷ 0 ∷ 0 ∷ []) ∷ ([]) ∷ (110 ∷ []) ∷ (0 ∷ 0 ∷ 0 ∷ 0 ∷ []) ∷
+      (1 ∷ 200000007 ∷ 101 ∷ 100 ∷ 7 ∷ 1 ∷ 261 ∷ 0 ∷ 0 ∷ []) ∷ ([]) ∷ (120 ∷ []) ∷ (0 ∷ 0 ∷ 0 ∷ 0 ∷ []) ∷
+      (1 ∷ 200000007 ∷ 101 ∷ 126 ∷ 2 ∷ 1 ∷ 281 ∷ 0 ∷ 0 ∷ []) ∷ ([]) ∷ (130 ∷ []) ∷ (0 ∷ 0 ∷ 0 ∷ 0 ∷ []) ∷
+      (0 ∷ 1 ∷ 731 ∷ 1 ∷ 200000007 ∷ 101 ∷ 0 ∷ []) ∷ ([]) ∷ (140 ∷ []) ∷ (0 ∷ 0 ∷ 0 ∷ 0 ∷ []) ∷
+      (0 ∷ 1 ∷ 731 ∷ 1 ∷ 200000007 ∷ 101 ∷ 1 ∷ 191 ∷ []) ∷ ([]) ∷ (145 ∷ []) ∷ (0 ∷ 0 ∷ 0 ∷ 0 ∷ []) ∷
+      (0 ∷ 1 ∷ 731 ∷ 1 ∷ 200000007 ∷ 101 ∷ 1 ∷ 191 ∷ []) ∷ ([]) ∷ (150 ∷ []) ∷ (0 ∷ 0 ∷ 0 ∷ 0 ∷ []) ∷
+      (0 ∷ 1 ∷ 731 ∷ 1 ∷ 200000007 ∷ 101 ∷ 0 ∷ []) ∷ ([]) ∷ (155 ∷ []) ∷ (0 ∷ 0 ∷ 0 ∷ 0 ∷ []) ∷
+      (0 ∷ 1 ∷ 731 ∷ 1 ∷ 200000007 ∷ 101 ∷ 1 ∷ 206 ∷ []) ∷ ([]) ∷ (160 ∷ []) ∷ (0 ∷ 0 ∷ 0 ∷ 0 ∷ []) ∷
+      (0 ∷ 0 ∷ 2 ∷ 200000007 ∷ 101 ∷ 160 ∷ 1 ∷ 206 ∷ []) ∷ ([]) ∷ (165 ∷ []) ∷ (0 ∷ 0 ∷ 0 ∷ 0 ∷ []) ∷
+      (0 ∷ 0 ∷ 2 ∷ 200000007 ∷ 101 ∷ 160 ∷ 1 ∷ 206 ∷ []) ∷ ([]) ∷ (170 ∷ []) ∷ (0 ∷ 0 ∷ 0 ∷ 0 ∷ []) ∷
+      (0 ∷ 0 ∷ 2 ∷ 200000007 ∷ 101 ∷ 160 ∷ 0 ∷ []) ∷ ([]) ∷ (172 ∷ []) ∷ (0 ∷ 0 ∷ 0 ∷ 0 ∷ []) ∷
+      (0 ∷ 0 ∷ 2 ∷ 200000007 ∷ 101 ∷ 160 ∷ 1 ∷ 223 ∷ []) ∷ ([]) ∷ (173 ∷ []) ∷ (0 ∷ 0 ∷ 0 ∷ 0 ∷ []) ∷
+      (0 ∷ 0 ∷ 2 ∷ 200000007 ∷ 101 ∷ 160 ∷ 1 ∷ 223 ∷ []) ∷ ([]) ∷ (180 ∷ []) ∷ (0 ∷ 0 ∷ 0 ∷ 0 ∷ []) ∷
+      (0 ∷ 0 ∷ 2 ∷ 200000007 ∷ 101 ∷ 160 ∷ 1 ∷ 223 ∷ []) ∷ (200000008 ∷ 9181 ∷ []) ∷ (190 ∷ []) ∷ (0 ∷ 0 ∷ 0 ∷ 0 ∷ []) ∷
+      (0 ∷ 0 ∷ 2 ∷ 200000007 ∷ 101 ∷ 160 ∷ 1 ∷ 223 ∷ []) ∷ (200000008 ∷ 9181 ∷ 200000009 ∷ 9191 ∷ []) ∷ (195 ∷ []) ∷
+      (0 ∷ 0 ∷ 0 ∷ 0 ∷ []) ∷ (0 ∷ 0 ∷ 2 ∷ 200000007 ∷ 101 ∷ 160 ∷ 1 ∷ 223 ∷ []) ∷ (200000008 ∷ 9181 ∷ 200000009 ∷ 9191 ∷ []) ∷
+      (196 ∷ []) ∷ (0 ∷ 0 ∷ 0 ∷ 0 ∷ []) ∷ (0 ∷ 0 ∷ 2 ∷ 200000007 ∷ 101 ∷ 160 ∷ 1 ∷ 223 ∷ []) ∷
+      (200000008 ∷ 9181 ∷ 200000009 ∷ 9191 ∷ []) ∷ (200 ∷ []) ∷ (0 ∷ 0 ∷ 0 ∷ 0 ∷ []) ∷ (0 ∷ 1 ∷ 241 ∷ 0 ∷ 0 ∷ []) ∷
+      (200000008 ∷ 9181 ∷ 200000009 ∷ 9191 ∷ []) ∷ (210 ∷ []) ∷ (0 ∷ 0 ∷ 0 ∷ 0 ∷ []) ∷ (0 ∷ 1 ∷ 241 ∷ 0 ∷ 0 ∷ []) ∷
+      (200000008 ∷ 9181 ∷ 200000009 ∷ 9191 ∷ []) ∷ (241 ∷ []) ∷ (0 ∷ 0 ∷ 0 ∷ 0 ∷ []) ∷
+      (2 ∷ 200000008 ∷ 100 ∷ 126 ∷ 7 ∷ 1 ∷ 292 ∷ 0 ∷ 0 ∷ []) ∷ (200000009 ∷ 9191 ∷ []) ∷ (292 ∷ []) ∷ (0 ∷ 0 ∷ 0 ∷ 0 ∷ []) ∷
+      (2 ∷ 200000008 ∷ 100 ∷ 126 ∷ 7 ∷ 1 ∷ 343 ∷ 0 ∷ 0 ∷ []) ∷ (200000009 ∷ 9191 ∷ []) ∷ (299 ∷ []) ∷ (0 ∷ 0 ∷ 0 ∷ 0 ∷ []) ∷
+      (2 ∷ 200000008 ∷ 100 ∷ 126 ∷ 7 ∷ 1 ∷ 343 ∷ 0 ∷ 0 ∷ []) ∷ (200000009 ∷ 9191 ∷ []) ∷ (300 ∷ []) ∷ (0 ∷ 0 ∷ 0 ∷ 0 ∷ []) ∷
+      (3 ∷ 200000008 ∷ 100 ∷ 126 ∷ 7 ∷ 1 ∷ 461 ∷ 0 ∷ 0 ∷ []) ∷ (200000009 ∷ 9191 ∷ []) ∷ (301 ∷ []) ∷ (0 ∷ 0 ∷ 0 ∷ 0 ∷ []) ∷
+      (3 ∷ 200000008 ∷ 100 ∷ 126 ∷ 7 ∷ 1 ∷ 461 ∷ 0 ∷ 0 ∷ []) ∷ (200000009 ∷ 9191 ∷ []) ∷ (310 ∷ []) ∷ (0 ∷ 0 ∷ 0 ∷ 0 ∷ []) ∷
+      (0 ∷ 1 ∷ 911 ∷ 1 ∷ 200000008 ∷ 100 ∷ 0 ∷ []) ∷ (200000009 ∷ 9191 ∷ []) ∷ (320 ∷ []) ∷ (0 ∷ 0 ∷ 0 ∷ 0 ∷ []) ∷
+      (2 ∷ 200000009 ∷ 100 ∷ 126 ∷ 7 ∷ 1 ∷ 371 ∷ 0 ∷ 0 ∷ []) ∷ ([]) ∷ (330 ∷ []) ∷ (0 ∷ 0 ∷ 0 ∷ 0 ∷ []) ∷
+      (1 ∷ 200000009 ∷ 100 ∷ 126 ∷ 7 ∷ 1 ∷ 491 ∷ 0 ∷ 0 ∷ []) ∷ ([]) ∷ (491 ∷ []) ∷ (0 ∷ 0 ∷ 0 ∷ 0 ∷ []) ∷ (0 ∷ 0 ∷ 0 ∷ 0 ∷ []) ∷
+      ([]) ∷ [];
+}
+
+abbrev pub onSecondWords : Row
+onSecondWords = record {
+  computed = words 2 1 onSecond;
+  expected = (0 ∷ []) ∷ (0 ∷ []) ∷ (0 ∷ []) ∷ (0 ∷ []) ∷ (1 ∷ []) ∷ (1 ∷ []) ∷ (1 ∷ []) ∷ (1 ∷ []) ∷ (1 ∷ []) ∷ (2 ∷ 160 ∷ []) ∷
+      (2 ∷ 160 ∷ []) ∷ (2 ∷ 160 ∷ []) ∷ (2 ∷ 160 ∷ []) ∷ (2 ∷ 160 ∷ []) ∷ (2 ∷ 160 ∷ []) ∷ (2 ∷ 160 ∷ []) ∷ (2 ∷ 160 ∷ []) ∷
+      (2 ∷ 160 ∷ []) ∷ (0 ∷ []) ∷ (0 ∷ []) ∷ (0 ∷ []) ∷ (0 ∷ []) ∷ (0 ∷ []) ∷ (0 ∷ []) ∷ (0 ∷ []) ∷ (1 ∷ []) ∷ (0 ∷ []) ∷
+      (0 ∷ []) ∷ (0 ∷ []) ∷ [];
+}
+
+abbrev pub onSecondTenths : Row
+onSecondTenths = record {
+  computed = tenths 2 onSecond ∷ [];
+  expected = (40 ∷ 40 ∷ 40 ∷ []) ∷ [];
+}
+
+abbrev pub onSecondRun : Run
+onSecondRun = record {
+  slots = 2;
+  events = onSecond;
+  owing = paid 18 1 seven 160 200 4 ∷ [];
+}
+
+-- ── again ─────────────────────────────────────────────────────────────────────
+
+-- the second slot: rule c answered and only dialled, no reply, carrier loss of a duplex and of a simplex call, the ship's end
+-- while dialling
+abbrev pub again : List Event
+again =
+    on 50 0 takes ∷ calls 100 seven simplex ∷ works 110 1 seven ∷ on 120 1 offHook ∷ on 130 1 carrierDown ∷
+    calls 135 eight simplex ∷ calls 140 seven simplex ∷ ticks 191 ∷ accepts 200 27 eight ∷ works 210 1 eight ∷
+    on 220 1 carrierDown ∷ calls 230 eight simplex ∷ accepts 240 27 seven ∷ works 245 1 seven ∷ ticks 846 ∷ ticks 897 ∷
+    ticks 948 ∷ calls 960 eight duplex ∷ works 970 1 eight ∷ on 980 1 offHook ∷ on 990 1 carrierDown ∷
+    calls 1000 eight duplex ∷ ticks 1100 ∷ calls 1110 seven simplex ∷ works 1120 1 seven ∷ on 1125 1 carrierUp ∷
+    on 1130 1 offHook ∷ calls 1135 seven simplex ∷ on 1140 1 carrierDown ∷ ticks 1600 ∷ calls 1610 nine duplex ∷
+    works 1620 1 nine ∷ on 1630 1 carrierDown ∷ ends 1640 1 nine ∷ ticks 1681 ∷ []
+
+abbrev pub againPages : Row
+againPages = record {
+  computed = pages 2 again;
+  expected = (50 ∷ []) ∷ (0 ∷ 0 ∷ 0 ∷ 0 ∷ []) ∷ (0 ∷ 0 ∷ 0 ∷ 0 ∷ []) ∷ ([]) ∷ (100 ∷ []) ∷ (0 ∷ 0 ∷ 0 ∷ 0 ∷ []) ∷
+      (1 ∷ 200000007 ∷ 100 ∷ 126 ∷ 7 ∷ 1 ∷ 261 ∷ 0 ∷ 0 ∷ []) ∷ ([]) ∷ (110 ∷ []) ∷ (0 ∷ 0 ∷ 0 ∷ 0 ∷ []) ∷
+      (0 ∷ 1 ∷ 711 ∷ 1 ∷ 200000007 ∷ 100 ∷ 0 ∷ []) ∷ ([]) ∷ (120 ∷ []) ∷ (0 ∷ 0 ∷ 0 ∷ 0 ∷ []) ∷
+      (0 ∷ 0 ∷ 2 ∷ 200000007 ∷ 100 ∷ 120 ∷ 0 ∷ []) ∷ ([]) ∷ (130 ∷ []) ∷ (0 ∷ 0 ∷ 0 ∷ 0 ∷ []) ∷
+      (0 ∷ 0 ∷ 2 ∷ 200000007 ∷ 100 ∷ 120 ∷ 1 ∷ 581 ∷ []) ∷ ([]) ∷ (135 ∷ []) ∷ (0 ∷ 0 ∷ 0 ∷ 0 ∷ []) ∷
+      (0 ∷ 0 ∷ 2 ∷ 200000007 ∷ 100 ∷ 120 ∷ 1 ∷ 581 ∷ []) ∷ (200000008 ∷ 9136 ∷ []) ∷ (140 ∷ []) ∷ (0 ∷ 0 ∷ 0 ∷ 0 ∷ []) ∷
+      (2 ∷ 200000008 ∷ 100 ∷ 126 ∷ 7 ∷ 1 ∷ 191 ∷ 0 ∷ 0 ∷ []) ∷ (200000007 ∷ 9141 ∷ []) ∷ (191 ∷ []) ∷ (0 ∷ 0 ∷ 0 ∷ 0 ∷ []) ∷
+      (2 ∷ 200000008 ∷ 100 ∷ 126 ∷ 7 ∷ 1 ∷ 242 ∷ 0 ∷ 0 ∷ []) ∷ (200000007 ∷ 9141 ∷ []) ∷ (200 ∷ []) ∷ (0 ∷ 0 ∷ 0 ∷ 0 ∷ []) ∷
+      (3 ∷ 200000008 ∷ 100 ∷ 126 ∷ 7 ∷ 1 ∷ 361 ∷ 0 ∷ 0 ∷ []) ∷ (200000007 ∷ 9141 ∷ []) ∷ (210 ∷ []) ∷ (0 ∷ 0 ∷ 0 ∷ 0 ∷ []) ∷
+      (0 ∷ 1 ∷ 811 ∷ 1 ∷ 200000008 ∷ 100 ∷ 0 ∷ []) ∷ (200000007 ∷ 9141 ∷ []) ∷ (220 ∷ []) ∷ (0 ∷ 0 ∷ 0 ∷ 0 ∷ []) ∷
+      (0 ∷ 1 ∷ 811 ∷ 1 ∷ 200000008 ∷ 100 ∷ 1 ∷ 671 ∷ []) ∷ (200000007 ∷ 9141 ∷ []) ∷ (230 ∷ []) ∷ (0 ∷ 0 ∷ 0 ∷ 0 ∷ []) ∷
+      (2 ∷ 200000007 ∷ 100 ∷ 126 ∷ 7 ∷ 1 ∷ 281 ∷ 0 ∷ 0 ∷ []) ∷ (200000008 ∷ 9231 ∷ []) ∷ (240 ∷ []) ∷ (0 ∷ 0 ∷ 0 ∷ 0 ∷ []) ∷
+      (3 ∷ 200000007 ∷ 100 ∷ 126 ∷ 7 ∷ 1 ∷ 401 ∷ 0 ∷ 0 ∷ []) ∷ (200000008 ∷ 9231 ∷ []) ∷ (245 ∷ []) ∷ (0 ∷ 0 ∷ 0 ∷ 0 ∷ []) ∷
+      (0 ∷ 1 ∷ 846 ∷ 1 ∷ 200000007 ∷ 100 ∷ 0 ∷ []) ∷ (200000008 ∷ 9231 ∷ []) ∷ (846 ∷ []) ∷ (0 ∷ 0 ∷ 0 ∷ 0 ∷ []) ∷
+      (2 ∷ 200000008 ∷ 100 ∷ 126 ∷ 7 ∷ 1 ∷ 897 ∷ 0 ∷ 0 ∷ []) ∷ ([]) ∷ (897 ∷ []) ∷ (0 ∷ 0 ∷ 0 ∷ 0 ∷ []) ∷
+      (2 ∷ 200000008 ∷ 100 ∷ 126 ∷ 7 ∷ 1 ∷ 948 ∷ 0 ∷ 0 ∷ []) ∷ ([]) ∷ (948 ∷ []) ∷ (0 ∷ 0 ∷ 0 ∷ 0 ∷ []) ∷ (0 ∷ 0 ∷ 0 ∷ 0 ∷ []) ∷
+      ([]) ∷ (960 ∷ []) ∷ (0 ∷ 0 ∷ 0 ∷ 0 ∷ []) ∷ (1 ∷ 200000008 ∷ 101 ∷ 126 ∷ 7 ∷ 1 ∷ 1121 ∷ 0 ∷ 0 ∷ []) ∷ ([]) ∷ (970 ∷ []) ∷
+      (0 ∷ 0 ∷ 0 ∷ 0 ∷ []) ∷ (0 ∷ 1 ∷ 1571 ∷ 1 ∷ 200000008 ∷ 101 ∷ 0 ∷ []) ∷ ([]) ∷ (980 ∷ []) ∷ (0 ∷ 0 ∷ 0 ∷ 0 ∷ []) ∷
+      (0 ∷ 0 ∷ 2 ∷ 200000008 ∷ 101 ∷ 980 ∷ 0 ∷ []) ∷ ([]) ∷ (990 ∷ []) ∷ (0 ∷ 0 ∷ 0 ∷ 0 ∷ []) ∷
+      (0 ∷ 0 ∷ 2 ∷ 200000008 ∷ 101 ∷ 980 ∷ 1 ∷ 1041 ∷ []) ∷ ([]) ∷ (1000 ∷ []) ∷ (0 ∷ 0 ∷ 0 ∷ 0 ∷ []) ∷
+      (0 ∷ 0 ∷ 2 ∷ 200000008 ∷ 101 ∷ 980 ∷ 1 ∷ 1041 ∷ []) ∷ ([]) ∷ (1041 ∷ []) ∷ (0 ∷ 0 ∷ 0 ∷ 0 ∷ []) ∷ (0 ∷ 0 ∷ 0 ∷ 0 ∷ []) ∷
+      ([]) ∷ (1110 ∷ []) ∷ (0 ∷ 0 ∷ 0 ∷ 0 ∷ []) ∷ (1 ∷ 200000007 ∷ 100 ∷ 126 ∷ 7 ∷ 1 ∷ 1271 ∷ 0 ∷ 0 ∷ []) ∷ ([]) ∷ (1120 ∷ []) ∷
+      (0 ∷ 0 ∷ 0 ∷ 0 ∷ []) ∷ (0 ∷ 1 ∷ 1721 ∷ 1 ∷ 200000007 ∷ 100 ∷ 0 ∷ []) ∷ ([]) ∷ (1125 ∷ []) ∷ (0 ∷ 0 ∷ 0 ∷ 0 ∷ []) ∷
+      (0 ∷ 1 ∷ 1721 ∷ 1 ∷ 200000007 ∷ 100 ∷ 0 ∷ []) ∷ ([]) ∷ (1130 ∷ []) ∷ (0 ∷ 0 ∷ 0 ∷ 0 ∷ []) ∷
+      (0 ∷ 0 ∷ 2 ∷ 200000007 ∷ 100 ∷ 1130 ∷ 0 ∷ []) ∷ ([]) ∷ (1135 ∷ []) ∷ (0 ∷ 0 ∷ 0 ∷ 0 ∷ []) ∷
+      (0 ∷ 0 ∷ 2 ∷ 200000007 ∷ 100 ∷ 1130 ∷ 0 ∷ []) ∷ ([]) ∷ (1140 ∷ []) ∷ (0 ∷ 0 ∷ 0 ∷ 0 ∷ []) ∷
+      (0 ∷ 0 ∷ 2 ∷ 200000007 ∷ 100 ∷ 1130 ∷ 1 ∷ 1591 ∷ []) ∷ ([]) ∷ (1591 ∷ []) ∷ (0 ∷ 0 ∷ 0 ∷ 0 ∷ []) ∷ (0 ∷ 0 ∷ 0 ∷ 0 ∷ []) ∷
+      ([]) ∷ (1610 ∷ []) ∷ (0 ∷ 0 ∷ 0 ∷ 0 ∷ []) ∷ (1 ∷ 200000009 ∷ 101 ∷ 126 ∷ 7 ∷ 1 ∷ 1771 ∷ 0 ∷ 0 ∷ []) ∷ ([]) ∷ (1620 ∷ []) ∷
+      (0 ∷ 0 ∷ 0 ∷ 0 ∷ []) ∷ (0 ∷ 1 ∷ 2221 ∷ 1 ∷ 200000009 ∷ 101 ∷ 0 ∷ []) ∷ ([]) ∷ (1630 ∷ []) ∷ (0 ∷ 0 ∷ 0 ∷ 0 ∷ []) ∷
+      (0 ∷ 1 ∷ 2221 ∷ 1 ∷ 200000009 ∷ 101 ∷ 1 ∷ 1681 ∷ []) ∷ ([]) ∷ (1640 ∷ []) ∷ (0 ∷ 0 ∷ 0 ∷ 0 ∷ []) ∷
+      (0 ∷ 1 ∷ 1681 ∷ 0 ∷ 0 ∷ []) ∷ ([]) ∷ (1681 ∷ []) ∷ (0 ∷ 0 ∷ 0 ∷ 0 ∷ []) ∷ (0 ∷ 0 ∷ 0 ∷ 0 ∷ []) ∷ ([]) ∷ [];
+}
+
+abbrev pub againWords : Row
+againWords = record {
+  computed = words 2 1 again;
+  expected = (0 ∷ []) ∷ (0 ∷ []) ∷ (1 ∷ []) ∷ (2 ∷ 120 ∷ []) ∷ (2 ∷ 120 ∷ []) ∷ (2 ∷ 120 ∷ []) ∷ (0 ∷ []) ∷ (0 ∷ []) ∷ (0 ∷ []) ∷
+      (1 ∷ []) ∷ (1 ∷ []) ∷ (0 ∷ []) ∷ (0 ∷ []) ∷ (1 ∷ []) ∷ (0 ∷ []) ∷ (0 ∷ []) ∷ (0 ∷ []) ∷ (0 ∷ []) ∷ (1 ∷ []) ∷
+      (2 ∷ 980 ∷ []) ∷ (2 ∷ 980 ∷ []) ∷ (2 ∷ 980 ∷ []) ∷ (0 ∷ []) ∷ (0 ∷ []) ∷ (1 ∷ []) ∷ (1 ∷ []) ∷ (2 ∷ 1130 ∷ []) ∷
+      (2 ∷ 1130 ∷ []) ∷ (2 ∷ 1130 ∷ []) ∷ (0 ∷ []) ∷ (0 ∷ []) ∷ (1 ∷ []) ∷ (1 ∷ []) ∷ (0 ∷ []) ∷ (0 ∷ []) ∷ [];
+}
+
+abbrev pub againTenths : Row
+againTenths = record {
+  computed = tenths 2 again ∷ [];
+  expected = (542 ∷ 542 ∷ 542 ∷ []) ∷ [];
+}
+
+abbrev pub againRun : Run
+againRun = record {
+  slots = 2;
+  events = again;
+  owing = paid 6 1 seven 120 140 2 ∷ paid 22 1 eight 980 1041 6 ∷ paid 29 1 seven 1130 1591 46 ∷ [];
+}
+
+-- ── inQueue ───────────────────────────────────────────────────────────────────
+
+-- the queue: joined, asked again, due in its order, rung back and let go; data; a request to another station
+abbrev pub inQueue : List Event
+inQueue =
+    on 50 0 takes ∷ calls 100 seven duplex ∷ calls 110 eight duplex ∷ calls 120 nine duplex ∷ calls 130 eight simplex ∷
+    at 140 (onChannel70 (sends seven 106 117 Blank usual)) ∷ ticks 9101 ∷ on 9105 0 givesBack ∷ ticks 9150 ∷ ticks 9160 ∷
+    ticks 9170 ∷ ticks 9211 ∷ ticks 9300 ∷ []
+
+abbrev pub inQueuePages : Row
+inQueuePages = record {
+  computed = pages 1 inQueue;
+  expected = (50 ∷ []) ∷ (0 ∷ 0 ∷ 0 ∷ 0 ∷ []) ∷ ([]) ∷ (100 ∷ []) ∷ (0 ∷ 0 ∷ 0 ∷ 0 ∷ []) ∷ (200000007 ∷ 9101 ∷ []) ∷ (110 ∷ []) ∷
+      (0 ∷ 0 ∷ 0 ∷ 0 ∷ []) ∷ (200000007 ∷ 9101 ∷ 200000008 ∷ 9111 ∷ []) ∷ (120 ∷ []) ∷ (0 ∷ 0 ∷ 0 ∷ 0 ∷ []) ∷
+      (200000007 ∷ 9101 ∷ 200000008 ∷ 9111 ∷ 200000009 ∷ 9121 ∷ []) ∷ (130 ∷ []) ∷ (0 ∷ 0 ∷ 0 ∷ 0 ∷ []) ∷
+      (200000007 ∷ 9101 ∷ 200000008 ∷ 9111 ∷ 200000009 ∷ 9121 ∷ []) ∷ (140 ∷ []) ∷ (0 ∷ 0 ∷ 0 ∷ 0 ∷ []) ∷
+      (200000007 ∷ 9101 ∷ 200000008 ∷ 9111 ∷ 200000009 ∷ 9121 ∷ []) ∷ (9101 ∷ []) ∷ (0 ∷ 0 ∷ 0 ∷ 0 ∷ []) ∷
+      (200000008 ∷ 9111 ∷ 200000009 ∷ 9121 ∷ []) ∷ (9105 ∷ []) ∷ (2 ∷ 200000008 ∷ 100 ∷ 126 ∷ 7 ∷ 1 ∷ 9156 ∷ 0 ∷ 0 ∷ []) ∷
+      (200000009 ∷ 9121 ∷ []) ∷ (9121 ∷ []) ∷ (2 ∷ 200000008 ∷ 100 ∷ 126 ∷ 7 ∷ 1 ∷ 9156 ∷ 0 ∷ 0 ∷ []) ∷ ([]) ∷ (9156 ∷ []) ∷
+      (2 ∷ 200000008 ∷ 100 ∷ 126 ∷ 7 ∷ 1 ∷ 9207 ∷ 0 ∷ 0 ∷ []) ∷ ([]) ∷ (9170 ∷ []) ∷
+      (2 ∷ 200000008 ∷ 100 ∷ 126 ∷ 7 ∷ 1 ∷ 9207 ∷ 0 ∷ 0 ∷ []) ∷ ([]) ∷ (9207 ∷ []) ∷ (0 ∷ 0 ∷ 0 ∷ 0 ∷ []) ∷ ([]) ∷ (9300 ∷ []) ∷
+      (0 ∷ 0 ∷ 0 ∷ 0 ∷ []) ∷ ([]) ∷ [];
+}
+
+abbrev pub inQueueWords : Row
+inQueueWords = record {
+  computed = words 1 0 inQueue;
+  expected = (0 ∷ []) ∷ (0 ∷ []) ∷ (0 ∷ []) ∷ (0 ∷ []) ∷ (0 ∷ []) ∷ (0 ∷ []) ∷ (0 ∷ []) ∷ (0 ∷ []) ∷ (0 ∷ []) ∷ (0 ∷ []) ∷ (0 ∷ []) ∷
+      (0 ∷ []) ∷ (0 ∷ []) ∷ [];
+}
+
+abbrev pub inQueueTenths : Row
+inQueueTenths = record {
+  computed = tenths 1 inQueue ∷ [];
+  expected = (0 ∷ 0 ∷ 0 ∷ []) ∷ [];
+}
+
+abbrev pub inQueueRun : Run
+inQueueRun = record {
+  slots = 1;
+  events = inQueue;
+  owing = [];
+}
+
+-- ── twoCalls ──────────────────────────────────────────────────────────────────
+
+-- two calls at once, both answered; the later one lost first
+abbrev pub twoCalls : List Event
+twoCalls =
+    calls 100 seven simplex ∷ calls 101 eight duplex ∷ works 110 0 seven ∷ works 120 1 eight ∷ on 130 0 offHook ∷
+    on 140 1 offHook ∷ on 150 0 carrierDown ∷ on 160 1 carrierDown ∷ calls 165 eight duplex ∷ ticks 300 ∷
+    calls 310 seven simplex ∷ on 320 0 onHook ∷ []
+
+abbrev pub twoCallsPages : Row
+twoCallsPages = record {
+  computed = pages 2 twoCalls;
+  expected = (100 ∷ []) ∷ (1 ∷ 200000007 ∷ 100 ∷ 126 ∷ 7 ∷ 1 ∷ 261 ∷ 0 ∷ 0 ∷ []) ∷ (0 ∷ 0 ∷ 0 ∷ 0 ∷ []) ∷ ([]) ∷ (101 ∷ []) ∷
+      (1 ∷ 200000007 ∷ 100 ∷ 126 ∷ 7 ∷ 1 ∷ 261 ∷ 0 ∷ 0 ∷ []) ∷ (1 ∷ 200000008 ∷ 101 ∷ 126 ∷ 7 ∷ 1 ∷ 262 ∷ 0 ∷ 0 ∷ []) ∷ ([]) ∷
+      (110 ∷ []) ∷ (0 ∷ 1 ∷ 711 ∷ 1 ∷ 200000007 ∷ 100 ∷ 0 ∷ []) ∷ (1 ∷ 200000008 ∷ 101 ∷ 126 ∷ 7 ∷ 1 ∷ 262 ∷ 0 ∷ 0 ∷ []) ∷ ([]) ∷
+      (120 ∷ []) ∷ (0 ∷ 1 ∷ 711 ∷ 1 ∷ 200000007 ∷ 100 ∷ 0 ∷ []) ∷ (0 ∷ 1 ∷ 721 ∷ 1 ∷ 200000008 ∷ 101 ∷ 0 ∷ []) ∷ ([]) ∷
+      (130 ∷ []) ∷ (0 ∷ 0 ∷ 2 ∷ 200000007 ∷ 100 ∷ 130 ∷ 0 ∷ []) ∷ (0 ∷ 1 ∷ 721 ∷ 1 ∷ 200000008 ∷ 101 ∷ 0 ∷ []) ∷ ([]) ∷
+      (140 ∷ []) ∷ (0 ∷ 0 ∷ 2 ∷ 200000007 ∷ 100 ∷ 130 ∷ 0 ∷ []) ∷ (0 ∷ 0 ∷ 2 ∷ 200000008 ∷ 101 ∷ 140 ∷ 0 ∷ []) ∷ ([]) ∷
+      (150 ∷ []) ∷ (0 ∷ 0 ∷ 2 ∷ 200000007 ∷ 100 ∷ 130 ∷ 1 ∷ 601 ∷ []) ∷ (0 ∷ 0 ∷ 2 ∷ 200000008 ∷ 101 ∷ 140 ∷ 0 ∷ []) ∷ ([]) ∷
+      (160 ∷ []) ∷ (0 ∷ 0 ∷ 2 ∷ 200000007 ∷ 100 ∷ 130 ∷ 1 ∷ 601 ∷ []) ∷ (0 ∷ 0 ∷ 2 ∷ 200000008 ∷ 101 ∷ 140 ∷ 1 ∷ 211 ∷ []) ∷
+      ([]) ∷ (165 ∷ []) ∷ (0 ∷ 0 ∷ 2 ∷ 200000007 ∷ 100 ∷ 130 ∷ 1 ∷ 601 ∷ []) ∷
+      (0 ∷ 0 ∷ 2 ∷ 200000008 ∷ 101 ∷ 140 ∷ 1 ∷ 211 ∷ []) ∷ ([]) ∷ (211 ∷ []) ∷
+      (0 ∷ 0 ∷ 2 ∷ 200000007 ∷ 100 ∷ 130 ∷ 1 ∷ 601 ∷ []) ∷ (0 ∷ 0 ∷ 0 ∷ 0 ∷ []) ∷ ([]) ∷ (310 ∷ []) ∷
+      (1 ∷ 200000007 ∷ 100 ∷ 126 ∷ 7 ∷ 1 ∷ 471 ∷ 0 ∷ 0 ∷ []) ∷ (0 ∷ 0 ∷ 0 ∷ 0 ∷ []) ∷ ([]) ∷ (320 ∷ []) ∷
+      (1 ∷ 200000007 ∷ 100 ∷ 126 ∷ 7 ∷ 1 ∷ 471 ∷ 0 ∷ 0 ∷ []) ∷ (0 ∷ 0 ∷ 0 ∷ 0 ∷ []) ∷ ([]) ∷ [];
+}
+
+abbrev pub twoCallsWords : Row
+twoCallsWords = record {
+  computed = words 2 1 twoCalls;
+  expected = (0 ∷ []) ∷ (0 ∷ []) ∷ (0 ∷ []) ∷ (1 ∷ []) ∷ (1 ∷ []) ∷ (2 ∷ 140 ∷ []) ∷ (2 ∷ 140 ∷ []) ∷ (2 ∷ 140 ∷ []) ∷ (2 ∷ 140 ∷ []) ∷
+      (0 ∷ []) ∷ (0 ∷ []) ∷ (0 ∷ []) ∷ [];
+}
+
+abbrev pub twoCallsTenths : Row
+twoCallsTenths = record {
+  computed = tenths 2 twoCalls ∷ [];
+  expected = (251 ∷ 251 ∷ 251 ∷ []) ∷ [];
+}
+
+abbrev pub twoCallsRun : Run
+twoCallsRun = record {
+  slots = 2;
+  events = twoCalls;
+  owing = paid 9 1 eight 140 211 7 ∷ paid 10 0 seven 130 310 18 ∷ [];
+}
+
+-- ── all of them ──────────────────────────────────────────────────────────────
+
+-- two calls that still talk are held, and counted
+abbrev pub talkingOn : Row
+talkingOn = record {
+  computed = tenths 2 (take 8 twoCalls) ∷ [];
+  expected = (50 ∷ 50 ∷ 50 ∷ []) ∷ [];
+}
+
+-- what the book says of a call, in the three words
+abbrev pub wordsOf : Row
+wordsOf = record {
+  computed = word (wordOf quiet) ∷ word (wordOf (dialled (record { ship = seven; station = 2001234 }) simplex)) ∷
+      word (wordOf (talking (record { ship = seven; station = 2001234 }) duplex 300)) ∷ [];
+  expected = (0 ∷ []) ∷ (1 ∷ []) ∷ (2 ∷ 300 ∷ []) ∷ [];
+}
+
+abbrev pub pageCases : List Row
+pageCases =
+    onSecondPages ∷ onSecondWords ∷ onSecondTenths ∷ againPages ∷ againWords ∷ againTenths ∷ inQueuePages ∷ inQueueWords ∷
+    inQueueTenths ∷ twoCallsPages ∷ twoCallsWords ∷ twoCallsTenths ∷ talkingOn ∷ wordsOf ∷ []
+
+abbrev pub pageRuns : List Run
+pageRuns = onSecondRun ∷ againRun ∷ inQueueRun ∷ twoCallsRun ∷ []
