@@ -1,17 +1,23 @@
 -- What the list alone tells after each entry: its book, its three words, its stops and its tenths.
 use mathlib.Core.List.{List, [], _∷_, _++_, map}
+use mathlib.Core.Bool.{Bool}
 use mathlib.Core.Option.{Option, none, some}
 use Prim.Native.Nat.{ℕ, _+_}
 use lib.ListN.{length, take}
+use Rattle.units.specs.declared.Told.the-variants.{Nothing}
 use Rattle.sequence.specs.declared.Field.the-variants.{Blank, Channel}
-use Rattle.rules.specs.Words.{simplex, duplex, modeNumber, Request, Config, offHook, onHook, carrierUp, carrierDown, takes, givesBack, onChannel70, Event}
-use Rattle.rules.specs.Book.{Note, Said, silent, toldBQ, toldRQ, settled, Call, quiet, dialled, talking, Line, Place, Book, blankBook}
-use Rattle.rules.specs.Reading.{turn, counted, countedByCalls}
-use Rattle.rules.specs.ThreeWords.{Word, idle, ringing, since, wordAfter, wordOf}
-use Rattle.rules.specs.Statement.{charged, runOf, stationAfter, listOf, tenthsIn, heldTenths}
+use Rattle.rules.specs.Words.{Party, simplex, duplex, modeNumber, Request, Config, offHook, onHook, carrierUp, carrierDown, takes, givesBack, onChannel70, onSlot, Event, Deed, carrierOn, carrierOff, acknowledge, ringBack, unable, dial, releaseLine}
+use Rattle.rules.specs.Actions.{theShip, Action, does, over, charge}
+use Rattle.rules.specs.Station.{offered, dialling, answered, free, taken, pending, busy, held}
+use Rattle.rules.specs.Book.{Note, Said, silent, toldBQ, toldRQ, settled, Call, quiet, dialled, talking, Line, Place, Book, blankBook, alike}
+use Rattle.rules.specs.Reading.{turn, numbered, counted, countedByCalls}
+use Rattle.rules.specs.ThreeWords.{Word, idle, ringing, since, wordHeard, wordsDone, wordAfter, wordOf}
+use Rattle.rules.specs.Statement.{deedsOf, chargesOf, charged, runOf, stationAfter, listOf, stopsOf, tenthsIn, heldTenths, eventsOf}
 use Rattle.rules.specs.Runs.{channel, station, seven, eight, nine, sends, at, usual, callsFor, calls, accepts, on, works, ends, ticks, paid, Run}
 use Rattle.rules.specs.Cases.{Row}
-use Rattle.rules.specs.BoundCases.{callsAs}
+use Rattle.rules.specs.Requests.{same}
+use Rattle.rules.specs.SoundCases.{asking, from}
+use Rattle.rules.specs.BoundCases.{told, callsAs}
 
 -- ── a book as numbers ────────────────────────────────────────────────────────
 
@@ -83,11 +89,12 @@ tenths n es =
 abbrev pub onSecond : List Event
 onSecond =
     on 50 0 takes ∷ callsAs 100 usual 100 seven duplex ∷ callsAs 100 usual 110 seven duplex ∷
-    callsFor (4 ∷ 2 ∷ []) 120 seven duplex ∷ works 130 1 seven ∷ on 140 1 carrierDown ∷ on 145 1 carrierDown ∷
-    on 150 1 carrierUp ∷ on 155 1 carrierDown ∷ on 160 1 offHook ∷ on 165 1 offHook ∷ on 170 1 carrierUp ∷
-    on 172 1 carrierDown ∷ on 173 1 carrierDown ∷ calls 180 eight duplex ∷ calls 190 nine simplex ∷ calls 195 eight simplex ∷
-    ends 196 1 eight ∷ ends 200 1 seven ∷ ends 210 1 seven ∷ ticks 241 ∷ ticks 292 ∷ accepts 299 27 nine ∷
-    accepts 300 27 eight ∷ accepts 301 27 eight ∷ works 310 1 eight ∷ on 320 1 onHook ∷ calls 330 nine simplex ∷ ticks 491 ∷ []
+    callsFor (4 ∷ 2 ∷ []) 120 seven duplex ∷ on 125 1 carrierUp ∷ accepts 126 27 seven ∷ on 127 1 offHook ∷ works 130 1 seven ∷
+    ends 135 1 eight ∷ on 140 1 carrierDown ∷ on 145 1 carrierDown ∷ on 150 1 carrierUp ∷ on 155 1 carrierDown ∷
+    on 160 1 offHook ∷ on 165 1 offHook ∷ works 168 1 seven ∷ on 170 1 carrierUp ∷ on 172 1 carrierDown ∷
+    on 173 1 carrierDown ∷ calls 180 eight duplex ∷ calls 190 nine simplex ∷ calls 195 eight simplex ∷ ends 196 1 eight ∷
+    ends 200 1 seven ∷ ends 210 1 seven ∷ ticks 241 ∷ ticks 292 ∷ accepts 299 27 nine ∷ accepts 300 27 eight ∷
+    accepts 301 27 eight ∷ works 310 1 eight ∷ on 320 1 onHook ∷ calls 330 nine simplex ∷ ticks 491 ∷ []
 
 abbrev pub onSecondPages : Row
 onSecondPages = record {
@@ -95,13 +102,18 @@ onSecondPages = record {
   expected = (50 ∷ []) ∷ (0 ∷ 0 ∷ 0 ∷ 0 ∷ []) ∷ (0 ∷ 0 ∷ 0 ∷ 0 ∷ []) ∷ ([]) ∷ (100 ∷ []) ∷ (0 ∷ 0 ∷ 0 ∷ 0 ∷ []) ∷
       (1 ∷ 200000007 ∷ 101 ∷ 100 ∷ 7 ∷ 1 ∷ 261 ∷ 0 ∷ 0 ∷ []) ∷ ([]) ∷ (110 ∷ []) ∷ (0 ∷ 0 ∷ 0 ∷ 0 ∷ []) ∷
       (1 ∷ 200000007 ∷ 101 ∷ 100 ∷ 7 ∷ 1 ∷ 261 ∷ 0 ∷ 0 ∷ []) ∷ ([]) ∷ (120 ∷ []) ∷ (0 ∷ 0 ∷ 0 ∷ 0 ∷ []) ∷
+      (1 ∷ 200000007 ∷ 101 ∷ 126 ∷ 2 ∷ 1 ∷ 281 ∷ 0 ∷ 0 ∷ []) ∷ ([]) ∷ (125 ∷ []) ∷ (0 ∷ 0 ∷ 0 ∷ 0 ∷ []) ∷
+      (1 ∷ 200000007 ∷ 101 ∷ 126 ∷ 2 ∷ 1 ∷ 281 ∷ 0 ∷ 0 ∷ []) ∷ ([]) ∷ (126 ∷ []) ∷ (0 ∷ 0 ∷ 0 ∷ 0 ∷ []) ∷
+      (1 ∷ 200000007 ∷ 101 ∷ 126 ∷ 2 ∷ 1 ∷ 281 ∷ 0 ∷ 0 ∷ []) ∷ ([]) ∷ (127 ∷ []) ∷ (0 ∷ 0 ∷ 0 ∷ 0 ∷ []) ∷
       (1 ∷ 200000007 ∷ 101 ∷ 126 ∷ 2 ∷ 1 ∷ 281 ∷ 0 ∷ 0 ∷ []) ∷ ([]) ∷ (130 ∷ []) ∷ (0 ∷ 0 ∷ 0 ∷ 0 ∷ []) ∷
+      (0 ∷ 1 ∷ 731 ∷ 1 ∷ 200000007 ∷ 101 ∷ 0 ∷ []) ∷ ([]) ∷ (135 ∷ []) ∷ (0 ∷ 0 ∷ 0 ∷ 0 ∷ []) ∷
       (0 ∷ 1 ∷ 731 ∷ 1 ∷ 200000007 ∷ 101 ∷ 0 ∷ []) ∷ ([]) ∷ (140 ∷ []) ∷ (0 ∷ 0 ∷ 0 ∷ 0 ∷ []) ∷
       (0 ∷ 1 ∷ 731 ∷ 1 ∷ 200000007 ∷ 101 ∷ 1 ∷ 191 ∷ []) ∷ ([]) ∷ (145 ∷ []) ∷ (0 ∷ 0 ∷ 0 ∷ 0 ∷ []) ∷
       (0 ∷ 1 ∷ 731 ∷ 1 ∷ 200000007 ∷ 101 ∷ 1 ∷ 191 ∷ []) ∷ ([]) ∷ (150 ∷ []) ∷ (0 ∷ 0 ∷ 0 ∷ 0 ∷ []) ∷
       (0 ∷ 1 ∷ 731 ∷ 1 ∷ 200000007 ∷ 101 ∷ 0 ∷ []) ∷ ([]) ∷ (155 ∷ []) ∷ (0 ∷ 0 ∷ 0 ∷ 0 ∷ []) ∷
       (0 ∷ 1 ∷ 731 ∷ 1 ∷ 200000007 ∷ 101 ∷ 1 ∷ 206 ∷ []) ∷ ([]) ∷ (160 ∷ []) ∷ (0 ∷ 0 ∷ 0 ∷ 0 ∷ []) ∷
       (0 ∷ 0 ∷ 2 ∷ 200000007 ∷ 101 ∷ 160 ∷ 1 ∷ 206 ∷ []) ∷ ([]) ∷ (165 ∷ []) ∷ (0 ∷ 0 ∷ 0 ∷ 0 ∷ []) ∷
+      (0 ∷ 0 ∷ 2 ∷ 200000007 ∷ 101 ∷ 160 ∷ 1 ∷ 206 ∷ []) ∷ ([]) ∷ (168 ∷ []) ∷ (0 ∷ 0 ∷ 0 ∷ 0 ∷ []) ∷
       (0 ∷ 0 ∷ 2 ∷ 200000007 ∷ 101 ∷ 160 ∷ 1 ∷ 206 ∷ []) ∷ ([]) ∷ (170 ∷ []) ∷ (0 ∷ 0 ∷ 0 ∷ 0 ∷ []) ∷
       (0 ∷ 0 ∷ 2 ∷ 200000007 ∷ 101 ∷ 160 ∷ 0 ∷ []) ∷ ([]) ∷ (172 ∷ []) ∷ (0 ∷ 0 ∷ 0 ∷ 0 ∷ []) ∷
       (0 ∷ 0 ∷ 2 ∷ 200000007 ∷ 101 ∷ 160 ∷ 1 ∷ 223 ∷ []) ∷ ([]) ∷ (173 ∷ []) ∷ (0 ∷ 0 ∷ 0 ∷ 0 ∷ []) ∷
@@ -127,10 +139,10 @@ onSecondPages = record {
 abbrev pub onSecondWords : Row
 onSecondWords = record {
   computed = words 2 1 onSecond;
-  expected = (0 ∷ []) ∷ (0 ∷ []) ∷ (0 ∷ []) ∷ (0 ∷ []) ∷ (1 ∷ []) ∷ (1 ∷ []) ∷ (1 ∷ []) ∷ (1 ∷ []) ∷ (1 ∷ []) ∷ (2 ∷ 160 ∷ []) ∷
-      (2 ∷ 160 ∷ []) ∷ (2 ∷ 160 ∷ []) ∷ (2 ∷ 160 ∷ []) ∷ (2 ∷ 160 ∷ []) ∷ (2 ∷ 160 ∷ []) ∷ (2 ∷ 160 ∷ []) ∷ (2 ∷ 160 ∷ []) ∷
-      (2 ∷ 160 ∷ []) ∷ (0 ∷ []) ∷ (0 ∷ []) ∷ (0 ∷ []) ∷ (0 ∷ []) ∷ (0 ∷ []) ∷ (0 ∷ []) ∷ (0 ∷ []) ∷ (1 ∷ []) ∷ (0 ∷ []) ∷
-      (0 ∷ []) ∷ (0 ∷ []) ∷ [];
+  expected = (0 ∷ []) ∷ (0 ∷ []) ∷ (0 ∷ []) ∷ (0 ∷ []) ∷ (0 ∷ []) ∷ (0 ∷ []) ∷ (0 ∷ []) ∷ (1 ∷ []) ∷ (1 ∷ []) ∷ (1 ∷ []) ∷ (1 ∷ []) ∷
+      (1 ∷ []) ∷ (1 ∷ []) ∷ (2 ∷ 160 ∷ []) ∷ (2 ∷ 160 ∷ []) ∷ (2 ∷ 160 ∷ []) ∷ (2 ∷ 160 ∷ []) ∷ (2 ∷ 160 ∷ []) ∷ (2 ∷ 160 ∷ []) ∷
+      (2 ∷ 160 ∷ []) ∷ (2 ∷ 160 ∷ []) ∷ (2 ∷ 160 ∷ []) ∷ (2 ∷ 160 ∷ []) ∷ (0 ∷ []) ∷ (0 ∷ []) ∷ (0 ∷ []) ∷ (0 ∷ []) ∷ (0 ∷ []) ∷
+      (0 ∷ []) ∷ (0 ∷ []) ∷ (1 ∷ []) ∷ (0 ∷ []) ∷ (0 ∷ []) ∷ (0 ∷ []) ∷ [];
 }
 
 abbrev pub onSecondTenths : Row
@@ -143,7 +155,7 @@ abbrev pub onSecondRun : Run
 onSecondRun = record {
   slots = 2;
   events = onSecond;
-  owing = paid 18 1 seven 160 200 4 ∷ [];
+  owing = paid 23 1 seven 160 200 4 ∷ [];
 }
 
 -- ── again ─────────────────────────────────────────────────────────────────────
@@ -223,17 +235,17 @@ againRun = record {
 -- the queue: joined, asked again, due in its order, rung back and let go; data; a request to another station
 abbrev pub inQueue : List Event
 inQueue =
-    on 50 0 takes ∷ calls 100 seven duplex ∷ calls 110 eight duplex ∷ calls 120 nine duplex ∷ calls 130 eight simplex ∷
-    at 140 (onChannel70 (sends seven 106 117 Blank usual)) ∷ ticks 9101 ∷ on 9105 0 givesBack ∷ ticks 9150 ∷ ticks 9160 ∷
-    ticks 9170 ∷ ticks 9211 ∷ ticks 9300 ∷ []
+    on 50 0 takes ∷ calls 100 seven duplex ∷ calls 110 eight duplex ∷ at 115 (onChannel70 (sends nine 106 117 Blank usual)) ∷
+    calls 120 nine duplex ∷ calls 130 eight simplex ∷ ticks 9101 ∷ on 9105 0 givesBack ∷ ticks 9150 ∷ ticks 9160 ∷ ticks 9170 ∷
+    ticks 9211 ∷ ticks 9300 ∷ []
 
 abbrev pub inQueuePages : Row
 inQueuePages = record {
   computed = pages 1 inQueue;
   expected = (50 ∷ []) ∷ (0 ∷ 0 ∷ 0 ∷ 0 ∷ []) ∷ ([]) ∷ (100 ∷ []) ∷ (0 ∷ 0 ∷ 0 ∷ 0 ∷ []) ∷ (200000007 ∷ 9101 ∷ []) ∷ (110 ∷ []) ∷
-      (0 ∷ 0 ∷ 0 ∷ 0 ∷ []) ∷ (200000007 ∷ 9101 ∷ 200000008 ∷ 9111 ∷ []) ∷ (120 ∷ []) ∷ (0 ∷ 0 ∷ 0 ∷ 0 ∷ []) ∷
+      (0 ∷ 0 ∷ 0 ∷ 0 ∷ []) ∷ (200000007 ∷ 9101 ∷ 200000008 ∷ 9111 ∷ []) ∷ (115 ∷ []) ∷ (0 ∷ 0 ∷ 0 ∷ 0 ∷ []) ∷
+      (200000007 ∷ 9101 ∷ 200000008 ∷ 9111 ∷ []) ∷ (120 ∷ []) ∷ (0 ∷ 0 ∷ 0 ∷ 0 ∷ []) ∷
       (200000007 ∷ 9101 ∷ 200000008 ∷ 9111 ∷ 200000009 ∷ 9121 ∷ []) ∷ (130 ∷ []) ∷ (0 ∷ 0 ∷ 0 ∷ 0 ∷ []) ∷
-      (200000007 ∷ 9101 ∷ 200000008 ∷ 9111 ∷ 200000009 ∷ 9121 ∷ []) ∷ (140 ∷ []) ∷ (0 ∷ 0 ∷ 0 ∷ 0 ∷ []) ∷
       (200000007 ∷ 9101 ∷ 200000008 ∷ 9111 ∷ 200000009 ∷ 9121 ∷ []) ∷ (9101 ∷ []) ∷ (0 ∷ 0 ∷ 0 ∷ 0 ∷ []) ∷
       (200000008 ∷ 9111 ∷ 200000009 ∷ 9121 ∷ []) ∷ (9105 ∷ []) ∷ (2 ∷ 200000008 ∷ 100 ∷ 126 ∷ 7 ∷ 1 ∷ 9156 ∷ 0 ∷ 0 ∷ []) ∷
       (200000009 ∷ 9121 ∷ []) ∷ (9121 ∷ []) ∷ (2 ∷ 200000008 ∷ 100 ∷ 126 ∷ 7 ∷ 1 ∷ 9156 ∷ 0 ∷ 0 ∷ []) ∷ ([]) ∷ (9156 ∷ []) ∷
@@ -264,12 +276,12 @@ inQueueRun = record {
 
 -- ── twoCalls ──────────────────────────────────────────────────────────────────
 
--- two calls at once, both answered; the later one lost first
+-- two calls at once, both answered; the later one lost, and begun again; then both hung up
 abbrev pub twoCalls : List Event
 twoCalls =
     calls 100 seven simplex ∷ calls 101 eight duplex ∷ works 110 0 seven ∷ works 120 1 eight ∷ on 130 0 offHook ∷
     on 140 1 offHook ∷ on 150 0 carrierDown ∷ on 160 1 carrierDown ∷ calls 165 eight duplex ∷ ticks 300 ∷
-    calls 310 seven simplex ∷ on 320 0 onHook ∷ []
+    calls 310 eight duplex ∷ works 320 1 eight ∷ on 330 1 offHook ∷ on 340 0 onHook ∷ on 350 1 onHook ∷ []
 
 abbrev pub twoCallsPages : Row
 twoCallsPages = record {
@@ -285,29 +297,113 @@ twoCallsPages = record {
       ([]) ∷ (165 ∷ []) ∷ (0 ∷ 0 ∷ 2 ∷ 200000007 ∷ 100 ∷ 130 ∷ 1 ∷ 601 ∷ []) ∷
       (0 ∷ 0 ∷ 2 ∷ 200000008 ∷ 101 ∷ 140 ∷ 1 ∷ 211 ∷ []) ∷ ([]) ∷ (211 ∷ []) ∷
       (0 ∷ 0 ∷ 2 ∷ 200000007 ∷ 100 ∷ 130 ∷ 1 ∷ 601 ∷ []) ∷ (0 ∷ 0 ∷ 0 ∷ 0 ∷ []) ∷ ([]) ∷ (310 ∷ []) ∷
-      (1 ∷ 200000007 ∷ 100 ∷ 126 ∷ 7 ∷ 1 ∷ 471 ∷ 0 ∷ 0 ∷ []) ∷ (0 ∷ 0 ∷ 0 ∷ 0 ∷ []) ∷ ([]) ∷ (320 ∷ []) ∷
-      (1 ∷ 200000007 ∷ 100 ∷ 126 ∷ 7 ∷ 1 ∷ 471 ∷ 0 ∷ 0 ∷ []) ∷ (0 ∷ 0 ∷ 0 ∷ 0 ∷ []) ∷ ([]) ∷ [];
+      (0 ∷ 0 ∷ 2 ∷ 200000007 ∷ 100 ∷ 130 ∷ 1 ∷ 601 ∷ []) ∷ (1 ∷ 200000008 ∷ 101 ∷ 126 ∷ 7 ∷ 1 ∷ 471 ∷ 0 ∷ 0 ∷ []) ∷ ([]) ∷
+      (320 ∷ []) ∷ (0 ∷ 0 ∷ 2 ∷ 200000007 ∷ 100 ∷ 130 ∷ 1 ∷ 601 ∷ []) ∷ (0 ∷ 1 ∷ 921 ∷ 1 ∷ 200000008 ∷ 101 ∷ 0 ∷ []) ∷ ([]) ∷
+      (330 ∷ []) ∷ (0 ∷ 0 ∷ 2 ∷ 200000007 ∷ 100 ∷ 130 ∷ 1 ∷ 601 ∷ []) ∷ (0 ∷ 0 ∷ 2 ∷ 200000008 ∷ 101 ∷ 330 ∷ 0 ∷ []) ∷ ([]) ∷
+      (340 ∷ []) ∷ (0 ∷ 0 ∷ 0 ∷ 0 ∷ []) ∷ (0 ∷ 0 ∷ 2 ∷ 200000008 ∷ 101 ∷ 330 ∷ 0 ∷ []) ∷ ([]) ∷ (350 ∷ []) ∷
+      (0 ∷ 0 ∷ 0 ∷ 0 ∷ []) ∷ (0 ∷ 0 ∷ 0 ∷ 0 ∷ []) ∷ ([]) ∷ [];
 }
 
 abbrev pub twoCallsWords : Row
 twoCallsWords = record {
   computed = words 2 1 twoCalls;
   expected = (0 ∷ []) ∷ (0 ∷ []) ∷ (0 ∷ []) ∷ (1 ∷ []) ∷ (1 ∷ []) ∷ (2 ∷ 140 ∷ []) ∷ (2 ∷ 140 ∷ []) ∷ (2 ∷ 140 ∷ []) ∷ (2 ∷ 140 ∷ []) ∷
-      (0 ∷ []) ∷ (0 ∷ []) ∷ (0 ∷ []) ∷ [];
+      (0 ∷ []) ∷ (0 ∷ []) ∷ (1 ∷ []) ∷ (2 ∷ 330 ∷ []) ∷ (2 ∷ 330 ∷ []) ∷ (0 ∷ []) ∷ [];
+}
+
+abbrev pub twoCallsWordsOfFirst : Row
+twoCallsWordsOfFirst = record {
+  computed = words 2 0 twoCalls;
+  expected = (0 ∷ []) ∷ (0 ∷ []) ∷ (1 ∷ []) ∷ (1 ∷ []) ∷ (2 ∷ 130 ∷ []) ∷ (2 ∷ 130 ∷ []) ∷ (2 ∷ 130 ∷ []) ∷ (2 ∷ 130 ∷ []) ∷
+      (2 ∷ 130 ∷ []) ∷ (2 ∷ 130 ∷ []) ∷ (2 ∷ 130 ∷ []) ∷ (2 ∷ 130 ∷ []) ∷ (2 ∷ 130 ∷ []) ∷ (0 ∷ []) ∷ (0 ∷ []) ∷ [];
 }
 
 abbrev pub twoCallsTenths : Row
 twoCallsTenths = record {
   computed = tenths 2 twoCalls ∷ [];
-  expected = (251 ∷ 251 ∷ 251 ∷ []) ∷ [];
+  expected = (301 ∷ 301 ∷ 301 ∷ []) ∷ [];
 }
 
 abbrev pub twoCallsRun : Run
 twoCallsRun = record {
   slots = 2;
   events = twoCalls;
-  owing = paid 9 1 eight 140 211 7 ∷ paid 10 0 seven 130 310 18 ∷ [];
+  owing = paid 9 1 eight 140 211 7 ∷ paid 13 0 seven 130 340 21 ∷ paid 14 1 eight 330 350 2 ∷ [];
 }
+
+-- ── onThird ───────────────────────────────────────────────────────────────────
+
+-- the third slot: in simplex ended by its ship while dialling, by rule c, by on-hook; hung up, silent and without a reply while
+-- dialling
+abbrev pub onThird : List Event
+onThird =
+    on 50 0 takes ∷ on 51 1 takes ∷ calls 100 seven simplex ∷ works 110 2 seven ∷ ends 120 2 seven ∷ ticks 161 ∷
+    calls 170 seven simplex ∷ works 180 2 seven ∷ on 190 2 offHook ∷ on 200 2 carrierDown ∷ calls 210 seven simplex ∷
+    works 220 2 seven ∷ on 230 2 offHook ∷ on 250 2 onHook ∷ calls 260 eight duplex ∷ works 270 2 eight ∷
+    on 275 2 carrierDown ∷ on 280 2 onHook ∷ calls 290 eight duplex ∷ works 300 2 eight ∷ on 310 2 carrierDown ∷ ticks 361 ∷
+    calls 370 nine simplex ∷ works 380 2 nine ∷ on 900 2 carrierDown ∷ ticks 981 ∷ calls 990 nine simplex ∷ works 995 2 nine ∷
+    on 1000 2 onHook ∷ ticks 1010 ∷ []
+
+abbrev pub onThirdPages : Row
+onThirdPages = record {
+  computed = pages 3 onThird;
+  expected = (50 ∷ []) ∷ (0 ∷ 0 ∷ 0 ∷ 0 ∷ []) ∷ (0 ∷ 0 ∷ 0 ∷ 0 ∷ []) ∷ (0 ∷ 0 ∷ 0 ∷ 0 ∷ []) ∷ ([]) ∷ (51 ∷ []) ∷ (0 ∷ 0 ∷ 0 ∷ 0 ∷ []) ∷
+      (0 ∷ 0 ∷ 0 ∷ 0 ∷ []) ∷ (0 ∷ 0 ∷ 0 ∷ 0 ∷ []) ∷ ([]) ∷ (100 ∷ []) ∷ (0 ∷ 0 ∷ 0 ∷ 0 ∷ []) ∷ (0 ∷ 0 ∷ 0 ∷ 0 ∷ []) ∷
+      (1 ∷ 200000007 ∷ 100 ∷ 126 ∷ 7 ∷ 1 ∷ 261 ∷ 0 ∷ 0 ∷ []) ∷ ([]) ∷ (110 ∷ []) ∷ (0 ∷ 0 ∷ 0 ∷ 0 ∷ []) ∷ (0 ∷ 0 ∷ 0 ∷ 0 ∷ []) ∷
+      (0 ∷ 1 ∷ 711 ∷ 1 ∷ 200000007 ∷ 100 ∷ 0 ∷ []) ∷ ([]) ∷ (120 ∷ []) ∷ (0 ∷ 0 ∷ 0 ∷ 0 ∷ []) ∷ (0 ∷ 0 ∷ 0 ∷ 0 ∷ []) ∷
+      (0 ∷ 1 ∷ 161 ∷ 0 ∷ 0 ∷ []) ∷ ([]) ∷ (161 ∷ []) ∷ (0 ∷ 0 ∷ 0 ∷ 0 ∷ []) ∷ (0 ∷ 0 ∷ 0 ∷ 0 ∷ []) ∷ (0 ∷ 0 ∷ 0 ∷ 0 ∷ []) ∷
+      ([]) ∷ (170 ∷ []) ∷ (0 ∷ 0 ∷ 0 ∷ 0 ∷ []) ∷ (0 ∷ 0 ∷ 0 ∷ 0 ∷ []) ∷ (1 ∷ 200000007 ∷ 100 ∷ 126 ∷ 7 ∷ 1 ∷ 331 ∷ 0 ∷ 0 ∷ []) ∷
+      ([]) ∷ (180 ∷ []) ∷ (0 ∷ 0 ∷ 0 ∷ 0 ∷ []) ∷ (0 ∷ 0 ∷ 0 ∷ 0 ∷ []) ∷ (0 ∷ 1 ∷ 781 ∷ 1 ∷ 200000007 ∷ 100 ∷ 0 ∷ []) ∷ ([]) ∷
+      (190 ∷ []) ∷ (0 ∷ 0 ∷ 0 ∷ 0 ∷ []) ∷ (0 ∷ 0 ∷ 0 ∷ 0 ∷ []) ∷ (0 ∷ 0 ∷ 2 ∷ 200000007 ∷ 100 ∷ 190 ∷ 0 ∷ []) ∷ ([]) ∷
+      (200 ∷ []) ∷ (0 ∷ 0 ∷ 0 ∷ 0 ∷ []) ∷ (0 ∷ 0 ∷ 0 ∷ 0 ∷ []) ∷ (0 ∷ 0 ∷ 2 ∷ 200000007 ∷ 100 ∷ 190 ∷ 1 ∷ 651 ∷ []) ∷ ([]) ∷
+      (210 ∷ []) ∷ (0 ∷ 0 ∷ 0 ∷ 0 ∷ []) ∷ (0 ∷ 0 ∷ 0 ∷ 0 ∷ []) ∷ (1 ∷ 200000007 ∷ 100 ∷ 126 ∷ 7 ∷ 1 ∷ 371 ∷ 0 ∷ 0 ∷ []) ∷ ([]) ∷
+      (220 ∷ []) ∷ (0 ∷ 0 ∷ 0 ∷ 0 ∷ []) ∷ (0 ∷ 0 ∷ 0 ∷ 0 ∷ []) ∷ (0 ∷ 1 ∷ 821 ∷ 1 ∷ 200000007 ∷ 100 ∷ 0 ∷ []) ∷ ([]) ∷
+      (230 ∷ []) ∷ (0 ∷ 0 ∷ 0 ∷ 0 ∷ []) ∷ (0 ∷ 0 ∷ 0 ∷ 0 ∷ []) ∷ (0 ∷ 0 ∷ 2 ∷ 200000007 ∷ 100 ∷ 230 ∷ 0 ∷ []) ∷ ([]) ∷
+      (250 ∷ []) ∷ (0 ∷ 0 ∷ 0 ∷ 0 ∷ []) ∷ (0 ∷ 0 ∷ 0 ∷ 0 ∷ []) ∷ (0 ∷ 0 ∷ 0 ∷ 0 ∷ []) ∷ ([]) ∷ (260 ∷ []) ∷
+      (0 ∷ 0 ∷ 0 ∷ 0 ∷ []) ∷ (0 ∷ 0 ∷ 0 ∷ 0 ∷ []) ∷ (1 ∷ 200000008 ∷ 101 ∷ 126 ∷ 7 ∷ 1 ∷ 421 ∷ 0 ∷ 0 ∷ []) ∷ ([]) ∷ (270 ∷ []) ∷
+      (0 ∷ 0 ∷ 0 ∷ 0 ∷ []) ∷ (0 ∷ 0 ∷ 0 ∷ 0 ∷ []) ∷ (0 ∷ 1 ∷ 871 ∷ 1 ∷ 200000008 ∷ 101 ∷ 0 ∷ []) ∷ ([]) ∷ (275 ∷ []) ∷
+      (0 ∷ 0 ∷ 0 ∷ 0 ∷ []) ∷ (0 ∷ 0 ∷ 0 ∷ 0 ∷ []) ∷ (0 ∷ 1 ∷ 871 ∷ 1 ∷ 200000008 ∷ 101 ∷ 1 ∷ 326 ∷ []) ∷ ([]) ∷ (280 ∷ []) ∷
+      (0 ∷ 0 ∷ 0 ∷ 0 ∷ []) ∷ (0 ∷ 0 ∷ 0 ∷ 0 ∷ []) ∷ (0 ∷ 0 ∷ 0 ∷ 0 ∷ []) ∷ ([]) ∷ (290 ∷ []) ∷ (0 ∷ 0 ∷ 0 ∷ 0 ∷ []) ∷
+      (0 ∷ 0 ∷ 0 ∷ 0 ∷ []) ∷ (1 ∷ 200000008 ∷ 101 ∷ 126 ∷ 7 ∷ 1 ∷ 451 ∷ 0 ∷ 0 ∷ []) ∷ ([]) ∷ (300 ∷ []) ∷ (0 ∷ 0 ∷ 0 ∷ 0 ∷ []) ∷
+      (0 ∷ 0 ∷ 0 ∷ 0 ∷ []) ∷ (0 ∷ 1 ∷ 901 ∷ 1 ∷ 200000008 ∷ 101 ∷ 0 ∷ []) ∷ ([]) ∷ (310 ∷ []) ∷ (0 ∷ 0 ∷ 0 ∷ 0 ∷ []) ∷
+      (0 ∷ 0 ∷ 0 ∷ 0 ∷ []) ∷ (0 ∷ 1 ∷ 901 ∷ 1 ∷ 200000008 ∷ 101 ∷ 1 ∷ 361 ∷ []) ∷ ([]) ∷ (361 ∷ []) ∷ (0 ∷ 0 ∷ 0 ∷ 0 ∷ []) ∷
+      (0 ∷ 0 ∷ 0 ∷ 0 ∷ []) ∷ (0 ∷ 0 ∷ 0 ∷ 0 ∷ []) ∷ ([]) ∷ (370 ∷ []) ∷ (0 ∷ 0 ∷ 0 ∷ 0 ∷ []) ∷ (0 ∷ 0 ∷ 0 ∷ 0 ∷ []) ∷
+      (1 ∷ 200000009 ∷ 100 ∷ 126 ∷ 7 ∷ 1 ∷ 531 ∷ 0 ∷ 0 ∷ []) ∷ ([]) ∷ (380 ∷ []) ∷ (0 ∷ 0 ∷ 0 ∷ 0 ∷ []) ∷ (0 ∷ 0 ∷ 0 ∷ 0 ∷ []) ∷
+      (0 ∷ 1 ∷ 981 ∷ 1 ∷ 200000009 ∷ 100 ∷ 0 ∷ []) ∷ ([]) ∷ (900 ∷ []) ∷ (0 ∷ 0 ∷ 0 ∷ 0 ∷ []) ∷ (0 ∷ 0 ∷ 0 ∷ 0 ∷ []) ∷
+      (0 ∷ 1 ∷ 981 ∷ 1 ∷ 200000009 ∷ 100 ∷ 1 ∷ 1351 ∷ []) ∷ ([]) ∷ (981 ∷ []) ∷ (0 ∷ 0 ∷ 0 ∷ 0 ∷ []) ∷ (0 ∷ 0 ∷ 0 ∷ 0 ∷ []) ∷
+      (0 ∷ 0 ∷ 0 ∷ 0 ∷ []) ∷ ([]) ∷ (990 ∷ []) ∷ (0 ∷ 0 ∷ 0 ∷ 0 ∷ []) ∷ (0 ∷ 0 ∷ 0 ∷ 0 ∷ []) ∷
+      (1 ∷ 200000009 ∷ 100 ∷ 126 ∷ 7 ∷ 1 ∷ 1151 ∷ 0 ∷ 0 ∷ []) ∷ ([]) ∷ (995 ∷ []) ∷ (0 ∷ 0 ∷ 0 ∷ 0 ∷ []) ∷ (0 ∷ 0 ∷ 0 ∷ 0 ∷ []) ∷
+      (0 ∷ 1 ∷ 1596 ∷ 1 ∷ 200000009 ∷ 100 ∷ 0 ∷ []) ∷ ([]) ∷ (1000 ∷ []) ∷ (0 ∷ 0 ∷ 0 ∷ 0 ∷ []) ∷ (0 ∷ 0 ∷ 0 ∷ 0 ∷ []) ∷
+      (0 ∷ 0 ∷ 0 ∷ 0 ∷ []) ∷ ([]) ∷ (1010 ∷ []) ∷ (0 ∷ 0 ∷ 0 ∷ 0 ∷ []) ∷ (0 ∷ 0 ∷ 0 ∷ 0 ∷ []) ∷ (0 ∷ 0 ∷ 0 ∷ 0 ∷ []) ∷ ([]) ∷ [];
+}
+
+abbrev pub onThirdWords : Row
+onThirdWords = record {
+  computed = words 3 2 onThird;
+  expected = (0 ∷ []) ∷ (0 ∷ []) ∷ (0 ∷ []) ∷ (1 ∷ []) ∷ (0 ∷ []) ∷ (0 ∷ []) ∷ (0 ∷ []) ∷ (1 ∷ []) ∷ (2 ∷ 190 ∷ []) ∷ (2 ∷ 190 ∷ []) ∷
+      (0 ∷ []) ∷ (1 ∷ []) ∷ (2 ∷ 230 ∷ []) ∷ (0 ∷ []) ∷ (0 ∷ []) ∷ (1 ∷ []) ∷ (1 ∷ []) ∷ (0 ∷ []) ∷ (0 ∷ []) ∷ (1 ∷ []) ∷
+      (1 ∷ []) ∷ (0 ∷ []) ∷ (0 ∷ []) ∷ (1 ∷ []) ∷ (1 ∷ []) ∷ (0 ∷ []) ∷ (0 ∷ []) ∷ (1 ∷ []) ∷ (0 ∷ []) ∷ (0 ∷ []) ∷ [];
+}
+
+abbrev pub onThirdTenths : Row
+onThirdTenths = record {
+  computed = tenths 3 onThird ∷ [];
+  expected = (40 ∷ 40 ∷ 40 ∷ []) ∷ [];
+}
+
+abbrev pub onThirdRun : Run
+onThirdRun = record {
+  slots = 3;
+  events = onThird;
+  owing = paid 10 2 seven 190 210 2 ∷ paid 13 2 seven 230 250 2 ∷ [];
+}
+
+-- a duplex request of seven for a number
+abbrev pub calling : List ℕ → Request
+calling digits = asking seven 2001234 duplex 126 digits
+
+abbrev pub party : Party
+party = record { ship = seven; station = 2001234 }
 
 -- ── all of them ──────────────────────────────────────────────────────────────
 
@@ -321,15 +417,138 @@ talkingOn = record {
 -- what the book says of a call, in the three words
 abbrev pub wordsOf : Row
 wordsOf = record {
-  computed = word (wordOf quiet) ∷ word (wordOf (dialled (record { ship = seven; station = 2001234 }) simplex)) ∷
-      word (wordOf (talking (record { ship = seven; station = 2001234 }) duplex 300)) ∷ [];
-  expected = (0 ∷ []) ∷ (1 ∷ []) ∷ (2 ∷ 300 ∷ []) ∷ [];
+  computed = word (wordOf quiet) ∷ word (wordOf (dialled party simplex)) ∷ word (wordOf (dialled party duplex)) ∷
+      word (wordOf (talking party simplex 300)) ∷ word (wordOf (talking party duplex 300)) ∷ [];
+  expected = (0 ∷ []) ∷ (1 ∷ []) ∷ (1 ∷ []) ∷ (2 ∷ 300 ∷ []) ∷ (2 ∷ 300 ∷ []) ∷ [];
+}
+
+-- before the first entry
+abbrev pub blankPage : Row
+blankPage = record {
+  computed = page (blankBook (station 2));
+  expected = (0 ∷ []) ∷ (0 ∷ 0 ∷ 0 ∷ 0 ∷ []) ∷ (0 ∷ 0 ∷ 0 ∷ 0 ∷ []) ∷ [] ∷ [];
+}
+
+-- calls that are only dialled are neither held nor counted
+abbrev pub dialledOnly : Row
+dialledOnly = record {
+  computed = tenths 2 (take 4 twoCalls) ∷ [];
+  expected = (0 ∷ 0 ∷ 0 ∷ []) ∷ [];
+}
+
+-- of a station the answered calls alone are held, whatever stands before them
+abbrev pub heldShown : Row
+heldShown = record {
+  computed = (heldTenths (record {
+    clock = 1000;
+    slots = free ∷ taken ∷ pending offered (from seven duplex) 1161 ∷
+        held (from seven duplex) Nothing 1041 ∷ busy (from eight duplex) (dialling 1601) none ∷
+        busy (from nine duplex) (answered 900) none ∷ busy (from seven duplex) (answered 950) (some 1051) ∷ [];
+    queue = [];
+  }) ∷ []) ∷ [];
+  expected = (150 ∷ []) ∷ [];
+}
+
+-- each stop with the number of its entry; two of one entry with the same
+abbrev pub stopsNumbered : Row
+stopsNumbered = record {
+  computed = map (λ s. s .entry) (stopsOf (station 2) twoCalls) ∷ map (λ s. s .entry) (numbered 1 (seven ∷ eight ∷ []) []) ∷ [];
+  expected = (9 ∷ 13 ∷ 14 ∷ []) ∷ (1 ∷ 1 ∷ []) ∷ [];
+}
+
+-- the events of a run
+abbrev pub eventsShown : Row
+eventsShown = record {
+  computed = map (λ e. e .time) (eventsOf (runOf (station 1) (take 3 inQueue))) ∷ [];
+  expected = (50 ∷ 100 ∷ 110 ∷ []) ∷ [];
+}
+
+-- every deed but dial and release, of another slot
+abbrev pub deeds : List Deed
+deeds = carrierOn 0 ∷ carrierOff 0 ∷ acknowledge 0 (from seven duplex) ∷ ringBack 0 (from seven duplex) ∷ unable 103 party usual ∷
+    dial 0 usual ∷ releaseLine 0 ∷ []
+
+-- dial and release on the slot itself change its word, whatever is done before
+abbrev pub wordsByDeeds : Row
+wordsByDeeds = record {
+  computed = word (wordsDone 1 (deeds ++ dial 1 usual ∷ []) idle) ∷ word (wordsDone 1 (deeds ++ releaseLine 1 ∷ []) ringing) ∷
+      word (wordsDone 1 (releaseLine 1 ∷ []) idle) ∷ [];
+  expected = (1 ∷ []) ∷ (0 ∷ []) ∷ (0 ∷ []) ∷ [];
+}
+
+-- an off-hook on the slot itself, and on those beside it
+abbrev pub wordsByOffHook : Row
+wordsByOffHook = record {
+  computed = word (wordHeard 1 300 (onSlot 1 offHook) ringing) ∷ word (wordHeard 1 300 (onSlot 0 offHook) ringing) ∷
+      word (wordHeard 1 300 (onSlot 2 offHook) ringing) ∷ [];
+  expected = (2 ∷ 300 ∷ []) ∷ (1 ∷ []) ∷ (1 ∷ []) ∷ [];
+}
+
+-- the words of both slots after a whole list
+abbrev pub wordsAtOnce : Row
+wordsAtOnce = record {
+  computed = word (wordAfter 0 (listOf (station 2) (take 8 twoCalls)) idle) ∷
+      word (wordAfter 1 (listOf (station 2) (take 8 twoCalls)) idle) ∷ [];
+  expected = (2 ∷ 130 ∷ []) ∷ (2 ∷ 140 ∷ []) ∷ [];
+}
+
+-- a charge behind every other action is found, and the deeds alone are
+abbrev pub given : List Action
+given = does (carrierOn 0) ∷ does (carrierOff 0) ∷ does (acknowledge 0 (from seven duplex)) ∷ does (ringBack 0 (from seven duplex)) ∷
+    does (unable 103 party usual) ∷ does (dial 0 usual) ∷ does (releaseLine 0) ∷ over 0 theShip party usual Nothing ∷
+    charge record { slot = 0; ship = seven; start = record { 0 = 1 }; stop = record { 0 = 2 }; seconds = record { 0 = 3 } } ∷
+    does (dial 1 usual) ∷ []
+
+-- one charge, eight deeds
+abbrev pub chargesFound : Row
+chargesFound = record {
+  computed = (length (chargesOf given) ∷ length (deedsOf given) ∷ []) ∷ [];
+  expected = (1 ∷ 8 ∷ []) ∷ [];
+}
+
+-- a ship that is told 104/102 does not wait
+abbrev pub told102 : Row
+told102 = record {
+  computed = pagesFrom (station 1) (record {
+    event = calls 100 seven duplex;
+    deeds = unable 102 (from seven duplex .who) usual ∷
+        [];
+  } ∷ []) (blankBook (station 1));
+  expected = (100 ∷ []) ∷ (0 ∷ 0 ∷ 0 ∷ 0 ∷ []) ∷ [] ∷ [];
+}
+
+-- which requests are alike, to the rules and to the reader of the list: one ship, mode, second telecommand and number
+abbrev pub compared : (Request → Request → Bool) → List ℕ
+compared t =
+    told (t (from seven duplex) (from seven duplex)) ∷ told (t (from seven simplex) (from seven simplex)) ∷
+    told (t (from seven simplex) (from seven duplex))
+    ∷ told (t (from seven duplex) (from seven simplex)) ∷ told (t (from seven duplex) (from eight duplex))
+    ∷ told (t (asking seven 2001234 duplex 100 usual) (asking seven 2001234 duplex 101 usual)) ∷
+    told (t (asking seven 2001234 duplex 101 usual) (asking seven 2001234 duplex 100 usual))
+    ∷ told (t (calling (4 ∷ 2 ∷ [])) (calling (4 ∷ 2 ∷ []))) ∷ told (t (calling (4 ∷ 2 ∷ [])) (calling (4 ∷ 2 ∷ 1 ∷ []))) ∷
+    told (t (calling (4 ∷ 2 ∷ 1 ∷ [])) (calling (4 ∷ 2 ∷ [])))
+    ∷ told (t (calling (4 ∷ 2 ∷ [])) (calling (5 ∷ 2 ∷ []))) ∷ told (t (calling (5 ∷ 2 ∷ [])) (calling (4 ∷ 2 ∷ []))) ∷
+    told (t (calling (4 ∷ 2 ∷ [])) (calling (4 ∷ 1 ∷ []))) ∷ told (t (calling (4 ∷ 1 ∷ [])) (calling (4 ∷ 2 ∷ [])))
+    ∷ []
+
+abbrev pub sameShown : Row
+sameShown = record {
+  computed = compared same ∷ [];
+  expected = (1 ∷ 1 ∷ 0 ∷ 0 ∷ 0 ∷ 0 ∷ 0 ∷ 1 ∷ 0 ∷ 0 ∷ 0 ∷ 0 ∷ 0 ∷ 0 ∷ []) ∷ [];
+}
+
+abbrev pub alikeShown : Row
+alikeShown = record {
+  computed = compared alike ∷ [];
+  expected = (1 ∷ 1 ∷ 0 ∷ 0 ∷ 0 ∷ 0 ∷ 0 ∷ 1 ∷ 0 ∷ 0 ∷ 0 ∷ 0 ∷ 0 ∷ 0 ∷ []) ∷ [];
 }
 
 abbrev pub pageCases : List Row
 pageCases =
     onSecondPages ∷ onSecondWords ∷ onSecondTenths ∷ againPages ∷ againWords ∷ againTenths ∷ inQueuePages ∷ inQueueWords ∷
-    inQueueTenths ∷ twoCallsPages ∷ twoCallsWords ∷ twoCallsTenths ∷ talkingOn ∷ wordsOf ∷ []
+    inQueueTenths ∷ twoCallsPages ∷ twoCallsWords ∷ twoCallsWordsOfFirst ∷ twoCallsTenths ∷ onThirdPages ∷ onThirdWords ∷
+    onThirdTenths ∷ dialledOnly ∷ heldShown ∷ stopsNumbered ∷ eventsShown ∷ wordsByDeeds ∷ wordsByOffHook ∷ wordsAtOnce ∷
+    chargesFound ∷ talkingOn ∷ wordsOf ∷ blankPage ∷ told102 ∷ sameShown ∷ alikeShown ∷ []
 
 abbrev pub pageRuns : List Run
-pageRuns = onSecondRun ∷ againRun ∷ inQueueRun ∷ twoCallsRun ∷ []
+pageRuns = onSecondRun ∷ againRun ∷ inQueueRun ∷ twoCallsRun ∷ onThirdRun ∷ []
