@@ -55,7 +55,8 @@ told b = cond b 1 0
 
 -- acknowledgement, channel 27, seven, second telecommand 100
 abbrev pub ackSeven27As100 : List ℕ
-ackSeven27As100 = 123 ∷ 20 ∷ 0 ∷ 0 ∷ 0 ∷ 70 ∷ 100 ∷ 0 ∷ 20 ∷ 1 ∷ 23 ∷ 40 ∷ 101 ∷ 100 ∷ 90 ∷ 0 ∷ 27 ∷ 105 ∷ 5 ∷ 55 ∷ 12 ∷ 34 ∷ 122 ∷ 40 ∷ []
+ackSeven27As100 = 123 ∷ 20 ∷ 0 ∷ 0 ∷ 0 ∷ 70 ∷ 100 ∷ 0 ∷ 20 ∷ 1 ∷ 23 ∷ 40 ∷ 101 ∷ 100 ∷ 90 ∷ 0 ∷ 27 ∷ 105 ∷ 5 ∷ 55 ∷ 12 ∷ 34 ∷ 122 ∷
+    40 ∷ []
 
 -- acknowledgement, channel 27, seven, number 42
 abbrev pub ackSeven27Of42 : List ℕ
@@ -63,7 +64,8 @@ ackSeven27Of42 = 123 ∷ 20 ∷ 0 ∷ 0 ∷ 0 ∷ 70 ∷ 100 ∷ 0 ∷ 20 ∷ 1 
 
 -- 104/103 to nine
 abbrev pub unable103Nine : List ℕ
-unable103Nine = 123 ∷ 20 ∷ 0 ∷ 0 ∷ 0 ∷ 90 ∷ 100 ∷ 0 ∷ 20 ∷ 1 ∷ 23 ∷ 40 ∷ 104 ∷ 103 ∷ 126 ∷ 126 ∷ 126 ∷ 105 ∷ 5 ∷ 55 ∷ 12 ∷ 34 ∷ 122 ∷ 5 ∷ []
+unable103Nine = 123 ∷ 20 ∷ 0 ∷ 0 ∷ 0 ∷ 90 ∷ 100 ∷ 0 ∷ 20 ∷ 1 ∷ 23 ∷ 40 ∷ 104 ∷ 103 ∷ 126 ∷ 126 ∷ 126 ∷ 105 ∷ 5 ∷ 55 ∷ 12 ∷ 34 ∷ 122 ∷
+    5 ∷ []
 
 -- end of call to seven, BQ, 0 0 4, number 42
 abbrev pub overSeven4Of42 : List ℕ
@@ -75,27 +77,33 @@ ringEight27 = 123 ∷ 20 ∷ 0 ∷ 0 ∷ 0 ∷ 80 ∷ 100 ∷ 0 ∷ 20 ∷ 1 ∷
 
 -- end of call to eight, 127, 126s
 abbrev pub overEightByCoast : List ℕ
-overEightByCoast = 123 ∷ 20 ∷ 0 ∷ 0 ∷ 0 ∷ 80 ∷ 100 ∷ 0 ∷ 20 ∷ 1 ∷ 23 ∷ 40 ∷ 105 ∷ 126 ∷ 126 ∷ 126 ∷ 126 ∷ 105 ∷ 5 ∷ 55 ∷ 12 ∷ 34 ∷ 127 ∷ 18 ∷ []
+overEightByCoast = 123 ∷ 20 ∷ 0 ∷ 0 ∷ 0 ∷ 80 ∷ 100 ∷ 0 ∷ 20 ∷ 1 ∷ 23 ∷ 40 ∷ 105 ∷ 126 ∷ 126 ∷ 126 ∷ 126 ∷ 105 ∷ 5 ∷ 55 ∷ 12 ∷ 34 ∷
+    127 ∷ 18 ∷ []
 
 -- ring-back, channel 27, nine, in simplex
 abbrev pub ringNine27Simplex : List ℕ
-ringNine27Simplex = 123 ∷ 20 ∷ 0 ∷ 0 ∷ 0 ∷ 90 ∷ 100 ∷ 0 ∷ 20 ∷ 1 ∷ 23 ∷ 40 ∷ 100 ∷ 126 ∷ 90 ∷ 0 ∷ 27 ∷ 105 ∷ 5 ∷ 55 ∷ 12 ∷ 34 ∷ 117 ∷ 32 ∷ []
+ringNine27Simplex = 123 ∷ 20 ∷ 0 ∷ 0 ∷ 0 ∷ 90 ∷ 100 ∷ 0 ∷ 20 ∷ 1 ∷ 23 ∷ 40 ∷ 100 ∷ 126 ∷ 90 ∷ 0 ∷ 27 ∷ 105 ∷ 5 ∷ 55 ∷ 12 ∷ 34 ∷ 117 ∷
+    32 ∷ []
 
 -- acknowledgement, channel 27, nine, in simplex
 abbrev pub ackNine27Simplex : List ℕ
-ackNine27Simplex = 123 ∷ 20 ∷ 0 ∷ 0 ∷ 0 ∷ 90 ∷ 100 ∷ 0 ∷ 20 ∷ 1 ∷ 23 ∷ 40 ∷ 100 ∷ 126 ∷ 90 ∷ 0 ∷ 27 ∷ 105 ∷ 5 ∷ 55 ∷ 12 ∷ 34 ∷ 122 ∷ 47 ∷ []
+ackNine27Simplex = 123 ∷ 20 ∷ 0 ∷ 0 ∷ 0 ∷ 90 ∷ 100 ∷ 0 ∷ 20 ∷ 1 ∷ 23 ∷ 40 ∷ 100 ∷ 126 ∷ 90 ∷ 0 ∷ 27 ∷ 105 ∷ 5 ∷ 55 ∷ 12 ∷ 34 ∷ 122 ∷
+    47 ∷ []
 
 -- acknowledgement, channel 27, seven, in simplex
 abbrev pub ackSeven27Simplex : List ℕ
-ackSeven27Simplex = 123 ∷ 20 ∷ 0 ∷ 0 ∷ 0 ∷ 70 ∷ 100 ∷ 0 ∷ 20 ∷ 1 ∷ 23 ∷ 40 ∷ 100 ∷ 126 ∷ 90 ∷ 0 ∷ 27 ∷ 105 ∷ 5 ∷ 55 ∷ 12 ∷ 34 ∷ 122 ∷ 51 ∷ []
+ackSeven27Simplex = 123 ∷ 20 ∷ 0 ∷ 0 ∷ 0 ∷ 70 ∷ 100 ∷ 0 ∷ 20 ∷ 1 ∷ 23 ∷ 40 ∷ 100 ∷ 126 ∷ 90 ∷ 0 ∷ 27 ∷ 105 ∷ 5 ∷ 55 ∷ 12 ∷ 34 ∷ 122 ∷
+    51 ∷ []
 
 -- end of call to seven, 127, 0 0 2
 abbrev pub overSevenByCoast2 : List ℕ
-overSevenByCoast2 = 123 ∷ 20 ∷ 0 ∷ 0 ∷ 0 ∷ 70 ∷ 100 ∷ 0 ∷ 20 ∷ 1 ∷ 23 ∷ 40 ∷ 105 ∷ 126 ∷ 0 ∷ 0 ∷ 2 ∷ 105 ∷ 5 ∷ 55 ∷ 12 ∷ 34 ∷ 127 ∷ 120 ∷ []
+overSevenByCoast2 = 123 ∷ 20 ∷ 0 ∷ 0 ∷ 0 ∷ 70 ∷ 100 ∷ 0 ∷ 20 ∷ 1 ∷ 23 ∷ 40 ∷ 105 ∷ 126 ∷ 0 ∷ 0 ∷ 2 ∷ 105 ∷ 5 ∷ 55 ∷ 12 ∷ 34 ∷ 127 ∷
+    120 ∷ []
 
 -- end of call to seven, 127, 0 0 6
 abbrev pub overSevenByCoast6 : List ℕ
-overSevenByCoast6 = 123 ∷ 20 ∷ 0 ∷ 0 ∷ 0 ∷ 70 ∷ 100 ∷ 0 ∷ 20 ∷ 1 ∷ 23 ∷ 40 ∷ 105 ∷ 126 ∷ 0 ∷ 0 ∷ 6 ∷ 105 ∷ 5 ∷ 55 ∷ 12 ∷ 34 ∷ 127 ∷ 124 ∷ []
+overSevenByCoast6 = 123 ∷ 20 ∷ 0 ∷ 0 ∷ 0 ∷ 70 ∷ 100 ∷ 0 ∷ 20 ∷ 1 ∷ 23 ∷ 40 ∷ 105 ∷ 126 ∷ 0 ∷ 0 ∷ 6 ∷ 105 ∷ 5 ∷ 55 ∷ 12 ∷ 34 ∷ 127 ∷
+    124 ∷ []
 
 -- ring-back, channel 27, seven
 abbrev pub ringSeven27 : List ℕ
@@ -111,7 +119,8 @@ ackNine27 = 123 ∷ 20 ∷ 0 ∷ 0 ∷ 0 ∷ 90 ∷ 100 ∷ 0 ∷ 20 ∷ 1 ∷ 2
 
 -- end of call to nine, 127, 126s
 abbrev pub overNineByCoast : List ℕ
-overNineByCoast = 123 ∷ 20 ∷ 0 ∷ 0 ∷ 0 ∷ 90 ∷ 100 ∷ 0 ∷ 20 ∷ 1 ∷ 23 ∷ 40 ∷ 105 ∷ 126 ∷ 126 ∷ 126 ∷ 126 ∷ 105 ∷ 5 ∷ 55 ∷ 12 ∷ 34 ∷ 127 ∷ 24 ∷ []
+overNineByCoast = 123 ∷ 20 ∷ 0 ∷ 0 ∷ 0 ∷ 90 ∷ 100 ∷ 0 ∷ 20 ∷ 1 ∷ 23 ∷ 40 ∷ 105 ∷ 126 ∷ 126 ∷ 126 ∷ 126 ∷ 105 ∷ 5 ∷ 55 ∷ 12 ∷ 34 ∷
+    127 ∷ 24 ∷ []
 
 -- acknowledgement, channel 28, seven
 abbrev pub ackSeven28 : List ℕ
@@ -131,19 +140,23 @@ ringNine26Of42 = 123 ∷ 20 ∷ 0 ∷ 0 ∷ 0 ∷ 90 ∷ 100 ∷ 0 ∷ 20 ∷ 1 
 
 -- ring-back, channel 26, seven, in simplex, second telecommand 109
 abbrev pub ringSeven26SimplexAs109 : List ℕ
-ringSeven26SimplexAs109 = 123 ∷ 20 ∷ 0 ∷ 0 ∷ 0 ∷ 70 ∷ 100 ∷ 0 ∷ 20 ∷ 1 ∷ 23 ∷ 40 ∷ 100 ∷ 109 ∷ 90 ∷ 0 ∷ 26 ∷ 105 ∷ 5 ∷ 55 ∷ 12 ∷ 34 ∷ 117 ∷ 46 ∷ []
+ringSeven26SimplexAs109 = 123 ∷ 20 ∷ 0 ∷ 0 ∷ 0 ∷ 70 ∷ 100 ∷ 0 ∷ 20 ∷ 1 ∷ 23 ∷ 40 ∷ 100 ∷ 109 ∷ 90 ∷ 0 ∷ 26 ∷ 105 ∷ 5 ∷ 55 ∷ 12 ∷ 34 ∷
+    117 ∷ 46 ∷ []
 
 -- acknowledgement, channel 26, seven, in simplex, second telecommand 100
 abbrev pub ackSeven26SimplexAs100 : List ℕ
-ackSeven26SimplexAs100 = 123 ∷ 20 ∷ 0 ∷ 0 ∷ 0 ∷ 70 ∷ 100 ∷ 0 ∷ 20 ∷ 1 ∷ 23 ∷ 40 ∷ 100 ∷ 100 ∷ 90 ∷ 0 ∷ 26 ∷ 105 ∷ 5 ∷ 55 ∷ 12 ∷ 34 ∷ 122 ∷ 40 ∷ []
-
--- acknowledgement, channel 26, seven, second telecommand 101
-abbrev pub ackSeven26As101 : List ℕ
-ackSeven26As101 = 123 ∷ 20 ∷ 0 ∷ 0 ∷ 0 ∷ 70 ∷ 100 ∷ 0 ∷ 20 ∷ 1 ∷ 23 ∷ 40 ∷ 101 ∷ 101 ∷ 90 ∷ 0 ∷ 26 ∷ 105 ∷ 5 ∷ 55 ∷ 12 ∷ 34 ∷ 122 ∷ 40 ∷ []
+ackSeven26SimplexAs100 = 123 ∷ 20 ∷ 0 ∷ 0 ∷ 0 ∷ 70 ∷ 100 ∷ 0 ∷ 20 ∷ 1 ∷ 23 ∷ 40 ∷ 100 ∷ 100 ∷ 90 ∷ 0 ∷ 26 ∷ 105 ∷ 5 ∷ 55 ∷ 12 ∷ 34 ∷
+    122 ∷ 40 ∷ []
 
 -- acknowledgement, channel 26, seven, second telecommand 100
 abbrev pub ackSeven26As100 : List ℕ
-ackSeven26As100 = 123 ∷ 20 ∷ 0 ∷ 0 ∷ 0 ∷ 70 ∷ 100 ∷ 0 ∷ 20 ∷ 1 ∷ 23 ∷ 40 ∷ 101 ∷ 100 ∷ 90 ∷ 0 ∷ 26 ∷ 105 ∷ 5 ∷ 55 ∷ 12 ∷ 34 ∷ 122 ∷ 41 ∷ []
+ackSeven26As100 = 123 ∷ 20 ∷ 0 ∷ 0 ∷ 0 ∷ 70 ∷ 100 ∷ 0 ∷ 20 ∷ 1 ∷ 23 ∷ 40 ∷ 101 ∷ 100 ∷ 90 ∷ 0 ∷ 26 ∷ 105 ∷ 5 ∷ 55 ∷ 12 ∷ 34 ∷ 122 ∷
+    41 ∷ []
+
+-- acknowledgement, channel 26, seven, second telecommand 101
+abbrev pub ackSeven26As101 : List ℕ
+ackSeven26As101 = 123 ∷ 20 ∷ 0 ∷ 0 ∷ 0 ∷ 70 ∷ 100 ∷ 0 ∷ 20 ∷ 1 ∷ 23 ∷ 40 ∷ 101 ∷ 101 ∷ 90 ∷ 0 ∷ 26 ∷ 105 ∷ 5 ∷ 55 ∷ 12 ∷ 34 ∷ 122 ∷
+    40 ∷ []
 
 -- acknowledgement, channel 26, seven, number 421
 abbrev pub ackSeven26Of421 : List ℕ
@@ -157,9 +170,18 @@ ackSeven26Of52 = 123 ∷ 20 ∷ 0 ∷ 0 ∷ 0 ∷ 70 ∷ 100 ∷ 0 ∷ 20 ∷ 1 
 abbrev pub ackSeven26Of41 : List ℕ
 ackSeven26Of41 = 123 ∷ 20 ∷ 0 ∷ 0 ∷ 0 ∷ 70 ∷ 100 ∷ 0 ∷ 20 ∷ 1 ∷ 23 ∷ 40 ∷ 101 ∷ 126 ∷ 90 ∷ 0 ∷ 26 ∷ 106 ∷ 41 ∷ 122 ∷ 5 ∷ []
 
+-- end of call to seven, BQ, 0 0 10
+abbrev pub overSeven10 : List ℕ
+overSeven10 = 123 ∷ 20 ∷ 0 ∷ 0 ∷ 0 ∷ 70 ∷ 100 ∷ 0 ∷ 20 ∷ 1 ∷ 23 ∷ 40 ∷ 105 ∷ 126 ∷ 0 ∷ 0 ∷ 10 ∷ 105 ∷ 5 ∷ 55 ∷ 12 ∷ 34 ∷ 122 ∷ 117 ∷ []
+
 -- end of call to seven, 127, 0 15 3
 abbrev pub overSevenByCoast903 : List ℕ
-overSevenByCoast903 = 123 ∷ 20 ∷ 0 ∷ 0 ∷ 0 ∷ 70 ∷ 100 ∷ 0 ∷ 20 ∷ 1 ∷ 23 ∷ 40 ∷ 105 ∷ 126 ∷ 0 ∷ 15 ∷ 3 ∷ 105 ∷ 5 ∷ 55 ∷ 12 ∷ 34 ∷ 127 ∷ 118 ∷ []
+overSevenByCoast903 = 123 ∷ 20 ∷ 0 ∷ 0 ∷ 0 ∷ 70 ∷ 100 ∷ 0 ∷ 20 ∷ 1 ∷ 23 ∷ 40 ∷ 105 ∷ 126 ∷ 0 ∷ 15 ∷ 3 ∷ 105 ∷ 5 ∷ 55 ∷ 12 ∷ 34 ∷
+    127 ∷ 118 ∷ []
+
+-- acknowledgement, channel 27, eight
+abbrev pub ackEight27 : List ℕ
+ackEight27 = 123 ∷ 20 ∷ 0 ∷ 0 ∷ 0 ∷ 80 ∷ 100 ∷ 0 ∷ 20 ∷ 1 ∷ 23 ∷ 40 ∷ 101 ∷ 126 ∷ 90 ∷ 0 ∷ 27 ∷ 105 ∷ 5 ∷ 55 ∷ 12 ∷ 34 ∷ 122 ∷ 36 ∷ []
 
 -- acknowledgement of the station 007999999, channel 60, seven
 abbrev pub ackOther : List ℕ
@@ -167,7 +189,8 @@ ackOther = 123 ∷ 20 ∷ 0 ∷ 0 ∷ 0 ∷ 70 ∷ 100 ∷ 0 ∷ 79 ∷ 99 ∷ 9
 
 -- its 104/103 to eight
 abbrev pub waitOther : List ℕ
-waitOther = 123 ∷ 20 ∷ 0 ∷ 0 ∷ 0 ∷ 80 ∷ 100 ∷ 0 ∷ 79 ∷ 99 ∷ 99 ∷ 90 ∷ 104 ∷ 103 ∷ 126 ∷ 126 ∷ 126 ∷ 105 ∷ 5 ∷ 55 ∷ 12 ∷ 34 ∷ 122 ∷ 48 ∷ []
+waitOther = 123 ∷ 20 ∷ 0 ∷ 0 ∷ 0 ∷ 80 ∷ 100 ∷ 0 ∷ 79 ∷ 99 ∷ 99 ∷ 90 ∷ 104 ∷ 103 ∷ 126 ∷ 126 ∷ 126 ∷ 105 ∷ 5 ∷ 55 ∷ 12 ∷ 34 ∷ 122 ∷
+    48 ∷ []
 
 -- its ring-back, channel 60, eight
 abbrev pub ringOther : List ℕ
@@ -176,96 +199,199 @@ ringOther = 123 ∷ 20 ∷ 0 ∷ 0 ∷ 0 ∷ 80 ∷ 100 ∷ 0 ∷ 79 ∷ 99 ∷ 
 -- ── whole scripts on other slots and places than the first ──────────────────────
 
 -- a whole day on the second slot, the first one taken: every action names it
+abbrev pub secondSlotScript : List Event
+secondSlotScript =
+    on 50 0 takes ∷ callsAs 100 usual 100 seven duplex ∷ callsAs 100 usual 110 seven duplex ∷
+    callsFor (4 ∷ 2 ∷ []) 120 seven duplex ∷ works 130 1 seven ∷ on 140 1 carrierDown ∷ on 150 1 carrierUp ∷ on 160 1 offHook ∷
+    on 170 1 carrierDown ∷ on 175 1 carrierUp ∷ calls 180 eight duplex ∷ calls 190 nine simplex ∷ ends 200 1 seven ∷
+    ends 210 1 seven ∷ ticks 241 ∷ ticks 292 ∷ accepts 300 27 eight ∷ works 310 1 eight ∷ on 320 1 onHook ∷
+    calls 330 nine simplex ∷ ticks 491 ∷ []
+
 abbrev pub secondSlot : Row
 secondSlot = record {
-  computed = tells 2 (on 50 0 takes ∷ callsAs 100 usual 100 seven duplex ∷ callsAs 100 usual 110 seven duplex ∷ callsFor (4 ∷ 2 ∷ []) 120 seven duplex ∷ works 130 1 seven ∷ on 140 1 carrierDown ∷ on 150 1 carrierUp ∷ on 160 1 offHook ∷ on 170 1 carrierDown ∷ on 175 1 carrierUp ∷ calls 180 eight duplex ∷ calls 190 nine simplex ∷ ends 200 1 seven ∷ ends 210 1 seven ∷ ticks 241 ∷ ticks 292 ∷ accepts 300 27 eight ∷ works 310 1 eight ∷ on 320 1 onHook ∷ calls 330 nine simplex ∷ ticks 491 ∷ []);
-  expected = (0 ∷ 50 ∷ 0 ∷ []) ∷ (0 ∷ 100 ∷ 2 ∷ 261 ∷ []) ∷ (1 ∷ 1 ∷ []) ∷ (3 ∷ 1 ∷ ackSeven27As100) ∷ (0 ∷ 110 ∷ 1 ∷ 261 ∷ []) ∷
-      (3 ∷ 1 ∷ ackSeven27As100) ∷ (0 ∷ 120 ∷ 1 ∷ 281 ∷ []) ∷ (3 ∷ 1 ∷ ackSeven27Of42) ∷ (0 ∷ 130 ∷ 1 ∷ 731 ∷ []) ∷
-      (5 ∷ 1 ∷ 4 ∷ 2 ∷ []) ∷ (0 ∷ 140 ∷ 0 ∷ 191 ∷ []) ∷ (0 ∷ 150 ∷ 0 ∷ 731 ∷ []) ∷ (0 ∷ 160 ∷ 0 ∷ []) ∷
-      (0 ∷ 170 ∷ 0 ∷ 221 ∷ []) ∷ (0 ∷ 175 ∷ 0 ∷ []) ∷ (0 ∷ 180 ∷ 1 ∷ 9181 ∷ []) ∷ (3 ∷ 255 ∷ unable103Eight) ∷
-      (0 ∷ 190 ∷ 1 ∷ 9181 ∷ []) ∷ (3 ∷ 255 ∷ unable103Nine) ∷ (0 ∷ 200 ∷ 4 ∷ 241 ∷ []) ∷ charges 1 seven 160 200 4 ∷
-      (6 ∷ 1 ∷ []) ∷ (4 ∷ 1 ∷ overSeven4Of42) ∷ (2 ∷ 1 ∷ []) ∷ (0 ∷ 210 ∷ 3 ∷ 241 ∷ []) ∷ (1 ∷ 1 ∷ []) ∷
-      (4 ∷ 1 ∷ overSeven4Of42) ∷ (2 ∷ 1 ∷ []) ∷ (0 ∷ 241 ∷ 2 ∷ 292 ∷ []) ∷ (1 ∷ 1 ∷ []) ∷ (3 ∷ 1 ∷ ringEight27) ∷
-      (0 ∷ 292 ∷ 1 ∷ 343 ∷ []) ∷ (3 ∷ 1 ∷ ringEight27) ∷ (0 ∷ 300 ∷ 0 ∷ 461 ∷ []) ∷ (0 ∷ 310 ∷ 1 ∷ 911 ∷ []) ∷ (5 ∷ 1 ∷ usual) ∷
+  computed = tells 2 secondSlotScript;
+  expected =
+      (0 ∷ 50 ∷ 0 ∷ []) ∷
+      (0 ∷ 100 ∷ 2 ∷ 261 ∷ []) ∷ (1 ∷ 1 ∷ []) ∷ (3 ∷ 1 ∷ ackSeven27As100) ∷
+      (0 ∷ 110 ∷ 1 ∷ 261 ∷ []) ∷ (3 ∷ 1 ∷ ackSeven27As100) ∷
+      (0 ∷ 120 ∷ 1 ∷ 281 ∷ []) ∷ (3 ∷ 1 ∷ ackSeven27Of42) ∷
+      (0 ∷ 130 ∷ 1 ∷ 731 ∷ []) ∷ (5 ∷ 1 ∷ 4 ∷ 2 ∷ []) ∷
+      (0 ∷ 140 ∷ 0 ∷ 191 ∷ []) ∷
+      (0 ∷ 150 ∷ 0 ∷ 731 ∷ []) ∷
+      (0 ∷ 160 ∷ 0 ∷ []) ∷
+      (0 ∷ 170 ∷ 0 ∷ 221 ∷ []) ∷
+      (0 ∷ 175 ∷ 0 ∷ []) ∷
+      (0 ∷ 180 ∷ 1 ∷ 9181 ∷ []) ∷ (3 ∷ 255 ∷ unable103Eight) ∷
+      (0 ∷ 190 ∷ 1 ∷ 9181 ∷ []) ∷ (3 ∷ 255 ∷ unable103Nine) ∷
+      (0 ∷ 200 ∷ 4 ∷ 241 ∷ []) ∷ charges 1 seven 160 200 4 ∷ (6 ∷ 1 ∷ []) ∷ (4 ∷ 1 ∷ overSeven4Of42) ∷ (2 ∷ 1 ∷ []) ∷
+      (0 ∷ 210 ∷ 3 ∷ 241 ∷ []) ∷ (1 ∷ 1 ∷ []) ∷ (4 ∷ 1 ∷ overSeven4Of42) ∷ (2 ∷ 1 ∷ []) ∷
+      (0 ∷ 241 ∷ 2 ∷ 292 ∷ []) ∷ (1 ∷ 1 ∷ []) ∷ (3 ∷ 1 ∷ ringEight27) ∷
+      (0 ∷ 292 ∷ 1 ∷ 343 ∷ []) ∷ (3 ∷ 1 ∷ ringEight27) ∷
+      (0 ∷ 300 ∷ 0 ∷ 461 ∷ []) ∷
+      (0 ∷ 310 ∷ 1 ∷ 911 ∷ []) ∷ (5 ∷ 1 ∷ usual) ∷
       (0 ∷ 320 ∷ 5 ∷ 371 ∷ []) ∷ (6 ∷ 1 ∷ []) ∷ (4 ∷ 1 ∷ overEightByCoast) ∷ (2 ∷ 1 ∷ []) ∷ (1 ∷ 1 ∷ []) ∷
-      (3 ∷ 1 ∷ ringNine27Simplex) ∷ (0 ∷ 330 ∷ 1 ∷ 491 ∷ []) ∷ (3 ∷ 1 ∷ ackNine27Simplex) ∷ (0 ∷ 491 ∷ 1 ∷ []) ∷ (2 ∷ 1 ∷ []) ∷ [];
+      (3 ∷ 1 ∷ ringNine27Simplex) ∷
+      (0 ∷ 330 ∷ 1 ∷ 491 ∷ []) ∷ (3 ∷ 1 ∷ ackNine27Simplex) ∷
+      (0 ∷ 491 ∷ 1 ∷ []) ∷ (2 ∷ 1 ∷ []) ∷ [];
 }
 
 -- the same slot: rule c answered and only dialled, no reply, carrier loss, the operator
+abbrev pub secondSlotAgainScript : List Event
+secondSlotAgainScript =
+    on 50 0 takes ∷ calls 100 seven simplex ∷ works 110 1 seven ∷ on 120 1 offHook ∷ on 130 1 carrierDown ∷
+    calls 140 seven simplex ∷ works 150 1 seven ∷ on 160 1 carrierDown ∷ calls 170 seven simplex ∷ works 180 1 seven ∷
+    ticks 781 ∷ calls 800 seven duplex ∷ works 810 1 seven ∷ on 820 1 offHook ∷ on 830 1 carrierDown ∷ ticks 900 ∷
+    on 910 1 takes ∷ on 920 1 givesBack ∷ []
+
 abbrev pub secondSlotAgain : Row
 secondSlotAgain = record {
-  computed = tells 2 (on 50 0 takes ∷ calls 100 seven simplex ∷ works 110 1 seven ∷ on 120 1 offHook ∷ on 130 1 carrierDown ∷ calls 140 seven simplex ∷ works 150 1 seven ∷ on 160 1 carrierDown ∷ calls 170 seven simplex ∷ works 180 1 seven ∷ ticks 781 ∷ calls 800 seven duplex ∷ works 810 1 seven ∷ on 820 1 offHook ∷ on 830 1 carrierDown ∷ ticks 900 ∷ on 910 1 takes ∷ on 920 1 givesBack ∷ []);
-  expected = (0 ∷ 50 ∷ 0 ∷ []) ∷ (0 ∷ 100 ∷ 2 ∷ 261 ∷ []) ∷ (1 ∷ 1 ∷ []) ∷ (3 ∷ 1 ∷ ackSeven27Simplex) ∷ (0 ∷ 110 ∷ 1 ∷ 711 ∷ []) ∷
-      (5 ∷ 1 ∷ usual) ∷ (0 ∷ 120 ∷ 0 ∷ []) ∷ (0 ∷ 130 ∷ 0 ∷ 581 ∷ []) ∷ (0 ∷ 140 ∷ 6 ∷ 301 ∷ []) ∷ charges 1 seven 120 140 2 ∷
-      (6 ∷ 1 ∷ []) ∷ (4 ∷ 1 ∷ overSevenByCoast2) ∷ (2 ∷ 1 ∷ []) ∷ (1 ∷ 1 ∷ []) ∷ (3 ∷ 1 ∷ ackSeven27Simplex) ∷
-      (0 ∷ 150 ∷ 1 ∷ 751 ∷ []) ∷ (5 ∷ 1 ∷ usual) ∷ (0 ∷ 160 ∷ 0 ∷ 611 ∷ []) ∷ (0 ∷ 170 ∷ 5 ∷ 331 ∷ []) ∷ (6 ∷ 1 ∷ []) ∷
-      (4 ∷ 1 ∷ overSevenByCoast) ∷ (2 ∷ 1 ∷ []) ∷ (1 ∷ 1 ∷ []) ∷ (3 ∷ 1 ∷ ackSeven27Simplex) ∷ (0 ∷ 180 ∷ 1 ∷ 781 ∷ []) ∷
-      (5 ∷ 1 ∷ usual) ∷ (0 ∷ 781 ∷ 3 ∷ []) ∷ (6 ∷ 1 ∷ []) ∷ (4 ∷ 1 ∷ overSevenByCoast) ∷ (2 ∷ 1 ∷ []) ∷
-      (0 ∷ 800 ∷ 2 ∷ 961 ∷ []) ∷ (1 ∷ 1 ∷ []) ∷ (3 ∷ 1 ∷ ackSeven27) ∷ (0 ∷ 810 ∷ 1 ∷ 1411 ∷ []) ∷ (5 ∷ 1 ∷ usual) ∷
-      (0 ∷ 820 ∷ 0 ∷ []) ∷ (0 ∷ 830 ∷ 0 ∷ 881 ∷ []) ∷ (0 ∷ 881 ∷ 4 ∷ []) ∷ charges 1 seven 820 881 6 ∷ (6 ∷ 1 ∷ []) ∷
-      (4 ∷ 1 ∷ overSevenByCoast6) ∷ (2 ∷ 1 ∷ []) ∷ (0 ∷ 910 ∷ 0 ∷ []) ∷ (0 ∷ 920 ∷ 0 ∷ []) ∷ [];
+  computed = tells 2 secondSlotAgainScript;
+  expected =
+      (0 ∷ 50 ∷ 0 ∷ []) ∷
+      (0 ∷ 100 ∷ 2 ∷ 261 ∷ []) ∷ (1 ∷ 1 ∷ []) ∷ (3 ∷ 1 ∷ ackSeven27Simplex) ∷
+      (0 ∷ 110 ∷ 1 ∷ 711 ∷ []) ∷ (5 ∷ 1 ∷ usual) ∷
+      (0 ∷ 120 ∷ 0 ∷ []) ∷
+      (0 ∷ 130 ∷ 0 ∷ 581 ∷ []) ∷
+      (0 ∷ 140 ∷ 6 ∷ 301 ∷ []) ∷ charges 1 seven 120 140 2 ∷ (6 ∷ 1 ∷ []) ∷ (4 ∷ 1 ∷ overSevenByCoast2) ∷ (2 ∷ 1 ∷ []) ∷
+      (1 ∷ 1 ∷ []) ∷ (3 ∷ 1 ∷ ackSeven27Simplex) ∷
+      (0 ∷ 150 ∷ 1 ∷ 751 ∷ []) ∷ (5 ∷ 1 ∷ usual) ∷
+      (0 ∷ 160 ∷ 0 ∷ 611 ∷ []) ∷
+      (0 ∷ 170 ∷ 5 ∷ 331 ∷ []) ∷ (6 ∷ 1 ∷ []) ∷ (4 ∷ 1 ∷ overSevenByCoast) ∷ (2 ∷ 1 ∷ []) ∷ (1 ∷ 1 ∷ []) ∷
+      (3 ∷ 1 ∷ ackSeven27Simplex) ∷
+      (0 ∷ 180 ∷ 1 ∷ 781 ∷ []) ∷ (5 ∷ 1 ∷ usual) ∷
+      (0 ∷ 781 ∷ 3 ∷ []) ∷ (6 ∷ 1 ∷ []) ∷ (4 ∷ 1 ∷ overSevenByCoast) ∷ (2 ∷ 1 ∷ []) ∷
+      (0 ∷ 800 ∷ 2 ∷ 961 ∷ []) ∷ (1 ∷ 1 ∷ []) ∷ (3 ∷ 1 ∷ ackSeven27) ∷
+      (0 ∷ 810 ∷ 1 ∷ 1411 ∷ []) ∷ (5 ∷ 1 ∷ usual) ∷
+      (0 ∷ 820 ∷ 0 ∷ []) ∷
+      (0 ∷ 830 ∷ 0 ∷ 881 ∷ []) ∷
+      (0 ∷ 881 ∷ 4 ∷ []) ∷ charges 1 seven 820 881 6 ∷ (6 ∷ 1 ∷ []) ∷ (4 ∷ 1 ∷ overSevenByCoast6) ∷ (2 ∷ 1 ∷ []) ∷
+      (0 ∷ 910 ∷ 0 ∷ []) ∷
+      (0 ∷ 920 ∷ 0 ∷ []) ∷ [];
 }
 
 -- the same slot: acknowledged and asked again, acknowledged and let go, rung twice and let go
+abbrev pub secondSlotQueuedScript : List Event
+secondSlotQueuedScript =
+    on 50 0 takes ∷ on 51 1 takes ∷ calls 100 seven duplex ∷ calls 101 eight duplex ∷ calls 102 nine duplex ∷
+    on 110 1 givesBack ∷ accepts 120 27 seven ∷ calls 130 seven duplex ∷ ticks 291 ∷ ticks 342 ∷ accepts 350 27 eight ∷
+    ticks 511 ∷ ticks 562 ∷ calls 570 nine duplex ∷ works 580 1 nine ∷ on 590 1 onHook ∷ []
+
 abbrev pub secondSlotQueued : Row
 secondSlotQueued = record {
-  computed = tells 2 (on 50 0 takes ∷ on 51 1 takes ∷ calls 100 seven duplex ∷ calls 101 eight duplex ∷ calls 102 nine duplex ∷ on 110 1 givesBack ∷ accepts 120 27 seven ∷ calls 130 seven duplex ∷ ticks 291 ∷ ticks 342 ∷ accepts 350 27 eight ∷ ticks 511 ∷ ticks 562 ∷ calls 570 nine duplex ∷ works 580 1 nine ∷ on 590 1 onHook ∷ []);
-  expected = (0 ∷ 50 ∷ 0 ∷ []) ∷ (0 ∷ 51 ∷ 0 ∷ []) ∷ (0 ∷ 100 ∷ 1 ∷ 9101 ∷ []) ∷ (3 ∷ 255 ∷ unable103Seven) ∷
-      (0 ∷ 101 ∷ 1 ∷ 9101 ∷ []) ∷ (3 ∷ 255 ∷ unable103Eight) ∷ (0 ∷ 102 ∷ 1 ∷ 9101 ∷ []) ∷ (3 ∷ 255 ∷ unable103Nine) ∷
-      (0 ∷ 110 ∷ 2 ∷ 161 ∷ []) ∷ (1 ∷ 1 ∷ []) ∷ (3 ∷ 1 ∷ ringSeven27) ∷ (0 ∷ 120 ∷ 0 ∷ 281 ∷ []) ∷ (0 ∷ 130 ∷ 1 ∷ 291 ∷ []) ∷
-      (3 ∷ 1 ∷ ackSeven27) ∷ (0 ∷ 291 ∷ 3 ∷ 342 ∷ []) ∷ (2 ∷ 1 ∷ []) ∷ (1 ∷ 1 ∷ []) ∷ (3 ∷ 1 ∷ ringEight27) ∷
-      (0 ∷ 342 ∷ 1 ∷ 393 ∷ []) ∷ (3 ∷ 1 ∷ ringEight27) ∷ (0 ∷ 350 ∷ 0 ∷ 511 ∷ []) ∷ (0 ∷ 511 ∷ 3 ∷ 562 ∷ []) ∷ (2 ∷ 1 ∷ []) ∷
-      (1 ∷ 1 ∷ []) ∷ (3 ∷ 1 ∷ ringNine27) ∷ (0 ∷ 562 ∷ 1 ∷ 613 ∷ []) ∷ (3 ∷ 1 ∷ ringNine27) ∷ (0 ∷ 570 ∷ 1 ∷ 731 ∷ []) ∷
-      (3 ∷ 1 ∷ ackNine27) ∷ (0 ∷ 580 ∷ 1 ∷ 1181 ∷ []) ∷ (5 ∷ 1 ∷ usual) ∷ (0 ∷ 590 ∷ 3 ∷ []) ∷ (6 ∷ 1 ∷ []) ∷
-      (4 ∷ 1 ∷ overNineByCoast) ∷ (2 ∷ 1 ∷ []) ∷ [];
+  computed = tells 2 secondSlotQueuedScript;
+  expected =
+      (0 ∷ 50 ∷ 0 ∷ []) ∷
+      (0 ∷ 51 ∷ 0 ∷ []) ∷
+      (0 ∷ 100 ∷ 1 ∷ 9101 ∷ []) ∷ (3 ∷ 255 ∷ unable103Seven) ∷
+      (0 ∷ 101 ∷ 1 ∷ 9101 ∷ []) ∷ (3 ∷ 255 ∷ unable103Eight) ∷
+      (0 ∷ 102 ∷ 1 ∷ 9101 ∷ []) ∷ (3 ∷ 255 ∷ unable103Nine) ∷
+      (0 ∷ 110 ∷ 2 ∷ 161 ∷ []) ∷ (1 ∷ 1 ∷ []) ∷ (3 ∷ 1 ∷ ringSeven27) ∷
+      (0 ∷ 120 ∷ 0 ∷ 281 ∷ []) ∷
+      (0 ∷ 130 ∷ 1 ∷ 291 ∷ []) ∷ (3 ∷ 1 ∷ ackSeven27) ∷
+      (0 ∷ 291 ∷ 3 ∷ 342 ∷ []) ∷ (2 ∷ 1 ∷ []) ∷ (1 ∷ 1 ∷ []) ∷ (3 ∷ 1 ∷ ringEight27) ∷
+      (0 ∷ 342 ∷ 1 ∷ 393 ∷ []) ∷ (3 ∷ 1 ∷ ringEight27) ∷
+      (0 ∷ 350 ∷ 0 ∷ 511 ∷ []) ∷
+      (0 ∷ 511 ∷ 3 ∷ 562 ∷ []) ∷ (2 ∷ 1 ∷ []) ∷ (1 ∷ 1 ∷ []) ∷ (3 ∷ 1 ∷ ringNine27) ∷
+      (0 ∷ 562 ∷ 1 ∷ 613 ∷ []) ∷ (3 ∷ 1 ∷ ringNine27) ∷
+      (0 ∷ 570 ∷ 1 ∷ 731 ∷ []) ∷ (3 ∷ 1 ∷ ackNine27) ∷
+      (0 ∷ 580 ∷ 1 ∷ 1181 ∷ []) ∷ (5 ∷ 1 ∷ usual) ∷
+      (0 ∷ 590 ∷ 3 ∷ []) ∷ (6 ∷ 1 ∷ []) ∷ (4 ∷ 1 ∷ overNineByCoast) ∷ (2 ∷ 1 ∷ []) ∷ [];
 }
 
 -- two slots taken: the third is offered, and its waits are its own
+abbrev pub thirdSlotScript : List Event
+thirdSlotScript =
+    on 50 0 takes ∷ on 51 1 takes ∷ calls 100 seven duplex ∷ works 110 2 seven ∷ on 120 2 offHook ∷ on 130 2 carrierDown ∷
+    ticks 181 ∷ calls 200 eight duplex ∷ ticks 361 ∷ []
+
 abbrev pub thirdSlot : Row
 thirdSlot = record {
-  computed = tells 3 (on 50 0 takes ∷ on 51 1 takes ∷ calls 100 seven duplex ∷ works 110 2 seven ∷ on 120 2 offHook ∷ on 130 2 carrierDown ∷ ticks 181 ∷ calls 200 eight duplex ∷ ticks 361 ∷ []);
-  expected = (0 ∷ 50 ∷ 0 ∷ []) ∷ (0 ∷ 51 ∷ 0 ∷ []) ∷ (0 ∷ 100 ∷ 2 ∷ 261 ∷ []) ∷ (1 ∷ 2 ∷ []) ∷ (3 ∷ 2 ∷ ackSeven28) ∷
-      (0 ∷ 110 ∷ 1 ∷ 711 ∷ []) ∷ (5 ∷ 2 ∷ usual) ∷ (0 ∷ 120 ∷ 0 ∷ []) ∷ (0 ∷ 130 ∷ 0 ∷ 181 ∷ []) ∷ (0 ∷ 181 ∷ 4 ∷ []) ∷
-      charges 2 seven 120 181 6 ∷ (6 ∷ 2 ∷ []) ∷ (4 ∷ 2 ∷ overSevenByCoast6) ∷ (2 ∷ 2 ∷ []) ∷ (0 ∷ 200 ∷ 2 ∷ 361 ∷ []) ∷
-      (1 ∷ 2 ∷ []) ∷ (3 ∷ 2 ∷ ackEight28) ∷ (0 ∷ 361 ∷ 1 ∷ []) ∷ (2 ∷ 2 ∷ []) ∷ [];
+  computed = tells 3 thirdSlotScript;
+  expected =
+      (0 ∷ 50 ∷ 0 ∷ []) ∷
+      (0 ∷ 51 ∷ 0 ∷ []) ∷
+      (0 ∷ 100 ∷ 2 ∷ 261 ∷ []) ∷ (1 ∷ 2 ∷ []) ∷ (3 ∷ 2 ∷ ackSeven28) ∷
+      (0 ∷ 110 ∷ 1 ∷ 711 ∷ []) ∷ (5 ∷ 2 ∷ usual) ∷
+      (0 ∷ 120 ∷ 0 ∷ []) ∷
+      (0 ∷ 130 ∷ 0 ∷ 181 ∷ []) ∷
+      (0 ∷ 181 ∷ 4 ∷ []) ∷ charges 2 seven 120 181 6 ∷ (6 ∷ 2 ∷ []) ∷ (4 ∷ 2 ∷ overSevenByCoast6) ∷ (2 ∷ 2 ∷ []) ∷
+      (0 ∷ 200 ∷ 2 ∷ 361 ∷ []) ∷ (1 ∷ 2 ∷ []) ∷ (3 ∷ 2 ∷ ackEight28) ∷
+      (0 ∷ 361 ∷ 1 ∷ []) ∷ (2 ∷ 2 ∷ []) ∷ [];
 }
 
 -- three ships wait; the second and the third ask again, and keep their places and due times
+abbrev pub placesScript : List Event
+placesScript =
+    on 50 0 takes ∷ calls 100 seven duplex ∷ calls 110 eight duplex ∷ calls 120 nine duplex ∷
+    callsFor (4 ∷ 2 ∷ []) 130 nine duplex ∷ calls 135 eight simplex ∷ ticks 9101 ∷ ticks 9111 ∷ on 9120 0 givesBack ∷ []
+
 abbrev pub places : Row
 places = record {
-  computed = tells 1 (on 50 0 takes ∷ calls 100 seven duplex ∷ calls 110 eight duplex ∷ calls 120 nine duplex ∷ callsFor (4 ∷ 2 ∷ []) 130 nine duplex ∷ calls 135 eight simplex ∷ ticks 9101 ∷ ticks 9111 ∷ on 9120 0 givesBack ∷ []);
-  expected = (0 ∷ 50 ∷ 0 ∷ []) ∷ (0 ∷ 100 ∷ 1 ∷ 9101 ∷ []) ∷ (3 ∷ 255 ∷ unable103Seven) ∷ (0 ∷ 110 ∷ 1 ∷ 9101 ∷ []) ∷
-      (3 ∷ 255 ∷ unable103Eight) ∷ (0 ∷ 120 ∷ 1 ∷ 9101 ∷ []) ∷ (3 ∷ 255 ∷ unable103Nine) ∷ (0 ∷ 130 ∷ 1 ∷ 9101 ∷ []) ∷
-      (3 ∷ 255 ∷ unable103NineOf42) ∷ (0 ∷ 135 ∷ 1 ∷ 9101 ∷ []) ∷ (3 ∷ 255 ∷ unable103Eight) ∷ (0 ∷ 9101 ∷ 0 ∷ 9111 ∷ []) ∷
-      (0 ∷ 9111 ∷ 0 ∷ 9121 ∷ []) ∷ (0 ∷ 9120 ∷ 2 ∷ 9171 ∷ []) ∷ (1 ∷ 0 ∷ []) ∷ (3 ∷ 0 ∷ ringNine26Of42) ∷ [];
+  computed = tells 1 placesScript;
+  expected =
+      (0 ∷ 50 ∷ 0 ∷ []) ∷
+      (0 ∷ 100 ∷ 1 ∷ 9101 ∷ []) ∷ (3 ∷ 255 ∷ unable103Seven) ∷
+      (0 ∷ 110 ∷ 1 ∷ 9101 ∷ []) ∷ (3 ∷ 255 ∷ unable103Eight) ∷
+      (0 ∷ 120 ∷ 1 ∷ 9101 ∷ []) ∷ (3 ∷ 255 ∷ unable103Nine) ∷
+      (0 ∷ 130 ∷ 1 ∷ 9101 ∷ []) ∷ (3 ∷ 255 ∷ unable103NineOf42) ∷
+      (0 ∷ 135 ∷ 1 ∷ 9101 ∷ []) ∷ (3 ∷ 255 ∷ unable103Eight) ∷
+      (0 ∷ 9101 ∷ 0 ∷ 9111 ∷ []) ∷
+      (0 ∷ 9111 ∷ 0 ∷ 9121 ∷ []) ∷
+      (0 ∷ 9120 ∷ 2 ∷ 9171 ∷ []) ∷ (1 ∷ 0 ∷ []) ∷ (3 ∷ 0 ∷ ringNine26Of42) ∷ [];
 }
 
 -- of three waiting ships the oldest is rung back, then the next
+abbrev pub oldestFirstScript : List Event
+oldestFirstScript =
+    on 50 0 takes ∷ calls 100 seven duplex ∷ calls 110 eight duplex ∷ calls 120 nine duplex ∷ on 200 0 givesBack ∷ ticks 251 ∷
+    ticks 302 ∷ ticks 353 ∷ ticks 404 ∷ []
+
 abbrev pub oldestFirst : Row
 oldestFirst = record {
-  computed = tells 1 (on 50 0 takes ∷ calls 100 seven duplex ∷ calls 110 eight duplex ∷ calls 120 nine duplex ∷ on 200 0 givesBack ∷ ticks 251 ∷ ticks 302 ∷ ticks 353 ∷ ticks 404 ∷ []);
-  expected = (0 ∷ 50 ∷ 0 ∷ []) ∷ (0 ∷ 100 ∷ 1 ∷ 9101 ∷ []) ∷ (3 ∷ 255 ∷ unable103Seven) ∷ (0 ∷ 110 ∷ 1 ∷ 9101 ∷ []) ∷
-      (3 ∷ 255 ∷ unable103Eight) ∷ (0 ∷ 120 ∷ 1 ∷ 9101 ∷ []) ∷ (3 ∷ 255 ∷ unable103Nine) ∷ (0 ∷ 200 ∷ 2 ∷ 251 ∷ []) ∷
-      (1 ∷ 0 ∷ []) ∷ (3 ∷ 0 ∷ ringSeven26) ∷ (0 ∷ 251 ∷ 1 ∷ 302 ∷ []) ∷ (3 ∷ 0 ∷ ringSeven26) ∷ (0 ∷ 302 ∷ 3 ∷ 353 ∷ []) ∷
-      (2 ∷ 0 ∷ []) ∷ (1 ∷ 0 ∷ []) ∷ (3 ∷ 0 ∷ ringEight26) ∷ (0 ∷ 353 ∷ 1 ∷ 404 ∷ []) ∷ (3 ∷ 0 ∷ ringEight26) ∷
+  computed = tells 1 oldestFirstScript;
+  expected =
+      (0 ∷ 50 ∷ 0 ∷ []) ∷
+      (0 ∷ 100 ∷ 1 ∷ 9101 ∷ []) ∷ (3 ∷ 255 ∷ unable103Seven) ∷
+      (0 ∷ 110 ∷ 1 ∷ 9101 ∷ []) ∷ (3 ∷ 255 ∷ unable103Eight) ∷
+      (0 ∷ 120 ∷ 1 ∷ 9101 ∷ []) ∷ (3 ∷ 255 ∷ unable103Nine) ∷
+      (0 ∷ 200 ∷ 2 ∷ 251 ∷ []) ∷ (1 ∷ 0 ∷ []) ∷ (3 ∷ 0 ∷ ringSeven26) ∷
+      (0 ∷ 251 ∷ 1 ∷ 302 ∷ []) ∷ (3 ∷ 0 ∷ ringSeven26) ∷
+      (0 ∷ 302 ∷ 3 ∷ 353 ∷ []) ∷ (2 ∷ 0 ∷ []) ∷ (1 ∷ 0 ∷ []) ∷ (3 ∷ 0 ∷ ringEight26) ∷
+      (0 ∷ 353 ∷ 1 ∷ 404 ∷ []) ∷ (3 ∷ 0 ∷ ringEight26) ∷
       (0 ∷ 404 ∷ 3 ∷ 455 ∷ []) ∷ (2 ∷ 0 ∷ []) ∷ (1 ∷ 0 ∷ []) ∷ (3 ∷ 0 ∷ ringNine26) ∷ [];
 }
 
 -- the second telecommand of a request is repeated, by the acknowledgement and by the ring-back
+abbrev pub secondKeptScript : List Event
+secondKeptScript =
+    on 50 0 takes ∷ callsAs 109 usual 100 seven simplex ∷ on 200 0 givesBack ∷ callsAs 100 usual 210 seven simplex ∷ []
+
 abbrev pub secondKept : Row
 secondKept = record {
-  computed = tells 1 (on 50 0 takes ∷ callsAs 109 usual 100 seven simplex ∷ on 200 0 givesBack ∷ callsAs 100 usual 210 seven simplex ∷ []);
-  expected = (0 ∷ 50 ∷ 0 ∷ []) ∷ (0 ∷ 100 ∷ 1 ∷ 9101 ∷ []) ∷ (3 ∷ 255 ∷ unable103Seven) ∷ (0 ∷ 200 ∷ 2 ∷ 251 ∷ []) ∷ (1 ∷ 0 ∷ []) ∷
-      (3 ∷ 0 ∷ ringSeven26SimplexAs109) ∷ (0 ∷ 210 ∷ 1 ∷ 371 ∷ []) ∷ (3 ∷ 0 ∷ ackSeven26SimplexAs100) ∷ [];
+  computed = tells 1 secondKeptScript;
+  expected =
+      (0 ∷ 50 ∷ 0 ∷ []) ∷
+      (0 ∷ 100 ∷ 1 ∷ 9101 ∷ []) ∷ (3 ∷ 255 ∷ unable103Seven) ∷
+      (0 ∷ 200 ∷ 2 ∷ 251 ∷ []) ∷ (1 ∷ 0 ∷ []) ∷ (3 ∷ 0 ∷ ringSeven26SimplexAs109) ∷
+      (0 ∷ 210 ∷ 1 ∷ 371 ∷ []) ∷ (3 ∷ 0 ∷ ackSeven26SimplexAs100) ∷ [];
 }
 
 -- another station: a request to it is answered in its name, one to 002001234 is ignored
+abbrev pub otherStationScript : List Event
+otherStationScript =
+    at 100 (onChannel70 (asks 7999999 126 117 usual seven duplex)) ∷
+    at 110 (onChannel70 (asks 2001234 126 117 usual eight duplex)) ∷ on 120 1 takes ∷
+    at 130 (onChannel70 (asks 7999999 126 117 usual eight duplex)) ∷ ticks 261 ∷ []
+
 abbrev pub otherStation : Row
 otherStation = record {
-  computed = printedAll other (at 100 (onChannel70 (asks 7999999 126 117 usual seven duplex)) ∷ at 110 (onChannel70 (asks 2001234 126 117 usual eight duplex)) ∷ on 120 1 takes ∷ at 130 (onChannel70 (asks 7999999 126 117 usual eight duplex)) ∷ ticks 261 ∷ []) (fresh other);
-  expected = (0 ∷ 100 ∷ 2 ∷ 261 ∷ []) ∷ (1 ∷ 0 ∷ []) ∷ (3 ∷ 0 ∷ ackOther) ∷ (1 ∷ 110 ∷ 0 ∷ 261 ∷ []) ∷ (0 ∷ 120 ∷ 0 ∷ 261 ∷ []) ∷
-      (0 ∷ 130 ∷ 1 ∷ 261 ∷ []) ∷ (3 ∷ 255 ∷ waitOther) ∷ (0 ∷ 261 ∷ 3 ∷ 312 ∷ []) ∷ (2 ∷ 0 ∷ []) ∷ (1 ∷ 0 ∷ []) ∷
-      (3 ∷ 0 ∷ ringOther) ∷ [];
+  computed = printedAll other otherStationScript (fresh other);
+  expected =
+      (0 ∷ 100 ∷ 2 ∷ 261 ∷ []) ∷ (1 ∷ 0 ∷ []) ∷ (3 ∷ 0 ∷ ackOther) ∷
+      (1 ∷ 110 ∷ 0 ∷ 261 ∷ []) ∷
+      (0 ∷ 120 ∷ 0 ∷ 261 ∷ []) ∷
+      (0 ∷ 130 ∷ 1 ∷ 261 ∷ []) ∷ (3 ∷ 255 ∷ waitOther) ∷
+      (0 ∷ 261 ∷ 3 ∷ 312 ∷ []) ∷ (2 ∷ 0 ∷ []) ∷ (1 ∷ 0 ∷ []) ∷ (3 ∷ 0 ∷ ringOther) ∷ [];
 }
 
 -- ── identical or not ────────────────────────────────────────────────────────────
@@ -340,10 +466,18 @@ ringBackTwiceAsked = record {
   expected = (0 ∷ 320 ∷ 1 ∷ 481 ∷ []) ∷ (3 ∷ 0 ∷ ackEight26) ∷ [];
 }
 
+-- a ship at the station 002001234, and seven at another
+abbrev pub at1234 : ℕ → Party
+at1234 x = record { ship = x; station = 2001234 }
+
+abbrev pub at1235 : Party
+at1235 = record { ship = seven; station = 2001235 }
+
 -- one ship at two stations, and two ships at one, are not the same party
 abbrev pub sameShip : Row
 sameShip = record {
-  computed = (told (is (record { ship = seven; station = 2001234 }) (record { ship = seven; station = 2001234 })) ∷ told (is (record { ship = seven; station = 2001234 }) (record { ship = seven; station = 2001235 })) ∷ told (is (record { ship = seven; station = 2001235 }) (record { ship = seven; station = 2001234 })) ∷ told (is (record { ship = seven; station = 2001234 }) (record { ship = eight; station = 2001234 })) ∷ told (is (record { ship = eight; station = 2001234 }) (record { ship = seven; station = 2001234 })) ∷ []) ∷ [];
+  computed = (told (is (at1234 seven) (at1234 seven)) ∷ told (is (at1234 seven) at1235) ∷ told (is at1235 (at1234 seven)) ∷
+      told (is (at1234 seven) (at1234 eight)) ∷ told (is (at1234 eight) (at1234 seven)) ∷ []) ∷ [];
   expected = (1 ∷ 0 ∷ 0 ∷ 0 ∷ 0 ∷ []) ∷ [];
 }
 
@@ -390,35 +524,40 @@ requestWithChannel = record {
 -- the BQ to a ring-back in simplex
 abbrev pub bqSimplex : Row
 bqSimplex = record {
-  computed = gives 1 (calls 100 seven duplex ∷ calls 110 eight duplex ∷ ticks 261 ∷ at 270 (onChannel70 (sends eight 100 122 (Channel (channel 26)) usual)) ∷ []);
+  computed = gives 1 (calls 100 seven duplex ∷ calls 110 eight duplex ∷ ticks 261 ∷
+      at 270 (onChannel70 (sends eight 100 122 (Channel (channel 26)) usual)) ∷ []);
   expected = (0 ∷ 270 ∷ 0 ∷ 431 ∷ []) ∷ [];
 }
 
 -- with the telecommand of data: ignored
 abbrev pub bqData : Row
 bqData = record {
-  computed = gives 1 (calls 100 seven duplex ∷ calls 110 eight duplex ∷ ticks 261 ∷ at 270 (onChannel70 (sends eight 106 122 (Channel (channel 26)) usual)) ∷ []);
+  computed = gives 1 (calls 100 seven duplex ∷ calls 110 eight duplex ∷ ticks 261 ∷
+      at 270 (onChannel70 (sends eight 106 122 (Channel (channel 26)) usual)) ∷ []);
   expected = (1 ∷ 270 ∷ 0 ∷ 312 ∷ []) ∷ [];
 }
 
 -- with RQ: ignored
 abbrev pub bqAsRq : Row
 bqAsRq = record {
-  computed = gives 1 (calls 100 seven duplex ∷ calls 110 eight duplex ∷ ticks 261 ∷ at 270 (onChannel70 (sends eight 101 117 (Channel (channel 26)) usual)) ∷ []);
+  computed = gives 1 (calls 100 seven duplex ∷ calls 110 eight duplex ∷ ticks 261 ∷
+      at 270 (onChannel70 (sends eight 101 117 (Channel (channel 26)) usual)) ∷ []);
   expected = (1 ∷ 270 ∷ 0 ∷ 312 ∷ []) ∷ [];
 }
 
 -- with 127: ignored
 abbrev pub bqAs127 : Row
 bqAs127 = record {
-  computed = gives 1 (calls 100 seven duplex ∷ calls 110 eight duplex ∷ ticks 261 ∷ at 270 (onChannel70 (sends eight 101 127 (Channel (channel 26)) usual)) ∷ []);
+  computed = gives 1 (calls 100 seven duplex ∷ calls 110 eight duplex ∷ ticks 261 ∷
+      at 270 (onChannel70 (sends eight 101 127 (Channel (channel 26)) usual)) ∷ []);
   expected = (1 ∷ 270 ∷ 0 ∷ 312 ∷ []) ∷ [];
 }
 
 -- naming no channel: ignored
 abbrev pub bqUnnamed : Row
 bqUnnamed = record {
-  computed = gives 1 (calls 100 seven duplex ∷ calls 110 eight duplex ∷ ticks 261 ∷ at 270 (onChannel70 (sends eight 101 122 Blank usual)) ∷ []);
+  computed = gives 1 (calls 100 seven duplex ∷ calls 110 eight duplex ∷ ticks 261 ∷
+      at 270 (onChannel70 (sends eight 101 122 Blank usual)) ∷ []);
   expected = (1 ∷ 270 ∷ 0 ∷ 312 ∷ []) ∷ [];
 }
 
@@ -497,7 +636,8 @@ tickOneEarlier = record {
 -- the slot due one tenth before the queue entry goes first
 abbrev pub slotBeforeQueue : Row
 slotBeforeQueue = record {
-  computed = gives 2 (on 10 1 takes ∷ calls 100 seven duplex ∷ works 110 0 seven ∷ on 120 0 offHook ∷ calls 150 eight duplex ∷ on 9099 0 carrierDown ∷ ticks 9999 ∷ []);
+  computed = gives 2 (on 10 1 takes ∷ calls 100 seven duplex ∷ works 110 0 seven ∷ on 120 0 offHook ∷ calls 150 eight duplex ∷
+      on 9099 0 carrierDown ∷ ticks 9999 ∷ []);
   expected = (0 ∷ 9150 ∷ 6 ∷ 9201 ∷ []) ∷ charges 0 seven 120 9150 903 ∷ (6 ∷ 0 ∷ []) ∷ (4 ∷ 0 ∷ overSevenByCoast903) ∷ (2 ∷ 0 ∷ []) ∷
       (1 ∷ 0 ∷ []) ∷ (3 ∷ 0 ∷ ringEight26) ∷ [];
 }
@@ -614,14 +754,19 @@ order29 = record {
 -- one block after the other
 abbrev pub blocksShown : Row
 blocksShown = record {
-  computed = blocks (station 1) (does (carrierOn 0) ∷ over 1 theShip (from seven duplex .who) usual Nothing ∷ charge record { slot = 2; ship = 67305985; start = record { 0 = 1 }; stop = record { 0 = 2 }; seconds = record { 0 = 3 } } ∷ does (carrierOn 3) ∷ []) ∷ [];
-  expected = ((1 ∷ 0 ∷ 0 ∷ 0 ∷ replicate 36 0) ++ (4 ∷ 1 ∷ 24 ∷ 0 ∷ (overSeven ++ replicate 12 0)) ++ (7 ∷ 2 ∷ 16 ∷ 0 ∷ 1 ∷ 2 ∷ 3 ∷ 4 ∷ 1 ∷ 0 ∷ 0 ∷ 0 ∷ 2 ∷ 0 ∷ 0 ∷ 0 ∷ 3 ∷ replicate 23 0) ++ (1 ∷ 3 ∷ 0 ∷ 0 ∷ replicate 36 0)) ∷ [];
+  computed = blocks (station 1) (does (carrierOn 0) ∷ over 1 theShip (from seven duplex .who) usual Nothing ∷
+      charge record { slot = 2; ship = 67305985; start = record { 0 = 1 }; stop = record { 0 = 2 }; seconds = record { 0 = 3 } } ∷
+      does (carrierOn 3) ∷ []) ∷ [];
+  expected = ((1 ∷ 0 ∷ 0 ∷ 0 ∷ replicate 36 0) ++ (4 ∷ 1 ∷ 24 ∷ 0 ∷ (overSeven ++ replicate 12 0)) ++ (7 ∷ 2 ∷ 16 ∷ 0 ∷ 1 ∷ 2 ∷ 3 ∷
+      4 ∷ 1 ∷ 0 ∷ 0 ∷ 0 ∷ 2 ∷ 0 ∷ 0 ∷ 0 ∷ 3 ∷ replicate 23 0) ++ (1 ∷ 3 ∷ 0 ∷ 0 ∷ replicate 36 0)) ∷ [];
 }
 
 -- what is sent is a sequence
 abbrev pub sentValid : Row
 sentValid = record {
-  computed = (told (valid (ableSaid (channel 26) 122 (from seven duplex))) ∷ told (valid (ableSaid (channel 26) 117 (from seven simplex))) ∷ told (valid (unableSaid 103 (from seven duplex .who) (7 ∷ []))) ∷ told (valid (overSaid theShip (from seven duplex .who) (replicate 16 9) (lasting 99 59 59))) ∷ []) ∷ [];
+  computed = (told (valid (ableSaid (channel 26) 122 (from seven duplex))) ∷
+      told (valid (ableSaid (channel 26) 117 (from seven simplex))) ∷ told (valid (unableSaid 103 (from seven duplex .who) (7 ∷ []))) ∷
+      told (valid (overSaid theShip (from seven duplex .who) (replicate 16 9) (lasting 99 59 59))) ∷ []) ∷ [];
   expected = (1 ∷ 1 ∷ 1 ∷ 1 ∷ []) ∷ [];
 }
 
@@ -647,7 +792,12 @@ boundSounds =
     -- the second and the third of three are one
     ∷ refused36 (setUp 2001234 (26 ∷ 27 ∷ 27 ∷ []))
     -- another station, with a request to it
-    ∷ sounds (asked other (record { clock = 5000; slots = pending offered (asking seven 7999999 duplex 126 usual) 5161 ∷ free ∷ []; queue = [] }))
+    ∷ sounds (asked other (record {
+      clock = 5000;
+      slots = pending offered (asking seven 7999999 duplex 126 usual) 5161 ∷ free ∷
+          [];
+      queue = [];
+    }))
     -- to a station one below
     ∷ unsound (with (pending offered (asking seven 2001233 duplex 126 usual) 1161))
     -- fewer slots than channels
@@ -673,13 +823,15 @@ boundSounds =
     -- in ring-back, sent again
     ∷ unsound (asked (station 2) (holding (taken ∷ pending secondRing (from seven duplex) 1051 ∷ []) (waits seven 2000 ∷ [])))
     -- acknowledged
-    ∷ unsound (asked (station 2) (holding (held (from eight duplex) Nothing 1041 ∷ pending acknowledged (from seven duplex) 1161 ∷ []) (waits seven 2000 ∷ [])))
+    ∷ unsound (asked (station 2) (holding (held (from eight duplex) Nothing 1041 ∷ pending acknowledged (from seven duplex) 1161 ∷
+    []) (waits seven 2000 ∷ [])))
     -- dialling
     ∷ unsound (asked (station 2) (holding (free ∷ busy (from seven duplex) (dialling 1601) none ∷ []) (waits seven 2000 ∷ [])))
     -- answered, its carrier absent
     ∷ unsound (asked (station 2) (holding (free ∷ busy (from seven duplex) (answered 900) (some 1051) ∷ []) (waits seven 2000 ∷ [])))
     -- behind a slot and a place of others
-    ∷ unsound (asked (station 2) (holding (pending offered (from nine duplex) 1161 ∷ pending offered (from seven duplex) 1161 ∷ []) (waits eight 2000 ∷ waits seven 2000 ∷ [])))
+    ∷ unsound (asked (station 2) (holding (pending offered (from nine duplex) 1161 ∷ pending offered (from seven duplex) 1161 ∷
+    []) (waits eight 2000 ∷ waits seven 2000 ∷ [])))
     -- a ship in its hold after an answered call waits
     ∷ sounds (asked (station 2) (holding (held (from seven duplex) (lasting 0 6 51) 1041 ∷ free ∷ []) (waits seven 2000 ∷ [])))
     -- the second of two slots is due too late
@@ -687,7 +839,12 @@ boundSounds =
     -- so is the second of two waiting ships
     ∷ unsound (queued (waits eight 2000 ∷ waits seven 10002 ∷ []))
     -- at another clock: an offer to its last tenth
-    ∷ sounds (asked (station 1) (record { clock = 5000; slots = pending offered (from seven duplex) 5161 ∷ []; queue = waits eight 14001 ∷ [] }))
+    ∷ sounds (asked (station 1) (record {
+      clock = 5000;
+      slots = pending offered (from seven duplex) 5161 ∷
+          [];
+      queue = waits eight 14001 ∷ [];
+    }))
     -- an offer one tenth further
     ∷ unsound (asked (station 1) (record { clock = 5000; slots = pending offered (from seven duplex) 5162 ∷ []; queue = [] }))
     -- a queue entry one tenth further
