@@ -16,20 +16,22 @@ use Rattle.rules.specs.Verdict.{refusals, verdict, setUpVerdict, step, p
 use Rattle.rules.specs.Bytes.{block, blockOf, padded, answerTo, ableSaid, unableSaid, overSaid, payloadOf}
 use Rattle.rules.specs.Printed.{printed, lastPrinted}
 use Rattle.rules.specs.Book.{alike, blankBook, falls}
-use Rattle.rules.specs.Reading.{reads, turn, stopsIn, stops, readAll, counted, countedByCalls}
-use Rattle.rules.specs.ThreeWords.{wordsDone, wordAfter}
+use Rattle.rules.specs.Reading.{reads, turn, stopsIn, stops}
 use Rattle.rules.specs.Repeated.{lastAsked}
-use Rattle.rules.specs.Statement.{charged, notes, owedFor, heldTenths}
+use Rattle.rules.specs.Statement.{charged, notes, owedFor}
 use Rattle.rules.specs.Runs.{station, seven, usual, runs}
 use Rattle.rules.specs.Cases.{cases, sample, sampleShows}
 use Rattle.rules.specs.RequestCases.{otherMode, requestCases}
 use Rattle.rules.specs.CallCases.{callCases}
 use Rattle.rules.specs.RefusalCases.{refusalCases}
 use Rattle.rules.specs.Phases.{rowOf, phases}
-use Rattle.rules.specs.BoundCases.{boundCases, boundSounds}
-use Rattle.rules.specs.Pages.{pageCases, pageRuns}
 use Rattle.rules.specs.SoundCases.{from, setUpCases, storedCases, countCases, timeCases}
 use Rattle.rules.proofs.Tested.{as-expected}
+use Rattle.rules.specs.BoundCases.{boundCases, boundSounds}
+use Rattle.rules.specs.Reading.{readAll, counted, countedByCalls}
+use Rattle.rules.specs.ThreeWords.{wordsDone, wordAfter}
+use Rattle.rules.specs.Statement.{heldTenths}
+use Rattle.rules.specs.Pages.{pageCases, pageRuns}
 
 -- P1 to P12, "Hold begun at 6000", "Number 7"
 pub cases-computed : map (λ r. r .computed) cases ≡ map (λ r. r .expected) cases
@@ -51,6 +53,11 @@ pub phases-computed : map (λ p. rowOf (p .slot)) phases ≡ map (λ p. p .gives
 unfolding printed lastPrinted isShip isCoast identitiesOk identityPairs identityOf isCall unableSecond telecommandsOk channelOk durationOk fieldOk numberOk parity evened endOk valid front body layout Reader.lengthIn Reader.checkIn Reader.formatIn Reader.identityAt Reader.identityPairsAt Reader.identitiesIn Reader.categoryIn Reader.telecommandsIn Reader.blankSymbols Reader.channelSymbols Reader.durationSymbols Reader.fieldSymbols Reader.fieldOf Reader.fieldIn Reader.pairsIn Reader.parityOk Reader.pairsOk Reader.numberIn Reader.zeroBefore Reader.sixteen Reader.numberOf Reader.endIn Reader.refusals Reader.answerOf Reader.meaningOf Reader.blankMeaning Reader.readingOf padded answerTo ableSaid unableSaid overSaid payloadOf is kindOf addressed meaning fresh setSlot setClock setQueue table fires nextDue identityKeeps channelsKeep configKeeps oneSlotEach numberKeeps requestKeeps durationKeeps noShipTwice storedKeeps timesFit sound rungBack freedFor freed coastEnd standing ruleA repeated afresh same ruleB ruleD offer ruleF ruleG eToG newcomer dToG redial ruleC bOrC requested dialNow workingKind workingOn agreed bqKind bqFor offHookStage offHookOn downOn upOn shipEnd sayAgain shipEndOn endOn takeOn giveOn offerDue ringAgain pendingDue replyDue mainOn fire ticked heardOn70 heardOn happenedOn actAt refusals verdict setUpVerdict step play final
 phases-computed = refl
 
+-- what the list of each run tells after each entry, and what it counts
+pub pages-computed : map (λ r. r .computed) pageCases ≡ map (λ r. r .expected) pageCases
+unfolding charged notes isShip isCoast identitiesOk identityPairs identityOf isCall unableSecond telecommandsOk channelOk durationOk fieldOk numberOk parity evened endOk valid front body layout Reader.lengthIn Reader.checkIn Reader.formatIn Reader.identityAt Reader.identityPairsAt Reader.identitiesIn Reader.categoryIn Reader.telecommandsIn Reader.blankSymbols Reader.channelSymbols Reader.durationSymbols Reader.fieldSymbols Reader.fieldOf Reader.fieldIn Reader.pairsIn Reader.parityOk Reader.pairsOk Reader.numberIn Reader.zeroBefore Reader.sixteen Reader.numberOf Reader.endIn Reader.refusals Reader.answerOf Reader.meaningOf Reader.blankMeaning Reader.readingOf padded answerTo ableSaid unableSaid overSaid payloadOf is kindOf addressed meaning fresh setSlot setClock setQueue table fires nextDue identityKeeps channelsKeep configKeeps oneSlotEach numberKeeps requestKeeps durationKeeps noShipTwice storedKeeps timesFit sound rungBack freedFor freed coastEnd standing ruleA repeated afresh same ruleB ruleD offer ruleF ruleG eToG newcomer dToG redial ruleC bOrC requested dialNow workingKind workingOn agreed bqKind bqFor offHookStage offHookOn downOn upOn shipEnd sayAgain shipEndOn endOn takeOn giveOn offerDue ringAgain pendingDue replyDue mainOn fire ticked heardOn70 heardOn happenedOn actAt refusals verdict setUpVerdict step play final alike blankBook falls reads turn stopsIn stops counted countedByCalls readAll heldTenths wordAfter wordsDone lastAsked
+pages-computed = as-expected pageCases refl
+
 -- 01's sample script gives the printed answers
 pub sample-computed : printed (station 1) sample (fresh (station 1)) ≡ sampleShows
 unfolding printed isShip isCoast identitiesOk identityPairs identityOf isCall unableSecond telecommandsOk channelOk durationOk fieldOk numberOk parity evened endOk valid front body layout Reader.lengthIn Reader.checkIn Reader.formatIn Reader.identityAt Reader.identityPairsAt Reader.identitiesIn Reader.categoryIn Reader.telecommandsIn Reader.blankSymbols Reader.channelSymbols Reader.durationSymbols Reader.fieldSymbols Reader.fieldOf Reader.fieldIn Reader.pairsIn Reader.parityOk Reader.pairsOk Reader.numberIn Reader.zeroBefore Reader.sixteen Reader.numberOf Reader.endIn Reader.refusals Reader.answerOf Reader.meaningOf Reader.blankMeaning Reader.readingOf padded answerTo ableSaid unableSaid overSaid payloadOf is kindOf addressed meaning fresh setSlot setClock setQueue table fires nextDue identityKeeps channelsKeep configKeeps oneSlotEach numberKeeps requestKeeps durationKeeps noShipTwice storedKeeps timesFit sound rungBack freedFor freed coastEnd standing ruleA repeated afresh same ruleB ruleD offer ruleF ruleG eToG newcomer dToG redial ruleC bOrC requested dialNow workingKind workingOn agreed bqKind bqFor offHookStage offHookOn downOn upOn shipEnd sayAgain shipEndOn endOn takeOn giveOn offerDue ringAgain pendingDue replyDue mainOn fire ticked heardOn70 heardOn happenedOn actAt refusals verdict setUpVerdict step play final
@@ -65,11 +72,6 @@ charges-computed = refl
 pub stops-computed : map (λ r. owedFor (stops (station (r .slots)) 0 (notes (play (station (r .slots)) (r .events) (fresh (station (r .slots))))) (blankBook (station (r .slots))))) (runs ++ pageRuns) ≡ map (λ r. r .owing) (runs ++ pageRuns)
 unfolding notes isShip isCoast identitiesOk identityPairs identityOf isCall unableSecond telecommandsOk channelOk durationOk fieldOk numberOk parity evened endOk valid front body layout Reader.lengthIn Reader.checkIn Reader.formatIn Reader.identityAt Reader.identityPairsAt Reader.identitiesIn Reader.categoryIn Reader.telecommandsIn Reader.blankSymbols Reader.channelSymbols Reader.durationSymbols Reader.fieldSymbols Reader.fieldOf Reader.fieldIn Reader.pairsIn Reader.parityOk Reader.pairsOk Reader.numberIn Reader.zeroBefore Reader.sixteen Reader.numberOf Reader.endIn Reader.refusals Reader.answerOf Reader.meaningOf Reader.blankMeaning Reader.readingOf padded answerTo ableSaid unableSaid overSaid payloadOf is kindOf addressed meaning fresh setSlot setClock setQueue table fires nextDue identityKeeps channelsKeep configKeeps oneSlotEach numberKeeps requestKeeps durationKeeps noShipTwice storedKeeps timesFit sound rungBack freedFor freed coastEnd standing ruleA repeated afresh same ruleB ruleD offer ruleF ruleG eToG newcomer dToG redial ruleC bOrC requested dialNow workingKind workingOn agreed bqKind bqFor offHookStage offHookOn downOn upOn shipEnd sayAgain shipEndOn endOn takeOn giveOn offerDue ringAgain pendingDue replyDue mainOn fire ticked heardOn70 heardOn happenedOn actAt refusals verdict setUpVerdict step play final alike blankBook falls reads turn stopsIn stops
 stops-computed = refl
-
--- what the list of each run tells after each entry, and what it counts
-pub pages-computed : map (λ r. r .computed) pageCases ≡ map (λ r. r .expected) pageCases
-unfolding charged notes isShip isCoast identitiesOk identityPairs identityOf isCall unableSecond telecommandsOk channelOk durationOk fieldOk numberOk parity evened endOk valid front body layout Reader.lengthIn Reader.checkIn Reader.formatIn Reader.identityAt Reader.identityPairsAt Reader.identitiesIn Reader.categoryIn Reader.telecommandsIn Reader.blankSymbols Reader.channelSymbols Reader.durationSymbols Reader.fieldSymbols Reader.fieldOf Reader.fieldIn Reader.pairsIn Reader.parityOk Reader.pairsOk Reader.numberIn Reader.zeroBefore Reader.sixteen Reader.numberOf Reader.endIn Reader.refusals Reader.answerOf Reader.meaningOf Reader.blankMeaning Reader.readingOf padded answerTo ableSaid unableSaid overSaid payloadOf is kindOf addressed meaning fresh setSlot setClock setQueue table fires nextDue identityKeeps channelsKeep configKeeps oneSlotEach numberKeeps requestKeeps durationKeeps noShipTwice storedKeeps timesFit sound rungBack freedFor freed coastEnd standing ruleA repeated afresh same ruleB ruleD offer ruleF ruleG eToG newcomer dToG redial ruleC bOrC requested dialNow workingKind workingOn agreed bqKind bqFor offHookStage offHookOn downOn upOn shipEnd sayAgain shipEndOn endOn takeOn giveOn offerDue ringAgain pendingDue replyDue mainOn fire ticked heardOn70 heardOn happenedOn actAt refusals verdict setUpVerdict step play final alike blankBook falls reads turn stopsIn stops counted countedByCalls readAll heldTenths wordAfter wordsDone
-pages-computed = as-expected pageCases refl
 
 -- the list `otherMode`: what seven was last told to wait with, and what it is rung back with
 pub other-mode-computed : (lastAsked (station 1) (from seven simplex .who) nothing (notes (play (station 1) otherMode (fresh (station 1)))) ≡ callRequest (from seven simplex))

@@ -7,12 +7,14 @@ use lib.ListN.{length, take}
 use Rattle.units.specs.declared.Told.the-variants.{Nothing}
 use Rattle.sequence.specs.declared.Field.the-variants.{Blank, Channel}
 use Rattle.rules.specs.Words.{Party, simplex, duplex, modeNumber, Request, Config, offHook, onHook, carrierUp, carrierDown, takes, givesBack, onChannel70, onSlot, Event, Deed, carrierOn, carrierOff, acknowledge, ringBack, unable, dial, releaseLine}
+use Rattle.rules.specs.Heard.{Heard, callRequest, dataRequest, bq, workingCall, endOfCall, nothing}
 use Rattle.rules.specs.Actions.{theShip, Action, does, over, charge}
 use Rattle.rules.specs.Station.{offered, dialling, answered, free, taken, pending, busy, held}
 use Rattle.rules.specs.Book.{Note, Said, silent, toldBQ, toldRQ, settled, Call, quiet, dialled, talking, Line, Place, Book, blankBook, alike}
 use Rattle.rules.specs.Reading.{turn, numbered, counted, countedByCalls}
 use Rattle.rules.specs.ThreeWords.{Word, idle, ringing, since, wordHeard, wordsDone, wordAfter, wordOf}
 use Rattle.rules.specs.Statement.{deedsOf, chargesOf, charged, runOf, stationAfter, listOf, stopsOf, tenthsIn, heldTenths, eventsOf}
+use Rattle.rules.specs.Repeated.{toldToWait, lastAsked}
 use Rattle.rules.specs.Runs.{channel, station, seven, eight, nine, sends, at, usual, callsFor, calls, accepts, on, works, ends, ticks, paid, Run}
 use Rattle.rules.specs.Cases.{Row}
 use Rattle.rules.specs.Requests.{same}
@@ -479,10 +481,10 @@ eventsShown = record {
   expected = (50 ∷ 100 ∷ 110 ∷ []) ∷ [];
 }
 
--- every deed but dial and release, of another slot
+-- every deed, on another slot than the second
 abbrev pub deeds : List Deed
-deeds = carrierOn 0 ∷ carrierOff 0 ∷ acknowledge 0 (from seven duplex) ∷ ringBack 0 (from seven duplex) ∷ unable 103 party usual ∷
-    dial 0 usual ∷ releaseLine 0 ∷ []
+deeds = carrierOn 0 ∷ carrierOff 0 ∷ acknowledge 0 (from seven duplex) ∷ ringBack 0 (from seven duplex) ∷ dial 0 usual ∷
+    releaseLine 0 ∷ unable 103 party usual ∷ []
 
 -- dial and release on the slot itself change its word, whatever is done before
 abbrev pub wordsByDeeds : Row
@@ -506,6 +508,41 @@ wordsAtOnce = record {
   computed = word (wordAfter 0 (listOf (station 2) (take 8 twoCalls)) idle) ∷
       word (wordAfter 1 (listOf (station 2) (take 8 twoCalls)) idle) ∷ [];
   expected = (2 ∷ 130 ∷ []) ∷ (2 ∷ 140 ∷ []) ∷ [];
+}
+
+-- told to wait: 104/103 to the ship itself, whatever is done before, and neither 102 nor 109
+abbrev pub toldToWaitShown : Row
+toldToWaitShown = record {
+  computed = (told (toldToWait party deeds) ∷ told (toldToWait party (unable 102 party usual ∷ [])) ∷
+      told (toldToWait party (unable 109 party usual ∷ [])) ∷ told (toldToWait party (unable 103 (from eight duplex .who) usual ∷
+      [])) ∷ told (toldToWait party (unable 102 party usual ∷ unable 103 party usual ∷ [])) ∷ []) ∷ [];
+  expected = (1 ∷ 0 ∷ 0 ∷ 0 ∷ 1 ∷ []) ∷ [];
+}
+
+-- what is heard, as numbers
+abbrev pub heardShown : Heard → List ℕ
+heardShown (callRequest r) = 1 ∷ request r
+heardShown (dataRequest x n) = 2 ∷ x .ship ∷ []
+heardShown (bq i x) = 3 ∷ i ∷ x .ship ∷ []
+heardShown (workingCall x) = 4 ∷ x .ship ∷ []
+heardShown (endOfCall x) = 5 ∷ x .ship ∷ []
+heardShown nothing = 0 ∷ []
+
+-- what a ship was last told to wait with, whatever was heard before
+abbrev pub lastAskedShown : Row
+lastAskedShown = record {
+  computed = map (λ o. heardShown (lastAsked (station 1) party o (listOf (station 1) (take 2 inQueue)))) (nothing ∷
+      callRequest (from eight duplex) ∷ dataRequest party usual ∷ bq 0 party ∷ workingCall party ∷ endOfCall party ∷ []);
+  expected = (1 ∷ seven ∷ 101 ∷ 126 ∷ 7 ∷ []) ∷ (1 ∷ seven ∷ 101 ∷ 126 ∷ 7 ∷ []) ∷ (1 ∷ seven ∷ 101 ∷ 126 ∷ 7 ∷ []) ∷ (1 ∷ seven ∷
+      101 ∷ 126 ∷ 7 ∷ []) ∷ (1 ∷ seven ∷ 101 ∷ 126 ∷ 7 ∷ []) ∷ (1 ∷ seven ∷ 101 ∷ 126 ∷ 7 ∷ []) ∷ [];
+}
+
+-- a ship that was not told to wait
+abbrev pub lastAskedNever : Row
+lastAskedNever = record {
+  computed = map (λ o. heardShown (lastAsked (station 1) (from nine duplex .who) o (listOf (station 1) (take 2 inQueue)))) (nothing ∷
+      bq 0 party ∷ []);
+  expected = (0 ∷ []) ∷ (3 ∷ 0 ∷ seven ∷ []) ∷ [];
 }
 
 -- a charge behind every other action is found, and the deeds alone are
@@ -566,7 +603,8 @@ pageCases =
     onSecondPages ∷ onSecondWords ∷ onSecondTenths ∷ againPages ∷ againWords ∷ againTenths ∷ inQueuePages ∷ inQueueWords ∷
     inQueueTenths ∷ twoCallsPages ∷ twoCallsWords ∷ twoCallsWordsOfFirst ∷ twoCallsTenths ∷ onThirdPages ∷ onThirdWords ∷
     onThirdTenths ∷ dialledOnly ∷ heldShown ∷ stopsNumbered ∷ eventsShown ∷ wordsByDeeds ∷ wordsByOffHook ∷ wordsAtOnce ∷
-    chargesFound ∷ talkingOn ∷ wordsOf ∷ blankPage ∷ told102 ∷ sameShown ∷ alikeShown ∷ []
+    toldToWaitShown ∷ lastAskedShown ∷ lastAskedNever ∷ chargesFound ∷ talkingOn ∷ wordsOf ∷ blankPage ∷ told102 ∷ sameShown ∷
+    alikeShown ∷ []
 
 abbrev pub pageRuns : List Run
 pageRuns = onSecondRun ∷ againRun ∷ inQueueRun ∷ twoCallsRun ∷ onThirdRun ∷ []
