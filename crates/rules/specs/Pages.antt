@@ -3,7 +3,7 @@ use mathlib.Core.List.{List, [], _∷_, _++_, map}
 use mathlib.Core.Bool.{Bool}
 use mathlib.Core.Option.{Option, none, some}
 use Prim.Native.Nat.{ℕ, _+_}
-use lib.ListN.{length, take}
+use lib.ListN.{length, getD, take}
 use Rattle.units.specs.declared.Told.the-variants.{Nothing}
 use Rattle.sequence.specs.declared.Field.the-variants.{Blank, Channel}
 use Rattle.rules.specs.Words.{Party, simplex, duplex, modeNumber, Request, Config, offHook, onHook, carrierUp, carrierDown, takes, givesBack, onChannel70, onSlot, Event, Deed, carrierOn, carrierOff, acknowledge, ringBack, unable, dial, releaseLine}
@@ -510,6 +510,80 @@ wordsAtOnce = record {
   expected = (2 ∷ 130 ∷ []) ∷ (2 ∷ 140 ∷ []) ∷ [];
 }
 
+-- a book of one line on which everything is set, and that line after an event or a deed alone
+abbrev pub set : Said → Call → Book
+set s k = record { now = 100; lines = record { said = s; wait = some 5000; call = k; gone = some 6000 } ∷ []; places = [] }
+
+abbrev pub afterEvent : Event → Book → List ℕ
+afterEvent e b = getD (map line (turn (station 1) b (record { event = e; deeds = [] }) .lines)) 0 []
+
+abbrev pub afterDeed : Deed → Book → List ℕ
+afterDeed d b = getD (map line (turn (station 1) b (record { event = ticks 200; deeds = d ∷ [] }) .lines)) 0 []
+
+abbrev pub ringsEight : Call
+ringsEight = dialled (from eight simplex .who) simplex
+
+abbrev pub talksEight : Call
+talksEight = talking (from eight duplex .who) duplex 150
+
+-- an event changes what it tells, and nothing else of the line
+abbrev pub eventsAlone : Row
+eventsAlone = record {
+  computed =
+      afterEvent (on 200 0 onHook) (set (toldBQ (from seven duplex)) ringsEight) ∷
+      afterEvent (on 200 0 onHook) (set (toldBQ (from seven duplex)) talksEight) ∷
+      afterEvent (on 200 0 offHook) (set (toldBQ (from seven duplex)) ringsEight) ∷
+      afterEvent (ends 200 0 eight) (set (toldBQ (from seven duplex)) talksEight) ∷
+      afterEvent (on 200 0 takes) (set (toldBQ (from seven duplex)) ringsEight) ∷
+      afterEvent (accepts 200 26 seven) (set (toldRQ (from seven duplex)) talksEight) ∷
+      afterEvent (ticks 5000) (set (toldBQ (from seven duplex)) ringsEight) ∷ [];
+  expected =
+      (1 ∷ seven ∷ 101 ∷ 126 ∷ 7 ∷ 1 ∷ 5000 ∷ 1 ∷ eight ∷ 100 ∷ 1 ∷ 6000 ∷ []) ∷
+      (1 ∷ seven ∷ 101 ∷ 126 ∷ 7 ∷ 1 ∷ 5000 ∷ 0 ∷ 0 ∷ []) ∷
+      (1 ∷ seven ∷ 101 ∷ 126 ∷ 7 ∷ 0 ∷ 2 ∷ eight ∷ 100 ∷ 200 ∷ 1 ∷ 6000 ∷ []) ∷
+      (1 ∷ seven ∷ 101 ∷ 126 ∷ 7 ∷ 1 ∷ 241 ∷ 0 ∷ 0 ∷ []) ∷
+      (1 ∷ seven ∷ 101 ∷ 126 ∷ 7 ∷ 1 ∷ 5000 ∷ 1 ∷ eight ∷ 100 ∷ 1 ∷ 6000 ∷ []) ∷
+      (3 ∷ seven ∷ 101 ∷ 126 ∷ 7 ∷ 1 ∷ 361 ∷ 2 ∷ eight ∷ 101 ∷ 150 ∷ 1 ∷ 6000 ∷ []) ∷
+      (1 ∷ seven ∷ 101 ∷ 126 ∷ 7 ∷ 0 ∷ 1 ∷ eight ∷ 100 ∷ 1 ∷ 6000 ∷ []) ∷ [];
+}
+
+-- so does a deed
+abbrev pub deedsAlone : Row
+deedsAlone = record {
+  computed =
+      afterDeed (acknowledge 0 (from nine duplex)) (set (toldBQ (from seven duplex)) ringsEight) ∷
+      afterDeed (ringBack 0 (from nine duplex)) (set (toldBQ (from seven duplex)) ringsEight) ∷
+      afterDeed (carrierOff 0) (set (toldBQ (from seven duplex)) ringsEight) ∷
+      afterDeed (carrierOn 0) (set (toldBQ (from seven duplex)) ringsEight) ∷
+      afterDeed (dial 0 usual) (set (toldBQ (from seven duplex)) ringsEight) ∷
+      afterDeed (dial 0 usual) (set (settled (from seven simplex)) ringsEight) ∷
+      afterDeed (dial 0 usual) (set (toldBQ (from seven duplex)) talksEight) ∷
+      afterDeed (dial 0 usual) (set (toldBQ (from seven duplex)) (talking (from eight simplex .who) simplex 150)) ∷
+      afterDeed (releaseLine 0) (set (toldBQ (from seven duplex)) ringsEight) ∷
+      afterDeed (releaseLine 0) (set (toldBQ (from seven duplex)) talksEight) ∷
+      afterDeed (releaseLine 0) (set (toldBQ (from seven duplex)) (talking (from eight simplex .who) simplex 150)) ∷ [];
+  expected =
+      (1 ∷ nine ∷ 101 ∷ 126 ∷ 7 ∷ 1 ∷ 361 ∷ 1 ∷ eight ∷ 100 ∷ 1 ∷ 6000 ∷ []) ∷
+      (2 ∷ nine ∷ 101 ∷ 126 ∷ 7 ∷ 1 ∷ 251 ∷ 1 ∷ eight ∷ 100 ∷ 1 ∷ 6000 ∷ []) ∷
+      (0 ∷ 1 ∷ 5000 ∷ 1 ∷ eight ∷ 100 ∷ 1 ∷ 6000 ∷ []) ∷
+      (1 ∷ seven ∷ 101 ∷ 126 ∷ 7 ∷ 1 ∷ 5000 ∷ 1 ∷ eight ∷ 100 ∷ 1 ∷ 6000 ∷ []) ∷
+      (0 ∷ 1 ∷ 801 ∷ 1 ∷ seven ∷ 101 ∷ 0 ∷ []) ∷
+      (0 ∷ 1 ∷ 801 ∷ 1 ∷ seven ∷ 100 ∷ 0 ∷ []) ∷
+      (0 ∷ 1 ∷ 801 ∷ 2 ∷ eight ∷ 101 ∷ 150 ∷ 0 ∷ []) ∷
+      (0 ∷ 1 ∷ 801 ∷ 2 ∷ eight ∷ 100 ∷ 150 ∷ 0 ∷ []) ∷
+      (1 ∷ seven ∷ 101 ∷ 126 ∷ 7 ∷ 0 ∷ 0 ∷ 0 ∷ []) ∷
+      (1 ∷ seven ∷ 101 ∷ 126 ∷ 7 ∷ 1 ∷ 5000 ∷ 2 ∷ eight ∷ 101 ∷ 150 ∷ 1 ∷ 6000 ∷ []) ∷
+      (1 ∷ seven ∷ 101 ∷ 126 ∷ 7 ∷ 1 ∷ 5000 ∷ 2 ∷ eight ∷ 100 ∷ 150 ∷ 1 ∷ 6000 ∷ []) ∷ [];
+}
+
+-- of the three words too: dial on a slot that rings or talks, on-hook on one that rings
+abbrev pub wordsAlone : Row
+wordsAlone = record {
+  computed = word (wordsDone 1 (dial 1 usual ∷ []) ringing) ∷ word (wordsDone 1 (dial 1 usual ∷ []) (since 150)) ∷
+      word (wordHeard 1 300 (onSlot 1 onHook) ringing) ∷ [];
+  expected = (1 ∷ []) ∷ (1 ∷ []) ∷ (1 ∷ []) ∷ [];
+}
+
 -- told to wait: 104/103 to the ship itself, whatever is done before, and neither 102 nor 109
 abbrev pub toldToWaitShown : Row
 toldToWaitShown = record {
@@ -603,8 +677,8 @@ pageCases =
     onSecondPages ∷ onSecondWords ∷ onSecondTenths ∷ againPages ∷ againWords ∷ againTenths ∷ inQueuePages ∷ inQueueWords ∷
     inQueueTenths ∷ twoCallsPages ∷ twoCallsWords ∷ twoCallsWordsOfFirst ∷ twoCallsTenths ∷ onThirdPages ∷ onThirdWords ∷
     onThirdTenths ∷ dialledOnly ∷ heldShown ∷ stopsNumbered ∷ eventsShown ∷ wordsByDeeds ∷ wordsByOffHook ∷ wordsAtOnce ∷
-    toldToWaitShown ∷ lastAskedShown ∷ lastAskedNever ∷ chargesFound ∷ talkingOn ∷ wordsOf ∷ blankPage ∷ told102 ∷ sameShown ∷
-    alikeShown ∷ []
+    eventsAlone ∷ deedsAlone ∷ wordsAlone ∷ toldToWaitShown ∷ lastAskedShown ∷ lastAskedNever ∷ chargesFound ∷ talkingOn ∷
+    wordsOf ∷ blankPage ∷ told102 ∷ sameShown ∷ alikeShown ∷ []
 
 abbrev pub pageRuns : List Run
 pageRuns = onSecondRun ∷ againRun ∷ inQueueRun ∷ twoCallsRun ∷ onThirdRun ∷ []
