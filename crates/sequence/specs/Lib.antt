@@ -7,3 +7,5 @@ pub mod Number
 pub mod Layout
 pub mod Reading
 pub mod Writing
+-- cases
+pub mod Bounds

@@ -1,0 +1,852 @@
+-- Rows on both sides of a boundary, and for what the other tables see only in its usual value: other slots, places, stations,
+-- second telecommands, kinds of sequence.
+use mathlib.Core.List.{List, [], _∷_, _++_}
+use mathlib.Core.Option.{Option, none, some}
+use mathlib.Core.Bool.{Bool, cond}
+use Prim.Native.Nat.{ℕ}
+use lib.ListN.{replicate}
+use Rattle.units.specs.declared.Told.the-variants.{Nothing, Lasting}
+use Rattle.sequence.specs.declared.Field.the-variants.{Blank, Channel}
+use Rattle.sequence.specs.Layout.{valid, layout}
+use Rattle.rules.specs.Words.{Party, is, Mode, simplex, duplex, modeNumber, Config, heard, offHook, onHook, carrierUp, carrierDown, takes, givesBack, tick, onChannel70, Event, carrierOn}
+use Rattle.rules.specs.Actions.{theShip, does, over, charge}
+use Rattle.rules.specs.Station.{offered, firstRing, secondRing, acknowledged, dialling, answered, free, taken, pending, busy, held, Waiting, Station, fresh}
+use Rattle.rules.specs.Verdict.{step}
+use Rattle.rules.specs.Bytes.{numberOf, ableSaid, unableSaid, overSaid, blocks}
+use Rattle.rules.specs.Printed.{lines}
+use Rattle.rules.specs.Runs.{channel, station, seven, eight, nine, sends, at, usual, callsFor, calls, accepts, on, works, ends, ticks}
+use Rattle.rules.specs.Cases.{Row}
+use Rattle.rules.specs.Scripts.{gives, waits, waitingShips, charges, ackEight26, ackSeven26, ackSeven26Again, ackSeven26Simplex, ackSeven27, overSeven, overSevenByCoast, ringEight26, ringNine26, ringSeven26, unable102Nine, unable103Eight, unable103Seven}
+use Rattle.rules.specs.SoundCases.{asking, from, lasting, holding, asked, with, queued, setUp, Judged, sounds, unsound, refused36}
+
+-- ── how a row is written ─────────────────────────────────────────────────────
+
+-- what every event of a script prints
+abbrev pub printedAll : Config → List Event → Station → List (List ℕ)
+printedAll c [] st = []
+printedAll c (e ∷ es) st = lines c (step c st e) ++ printedAll c es (step c st e .next)
+
+abbrev pub tells : ℕ → List Event → List (List ℕ)
+tells n es = printedAll (station n) es (fresh (station n))
+
+-- the symbols of a request to a station, with a second telecommand
+abbrev pub asks : ℕ → ℕ → ℕ → List ℕ → ℕ → Mode → List ℕ
+asks station second end digits x m =
+    layout
+    (record { address = station; sender = x; first = modeNumber m; second = second; field = Blank; number = numberOf digits; end = end })
+
+-- a call request with a second telecommand
+abbrev pub callsAs : ℕ → List ℕ → ℕ → ℕ → Mode → Event
+callsAs second digits t x m = at t (onChannel70 (asks 2001234 second 117 digits x m))
+
+-- what an event prints in a station whose one slot is taken, at the clock 100
+abbrev pub waitingWith : List Waiting → Event → List (List ℕ)
+waitingWith q e = lines (station 1) (step (station 1) (record { clock = 100; slots = taken ∷ []; queue = q }) e)
+
+-- another station, on the channels 60 and 88
+abbrev pub other : Config
+other = record { identity = 7999999; channels = channel 60 ∷ channel 88 ∷ [] }
+
+-- 1 where a test holds, 0 where it fails
+abbrev pub told : Bool → ℕ
+told b = cond b 1 0
+
+-- ── the sequences sent ───────────────────────────────────────────────────────
+
+-- acknowledgement, channel 27, seven, second telecommand 100
+abbrev pub ackSeven27As100 : List ℕ
+ackSeven27As100 = 123 ∷ 20 ∷ 0 ∷ 0 ∷ 0 ∷ 70 ∷ 100 ∷ 0 ∷ 20 ∷ 1 ∷ 23 ∷ 40 ∷ 101 ∷ 100 ∷ 90 ∷ 0 ∷ 27 ∷ 105 ∷ 5 ∷ 55 ∷ 12 ∷ 34 ∷ 122 ∷
+    40 ∷ []
+
+-- acknowledgement, channel 27, seven, number 42
+abbrev pub ackSeven27Of42 : List ℕ
+ackSeven27Of42 = 123 ∷ 20 ∷ 0 ∷ 0 ∷ 0 ∷ 70 ∷ 100 ∷ 0 ∷ 20 ∷ 1 ∷ 23 ∷ 40 ∷ 101 ∷ 126 ∷ 90 ∷ 0 ∷ 27 ∷ 106 ∷ 42 ∷ 122 ∷ 7 ∷ []
+
+-- 104/103 to nine
+abbrev pub unable103Nine : List ℕ
+unable103Nine = 123 ∷ 20 ∷ 0 ∷ 0 ∷ 0 ∷ 90 ∷ 100 ∷ 0 ∷ 20 ∷ 1 ∷ 23 ∷ 40 ∷ 104 ∷ 103 ∷ 126 ∷ 126 ∷ 126 ∷ 105 ∷ 5 ∷ 55 ∷ 12 ∷ 34 ∷ 122 ∷
+    5 ∷ []
+
+-- end of call to seven, BQ, 0 0 4, number 42
+abbrev pub overSeven4Of42 : List ℕ
+overSeven4Of42 = 123 ∷ 20 ∷ 0 ∷ 0 ∷ 0 ∷ 70 ∷ 100 ∷ 0 ∷ 20 ∷ 1 ∷ 23 ∷ 40 ∷ 105 ∷ 126 ∷ 0 ∷ 0 ∷ 4 ∷ 106 ∷ 42 ∷ 122 ∷ 78 ∷ []
+
+-- ring-back, channel 27, eight
+abbrev pub ringEight27 : List ℕ
+ringEight27 = 123 ∷ 20 ∷ 0 ∷ 0 ∷ 0 ∷ 80 ∷ 100 ∷ 0 ∷ 20 ∷ 1 ∷ 23 ∷ 40 ∷ 101 ∷ 126 ∷ 90 ∷ 0 ∷ 27 ∷ 105 ∷ 5 ∷ 55 ∷ 12 ∷ 34 ∷ 117 ∷ 43 ∷ []
+
+-- end of call to eight, 127, 126s
+abbrev pub overEightByCoast : List ℕ
+overEightByCoast = 123 ∷ 20 ∷ 0 ∷ 0 ∷ 0 ∷ 80 ∷ 100 ∷ 0 ∷ 20 ∷ 1 ∷ 23 ∷ 40 ∷ 105 ∷ 126 ∷ 126 ∷ 126 ∷ 126 ∷ 105 ∷ 5 ∷ 55 ∷ 12 ∷ 34 ∷
+    127 ∷ 18 ∷ []
+
+-- ring-back, channel 27, nine, in simplex
+abbrev pub ringNine27Simplex : List ℕ
+ringNine27Simplex = 123 ∷ 20 ∷ 0 ∷ 0 ∷ 0 ∷ 90 ∷ 100 ∷ 0 ∷ 20 ∷ 1 ∷ 23 ∷ 40 ∷ 100 ∷ 126 ∷ 90 ∷ 0 ∷ 27 ∷ 105 ∷ 5 ∷ 55 ∷ 12 ∷ 34 ∷ 117 ∷
+    32 ∷ []
+
+-- acknowledgement, channel 27, nine, in simplex
+abbrev pub ackNine27Simplex : List ℕ
+ackNine27Simplex = 123 ∷ 20 ∷ 0 ∷ 0 ∷ 0 ∷ 90 ∷ 100 ∷ 0 ∷ 20 ∷ 1 ∷ 23 ∷ 40 ∷ 100 ∷ 126 ∷ 90 ∷ 0 ∷ 27 ∷ 105 ∷ 5 ∷ 55 ∷ 12 ∷ 34 ∷ 122 ∷
+    47 ∷ []
+
+-- acknowledgement, channel 27, seven, in simplex
+abbrev pub ackSeven27Simplex : List ℕ
+ackSeven27Simplex = 123 ∷ 20 ∷ 0 ∷ 0 ∷ 0 ∷ 70 ∷ 100 ∷ 0 ∷ 20 ∷ 1 ∷ 23 ∷ 40 ∷ 100 ∷ 126 ∷ 90 ∷ 0 ∷ 27 ∷ 105 ∷ 5 ∷ 55 ∷ 12 ∷ 34 ∷ 122 ∷
+    51 ∷ []
+
+-- end of call to seven, 127, 0 0 2
+abbrev pub overSevenByCoast2 : List ℕ
+overSevenByCoast2 = 123 ∷ 20 ∷ 0 ∷ 0 ∷ 0 ∷ 70 ∷ 100 ∷ 0 ∷ 20 ∷ 1 ∷ 23 ∷ 40 ∷ 105 ∷ 126 ∷ 0 ∷ 0 ∷ 2 ∷ 105 ∷ 5 ∷ 55 ∷ 12 ∷ 34 ∷ 127 ∷
+    120 ∷ []
+
+-- end of call to seven, 127, 0 0 6
+abbrev pub overSevenByCoast6 : List ℕ
+overSevenByCoast6 = 123 ∷ 20 ∷ 0 ∷ 0 ∷ 0 ∷ 70 ∷ 100 ∷ 0 ∷ 20 ∷ 1 ∷ 23 ∷ 40 ∷ 105 ∷ 126 ∷ 0 ∷ 0 ∷ 6 ∷ 105 ∷ 5 ∷ 55 ∷ 12 ∷ 34 ∷ 127 ∷
+    124 ∷ []
+
+-- ring-back, channel 27, seven
+abbrev pub ringSeven27 : List ℕ
+ringSeven27 = 123 ∷ 20 ∷ 0 ∷ 0 ∷ 0 ∷ 70 ∷ 100 ∷ 0 ∷ 20 ∷ 1 ∷ 23 ∷ 40 ∷ 101 ∷ 126 ∷ 90 ∷ 0 ∷ 27 ∷ 105 ∷ 5 ∷ 55 ∷ 12 ∷ 34 ∷ 117 ∷ 61 ∷ []
+
+-- ring-back, channel 27, nine
+abbrev pub ringNine27 : List ℕ
+ringNine27 = 123 ∷ 20 ∷ 0 ∷ 0 ∷ 0 ∷ 90 ∷ 100 ∷ 0 ∷ 20 ∷ 1 ∷ 23 ∷ 40 ∷ 101 ∷ 126 ∷ 90 ∷ 0 ∷ 27 ∷ 105 ∷ 5 ∷ 55 ∷ 12 ∷ 34 ∷ 117 ∷ 33 ∷ []
+
+-- acknowledgement, channel 27, nine
+abbrev pub ackNine27 : List ℕ
+ackNine27 = 123 ∷ 20 ∷ 0 ∷ 0 ∷ 0 ∷ 90 ∷ 100 ∷ 0 ∷ 20 ∷ 1 ∷ 23 ∷ 40 ∷ 101 ∷ 126 ∷ 90 ∷ 0 ∷ 27 ∷ 105 ∷ 5 ∷ 55 ∷ 12 ∷ 34 ∷ 122 ∷ 46 ∷ []
+
+-- end of call to nine, 127, 126s
+abbrev pub overNineByCoast : List ℕ
+overNineByCoast = 123 ∷ 20 ∷ 0 ∷ 0 ∷ 0 ∷ 90 ∷ 100 ∷ 0 ∷ 20 ∷ 1 ∷ 23 ∷ 40 ∷ 105 ∷ 126 ∷ 126 ∷ 126 ∷ 126 ∷ 105 ∷ 5 ∷ 55 ∷ 12 ∷ 34 ∷
+    127 ∷ 24 ∷ []
+
+-- acknowledgement, channel 28, seven
+abbrev pub ackSeven28 : List ℕ
+ackSeven28 = 123 ∷ 20 ∷ 0 ∷ 0 ∷ 0 ∷ 70 ∷ 100 ∷ 0 ∷ 20 ∷ 1 ∷ 23 ∷ 40 ∷ 101 ∷ 126 ∷ 90 ∷ 0 ∷ 28 ∷ 105 ∷ 5 ∷ 55 ∷ 12 ∷ 34 ∷ 122 ∷ 53 ∷ []
+
+-- acknowledgement, channel 28, eight
+abbrev pub ackEight28 : List ℕ
+ackEight28 = 123 ∷ 20 ∷ 0 ∷ 0 ∷ 0 ∷ 80 ∷ 100 ∷ 0 ∷ 20 ∷ 1 ∷ 23 ∷ 40 ∷ 101 ∷ 126 ∷ 90 ∷ 0 ∷ 28 ∷ 105 ∷ 5 ∷ 55 ∷ 12 ∷ 34 ∷ 122 ∷ 35 ∷ []
+
+-- 104/103 to nine, number 42
+abbrev pub unable103NineOf42 : List ℕ
+unable103NineOf42 = 123 ∷ 20 ∷ 0 ∷ 0 ∷ 0 ∷ 90 ∷ 100 ∷ 0 ∷ 20 ∷ 1 ∷ 23 ∷ 40 ∷ 104 ∷ 103 ∷ 126 ∷ 126 ∷ 126 ∷ 106 ∷ 42 ∷ 122 ∷ 48 ∷ []
+
+-- ring-back, channel 26, nine, number 42
+abbrev pub ringNine26Of42 : List ℕ
+ringNine26Of42 = 123 ∷ 20 ∷ 0 ∷ 0 ∷ 0 ∷ 90 ∷ 100 ∷ 0 ∷ 20 ∷ 1 ∷ 23 ∷ 40 ∷ 101 ∷ 126 ∷ 90 ∷ 0 ∷ 26 ∷ 106 ∷ 42 ∷ 117 ∷ 21 ∷ []
+
+-- ring-back, channel 26, seven, in simplex, second telecommand 109
+abbrev pub ringSeven26SimplexAs109 : List ℕ
+ringSeven26SimplexAs109 = 123 ∷ 20 ∷ 0 ∷ 0 ∷ 0 ∷ 70 ∷ 100 ∷ 0 ∷ 20 ∷ 1 ∷ 23 ∷ 40 ∷ 100 ∷ 109 ∷ 90 ∷ 0 ∷ 26 ∷ 105 ∷ 5 ∷ 55 ∷ 12 ∷ 34 ∷
+    117 ∷ 46 ∷ []
+
+-- acknowledgement, channel 26, seven, in simplex, second telecommand 100
+abbrev pub ackSeven26SimplexAs100 : List ℕ
+ackSeven26SimplexAs100 = 123 ∷ 20 ∷ 0 ∷ 0 ∷ 0 ∷ 70 ∷ 100 ∷ 0 ∷ 20 ∷ 1 ∷ 23 ∷ 40 ∷ 100 ∷ 100 ∷ 90 ∷ 0 ∷ 26 ∷ 105 ∷ 5 ∷ 55 ∷ 12 ∷ 34 ∷
+    122 ∷ 40 ∷ []
+
+-- acknowledgement, channel 26, seven, second telecommand 100
+abbrev pub ackSeven26As100 : List ℕ
+ackSeven26As100 = 123 ∷ 20 ∷ 0 ∷ 0 ∷ 0 ∷ 70 ∷ 100 ∷ 0 ∷ 20 ∷ 1 ∷ 23 ∷ 40 ∷ 101 ∷ 100 ∷ 90 ∷ 0 ∷ 26 ∷ 105 ∷ 5 ∷ 55 ∷ 12 ∷ 34 ∷ 122 ∷
+    41 ∷ []
+
+-- acknowledgement, channel 26, seven, second telecommand 101
+abbrev pub ackSeven26As101 : List ℕ
+ackSeven26As101 = 123 ∷ 20 ∷ 0 ∷ 0 ∷ 0 ∷ 70 ∷ 100 ∷ 0 ∷ 20 ∷ 1 ∷ 23 ∷ 40 ∷ 101 ∷ 101 ∷ 90 ∷ 0 ∷ 26 ∷ 105 ∷ 5 ∷ 55 ∷ 12 ∷ 34 ∷ 122 ∷
+    40 ∷ []
+
+-- acknowledgement, channel 26, seven, number 421
+abbrev pub ackSeven26Of421 : List ℕ
+ackSeven26Of421 = 123 ∷ 20 ∷ 0 ∷ 0 ∷ 0 ∷ 70 ∷ 100 ∷ 0 ∷ 20 ∷ 1 ∷ 23 ∷ 40 ∷ 101 ∷ 126 ∷ 90 ∷ 0 ∷ 26 ∷ 105 ∷ 4 ∷ 21 ∷ 122 ∷ 62 ∷ []
+
+-- acknowledgement, channel 26, seven, number 52
+abbrev pub ackSeven26Of52 : List ℕ
+ackSeven26Of52 = 123 ∷ 20 ∷ 0 ∷ 0 ∷ 0 ∷ 70 ∷ 100 ∷ 0 ∷ 20 ∷ 1 ∷ 23 ∷ 40 ∷ 101 ∷ 126 ∷ 90 ∷ 0 ∷ 26 ∷ 106 ∷ 52 ∷ 122 ∷ 24 ∷ []
+
+-- acknowledgement, channel 26, seven, number 41
+abbrev pub ackSeven26Of41 : List ℕ
+ackSeven26Of41 = 123 ∷ 20 ∷ 0 ∷ 0 ∷ 0 ∷ 70 ∷ 100 ∷ 0 ∷ 20 ∷ 1 ∷ 23 ∷ 40 ∷ 101 ∷ 126 ∷ 90 ∷ 0 ∷ 26 ∷ 106 ∷ 41 ∷ 122 ∷ 5 ∷ []
+
+-- end of call to seven, BQ, 0 0 10
+abbrev pub overSeven10 : List ℕ
+overSeven10 = 123 ∷ 20 ∷ 0 ∷ 0 ∷ 0 ∷ 70 ∷ 100 ∷ 0 ∷ 20 ∷ 1 ∷ 23 ∷ 40 ∷ 105 ∷ 126 ∷ 0 ∷ 0 ∷ 10 ∷ 105 ∷ 5 ∷ 55 ∷ 12 ∷ 34 ∷ 122 ∷ 117 ∷ []
+
+-- end of call to seven, 127, 0 15 3
+abbrev pub overSevenByCoast903 : List ℕ
+overSevenByCoast903 = 123 ∷ 20 ∷ 0 ∷ 0 ∷ 0 ∷ 70 ∷ 100 ∷ 0 ∷ 20 ∷ 1 ∷ 23 ∷ 40 ∷ 105 ∷ 126 ∷ 0 ∷ 15 ∷ 3 ∷ 105 ∷ 5 ∷ 55 ∷ 12 ∷ 34 ∷
+    127 ∷ 118 ∷ []
+
+-- acknowledgement, channel 27, eight
+abbrev pub ackEight27 : List ℕ
+ackEight27 = 123 ∷ 20 ∷ 0 ∷ 0 ∷ 0 ∷ 80 ∷ 100 ∷ 0 ∷ 20 ∷ 1 ∷ 23 ∷ 40 ∷ 101 ∷ 126 ∷ 90 ∷ 0 ∷ 27 ∷ 105 ∷ 5 ∷ 55 ∷ 12 ∷ 34 ∷ 122 ∷ 36 ∷ []
+
+-- acknowledgement of the station 007999999, channel 60, seven
+abbrev pub ackOther : List ℕ
+ackOther = 123 ∷ 20 ∷ 0 ∷ 0 ∷ 0 ∷ 70 ∷ 100 ∷ 0 ∷ 79 ∷ 99 ∷ 99 ∷ 90 ∷ 101 ∷ 126 ∷ 90 ∷ 0 ∷ 60 ∷ 105 ∷ 5 ∷ 55 ∷ 12 ∷ 34 ∷ 122 ∷ 42 ∷ []
+
+-- its 104/103 to eight
+abbrev pub waitOther : List ℕ
+waitOther = 123 ∷ 20 ∷ 0 ∷ 0 ∷ 0 ∷ 80 ∷ 100 ∷ 0 ∷ 79 ∷ 99 ∷ 99 ∷ 90 ∷ 104 ∷ 103 ∷ 126 ∷ 126 ∷ 126 ∷ 105 ∷ 5 ∷ 55 ∷ 12 ∷ 34 ∷ 122 ∷
+    48 ∷ []
+
+-- its ring-back, channel 60, eight
+abbrev pub ringOther : List ℕ
+ringOther = 123 ∷ 20 ∷ 0 ∷ 0 ∷ 0 ∷ 80 ∷ 100 ∷ 0 ∷ 79 ∷ 99 ∷ 99 ∷ 90 ∷ 101 ∷ 126 ∷ 90 ∷ 0 ∷ 60 ∷ 105 ∷ 5 ∷ 55 ∷ 12 ∷ 34 ∷ 117 ∷ 51 ∷ []
+
+-- ── whole scripts on other slots and places than the first ──────────────────────
+
+-- a whole day on the second slot, the first one taken: every action names it
+abbrev pub secondSlotScript : List Event
+secondSlotScript =
+    on 50 0 takes ∷ callsAs 100 usual 100 seven duplex ∷ callsAs 100 usual 110 seven duplex ∷
+    callsFor (4 ∷ 2 ∷ []) 120 seven duplex ∷ works 130 1 seven ∷ on 140 1 carrierDown ∷ on 150 1 carrierUp ∷ on 160 1 offHook ∷
+    on 170 1 carrierDown ∷ on 175 1 carrierUp ∷ calls 180 eight duplex ∷ calls 190 nine simplex ∷ ends 200 1 seven ∷
+    ends 210 1 seven ∷ ticks 241 ∷ ticks 292 ∷ accepts 300 27 eight ∷ works 310 1 eight ∷ on 320 1 onHook ∷
+    calls 330 nine simplex ∷ ticks 491 ∷ []
+
+abbrev pub secondSlot : Row
+secondSlot = record {
+  computed = tells 2 secondSlotScript;
+  expected =
+      (0 ∷ 50 ∷ 0 ∷ []) ∷
+      (0 ∷ 100 ∷ 2 ∷ 261 ∷ []) ∷ (1 ∷ 1 ∷ []) ∷ (3 ∷ 1 ∷ ackSeven27As100) ∷
+      (0 ∷ 110 ∷ 1 ∷ 261 ∷ []) ∷ (3 ∷ 1 ∷ ackSeven27As100) ∷
+      (0 ∷ 120 ∷ 1 ∷ 281 ∷ []) ∷ (3 ∷ 1 ∷ ackSeven27Of42) ∷
+      (0 ∷ 130 ∷ 1 ∷ 731 ∷ []) ∷ (5 ∷ 1 ∷ 4 ∷ 2 ∷ []) ∷
+      (0 ∷ 140 ∷ 0 ∷ 191 ∷ []) ∷
+      (0 ∷ 150 ∷ 0 ∷ 731 ∷ []) ∷
+      (0 ∷ 160 ∷ 0 ∷ []) ∷
+      (0 ∷ 170 ∷ 0 ∷ 221 ∷ []) ∷
+      (0 ∷ 175 ∷ 0 ∷ []) ∷
+      (0 ∷ 180 ∷ 1 ∷ 9181 ∷ []) ∷ (3 ∷ 255 ∷ unable103Eight) ∷
+      (0 ∷ 190 ∷ 1 ∷ 9181 ∷ []) ∷ (3 ∷ 255 ∷ unable103Nine) ∷
+      (0 ∷ 200 ∷ 4 ∷ 241 ∷ []) ∷ charges 1 seven 160 200 4 ∷ (6 ∷ 1 ∷ []) ∷ (4 ∷ 1 ∷ overSeven4Of42) ∷ (2 ∷ 1 ∷ []) ∷
+      (0 ∷ 210 ∷ 3 ∷ 241 ∷ []) ∷ (1 ∷ 1 ∷ []) ∷ (4 ∷ 1 ∷ overSeven4Of42) ∷ (2 ∷ 1 ∷ []) ∷
+      (0 ∷ 241 ∷ 2 ∷ 292 ∷ []) ∷ (1 ∷ 1 ∷ []) ∷ (3 ∷ 1 ∷ ringEight27) ∷
+      (0 ∷ 292 ∷ 1 ∷ 343 ∷ []) ∷ (3 ∷ 1 ∷ ringEight27) ∷
+      (0 ∷ 300 ∷ 0 ∷ 461 ∷ []) ∷
+      (0 ∷ 310 ∷ 1 ∷ 911 ∷ []) ∷ (5 ∷ 1 ∷ usual) ∷
+      (0 ∷ 320 ∷ 5 ∷ 371 ∷ []) ∷ (6 ∷ 1 ∷ []) ∷ (4 ∷ 1 ∷ overEightByCoast) ∷ (2 ∷ 1 ∷ []) ∷ (1 ∷ 1 ∷ []) ∷
+      (3 ∷ 1 ∷ ringNine27Simplex) ∷
+      (0 ∷ 330 ∷ 1 ∷ 491 ∷ []) ∷ (3 ∷ 1 ∷ ackNine27Simplex) ∷
+      (0 ∷ 491 ∷ 1 ∷ []) ∷ (2 ∷ 1 ∷ []) ∷ [];
+}
+
+-- the same slot: rule c answered and only dialled, no reply, carrier loss, the operator
+abbrev pub secondSlotAgainScript : List Event
+secondSlotAgainScript =
+    on 50 0 takes ∷ calls 100 seven simplex ∷ works 110 1 seven ∷ on 120 1 offHook ∷ on 130 1 carrierDown ∷
+    calls 140 seven simplex ∷ works 150 1 seven ∷ on 160 1 carrierDown ∷ calls 170 seven simplex ∷ works 180 1 seven ∷
+    ticks 781 ∷ calls 800 seven duplex ∷ works 810 1 seven ∷ on 820 1 offHook ∷ on 830 1 carrierDown ∷ ticks 900 ∷
+    on 910 1 takes ∷ on 920 1 givesBack ∷ []
+
+abbrev pub secondSlotAgain : Row
+secondSlotAgain = record {
+  computed = tells 2 secondSlotAgainScript;
+  expected =
+      (0 ∷ 50 ∷ 0 ∷ []) ∷
+      (0 ∷ 100 ∷ 2 ∷ 261 ∷ []) ∷ (1 ∷ 1 ∷ []) ∷ (3 ∷ 1 ∷ ackSeven27Simplex) ∷
+      (0 ∷ 110 ∷ 1 ∷ 711 ∷ []) ∷ (5 ∷ 1 ∷ usual) ∷
+      (0 ∷ 120 ∷ 0 ∷ []) ∷
+      (0 ∷ 130 ∷ 0 ∷ 581 ∷ []) ∷
+      (0 ∷ 140 ∷ 6 ∷ 301 ∷ []) ∷ charges 1 seven 120 140 2 ∷ (6 ∷ 1 ∷ []) ∷ (4 ∷ 1 ∷ overSevenByCoast2) ∷ (2 ∷ 1 ∷ []) ∷
+      (1 ∷ 1 ∷ []) ∷ (3 ∷ 1 ∷ ackSeven27Simplex) ∷
+      (0 ∷ 150 ∷ 1 ∷ 751 ∷ []) ∷ (5 ∷ 1 ∷ usual) ∷
+      (0 ∷ 160 ∷ 0 ∷ 611 ∷ []) ∷
+      (0 ∷ 170 ∷ 5 ∷ 331 ∷ []) ∷ (6 ∷ 1 ∷ []) ∷ (4 ∷ 1 ∷ overSevenByCoast) ∷ (2 ∷ 1 ∷ []) ∷ (1 ∷ 1 ∷ []) ∷
+      (3 ∷ 1 ∷ ackSeven27Simplex) ∷
+      (0 ∷ 180 ∷ 1 ∷ 781 ∷ []) ∷ (5 ∷ 1 ∷ usual) ∷
+      (0 ∷ 781 ∷ 3 ∷ []) ∷ (6 ∷ 1 ∷ []) ∷ (4 ∷ 1 ∷ overSevenByCoast) ∷ (2 ∷ 1 ∷ []) ∷
+      (0 ∷ 800 ∷ 2 ∷ 961 ∷ []) ∷ (1 ∷ 1 ∷ []) ∷ (3 ∷ 1 ∷ ackSeven27) ∷
+      (0 ∷ 810 ∷ 1 ∷ 1411 ∷ []) ∷ (5 ∷ 1 ∷ usual) ∷
+      (0 ∷ 820 ∷ 0 ∷ []) ∷
+      (0 ∷ 830 ∷ 0 ∷ 881 ∷ []) ∷
+      (0 ∷ 881 ∷ 4 ∷ []) ∷ charges 1 seven 820 881 6 ∷ (6 ∷ 1 ∷ []) ∷ (4 ∷ 1 ∷ overSevenByCoast6) ∷ (2 ∷ 1 ∷ []) ∷
+      (0 ∷ 910 ∷ 0 ∷ []) ∷
+      (0 ∷ 920 ∷ 0 ∷ []) ∷ [];
+}
+
+-- the same slot: acknowledged and asked again, acknowledged and let go, rung twice and let go
+abbrev pub secondSlotQueuedScript : List Event
+secondSlotQueuedScript =
+    on 50 0 takes ∷ on 51 1 takes ∷ calls 100 seven duplex ∷ calls 101 eight duplex ∷ calls 102 nine duplex ∷
+    on 110 1 givesBack ∷ accepts 120 27 seven ∷ calls 130 seven duplex ∷ ticks 291 ∷ ticks 342 ∷ accepts 350 27 eight ∷
+    ticks 511 ∷ ticks 562 ∷ calls 570 nine duplex ∷ works 580 1 nine ∷ on 590 1 onHook ∷ []
+
+abbrev pub secondSlotQueued : Row
+secondSlotQueued = record {
+  computed = tells 2 secondSlotQueuedScript;
+  expected =
+      (0 ∷ 50 ∷ 0 ∷ []) ∷
+      (0 ∷ 51 ∷ 0 ∷ []) ∷
+      (0 ∷ 100 ∷ 1 ∷ 9101 ∷ []) ∷ (3 ∷ 255 ∷ unable103Seven) ∷
+      (0 ∷ 101 ∷ 1 ∷ 9101 ∷ []) ∷ (3 ∷ 255 ∷ unable103Eight) ∷
+      (0 ∷ 102 ∷ 1 ∷ 9101 ∷ []) ∷ (3 ∷ 255 ∷ unable103Nine) ∷
+      (0 ∷ 110 ∷ 2 ∷ 161 ∷ []) ∷ (1 ∷ 1 ∷ []) ∷ (3 ∷ 1 ∷ ringSeven27) ∷
+      (0 ∷ 120 ∷ 0 ∷ 281 ∷ []) ∷
+      (0 ∷ 130 ∷ 1 ∷ 291 ∷ []) ∷ (3 ∷ 1 ∷ ackSeven27) ∷
+      (0 ∷ 291 ∷ 3 ∷ 342 ∷ []) ∷ (2 ∷ 1 ∷ []) ∷ (1 ∷ 1 ∷ []) ∷ (3 ∷ 1 ∷ ringEight27) ∷
+      (0 ∷ 342 ∷ 1 ∷ 393 ∷ []) ∷ (3 ∷ 1 ∷ ringEight27) ∷
+      (0 ∷ 350 ∷ 0 ∷ 511 ∷ []) ∷
+      (0 ∷ 511 ∷ 3 ∷ 562 ∷ []) ∷ (2 ∷ 1 ∷ []) ∷ (1 ∷ 1 ∷ []) ∷ (3 ∷ 1 ∷ ringNine27) ∷
+      (0 ∷ 562 ∷ 1 ∷ 613 ∷ []) ∷ (3 ∷ 1 ∷ ringNine27) ∷
+      (0 ∷ 570 ∷ 1 ∷ 731 ∷ []) ∷ (3 ∷ 1 ∷ ackNine27) ∷
+      (0 ∷ 580 ∷ 1 ∷ 1181 ∷ []) ∷ (5 ∷ 1 ∷ usual) ∷
+      (0 ∷ 590 ∷ 3 ∷ []) ∷ (6 ∷ 1 ∷ []) ∷ (4 ∷ 1 ∷ overNineByCoast) ∷ (2 ∷ 1 ∷ []) ∷ [];
+}
+
+-- two slots taken: the third is offered, and its waits are its own
+abbrev pub thirdSlotScript : List Event
+thirdSlotScript =
+    on 50 0 takes ∷ on 51 1 takes ∷ calls 100 seven duplex ∷ works 110 2 seven ∷ on 120 2 offHook ∷ on 130 2 carrierDown ∷
+    ticks 181 ∷ calls 200 eight duplex ∷ ticks 361 ∷ []
+
+abbrev pub thirdSlot : Row
+thirdSlot = record {
+  computed = tells 3 thirdSlotScript;
+  expected =
+      (0 ∷ 50 ∷ 0 ∷ []) ∷
+      (0 ∷ 51 ∷ 0 ∷ []) ∷
+      (0 ∷ 100 ∷ 2 ∷ 261 ∷ []) ∷ (1 ∷ 2 ∷ []) ∷ (3 ∷ 2 ∷ ackSeven28) ∷
+      (0 ∷ 110 ∷ 1 ∷ 711 ∷ []) ∷ (5 ∷ 2 ∷ usual) ∷
+      (0 ∷ 120 ∷ 0 ∷ []) ∷
+      (0 ∷ 130 ∷ 0 ∷ 181 ∷ []) ∷
+      (0 ∷ 181 ∷ 4 ∷ []) ∷ charges 2 seven 120 181 6 ∷ (6 ∷ 2 ∷ []) ∷ (4 ∷ 2 ∷ overSevenByCoast6) ∷ (2 ∷ 2 ∷ []) ∷
+      (0 ∷ 200 ∷ 2 ∷ 361 ∷ []) ∷ (1 ∷ 2 ∷ []) ∷ (3 ∷ 2 ∷ ackEight28) ∷
+      (0 ∷ 361 ∷ 1 ∷ []) ∷ (2 ∷ 2 ∷ []) ∷ [];
+}
+
+-- three ships wait; the second and the third ask again, and keep their places and due times
+abbrev pub placesScript : List Event
+placesScript =
+    on 50 0 takes ∷ calls 100 seven duplex ∷ calls 110 eight duplex ∷ calls 120 nine duplex ∷
+    callsFor (4 ∷ 2 ∷ []) 130 nine duplex ∷ calls 135 eight simplex ∷ ticks 9101 ∷ ticks 9111 ∷ on 9120 0 givesBack ∷ []
+
+abbrev pub places : Row
+places = record {
+  computed = tells 1 placesScript;
+  expected =
+      (0 ∷ 50 ∷ 0 ∷ []) ∷
+      (0 ∷ 100 ∷ 1 ∷ 9101 ∷ []) ∷ (3 ∷ 255 ∷ unable103Seven) ∷
+      (0 ∷ 110 ∷ 1 ∷ 9101 ∷ []) ∷ (3 ∷ 255 ∷ unable103Eight) ∷
+      (0 ∷ 120 ∷ 1 ∷ 9101 ∷ []) ∷ (3 ∷ 255 ∷ unable103Nine) ∷
+      (0 ∷ 130 ∷ 1 ∷ 9101 ∷ []) ∷ (3 ∷ 255 ∷ unable103NineOf42) ∷
+      (0 ∷ 135 ∷ 1 ∷ 9101 ∷ []) ∷ (3 ∷ 255 ∷ unable103Eight) ∷
+      (0 ∷ 9101 ∷ 0 ∷ 9111 ∷ []) ∷
+      (0 ∷ 9111 ∷ 0 ∷ 9121 ∷ []) ∷
+      (0 ∷ 9120 ∷ 2 ∷ 9171 ∷ []) ∷ (1 ∷ 0 ∷ []) ∷ (3 ∷ 0 ∷ ringNine26Of42) ∷ [];
+}
+
+-- of three waiting ships the oldest is rung back, then the next
+abbrev pub oldestFirstScript : List Event
+oldestFirstScript =
+    on 50 0 takes ∷ calls 100 seven duplex ∷ calls 110 eight duplex ∷ calls 120 nine duplex ∷ on 200 0 givesBack ∷ ticks 251 ∷
+    ticks 302 ∷ ticks 353 ∷ ticks 404 ∷ []
+
+abbrev pub oldestFirst : Row
+oldestFirst = record {
+  computed = tells 1 oldestFirstScript;
+  expected =
+      (0 ∷ 50 ∷ 0 ∷ []) ∷
+      (0 ∷ 100 ∷ 1 ∷ 9101 ∷ []) ∷ (3 ∷ 255 ∷ unable103Seven) ∷
+      (0 ∷ 110 ∷ 1 ∷ 9101 ∷ []) ∷ (3 ∷ 255 ∷ unable103Eight) ∷
+      (0 ∷ 120 ∷ 1 ∷ 9101 ∷ []) ∷ (3 ∷ 255 ∷ unable103Nine) ∷
+      (0 ∷ 200 ∷ 2 ∷ 251 ∷ []) ∷ (1 ∷ 0 ∷ []) ∷ (3 ∷ 0 ∷ ringSeven26) ∷
+      (0 ∷ 251 ∷ 1 ∷ 302 ∷ []) ∷ (3 ∷ 0 ∷ ringSeven26) ∷
+      (0 ∷ 302 ∷ 3 ∷ 353 ∷ []) ∷ (2 ∷ 0 ∷ []) ∷ (1 ∷ 0 ∷ []) ∷ (3 ∷ 0 ∷ ringEight26) ∷
+      (0 ∷ 353 ∷ 1 ∷ 404 ∷ []) ∷ (3 ∷ 0 ∷ ringEight26) ∷
+      (0 ∷ 404 ∷ 3 ∷ 455 ∷ []) ∷ (2 ∷ 0 ∷ []) ∷ (1 ∷ 0 ∷ []) ∷ (3 ∷ 0 ∷ ringNine26) ∷ [];
+}
+
+-- the second telecommand of a request is repeated, by the acknowledgement and by the ring-back
+abbrev pub secondKeptScript : List Event
+secondKeptScript =
+    on 50 0 takes ∷ callsAs 109 usual 100 seven simplex ∷ on 200 0 givesBack ∷ callsAs 100 usual 210 seven simplex ∷ []
+
+abbrev pub secondKept : Row
+secondKept = record {
+  computed = tells 1 secondKeptScript;
+  expected =
+      (0 ∷ 50 ∷ 0 ∷ []) ∷
+      (0 ∷ 100 ∷ 1 ∷ 9101 ∷ []) ∷ (3 ∷ 255 ∷ unable103Seven) ∷
+      (0 ∷ 200 ∷ 2 ∷ 251 ∷ []) ∷ (1 ∷ 0 ∷ []) ∷ (3 ∷ 0 ∷ ringSeven26SimplexAs109) ∷
+      (0 ∷ 210 ∷ 1 ∷ 371 ∷ []) ∷ (3 ∷ 0 ∷ ackSeven26SimplexAs100) ∷ [];
+}
+
+-- another station: a request to it is answered in its name, one to 002001234 is ignored
+abbrev pub otherStationScript : List Event
+otherStationScript =
+    at 100 (onChannel70 (asks 7999999 126 117 usual seven duplex)) ∷
+    at 110 (onChannel70 (asks 2001234 126 117 usual eight duplex)) ∷ on 120 1 takes ∷
+    at 130 (onChannel70 (asks 7999999 126 117 usual eight duplex)) ∷ ticks 261 ∷ []
+
+abbrev pub otherStation : Row
+otherStation = record {
+  computed = printedAll other otherStationScript (fresh other);
+  expected =
+      (0 ∷ 100 ∷ 2 ∷ 261 ∷ []) ∷ (1 ∷ 0 ∷ []) ∷ (3 ∷ 0 ∷ ackOther) ∷
+      (1 ∷ 110 ∷ 0 ∷ 261 ∷ []) ∷
+      (0 ∷ 120 ∷ 0 ∷ 261 ∷ []) ∷
+      (0 ∷ 130 ∷ 1 ∷ 261 ∷ []) ∷ (3 ∷ 255 ∷ waitOther) ∷
+      (0 ∷ 261 ∷ 3 ∷ 312 ∷ []) ∷ (2 ∷ 0 ∷ []) ∷ (1 ∷ 0 ∷ []) ∷ (3 ∷ 0 ∷ ringOther) ∷ [];
+}
+
+-- ── identical or not ────────────────────────────────────────────────────────────
+
+-- b. with another second telecommand: offered afresh
+abbrev pub secondDiffers : Row
+secondDiffers = record {
+  computed = gives 1 (callsAs 100 usual 100 seven duplex ∷ callsAs 101 usual 150 seven duplex ∷ []);
+  expected = (0 ∷ 150 ∷ 1 ∷ 311 ∷ []) ∷ (3 ∷ 0 ∷ ackSeven26As101) ∷ [];
+}
+
+-- b. and with a lower one
+abbrev pub secondLower : Row
+secondLower = record {
+  computed = gives 1 (callsAs 101 usual 100 seven duplex ∷ callsAs 100 usual 150 seven duplex ∷ []);
+  expected = (0 ∷ 150 ∷ 1 ∷ 311 ∷ []) ∷ (3 ∷ 0 ∷ ackSeven26As100) ∷ [];
+}
+
+-- b. with the same one: the wait is unchanged
+abbrev pub secondSame : Row
+secondSame = record {
+  computed = gives 1 (callsAs 100 usual 100 seven duplex ∷ callsAs 100 usual 150 seven duplex ∷ []);
+  expected = (0 ∷ 150 ∷ 1 ∷ 261 ∷ []) ∷ (3 ∷ 0 ∷ ackSeven26As100) ∷ [];
+}
+
+-- b. the identical request in simplex
+abbrev pub simplexRepeated : Row
+simplexRepeated = record {
+  computed = gives 1 (calls 100 seven simplex ∷ calls 150 seven simplex ∷ []);
+  expected = (0 ∷ 150 ∷ 1 ∷ 261 ∷ []) ∷ (3 ∷ 0 ∷ ackSeven26Simplex) ∷ [];
+}
+
+-- b. simplex first, then duplex: offered afresh
+abbrev pub simplexThenDuplex : Row
+simplexThenDuplex = record {
+  computed = gives 1 (calls 100 seven simplex ∷ calls 150 seven duplex ∷ []);
+  expected = (0 ∷ 150 ∷ 1 ∷ 311 ∷ []) ∷ (3 ∷ 0 ∷ ackSeven26) ∷ [];
+}
+
+-- b. with a digit more: offered afresh
+abbrev pub numberLonger : Row
+numberLonger = record {
+  computed = gives 1 (callsFor (4 ∷ 2 ∷ []) 100 seven duplex ∷ callsFor (4 ∷ 2 ∷ 1 ∷ []) 150 seven duplex ∷ []);
+  expected = (0 ∷ 150 ∷ 1 ∷ 311 ∷ []) ∷ (3 ∷ 0 ∷ ackSeven26Of421) ∷ [];
+}
+
+-- b. with a digit less: offered afresh
+abbrev pub numberShorter : Row
+numberShorter = record {
+  computed = gives 1 (callsFor (4 ∷ 2 ∷ 1 ∷ []) 100 seven duplex ∷ callsFor (4 ∷ 2 ∷ []) 150 seven duplex ∷ []);
+  expected = (0 ∷ 150 ∷ 1 ∷ 311 ∷ []) ∷ (3 ∷ 0 ∷ ackSeven26Again) ∷ [];
+}
+
+-- b. with another first digit: offered afresh
+abbrev pub firstDigitHigher : Row
+firstDigitHigher = record {
+  computed = gives 1 (callsFor (4 ∷ 2 ∷ []) 100 seven duplex ∷ callsFor (5 ∷ 2 ∷ []) 150 seven duplex ∷ []);
+  expected = (0 ∷ 150 ∷ 1 ∷ 311 ∷ []) ∷ (3 ∷ 0 ∷ ackSeven26Of52) ∷ [];
+}
+
+-- b. with another last digit: offered afresh
+abbrev pub lastDigitLower : Row
+lastDigitLower = record {
+  computed = gives 1 (callsFor (4 ∷ 2 ∷ []) 100 seven duplex ∷ callsFor (4 ∷ 1 ∷ []) 150 seven duplex ∷ []);
+  expected = (0 ∷ 150 ∷ 1 ∷ 311 ∷ []) ∷ (3 ∷ 0 ∷ ackSeven26Of41) ∷ [];
+}
+
+-- b. in ring-back, sent again: offered afresh
+abbrev pub ringBackTwiceAsked : Row
+ringBackTwiceAsked = record {
+  computed = gives 1 (calls 100 seven duplex ∷ calls 110 eight duplex ∷ ticks 261 ∷ ticks 312 ∷ calls 320 eight duplex ∷ []);
+  expected = (0 ∷ 320 ∷ 1 ∷ 481 ∷ []) ∷ (3 ∷ 0 ∷ ackEight26) ∷ [];
+}
+
+-- a ship at the station 002001234, and seven at another
+abbrev pub at1234 : ℕ → Party
+at1234 x = record { ship = x; station = 2001234 }
+
+abbrev pub at1235 : Party
+at1235 = record { ship = seven; station = 2001235 }
+
+-- one ship at two stations, and two ships at one, are not the same party
+abbrev pub sameShip : Row
+sameShip = record {
+  computed = (told (is (at1234 seven) (at1234 seven)) ∷ told (is (at1234 seven) at1235) ∷ told (is at1235 (at1234 seven)) ∷
+      told (is (at1234 seven) (at1234 eight)) ∷ told (is (at1234 eight) (at1234 seven)) ∷ []) ∷ [];
+  expected = (1 ∷ 0 ∷ 0 ∷ 0 ∷ 0 ∷ []) ∷ [];
+}
+
+-- ── rule c and the hold ─────────────────────────────────────────────────────────
+
+-- c. simplex, only dialled, carrier absent: the coast ends that call too, and nothing is charged
+abbrev pub ruleCDialled : Row
+ruleCDialled = record {
+  computed = gives 1 (calls 100 seven simplex ∷ works 200 0 seven ∷ on 300 0 carrierDown ∷ calls 310 seven simplex ∷ []);
+  expected = (0 ∷ 310 ∷ 5 ∷ 471 ∷ []) ∷ (6 ∷ 0 ∷ []) ∷ (4 ∷ 0 ∷ overSevenByCoast) ∷ (2 ∷ 0 ∷ []) ∷ (1 ∷ 0 ∷ []) ∷
+      (3 ∷ 0 ∷ ackSeven26Simplex) ∷ [];
+}
+
+-- c. simplex, only dialled, carrier present: ignored
+abbrev pub ruleCDialledPresent : Row
+ruleCDialledPresent = record {
+  computed = gives 1 (calls 100 seven simplex ∷ works 200 0 seven ∷ calls 310 seven simplex ∷ []);
+  expected = (1 ∷ 310 ∷ 0 ∷ 801 ∷ []) ∷ [];
+}
+
+-- c. duplex, only dialled, carrier absent: ignored
+abbrev pub ruleCDialledDuplex : Row
+ruleCDialledDuplex = record {
+  computed = gives 1 (calls 100 seven duplex ∷ works 200 0 seven ∷ on 300 0 carrierDown ∷ calls 310 seven duplex ∷ []);
+  expected = (1 ∷ 310 ∷ 0 ∷ 351 ∷ []) ∷ [];
+}
+
+-- a ship in its hold asks again: the held slot is not its own, and it waits
+abbrev pub holdAsked : Row
+holdAsked = record {
+  computed = gives 1 (calls 100 seven duplex ∷ works 200 0 seven ∷ on 300 0 offHook ∷ ends 400 0 seven ∷ calls 410 seven duplex ∷ []);
+  expected = (0 ∷ 410 ∷ 1 ∷ 441 ∷ []) ∷ (3 ∷ 255 ∷ unable103Seven) ∷ [];
+}
+
+-- ── which sequence is of which kind ─────────────────────────────────────────────
+
+-- a request that names a channel is none
+abbrev pub requestWithChannel : Row
+requestWithChannel = record {
+  computed = gives 1 (at 100 (onChannel70 (sends seven 101 117 (Channel (channel 26)) usual)) ∷ []);
+  expected = (1 ∷ 100 ∷ 0 ∷ []) ∷ [];
+}
+
+-- the BQ to a ring-back in simplex
+abbrev pub bqSimplex : Row
+bqSimplex = record {
+  computed = gives 1 (calls 100 seven duplex ∷ calls 110 eight duplex ∷ ticks 261 ∷
+      at 270 (onChannel70 (sends eight 100 122 (Channel (channel 26)) usual)) ∷ []);
+  expected = (0 ∷ 270 ∷ 0 ∷ 431 ∷ []) ∷ [];
+}
+
+-- with the telecommand of data: ignored
+abbrev pub bqData : Row
+bqData = record {
+  computed = gives 1 (calls 100 seven duplex ∷ calls 110 eight duplex ∷ ticks 261 ∷
+      at 270 (onChannel70 (sends eight 106 122 (Channel (channel 26)) usual)) ∷ []);
+  expected = (1 ∷ 270 ∷ 0 ∷ 312 ∷ []) ∷ [];
+}
+
+-- with RQ: ignored
+abbrev pub bqAsRq : Row
+bqAsRq = record {
+  computed = gives 1 (calls 100 seven duplex ∷ calls 110 eight duplex ∷ ticks 261 ∷
+      at 270 (onChannel70 (sends eight 101 117 (Channel (channel 26)) usual)) ∷ []);
+  expected = (1 ∷ 270 ∷ 0 ∷ 312 ∷ []) ∷ [];
+}
+
+-- with 127: ignored
+abbrev pub bqAs127 : Row
+bqAs127 = record {
+  computed = gives 1 (calls 100 seven duplex ∷ calls 110 eight duplex ∷ ticks 261 ∷
+      at 270 (onChannel70 (sends eight 101 127 (Channel (channel 26)) usual)) ∷ []);
+  expected = (1 ∷ 270 ∷ 0 ∷ 312 ∷ []) ∷ [];
+}
+
+-- naming no channel: ignored
+abbrev pub bqUnnamed : Row
+bqUnnamed = record {
+  computed = gives 1 (calls 100 seven duplex ∷ calls 110 eight duplex ∷ ticks 261 ∷
+      at 270 (onChannel70 (sends eight 101 122 Blank usual)) ∷ []);
+  expected = (1 ∷ 270 ∷ 0 ∷ 312 ∷ []) ∷ [];
+}
+
+-- after the second sending: acknowledged
+abbrev pub bqInSecondRing : Row
+bqInSecondRing = record {
+  computed = gives 1 (calls 100 seven duplex ∷ calls 110 eight duplex ∷ ticks 261 ∷ ticks 312 ∷ accepts 320 26 eight ∷ []);
+  expected = (0 ∷ 320 ∷ 0 ∷ 481 ∷ []) ∷ [];
+}
+
+-- on the working channel of an offered slot: ignored
+abbrev pub bqOnSlot : Row
+bqOnSlot = record {
+  computed = gives 1 (calls 100 seven duplex ∷ on 110 0 (heard (sends seven 101 122 (Channel (channel 26)) usual)) ∷ []);
+  expected = (1 ∷ 110 ∷ 0 ∷ 261 ∷ []) ∷ [];
+}
+
+-- and with the field 126s: it is no working call
+abbrev pub blankBqOnSlot : Row
+blankBqOnSlot = record {
+  computed = gives 1 (calls 100 seven duplex ∷ on 110 0 (heard (sends seven 101 122 Blank usual)) ∷ []);
+  expected = (1 ∷ 110 ∷ 0 ∷ 261 ∷ []) ∷ [];
+}
+
+-- a working call in simplex dials as well
+abbrev pub workingSimplex : Row
+workingSimplex = record {
+  computed = gives 1 (calls 100 seven duplex ∷ on 110 0 (heard (sends seven 100 127 Blank usual)) ∷ []);
+  expected = (0 ∷ 110 ∷ 1 ∷ 711 ∷ []) ∷ (5 ∷ 0 ∷ usual) ∷ [];
+}
+
+-- and with the telecommand of data it does not
+abbrev pub workingData : Row
+workingData = record {
+  computed = gives 1 (calls 100 seven duplex ∷ on 110 0 (heard (sends seven 106 127 Blank usual)) ∷ []);
+  expected = (1 ∷ 110 ∷ 0 ∷ 261 ∷ []) ∷ [];
+}
+
+-- an end of call with 127 is none of the ship
+abbrev pub endAs127 : Row
+endAs127 = record {
+  computed = gives 1 (calls 100 seven duplex ∷ works 110 0 seven ∷ on 120 0 (heard (sends seven 105 127 Blank usual)) ∷ []);
+  expected = (1 ∷ 120 ∷ 0 ∷ 711 ∷ []) ∷ [];
+}
+
+-- nor one with BQ
+abbrev pub endAsBq : Row
+endAsBq = record {
+  computed = gives 1 (calls 100 seven duplex ∷ works 110 0 seven ∷ on 120 0 (heard (sends seven 105 122 Blank usual)) ∷ []);
+  expected = (1 ∷ 120 ∷ 0 ∷ 711 ∷ []) ∷ [];
+}
+
+-- a request to the station 002001233, one below
+abbrev pub addressedBelow : Row
+addressedBelow = record {
+  computed = gives 1 (at 100 (onChannel70 (asks 2001233 126 117 usual seven duplex)) ∷ []);
+  expected = (1 ∷ 100 ∷ 0 ∷ []) ∷ [];
+}
+
+-- ── waits ───────────────────────────────────────────────────────────────────────
+
+-- no reply while the carrier is absent: the reply wait is due first, and the coast ends the call
+abbrev pub replyBeforeLoss : Row
+replyBeforeLoss = record {
+  computed = gives 1 (calls 100 seven simplex ∷ works 200 0 seven ∷ on 790 0 carrierDown ∷ ticks 900 ∷ []);
+  expected = (0 ∷ 801 ∷ 3 ∷ []) ∷ (6 ∷ 0 ∷ []) ∷ (4 ∷ 0 ∷ overSevenByCoast) ∷ (2 ∷ 0 ∷ []) ∷ [];
+}
+
+-- a tick one tenth before the due time fires nothing
+abbrev pub tickOneEarlier : Row
+tickOneEarlier = record {
+  computed = gives 1 (calls 100 seven duplex ∷ ticks 260 ∷ []);
+  expected = (0 ∷ 260 ∷ 0 ∷ 261 ∷ []) ∷ [];
+}
+
+-- the slot due one tenth before the queue entry goes first
+abbrev pub slotBeforeQueue : Row
+slotBeforeQueue = record {
+  computed = gives 2 (on 10 1 takes ∷ calls 100 seven duplex ∷ works 110 0 seven ∷ on 120 0 offHook ∷ calls 150 eight duplex ∷
+      on 9099 0 carrierDown ∷ ticks 9999 ∷ []);
+  expected = (0 ∷ 9150 ∷ 6 ∷ 9201 ∷ []) ∷ charges 0 seven 120 9150 903 ∷ (6 ∷ 0 ∷ []) ∷ (4 ∷ 0 ∷ overSevenByCoast903) ∷ (2 ∷ 0 ∷ []) ∷
+      (1 ∷ 0 ∷ []) ∷ (3 ∷ 0 ∷ ringEight26) ∷ [];
+}
+
+-- of two offers with one due time the lower slot goes first
+abbrev pub lowestFirst : Row
+lowestFirst = record {
+  computed = gives 2 (calls 100 seven duplex ∷ calls 100 eight duplex ∷ ticks 261 ∷ []);
+  expected = (0 ∷ 261 ∷ 1 ∷ 261 ∷ []) ∷ (2 ∷ 0 ∷ []) ∷ [];
+}
+
+-- of three queue entries the third is due first: it is dropped, and the others stay
+abbrev pub thirdDueFirst : Row
+thirdDueFirst = record {
+  computed = waitingWith (waits seven 3000 ∷ waits eight 2900 ∷ waits nine 2000 ∷ []) (ticks 2500);
+  expected = (0 ∷ 2000 ∷ 0 ∷ 2900 ∷ []) ∷ [];
+}
+
+-- of two the first
+abbrev pub firstDueFirst : Row
+firstDueFirst = record {
+  computed = waitingWith (waits seven 2000 ∷ waits eight 3000 ∷ []) (ticks 2500);
+  expected = (0 ∷ 2000 ∷ 0 ∷ 3000 ∷ []) ∷ [];
+}
+
+-- of two that are one tenth apart the earlier, here the younger
+abbrev pub oneTenthApart : Row
+oneTenthApart = record {
+  computed = waitingWith (waits seven 2001 ∷ waits eight 2000 ∷ []) (ticks 2500);
+  expected = (0 ∷ 2000 ∷ 0 ∷ 2001 ∷ []) ∷ [];
+}
+
+-- 31 ships wait: the 32nd joins them
+abbrev pub queueOf31 : Row
+queueOf31 = record {
+  computed = waitingWith (waitingShips 31) (calls 200 nine duplex);
+  expected = (0 ∷ 200 ∷ 1 ∷ 9101 ∷ []) ∷ (3 ∷ 255 ∷ unable103Nine) ∷ [];
+}
+
+-- 32 ships wait: the 33rd does not
+abbrev pub queueOf32 : Row
+queueOf32 = record {
+  computed = waitingWith (waitingShips 32) (calls 200 nine duplex);
+  expected = (0 ∷ 200 ∷ 1 ∷ 9101 ∷ []) ∷ (3 ∷ 255 ∷ unable102Nine) ∷ [];
+}
+
+-- ── refusals ────────────────────────────────────────────────────────────────────
+
+-- 33: a request when a wait is due
+abbrev pub refused33Heard : Row
+refused33Heard = record {
+  computed = gives 1 (calls 100 seven duplex ∷ calls 261 eight duplex ∷ []);
+  expected = (33 ∷ 100 ∷ 0 ∷ 261 ∷ []) ∷ [];
+}
+
+-- and one tenth before it
+abbrev pub accepted33 : Row
+accepted33 = record {
+  computed = gives 1 (calls 100 seven duplex ∷ calls 260 eight duplex ∷ []);
+  expected = (0 ∷ 260 ∷ 1 ∷ 261 ∷ []) ∷ (3 ∷ 255 ∷ unable103Eight) ∷ [];
+}
+
+-- 34: off-hook on no such slot
+abbrev pub refused34OffHook : Row
+refused34OffHook = record {
+  computed = gives 2 (on 100 2 offHook ∷ []);
+  expected = (34 ∷ 0 ∷ 0 ∷ []) ∷ [];
+}
+
+-- 34: carrier up on no such slot
+abbrev pub refused34CarrierUp : Row
+refused34CarrierUp = record {
+  computed = gives 2 (on 100 2 carrierUp ∷ []);
+  expected = (34 ∷ 0 ∷ 0 ∷ []) ∷ [];
+}
+
+-- 34: carrier down on no such slot
+abbrev pub refused34CarrierDown : Row
+refused34CarrierDown = record {
+  computed = gives 2 (on 100 2 carrierDown ∷ []);
+  expected = (34 ∷ 0 ∷ 0 ∷ []) ∷ [];
+}
+
+-- 34: take on no such slot
+abbrev pub refused34Takes : Row
+refused34Takes = record {
+  computed = gives 2 (on 100 2 takes ∷ []);
+  expected = (34 ∷ 0 ∷ 0 ∷ []) ∷ [];
+}
+
+-- 34: give back on no such slot
+abbrev pub refused34GivesBack : Row
+refused34GivesBack = record {
+  computed = gives 2 (on 100 2 givesBack ∷ []);
+  expected = (34 ∷ 0 ∷ 0 ∷ []) ∷ [];
+}
+
+-- 11: no symbol on a working channel
+abbrev pub refused11OnSlot : Row
+refused11OnSlot = record {
+  computed = gives 1 (on 100 0 (heard []) ∷ []);
+  expected = (11 ∷ 0 ∷ 0 ∷ []) ∷ [];
+}
+
+-- 29 before 30: two slots on one channel, and no room
+abbrev pub order29 : Row
+order29 = record {
+  computed = lines (station 1) (step (station 1) (holding (free ∷ free ∷ []) []) (record { time = 1000; room = 0; what = tick }));
+  expected = (29 ∷ 1000 ∷ 0 ∷ []) ∷ [];
+}
+
+-- ── actions handed out ────────────────────────────────────────────────────────
+
+-- one block after the other
+abbrev pub blocksShown : Row
+blocksShown = record {
+  computed = blocks (station 1) (does (carrierOn 0) ∷ over 1 theShip (from seven duplex .who) usual Nothing ∷
+      charge record { slot = 2; ship = 67305985; start = record { 0 = 1 }; stop = record { 0 = 2 }; seconds = record { 0 = 3 } } ∷
+      does (carrierOn 3) ∷ []) ∷ [];
+  expected = ((1 ∷ 0 ∷ 0 ∷ 0 ∷ replicate 36 0) ++ (4 ∷ 1 ∷ 24 ∷ 0 ∷ (overSeven ++ replicate 12 0)) ++ (7 ∷ 2 ∷ 16 ∷ 0 ∷ 1 ∷ 2 ∷ 3 ∷
+      4 ∷ 1 ∷ 0 ∷ 0 ∷ 0 ∷ 2 ∷ 0 ∷ 0 ∷ 0 ∷ 3 ∷ replicate 23 0) ++ (1 ∷ 3 ∷ 0 ∷ 0 ∷ replicate 36 0)) ∷ [];
+}
+
+-- what is sent is a sequence
+abbrev pub sentValid : Row
+sentValid = record {
+  computed = (told (valid (ableSaid (channel 26) 122 (from seven duplex))) ∷
+      told (valid (ableSaid (channel 26) 117 (from seven simplex))) ∷ told (valid (unableSaid 103 (from seven duplex .who) (7 ∷ []))) ∷
+      told (valid (overSaid theShip (from seven duplex .who) (replicate 16 9) (lasting 99 59 59))) ∷ []) ∷ [];
+  expected = (1 ∷ 1 ∷ 1 ∷ 1 ∷ []) ∷ [];
+}
+
+-- ── all of them ──────────────────────────────────────────────────────────────
+
+abbrev pub boundCases : List Row
+boundCases =
+    secondSlot ∷ secondSlotAgain ∷ secondSlotQueued ∷ thirdSlot ∷ places ∷ oldestFirst ∷ secondKept ∷ otherStation ∷
+    secondDiffers ∷ secondLower ∷ secondSame ∷ simplexRepeated ∷ simplexThenDuplex ∷ numberLonger ∷ numberShorter ∷
+    firstDigitHigher ∷ lastDigitLower ∷ ringBackTwiceAsked ∷ sameShip ∷ ruleCDialled ∷ ruleCDialledPresent ∷
+    ruleCDialledDuplex ∷ holdAsked ∷ requestWithChannel ∷ bqSimplex ∷ bqData ∷ bqAsRq ∷ bqAs127 ∷ bqUnnamed ∷ bqInSecondRing ∷
+    bqOnSlot ∷ blankBqOnSlot ∷ workingSimplex ∷ workingData ∷ endAs127 ∷ endAsBq ∷ addressedBelow ∷ replyBeforeLoss ∷
+    tickOneEarlier ∷ slotBeforeQueue ∷ lowestFirst ∷ thirdDueFirst ∷ firstDueFirst ∷ oneTenthApart ∷ queueOf31 ∷ queueOf32 ∷
+    refused33Heard ∷ accepted33 ∷ refused34OffHook ∷ refused34CarrierUp ∷ refused34CarrierDown ∷ refused34Takes ∷
+    refused34GivesBack ∷ refused11OnSlot ∷ order29 ∷ blocksShown ∷ sentValid ∷ []
+
+-- ── soundness and set-up ─────────────────────────────────────────────────────
+
+abbrev pub boundSounds : List Judged
+boundSounds =
+    -- the second channel of two is none for working
+    refused36 (setUp 2001234 (26 ∷ 16 ∷ []))
+    -- the second and the third of three are one
+    ∷ refused36 (setUp 2001234 (26 ∷ 27 ∷ 27 ∷ []))
+    -- another station, with a request to it
+    ∷ sounds (asked other (record {
+      clock = 5000;
+      slots = pending offered (asking seven 7999999 duplex 126 usual) 5161 ∷ free ∷
+          [];
+      queue = [];
+    }))
+    -- to a station one below
+    ∷ unsound (with (pending offered (asking seven 2001233 duplex 126 usual) 1161))
+    -- fewer slots than channels
+    ∷ unsound (asked (station 2) (holding (free ∷ []) []))
+    -- a number of one digit
+    ∷ sounds (with (pending offered (asking seven 2001234 duplex 126 (7 ∷ [])) 1161))
+    -- a second telecommand 100
+    ∷ sounds (with (pending offered (asking seven 2001234 duplex 100 usual) 1161))
+    -- 99
+    ∷ unsound (with (pending offered (asking seven 2001234 duplex 99 usual) 1161))
+    -- a request to another station in ring-back
+    ∷ unsound (with (pending firstRing (asking seven 2001235 duplex 126 usual) 1051))
+    -- a request to another station in ring-back, sent again
+    ∷ unsound (with (pending secondRing (asking seven 2001235 duplex 126 usual) 1051))
+    -- a request to another station that is acknowledged
+    ∷ unsound (with (pending acknowledged (asking seven 2001235 duplex 126 usual) 1051))
+    -- the second of two slots holds a request to another station
+    ∷ unsound (asked (station 2) (holding (free ∷ pending offered (asking seven 2001235 duplex 126 usual) 1161 ∷ []) []))
+    -- so does the second of two waiting ships
+    ∷ unsound (queued (waits eight 2000 ∷ record { request = asking seven 2001235 duplex 126 usual; due = 2000 } ∷ []))
+    -- a ship waits and has a slot: in ring-back
+    ∷ unsound (asked (station 2) (holding (free ∷ pending firstRing (from seven duplex) 1051 ∷ []) (waits seven 2000 ∷ [])))
+    -- in ring-back, sent again
+    ∷ unsound (asked (station 2) (holding (taken ∷ pending secondRing (from seven duplex) 1051 ∷ []) (waits seven 2000 ∷ [])))
+    -- acknowledged
+    ∷ unsound (asked (station 2) (holding (held (from eight duplex) Nothing 1041 ∷ pending acknowledged (from seven duplex) 1161 ∷
+    []) (waits seven 2000 ∷ [])))
+    -- dialling
+    ∷ unsound (asked (station 2) (holding (free ∷ busy (from seven duplex) (dialling 1601) none ∷ []) (waits seven 2000 ∷ [])))
+    -- answered, its carrier absent
+    ∷ unsound (asked (station 2) (holding (free ∷ busy (from seven duplex) (answered 900) (some 1051) ∷ []) (waits seven 2000 ∷ [])))
+    -- behind a slot and a place of others
+    ∷ unsound (asked (station 2) (holding (pending offered (from nine duplex) 1161 ∷ pending offered (from seven duplex) 1161 ∷
+    []) (waits eight 2000 ∷ waits seven 2000 ∷ [])))
+    -- a ship in its hold after an answered call waits
+    ∷ sounds (asked (station 2) (holding (held (from seven duplex) (lasting 0 6 51) 1041 ∷ free ∷ []) (waits seven 2000 ∷ [])))
+    -- the second of two slots is due too late
+    ∷ unsound (asked (station 2) (holding (free ∷ pending offered (from seven duplex) 1162 ∷ []) []))
+    -- so is the second of two waiting ships
+    ∷ unsound (queued (waits eight 2000 ∷ waits seven 10002 ∷ []))
+    -- at another clock: an offer to its last tenth
+    ∷ sounds (asked (station 1) (record {
+      clock = 5000;
+      slots = pending offered (from seven duplex) 5161 ∷
+          [];
+      queue = waits eight 14001 ∷ [];
+    }))
+    -- an offer one tenth further
+    ∷ unsound (asked (station 1) (record { clock = 5000; slots = pending offered (from seven duplex) 5162 ∷ []; queue = [] }))
+    -- a queue entry one tenth further
+    ∷ unsound (asked (station 1) (record { clock = 5000; slots = taken ∷ []; queue = waits eight 14002 ∷ [] }))
+    ∷ []
