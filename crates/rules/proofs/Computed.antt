@@ -27,11 +27,6 @@ use Rattle.rules.specs.RefusalCases.{refusalCases}
 use Rattle.rules.specs.Phases.{rowOf, phases}
 use Rattle.rules.specs.SoundCases.{from, setUpCases, storedCases, countCases, timeCases}
 use Rattle.rules.proofs.Tested.{as-expected}
-use Rattle.rules.specs.BoundCases.{boundCases, boundSounds}
-use Rattle.rules.specs.Reading.{readAll, counted, countedByCalls}
-use Rattle.rules.specs.ThreeWords.{wordsDone, wordAfter}
-use Rattle.rules.specs.Statement.{heldTenths}
-use Rattle.rules.specs.Pages.{pageCases, pageRuns}
 
 -- P1 to P12, "Hold begun at 6000", "Number 7"
 pub cases-computed : map (λ r. r .computed) cases ≡ map (λ r. r .expected) cases
@@ -39,12 +34,12 @@ unfolding printed lastPrinted isShip isCoast identitiesOk identityPairs identity
 cases-computed = as-expected cases refl
 
 -- a case for each rule, and for each refusal
-pub rules-computed : map (λ r. r .computed) (requestCases ++ callCases ++ refusalCases ++ boundCases) ≡ map (λ r. r .expected) (requestCases ++ callCases ++ refusalCases ++ boundCases)
+pub rules-computed : map (λ r. r .computed) (requestCases ++ callCases ++ refusalCases) ≡ map (λ r. r .expected) (requestCases ++ callCases ++ refusalCases)
 unfolding block blockOf printed lastPrinted isShip isCoast identitiesOk identityPairs identityOf isCall unableSecond telecommandsOk channelOk durationOk fieldOk numberOk parity evened endOk valid front body layout Reader.lengthIn Reader.checkIn Reader.formatIn Reader.identityAt Reader.identityPairsAt Reader.identitiesIn Reader.categoryIn Reader.telecommandsIn Reader.blankSymbols Reader.channelSymbols Reader.durationSymbols Reader.fieldSymbols Reader.fieldOf Reader.fieldIn Reader.pairsIn Reader.parityOk Reader.pairsOk Reader.numberIn Reader.zeroBefore Reader.sixteen Reader.numberOf Reader.endIn Reader.refusals Reader.answerOf Reader.meaningOf Reader.blankMeaning Reader.readingOf padded answerTo ableSaid unableSaid overSaid payloadOf is kindOf addressed meaning fresh setSlot setClock setQueue table fires nextDue identityKeeps channelsKeep configKeeps oneSlotEach numberKeeps requestKeeps durationKeeps noShipTwice storedKeeps timesFit sound rungBack freedFor freed coastEnd standing ruleA repeated afresh same ruleB ruleD offer ruleF ruleG eToG newcomer dToG redial ruleC bOrC requested dialNow workingKind workingOn agreed bqKind bqFor offHookStage offHookOn downOn upOn shipEnd sayAgain shipEndOn endOn takeOn giveOn offerDue ringAgain pendingDue replyDue mainOn fire ticked heardOn70 heardOn happenedOn actAt refusals verdict setUpVerdict step play final
-rules-computed = as-expected (requestCases ++ callCases ++ refusalCases ++ boundCases) refl
+rules-computed = as-expected (requestCases ++ callCases ++ refusalCases) refl
 
 -- a case for each part of soundness, and for set-up
-pub sound-computed : map (λ j. j .given) (setUpCases ++ storedCases ++ countCases ++ timeCases ++ boundSounds) ≡ map (λ j. j .expected) (setUpCases ++ storedCases ++ countCases ++ timeCases ++ boundSounds)
+pub sound-computed : map (λ j. j .given) (setUpCases ++ storedCases ++ countCases ++ timeCases) ≡ map (λ j. j .expected) (setUpCases ++ storedCases ++ countCases ++ timeCases)
 unfolding printed lastPrinted isShip isCoast identitiesOk identityPairs identityOf isCall unableSecond telecommandsOk channelOk durationOk fieldOk numberOk parity evened endOk valid front body layout Reader.lengthIn Reader.checkIn Reader.formatIn Reader.identityAt Reader.identityPairsAt Reader.identitiesIn Reader.categoryIn Reader.telecommandsIn Reader.blankSymbols Reader.channelSymbols Reader.durationSymbols Reader.fieldSymbols Reader.fieldOf Reader.fieldIn Reader.pairsIn Reader.parityOk Reader.pairsOk Reader.numberIn Reader.zeroBefore Reader.sixteen Reader.numberOf Reader.endIn Reader.refusals Reader.answerOf Reader.meaningOf Reader.blankMeaning Reader.readingOf padded answerTo ableSaid unableSaid overSaid payloadOf is kindOf addressed meaning fresh setSlot setClock setQueue table fires nextDue identityKeeps channelsKeep configKeeps oneSlotEach numberKeeps requestKeeps durationKeeps noShipTwice storedKeeps timesFit sound rungBack freedFor freed coastEnd standing ruleA repeated afresh same ruleB ruleD offer ruleF ruleG eToG newcomer dToG redial ruleC bOrC requested dialNow workingKind workingOn agreed bqKind bqFor offHookStage offHookOn downOn upOn shipEnd sayAgain shipEndOn endOn takeOn giveOn offerDue ringAgain pendingDue replyDue mainOn fire ticked heardOn70 heardOn happenedOn actAt refusals verdict setUpVerdict step play final
 sound-computed = refl
 
@@ -53,23 +48,18 @@ pub phases-computed : map (λ p. rowOf (p .slot)) phases ≡ map (λ p. p .gives
 unfolding printed lastPrinted isShip isCoast identitiesOk identityPairs identityOf isCall unableSecond telecommandsOk channelOk durationOk fieldOk numberOk parity evened endOk valid front body layout Reader.lengthIn Reader.checkIn Reader.formatIn Reader.identityAt Reader.identityPairsAt Reader.identitiesIn Reader.categoryIn Reader.telecommandsIn Reader.blankSymbols Reader.channelSymbols Reader.durationSymbols Reader.fieldSymbols Reader.fieldOf Reader.fieldIn Reader.pairsIn Reader.parityOk Reader.pairsOk Reader.numberIn Reader.zeroBefore Reader.sixteen Reader.numberOf Reader.endIn Reader.refusals Reader.answerOf Reader.meaningOf Reader.blankMeaning Reader.readingOf padded answerTo ableSaid unableSaid overSaid payloadOf is kindOf addressed meaning fresh setSlot setClock setQueue table fires nextDue identityKeeps channelsKeep configKeeps oneSlotEach numberKeeps requestKeeps durationKeeps noShipTwice storedKeeps timesFit sound rungBack freedFor freed coastEnd standing ruleA repeated afresh same ruleB ruleD offer ruleF ruleG eToG newcomer dToG redial ruleC bOrC requested dialNow workingKind workingOn agreed bqKind bqFor offHookStage offHookOn downOn upOn shipEnd sayAgain shipEndOn endOn takeOn giveOn offerDue ringAgain pendingDue replyDue mainOn fire ticked heardOn70 heardOn happenedOn actAt refusals verdict setUpVerdict step play final
 phases-computed = refl
 
--- what the list of each run tells after each entry, and what it counts
-pub pages-computed : map (λ r. r .computed) pageCases ≡ map (λ r. r .expected) pageCases
-unfolding charged notes isShip isCoast identitiesOk identityPairs identityOf isCall unableSecond telecommandsOk channelOk durationOk fieldOk numberOk parity evened endOk valid front body layout Reader.lengthIn Reader.checkIn Reader.formatIn Reader.identityAt Reader.identityPairsAt Reader.identitiesIn Reader.categoryIn Reader.telecommandsIn Reader.blankSymbols Reader.channelSymbols Reader.durationSymbols Reader.fieldSymbols Reader.fieldOf Reader.fieldIn Reader.pairsIn Reader.parityOk Reader.pairsOk Reader.numberIn Reader.zeroBefore Reader.sixteen Reader.numberOf Reader.endIn Reader.refusals Reader.answerOf Reader.meaningOf Reader.blankMeaning Reader.readingOf padded answerTo ableSaid unableSaid overSaid payloadOf is kindOf addressed meaning fresh setSlot setClock setQueue table fires nextDue identityKeeps channelsKeep configKeeps oneSlotEach numberKeeps requestKeeps durationKeeps noShipTwice storedKeeps timesFit sound rungBack freedFor freed coastEnd standing ruleA repeated afresh same ruleB ruleD offer ruleF ruleG eToG newcomer dToG redial ruleC bOrC requested dialNow workingKind workingOn agreed bqKind bqFor offHookStage offHookOn downOn upOn shipEnd sayAgain shipEndOn endOn takeOn giveOn offerDue ringAgain pendingDue replyDue mainOn fire ticked heardOn70 heardOn happenedOn actAt refusals verdict setUpVerdict step play final alike blankBook falls reads turn stopsIn stops counted countedByCalls readAll heldTenths wordAfter wordsDone lastAsked
-pages-computed = as-expected pageCases refl
-
 -- 01's sample script gives the printed answers
 pub sample-computed : printed (station 1) sample (fresh (station 1)) ≡ sampleShows
 unfolding printed isShip isCoast identitiesOk identityPairs identityOf isCall unableSecond telecommandsOk channelOk durationOk fieldOk numberOk parity evened endOk valid front body layout Reader.lengthIn Reader.checkIn Reader.formatIn Reader.identityAt Reader.identityPairsAt Reader.identitiesIn Reader.categoryIn Reader.telecommandsIn Reader.blankSymbols Reader.channelSymbols Reader.durationSymbols Reader.fieldSymbols Reader.fieldOf Reader.fieldIn Reader.pairsIn Reader.parityOk Reader.pairsOk Reader.numberIn Reader.zeroBefore Reader.sixteen Reader.numberOf Reader.endIn Reader.refusals Reader.answerOf Reader.meaningOf Reader.blankMeaning Reader.readingOf padded answerTo ableSaid unableSaid overSaid payloadOf is kindOf addressed meaning fresh setSlot setClock setQueue table fires nextDue identityKeeps channelsKeep configKeeps oneSlotEach numberKeeps requestKeeps durationKeeps noShipTwice storedKeeps timesFit sound rungBack freedFor freed coastEnd standing ruleA repeated afresh same ruleB ruleD offer ruleF ruleG eToG newcomer dToG redial ruleC bOrC requested dialNow workingKind workingOn agreed bqKind bqFor offHookStage offHookOn downOn upOn shipEnd sayAgain shipEndOn endOn takeOn giveOn offerDue ringAgain pendingDue replyDue mainOn fire ticked heardOn70 heardOn happenedOn actAt refusals verdict setUpVerdict step play final
 sample-computed = refl
 
 -- what is charged in each run
-pub charges-computed : map (λ r. charged 0 (play (station (r .slots)) (r .events) (fresh (station (r .slots))))) (runs ++ pageRuns) ≡ map (λ r. r .owing) (runs ++ pageRuns)
+pub charges-computed : map (λ r. charged 0 (play (station (r .slots)) (r .events) (fresh (station (r .slots))))) runs ≡ map (λ r. r .owing) runs
 unfolding charged isShip isCoast identitiesOk identityPairs identityOf isCall unableSecond telecommandsOk channelOk durationOk fieldOk numberOk parity evened endOk valid front body layout Reader.lengthIn Reader.checkIn Reader.formatIn Reader.identityAt Reader.identityPairsAt Reader.identitiesIn Reader.categoryIn Reader.telecommandsIn Reader.blankSymbols Reader.channelSymbols Reader.durationSymbols Reader.fieldSymbols Reader.fieldOf Reader.fieldIn Reader.pairsIn Reader.parityOk Reader.pairsOk Reader.numberIn Reader.zeroBefore Reader.sixteen Reader.numberOf Reader.endIn Reader.refusals Reader.answerOf Reader.meaningOf Reader.blankMeaning Reader.readingOf padded answerTo ableSaid unableSaid overSaid payloadOf is kindOf addressed meaning fresh setSlot setClock setQueue table fires nextDue identityKeeps channelsKeep configKeeps oneSlotEach numberKeeps requestKeeps durationKeeps noShipTwice storedKeeps timesFit sound rungBack freedFor freed coastEnd standing ruleA repeated afresh same ruleB ruleD offer ruleF ruleG eToG newcomer dToG redial ruleC bOrC requested dialNow workingKind workingOn agreed bqKind bqFor offHookStage offHookOn downOn upOn shipEnd sayAgain shipEndOn endOn takeOn giveOn offerDue ringAgain pendingDue replyDue mainOn fire ticked heardOn70 heardOn happenedOn actAt refusals verdict setUpVerdict step play final
 charges-computed = refl
 
 -- what the list of each run alone calls for
-pub stops-computed : map (λ r. owedFor (stops (station (r .slots)) 0 (notes (play (station (r .slots)) (r .events) (fresh (station (r .slots))))) (blankBook (station (r .slots))))) (runs ++ pageRuns) ≡ map (λ r. r .owing) (runs ++ pageRuns)
+pub stops-computed : map (λ r. owedFor (stops (station (r .slots)) 0 (notes (play (station (r .slots)) (r .events) (fresh (station (r .slots))))) (blankBook (station (r .slots))))) runs ≡ map (λ r. r .owing) runs
 unfolding notes isShip isCoast identitiesOk identityPairs identityOf isCall unableSecond telecommandsOk channelOk durationOk fieldOk numberOk parity evened endOk valid front body layout Reader.lengthIn Reader.checkIn Reader.formatIn Reader.identityAt Reader.identityPairsAt Reader.identitiesIn Reader.categoryIn Reader.telecommandsIn Reader.blankSymbols Reader.channelSymbols Reader.durationSymbols Reader.fieldSymbols Reader.fieldOf Reader.fieldIn Reader.pairsIn Reader.parityOk Reader.pairsOk Reader.numberIn Reader.zeroBefore Reader.sixteen Reader.numberOf Reader.endIn Reader.refusals Reader.answerOf Reader.meaningOf Reader.blankMeaning Reader.readingOf padded answerTo ableSaid unableSaid overSaid payloadOf is kindOf addressed meaning fresh setSlot setClock setQueue table fires nextDue identityKeeps channelsKeep configKeeps oneSlotEach numberKeeps requestKeeps durationKeeps noShipTwice storedKeeps timesFit sound rungBack freedFor freed coastEnd standing ruleA repeated afresh same ruleB ruleD offer ruleF ruleG eToG newcomer dToG redial ruleC bOrC requested dialNow workingKind workingOn agreed bqKind bqFor offHookStage offHookOn downOn upOn shipEnd sayAgain shipEndOn endOn takeOn giveOn offerDue ringAgain pendingDue replyDue mainOn fire ticked heardOn70 heardOn happenedOn actAt refusals verdict setUpVerdict step play final alike blankBook falls reads turn stopsIn stops
 stops-computed = refl
 

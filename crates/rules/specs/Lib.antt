@@ -30,6 +30,4 @@ pub mod RequestCases
 pub mod CallCases
 pub mod RefusalCases
 pub mod SoundCases
-pub mod BoundCases
-pub mod Pages
 pub mod Phases

@@ -2,5 +2,4 @@ pub mod Tests
 pub mod Rest
 pub mod Paste
 pub mod RefusalLaws
-pub mod Computed
 pub mod Settled

@@ -7,5 +7,3 @@ pub mod Number
 pub mod Layout
 pub mod Reading
 pub mod Writing
--- cases
-pub mod Bounds

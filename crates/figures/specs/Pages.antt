@@ -6,20 +6,20 @@ use Prim.Native.Nat.{ℕ, _+_}
 use lib.ListN.{length, getD, take}
 use Rattle.units.specs.declared.Told.the-variants.{Nothing}
 use Rattle.sequence.specs.declared.Field.the-variants.{Blank, Channel}
 use Rattle.rules.specs.Words.{Party, simplex, duplex, modeNumber, Request, Config, offHook, onHook, carrierUp, carrierDown, takes, givesBack, onChannel70, onSlot, Event, Deed, carrierOn, carrierOff, acknowledge, ringBack, unable, dial, releaseLine}
 use Rattle.rules.specs.Heard.{Heard, callRequest, dataRequest, bq, workingCall, endOfCall, nothing}
 use Rattle.rules.specs.Actions.{theShip, Action, does, over, charge}
 use Rattle.rules.specs.Station.{offered, dialling, answered, free, taken, pending, busy, held}
 use Rattle.rules.specs.Book.{Note, Said, silent, toldBQ, toldRQ, settled, Call, quiet, dialled, talking, Line, Place, Book, blankBook, alike}
 use Rattle.rules.specs.Reading.{turn, numbered, counted, countedByCalls}
 use Rattle.rules.specs.ThreeWords.{Word, idle, ringing, since, wordHeard, wordsDone, wordAfter, wordOf}
 use Rattle.rules.specs.Statement.{deedsOf, chargesOf, charged, runOf, stationAfter, listOf, stopsOf, tenthsIn, heldTenths, eventsOf}
 use Rattle.rules.specs.Repeated.{toldToWait, lastAsked}
 use Rattle.rules.specs.Runs.{channel, station, seven, eight, nine, sends, at, usual, callsFor, calls, accepts, on, works, ends, ticks, paid, Run}
 use Rattle.rules.specs.Cases.{Row}
 use Rattle.rules.specs.Requests.{same}
 use Rattle.rules.specs.SoundCases.{asking, from}
-use Rattle.rules.specs.BoundCases.{told, callsAs}
+use Rattle.figures.specs.BoundCases.{told, callsAs}
 
 -- ── a book as numbers ────────────────────────────────────────────────────────
 
