@@ -511,8 +511,12 @@ wordsAtOnce = record {
 }
 
 -- a book of one line on which everything is set, and that line after an event or a deed alone
-abbrev pub set : Said → Call → Book
-set s k = record { now = 100; lines = record { said = s; wait = some 5000; call = k; gone = some 6000 } ∷ []; places = [] }
+abbrev pub filled : Said → Call → Book
+filled s k = record { now = 100; lines = record { said = s; wait = some 5000; call = k; gone = some 6000 } ∷ []; places = [] }
+
+-- the same with its carrier present
+abbrev pub heardWell : Said → Call → Book
+heardWell s k = record { now = 100; lines = record { said = s; wait = some 5000; call = k; gone = none } ∷ []; places = [] }
 
 abbrev pub afterEvent : Event → Book → List ℕ
 afterEvent e b = getD (map line (turn (station 1) b (record { event = e; deeds = [] }) .lines)) 0 []
@@ -530,19 +534,23 @@ talksEight = talking (from eight duplex .who) duplex 150
 abbrev pub eventsAlone : Row
 eventsAlone = record {
   computed =
-      afterEvent (on 200 0 onHook) (set (toldBQ (from seven duplex)) ringsEight) ∷
-      afterEvent (on 200 0 onHook) (set (toldBQ (from seven duplex)) talksEight) ∷
-      afterEvent (on 200 0 offHook) (set (toldBQ (from seven duplex)) ringsEight) ∷
-      afterEvent (ends 200 0 eight) (set (toldBQ (from seven duplex)) talksEight) ∷
-      afterEvent (on 200 0 takes) (set (toldBQ (from seven duplex)) ringsEight) ∷
-      afterEvent (accepts 200 26 seven) (set (toldRQ (from seven duplex)) talksEight) ∷
-      afterEvent (ticks 5000) (set (toldBQ (from seven duplex)) ringsEight) ∷ [];
+      afterEvent (on 200 0 onHook) (filled (toldBQ (from seven duplex)) ringsEight) ∷
+      afterEvent (on 200 0 onHook) (filled (toldBQ (from seven duplex)) (dialled (from eight duplex .who) duplex)) ∷
+      afterEvent (on 200 0 onHook) (filled (toldBQ (from seven duplex)) talksEight) ∷
+      afterEvent (on 200 0 onHook) (filled (toldBQ (from seven duplex)) (talking (from eight simplex .who) simplex 150)) ∷
+      afterEvent (on 200 0 offHook) (filled (toldBQ (from seven duplex)) ringsEight) ∷
+      afterEvent (ends 200 0 eight) (filled (toldBQ (from seven duplex)) talksEight) ∷
+      afterEvent (on 200 0 takes) (heardWell (toldBQ (from seven duplex)) ringsEight) ∷
+      afterEvent (accepts 200 26 seven) (filled (toldRQ (from seven duplex)) talksEight) ∷
+      afterEvent (ticks 5000) (filled (toldBQ (from seven duplex)) ringsEight) ∷ [];
   expected =
       (1 ∷ seven ∷ 101 ∷ 126 ∷ 7 ∷ 1 ∷ 5000 ∷ 1 ∷ eight ∷ 100 ∷ 1 ∷ 6000 ∷ []) ∷
+      (1 ∷ seven ∷ 101 ∷ 126 ∷ 7 ∷ 1 ∷ 5000 ∷ 1 ∷ eight ∷ 101 ∷ 1 ∷ 6000 ∷ []) ∷
+      (1 ∷ seven ∷ 101 ∷ 126 ∷ 7 ∷ 1 ∷ 5000 ∷ 0 ∷ 0 ∷ []) ∷
       (1 ∷ seven ∷ 101 ∷ 126 ∷ 7 ∷ 1 ∷ 5000 ∷ 0 ∷ 0 ∷ []) ∷
       (1 ∷ seven ∷ 101 ∷ 126 ∷ 7 ∷ 0 ∷ 2 ∷ eight ∷ 100 ∷ 200 ∷ 1 ∷ 6000 ∷ []) ∷
       (1 ∷ seven ∷ 101 ∷ 126 ∷ 7 ∷ 1 ∷ 241 ∷ 0 ∷ 0 ∷ []) ∷
-      (1 ∷ seven ∷ 101 ∷ 126 ∷ 7 ∷ 1 ∷ 5000 ∷ 1 ∷ eight ∷ 100 ∷ 1 ∷ 6000 ∷ []) ∷
+      (1 ∷ seven ∷ 101 ∷ 126 ∷ 7 ∷ 1 ∷ 5000 ∷ 1 ∷ eight ∷ 100 ∷ 0 ∷ []) ∷
       (3 ∷ seven ∷ 101 ∷ 126 ∷ 7 ∷ 1 ∷ 361 ∷ 2 ∷ eight ∷ 101 ∷ 150 ∷ 1 ∷ 6000 ∷ []) ∷
       (1 ∷ seven ∷ 101 ∷ 126 ∷ 7 ∷ 0 ∷ 1 ∷ eight ∷ 100 ∷ 1 ∷ 6000 ∷ []) ∷ [];
 }
@@ -551,17 +559,17 @@ eventsAlone = record {
 abbrev pub deedsAlone : Row
 deedsAlone = record {
   computed =
-      afterDeed (acknowledge 0 (from nine duplex)) (set (toldBQ (from seven duplex)) ringsEight) ∷
-      afterDeed (ringBack 0 (from nine duplex)) (set (toldBQ (from seven duplex)) ringsEight) ∷
-      afterDeed (carrierOff 0) (set (toldBQ (from seven duplex)) ringsEight) ∷
-      afterDeed (carrierOn 0) (set (toldBQ (from seven duplex)) ringsEight) ∷
-      afterDeed (dial 0 usual) (set (toldBQ (from seven duplex)) ringsEight) ∷
-      afterDeed (dial 0 usual) (set (settled (from seven simplex)) ringsEight) ∷
-      afterDeed (dial 0 usual) (set (toldBQ (from seven duplex)) talksEight) ∷
-      afterDeed (dial 0 usual) (set (toldBQ (from seven duplex)) (talking (from eight simplex .who) simplex 150)) ∷
-      afterDeed (releaseLine 0) (set (toldBQ (from seven duplex)) ringsEight) ∷
-      afterDeed (releaseLine 0) (set (toldBQ (from seven duplex)) talksEight) ∷
-      afterDeed (releaseLine 0) (set (toldBQ (from seven duplex)) (talking (from eight simplex .who) simplex 150)) ∷ [];
+      afterDeed (acknowledge 0 (from nine duplex)) (filled (toldBQ (from seven duplex)) ringsEight) ∷
+      afterDeed (ringBack 0 (from nine duplex)) (filled (toldBQ (from seven duplex)) ringsEight) ∷
+      afterDeed (carrierOff 0) (filled (toldBQ (from seven duplex)) ringsEight) ∷
+      afterDeed (carrierOn 0) (filled (toldBQ (from seven duplex)) ringsEight) ∷
+      afterDeed (dial 0 usual) (filled (toldBQ (from seven duplex)) ringsEight) ∷
+      afterDeed (dial 0 usual) (filled (settled (from seven simplex)) ringsEight) ∷
+      afterDeed (dial 0 usual) (filled (toldBQ (from seven duplex)) talksEight) ∷
+      afterDeed (dial 0 usual) (filled (toldBQ (from seven duplex)) (talking (from eight simplex .who) simplex 150)) ∷
+      afterDeed (releaseLine 0) (filled (toldBQ (from seven duplex)) ringsEight) ∷
+      afterDeed (releaseLine 0) (filled (toldBQ (from seven duplex)) talksEight) ∷
+      afterDeed (releaseLine 0) (filled (toldBQ (from seven duplex)) (talking (from eight simplex .who) simplex 150)) ∷ [];
   expected =
       (1 ∷ nine ∷ 101 ∷ 126 ∷ 7 ∷ 1 ∷ 361 ∷ 1 ∷ eight ∷ 100 ∷ 1 ∷ 6000 ∷ []) ∷
       (2 ∷ nine ∷ 101 ∷ 126 ∷ 7 ∷ 1 ∷ 251 ∷ 1 ∷ eight ∷ 100 ∷ 1 ∷ 6000 ∷ []) ∷
