@@ -14,7 +14,7 @@ use Rattle.rules.specs.Book.{Note, Said, silent, toldBQ, toldRQ, settled, Call,
 use Rattle.rules.specs.Reading.{turn, numbered, counted, countedByCalls}
 use Rattle.rules.specs.ThreeWords.{Word, idle, ringing, since, wordHeard, wordsDone, wordAfter, wordOf}
 use Rattle.rules.specs.Statement.{deedsOf, chargesOf, charged, runOf, stationAfter, listOf, stopsOf, tenthsIn, heldTenths, eventsOf}
-use Rattle.rules.specs.Repeated.{toldToWait, lastAsked}
+use Rattle.rules.specs.Repeated.{toldToWait, lastAsked, switchedOn}
 use Rattle.rules.specs.Runs.{channel, station, seven, eight, nine, sends, at, usual, callsFor, calls, accepts, on, works, ends, ticks, paid, Run}
 use Rattle.rules.specs.Cases.{Row}
 use Rattle.rules.specs.Requests.{same}
@@ -601,6 +601,14 @@ toldToWaitShown = record {
   expected = (1 ∷ 0 ∷ 0 ∷ 0 ∷ 1 ∷ []) ∷ [];
 }
 
+-- a carrier is switched on by its own deed alone, on the slot that it names
+abbrev pub switchedOnShown : Row
+switchedOnShown = record {
+  computed = map (λ d. due (switchedOn d)) (carrierOn 1 ∷ carrierOff 1 ∷ acknowledge 1 (from seven duplex) ∷
+      ringBack 1 (from seven duplex) ∷ unable 103 party usual ∷ dial 1 usual ∷ releaseLine 1 ∷ []);
+  expected = (1 ∷ 1 ∷ []) ∷ (0 ∷ []) ∷ (0 ∷ []) ∷ (0 ∷ []) ∷ (0 ∷ []) ∷ (0 ∷ []) ∷ (0 ∷ []) ∷ [];
+}
+
 -- what is heard, as numbers
 abbrev pub heardShown : Heard → List ℕ
 heardShown (callRequest r) = 1 ∷ request r
@@ -685,7 +693,7 @@ pageCases =
     onSecondPages ∷ onSecondWords ∷ onSecondTenths ∷ againPages ∷ againWords ∷ againTenths ∷ inQueuePages ∷ inQueueWords ∷
     inQueueTenths ∷ twoCallsPages ∷ twoCallsWords ∷ twoCallsWordsOfFirst ∷ twoCallsTenths ∷ onThirdPages ∷ onThirdWords ∷
     onThirdTenths ∷ dialledOnly ∷ heldShown ∷ stopsNumbered ∷ eventsShown ∷ wordsByDeeds ∷ wordsByOffHook ∷ wordsAtOnce ∷
-    eventsAlone ∷ deedsAlone ∷ wordsAlone ∷ toldToWaitShown ∷ lastAskedShown ∷ lastAskedNever ∷ chargesFound ∷ talkingOn ∷
+    eventsAlone ∷ deedsAlone ∷ wordsAlone ∷ toldToWaitShown ∷ switchedOnShown ∷ lastAskedShown ∷ lastAskedNever ∷ chargesFound ∷ talkingOn ∷
     wordsOf ∷ blankPage ∷ told102 ∷ sameShown ∷ alikeShown ∷ []
 
 abbrev pub pageRuns : List Run
