@@ -170,18 +170,10 @@ ackSeven26Of52 = 123 ∷ 20 ∷ 0 ∷ 0 ∷ 0 ∷ 70 ∷ 100 ∷ 0 ∷ 20 ∷ 1 
 abbrev pub ackSeven26Of41 : List ℕ
 ackSeven26Of41 = 123 ∷ 20 ∷ 0 ∷ 0 ∷ 0 ∷ 70 ∷ 100 ∷ 0 ∷ 20 ∷ 1 ∷ 23 ∷ 40 ∷ 101 ∷ 126 ∷ 90 ∷ 0 ∷ 26 ∷ 106 ∷ 41 ∷ 122 ∷ 5 ∷ []
 
--- end of call to seven, BQ, 0 0 10
-abbrev pub overSeven10 : List ℕ
-overSeven10 = 123 ∷ 20 ∷ 0 ∷ 0 ∷ 0 ∷ 70 ∷ 100 ∷ 0 ∷ 20 ∷ 1 ∷ 23 ∷ 40 ∷ 105 ∷ 126 ∷ 0 ∷ 0 ∷ 10 ∷ 105 ∷ 5 ∷ 55 ∷ 12 ∷ 34 ∷ 122 ∷ 117 ∷ []
-
 -- end of call to seven, 127, 0 15 3
 abbrev pub overSevenByCoast903 : List ℕ
 overSevenByCoast903 = 123 ∷ 20 ∷ 0 ∷ 0 ∷ 0 ∷ 70 ∷ 100 ∷ 0 ∷ 20 ∷ 1 ∷ 23 ∷ 40 ∷ 105 ∷ 126 ∷ 0 ∷ 15 ∷ 3 ∷ 105 ∷ 5 ∷ 55 ∷ 12 ∷ 34 ∷
     127 ∷ 118 ∷ []
-
--- acknowledgement, channel 27, eight
-abbrev pub ackEight27 : List ℕ
-ackEight27 = 123 ∷ 20 ∷ 0 ∷ 0 ∷ 0 ∷ 80 ∷ 100 ∷ 0 ∷ 20 ∷ 1 ∷ 23 ∷ 40 ∷ 101 ∷ 126 ∷ 90 ∷ 0 ∷ 27 ∷ 105 ∷ 5 ∷ 55 ∷ 12 ∷ 34 ∷ 122 ∷ 36 ∷ []
 
 -- acknowledgement of the station 007999999, channel 60, seven
 abbrev pub ackOther : List ℕ
