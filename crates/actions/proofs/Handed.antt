@@ -30,12 +30,13 @@ use Rattle.rules.specs.Verdict.{readIn, verdict}
 use Rattle.rules.proofs.KindLaws.{only-these}
 use Rattle.rules.proofs.Readable.{heard-keeps, from-ship}
 use Rattle.rules.proofs.SentLaws.{unable-valid}
+use Rattle.rules.proofs.Outcome.{bq-outcome, happened-outcome}
 use Rattle.rules.proofs.Stored.{Stored, clock-stored}
 use Rattle.rules.proofs.Accepted.{accepted, Sound, sounds}
 use Rattle.actions.specs.Blocks.{joined}
 use Rattle.actions.specs.Sent.{sentBlock, speaks}
 use Rattle.actions.proofs.Speaking.{Speaks, coast, sent-blocks}
-use Rattle.actions.proofs.Saying.{Says, requested-says, bq-says, happened-says, ticked-says}
+use Rattle.actions.proofs.Saying.{Says, requested-says, outcome-says, ticked-says}
 
 -- ── a data request ───────────────────────────────────────────────────────────
 
@@ -74,7 +75,7 @@ module _ (c : Config) (good : configKeeps c ≡ true) where
   unfolding heardOn70 ruleA
   heard70-says st s (callRequest r) k d = requested-says c good r (k r refl) st s (standing st (r .who))
   heard70-says st s (dataRequest x n) k d = (d x n refl, tt)
-  heard70-says st s (bq i x) k d = bq-says c good st s i x (getD (st .slots) i free)
+  heard70-says st s (bq i x) k d = outcome-says c good st s i (getD (st .slots) i free) (bq-outcome i st x (getD (st .slots) i free)) refl
   heard70-says st s (workingCall x) k d = tt
   heard70-says st s (endOfCall x) k d = tt
   heard70-says st s nothing k d = tt
@@ -95,7 +96,7 @@ module _ (c : Config) (st : Station) (is-sound : sound c st ≡ true) where
 
   pub slot-says : (t i : ℕ) (h : Happened) → Says c (actAt c st t (onSlot i h))
   unfolding actAt setClock
-  slot-says t i h = happened-says c (from .config) (setClock t st) (clock-stored c t st stored) i (getD (st .slots) i free) refl h
+  slot-says t i h = outcome-says c (from .config) (setClock t st) (clock-stored c t st stored) i (getD (st .slots) i free) (happened-outcome i (setClock t st) c (getD (st .slots) i free) h) refl
 
   pub channel70-says : (t : ℕ) (m : List ℕ) → isDone (readingOf m .answer) ≡ true → valid (readingOf m .meaning) ≡ true → Says c (actAt c st t (onChannel70 m))
   unfolding actAt

@@ -10,15 +10,18 @@ use lib.ListN.{length, getD}
 use Rattle.sequence.specs.Field.{unableSecond}
 use Rattle.sequence.proofs.Tests.{both-true}
 use Rattle.rules.specs.Places.{all, Each, lowest}
-use Rattle.rules.specs.Words.{Party, is, Mode, simplex, duplex, Request, Config, Happened, heard, offHook, onHook, carrierUp, carrierDown, takes, givesBack, unable}
+use Rattle.rules.specs.Words.{Request, Config, unable}
 use Rattle.rules.specs.Waits.{Wait, ofQueue, loss, main, Due}
-use Rattle.rules.specs.Heard.{Heard, callRequest, dataRequest, bq, workingCall, endOfCall, nothing, meaning}
-use Rattle.rules.specs.Actions.{Ender, theShip, theCoast, does}
-use Rattle.rules.specs.Station.{Kind, offered, firstRing, secondRing, acknowledged, Stage, dialling, answered, Slot, free, taken, pending, busy, held, Waiting, Station, setClock}
+use Rattle.rules.specs.Actions.{Action, Ender, theShip, theCoast, does}
+use Rattle.rules.specs.Station.{Stage, dialling, answered, Slot, free, taken, pending, busy, Waiting, Station, setClock}
 use Rattle.rules.specs.Sound.{configKeeps, requestKeeps, durationKeeps, slotKeeps, waitingKeeps, queueRoom}
-use Rattle.rules.specs.Requests.{Out, ignored, rungBack, freedFor, freed, lasted, endActs, coastEnd, Standing, nowhere, holds, waits, placeOf, repeated, afresh, same, ruleB, ruleD, offer, ruleF, ruleG, isFree, eToG, newcomer, dToG, redial, ruleC, bOrC, requested}
-use Rattle.rules.specs.Calls.{dialNow, workingKind, workingOn, agreed, bqKind, bqFor, offHookStage, offHookOn, downOn, upOn, shipEnd, sayAgain, shipEndOn, endOn, takeOn, giveOn, offerDue, ringAgain, pendingDue, replyDue, mainOn, fire, ticked, heardOn, happenedOn}
+use Rattle.rules.specs.Requests.{Out, rungBack, freedFor, freed, lasted, endActs, coastEnd, Standing, nowhere, holds, waits, placeOf, repeated, afresh, ruleD, offer, ruleF, ruleG, isFree, eToG, newcomer, dToG, redial, requested}
+use Rattle.rules.specs.Calls.{fire, ticked}
+use Rattle.rules.specs.Book.{Stop, Line}
+use Rattle.rules.specs.ThreeWords.{Word}
 use Rattle.rules.proofs.PlaceLaws.{lowest-is, all-at, each-append}
+use Rattle.rules.proofs.Outcome.{Next, stays, becomes, frees, Move, to-dial, to-agree, to-ring, to-drop, to-answer, to-lose, to-regain, to-hold, to-end, to-repeat, to-run-out, to-take, to-give, Outcome, passed, moved, end-outcome, main-outcome}
+use Rattle.rules.proofs.Ruling.{Ruling, passes, repeats, renews, redials, bOrC-ruling}
 use Rattle.rules.proofs.Stored.{Stored, clock-stored, stored-closed, lasted-keeps}
 use Rattle.actions.proofs.Speaking.{Speaks, small, acknowledge-speaks, ringBack-speaks, unable-speaks, over-speaks}
 
@@ -72,10 +75,6 @@ module _ (c : Config) (good : configKeeps c ≡ true) where
       unfolding coastEnd
       coastEnd-says r g k = each-append (Speaks c) (endActs i theCoast r g (st .clock)) (freed i st .acts) (end-says i there theCoast r g (st .clock) k) freed-says
 
-      offerDue-says : Says c (offerDue i st)
-      unfolding offerDue
-      offerDue-says = ((refl, small c good i there), freed-says)
-
   -- ── a request that keeps the rules ─────────────────────────────────────────
 
   module _ (r : Request) (kept : requestKeeps c r ≡ true) where
@@ -109,135 +108,61 @@ module _ (c : Config) (good : configKeeps c ≡ true) where
       unfolding redial coastEnd
       redial-says o g h k = each-append (Speaks c) (coastEnd i o g st .acts) _ (coastEnd-says st s i h o g k) (dToG-says (freed i st .next) (stored-closed c .freeing i st s) (placeOf (r .who) (freed i st .next)))
 
-      ruleC-says : (o : Request) (g : Stage) (m : Mode) (l : Option ℕ) → i < length (c .channels) → requestKeeps c o ≡ true → Says c (ruleC i o g m l st r)
-      unfolding ruleC
-      ruleC-says o g duplex l h k = tt
-      ruleC-says o g simplex none h k = tt
-      ruleC-says o g simplex (some d) h k = redial-says o g h k
-
-      ruleB-says : (k : Kind) (o : Request) → i < length (c .channels) → Says c (ruleB i k o st r)
-      unfolding ruleB repeated
-      ruleB-says offered o h = says-if (same r o) (repeated i st r) (afresh i st r) (acknowledge-speaks c good r kept i h, tt) (afresh-says st i h)
-      ruleB-says firstRing o h = afresh-says st i h
-      ruleB-says secondRing o h = afresh-says st i h
-      ruleB-says acknowledged o h = afresh-says st i h
-
-      bOrC-says : (p : Slot) → getD (st .slots) i free ≡ p → Says c (bOrC i p st r)
-      unfolding bOrC
-      bOrC-says free e = tt
-      bOrC-says taken e = tt
-      bOrC-says (pending k o d) e = ruleB-says k o (placed st s i (pending k o d) e refl)
-      bOrC-says (busy o g l) e = ruleC-says o g (o .mode) l (placed st s i (busy o g l) e refl) (slot-keeps st s i (busy o g l) e)
-      bOrC-says (held o n d) e = tt
+      ruling-says : (cs : List Stop) (p : Slot) (x : Out) → Ruling i st r cs p x → getD (st .slots) i free ≡ p → Says c x
+      unfolding repeated
+      ruling-says cs _ _ (passes p a) e = tt
+      ruling-says cs _ _ (repeats k o d a b) e = (acknowledge-speaks c good r kept i (placed st s i (pending k o d) e refl), tt)
+      ruling-says cs _ _ (renews k o d a b) e = afresh-says st i (placed st s i (pending k o d) e refl)
+      ruling-says cs _ _ (redials o g l a) e = redial-says (o .request) g (placed st s i (busy o g l) e refl) (slot-keeps st s i (busy o g l) e)
 
     pub requested-says : (st : Station) → Stored c st → (o : Standing) → Says c (requested st r o)
     unfolding requested newcomer ruleD
     requested-says st s nowhere = eToG-says st s (lowest isFree (st .slots)) refl
-    requested-says st s (holds i) = bOrC-says st s i (getD (st .slots) i free) refl
+    requested-says st s (holds i) = ruling-says st s i _ (getD (st .slots) i free) _ (bOrC-ruling i st r (getD (st .slots) i free)) refl
     requested-says st s (waits k) = (queued, tt)
 
   -- ── on a slot ──────────────────────────────────────────────────────────────
 
+  move-says : (i t : ℕ) (p : Slot) (n : Next) (acts : List Action) → Move i t p n acts → (isFree p ≡ false → i < length (c .channels)) → slotKeeps c p ≡ true → Each (Speaks c) acts
+  move-says i t _ _ _ (to-dial k r d z) h e = ((refl, small c good i (h refl)), tt)
+  move-says i t _ _ _ (to-agree k r d) h e = tt
+  move-says i t _ _ _ (to-ring r d) h e = (ringBack-speaks c good (r .request) e i (h refl), tt)
+  move-says i t _ _ _ (to-drop k r d) h e = ((refl, small c good i (h refl)), tt)
+  move-says i t _ _ _ (to-answer r d l) h e = tt
+  move-says i t _ _ _ (to-lose r g l) h e = tt
+  move-says i t _ _ _ (to-regain r g l) h e = tt
+  move-says i t _ _ _ (to-hold r g l) h e = end-says i (h refl) theShip (r .request) g t e
+  move-says i t _ _ _ (to-end r g l) h e = end-says i (h refl) theCoast (r .request) g t e
+  move-says i t _ _ _ (to-repeat r n d) h e =
+      let k = both-true (requestKeeps c (r .request)) (durationKeeps n) e in
+      let b = small c good i (h refl) in
+      ((refl, b), (over-speaks c good (r .request) (k .0) i (h refl) theShip n (k .1), ((refl, b), tt)))
+  move-says i t _ _ _ (to-run-out r n d) h e = tt
+  move-says i t _ _ _ to-take h e = tt
+  move-says i t _ _ _ to-give h e = tt
+
+  -- only a slot in use is freed
+  move-frees : (i t : ℕ) (p : Slot) (acts : List Action) → Move i t p frees acts → isFree p ≡ false
+  move-frees i t _ _ (to-drop k r d) = refl
+  move-frees i t _ _ (to-end r g l) = refl
+  move-frees i t _ _ (to-run-out r n d) = refl
+  move-frees i t _ _ to-give = refl
+
   module _ (st : Station) (s : Stored c st) (i : ℕ) where
-    pub bq-says : (x : Party) (p : Slot) → Says c (bqFor i x st p)
-    unfolding bqFor bqKind agreed
-    bq-says x free = tt
-    bq-says x taken = tt
-    bq-says x (pending offered r d) = says-if (is x (r .who)) (ignored st) (ignored st) tt tt
-    bq-says x (pending firstRing r d) = says-if (is x (r .who)) (agreed i r st) (ignored st) tt tt
-    bq-says x (pending secondRing r d) = says-if (is x (r .who)) (agreed i r st) (ignored st) tt tt
-    bq-says x (pending acknowledged r d) = says-if (is x (r .who)) (ignored st) (ignored st) tt tt
-    bq-says x (busy r g l) = tt
-    bq-says x (held r n d) = tt
+    move-placed : (p : Slot) (n : Next) (acts : List Action) → getD (st .slots) i free ≡ p → Move i (st .clock) p n acts → Each (Speaks c) acts
+    move-placed p n acts e u = move-says i (st .clock) p n acts u (placed st s i p e) (slot-keeps st s i p e)
 
-    working-says : (x : Party) (p : Slot) → getD (st .slots) i free ≡ p → Says c (workingOn i x st p)
-    unfolding workingOn workingKind dialNow
-    working-says x free e = tt
-    working-says x taken e = tt
-    working-says x (pending offered r d) e = says-if (is x (r .who)) (dialNow i r st) (ignored st) ((refl, small c good i (placed st s i (pending offered r d) e refl)), tt) tt
-    working-says x (pending firstRing r d) e = says-if (is x (r .who)) (ignored st) (ignored st) tt tt
-    working-says x (pending secondRing r d) e = says-if (is x (r .who)) (ignored st) (ignored st) tt tt
-    working-says x (pending acknowledged r d) e = says-if (is x (r .who)) (dialNow i r st) (ignored st) ((refl, small c good i (placed st s i (pending acknowledged r d) e refl)), tt) tt
-    working-says x (busy r g l) e = tt
-    working-says x (held r n d) e = tt
-
-    shipEnd-says : (x : Party) (p : Slot) → getD (st .slots) i free ≡ p → Says c (shipEndOn i x st p)
-    unfolding shipEndOn shipEnd sayAgain
-    shipEnd-says x free e = tt
-    shipEnd-says x taken e = tt
-    shipEnd-says x (pending k r d) e = tt
-    shipEnd-says x (busy r g l) e = says-if (is x (r .who)) (shipEnd i r g st) (ignored st) (end-says i (placed st s i (busy r g l) e refl) theShip r g (st .clock) (slot-keeps st s i (busy r g l) e)) tt
-    shipEnd-says x (held r n d) e =
-        let k = both-true (requestKeeps c r) (durationKeeps n) (slot-keeps st s i (held r n d) e) in
-        let h = placed st s i (held r n d) e refl in
-        let b = small c good i h in
-        says-if (is x (r .who)) (sayAgain i r n st) (ignored st) ((refl, b), (over-speaks c good r (k .0) i h theShip n (k .1), ((refl, b), tt))) tt
-
-    heard-says : (p : Slot) → getD (st .slots) i free ≡ p → (m : Heard) → Says c (heardOn i st p m)
-    unfolding heardOn
-    heard-says p e (callRequest r) = tt
-    heard-says p e (dataRequest x n) = tt
-    heard-says p e (bq j x) = tt
-    heard-says p e (workingCall x) = working-says x p e
-    heard-says p e (endOfCall x) = shipEnd-says x p e
-    heard-says p e nothing = tt
-
-    over-says : (p : Slot) → getD (st .slots) i free ≡ p → Says c (endOn i st p)
-    unfolding endOn
-    over-says free e = tt
-    over-says taken e = tt
-    over-says (pending k r d) e = tt
-    over-says (busy r g l) e = coastEnd-says st s i (placed st s i (busy r g l) e refl) r g (slot-keeps st s i (busy r g l) e)
-    over-says (held r n d) e = tt
-
-    main-says : (p : Slot) → getD (st .slots) i free ≡ p → Says c (mainOn i st p)
-    unfolding mainOn pendingDue replyDue ringAgain
-    main-says free e = tt
-    main-says taken e = tt
-    main-says (pending offered r d) e = offerDue-says st s i (placed st s i (pending offered r d) e refl)
-    main-says (pending firstRing r d) e = (ringBack-speaks c good r (slot-keeps st s i (pending firstRing r d) e) i (placed st s i (pending firstRing r d) e refl), tt)
-    main-says (pending secondRing r d) e = offerDue-says st s i (placed st s i (pending secondRing r d) e refl)
-    main-says (pending acknowledged r d) e = offerDue-says st s i (placed st s i (pending acknowledged r d) e refl)
-    main-says (busy r (dialling d) l) e = coastEnd-says st s i (placed st s i (busy r (dialling d) l) e refl) r (dialling d) (slot-keeps st s i (busy r (dialling d) l) e)
-    main-says (busy r (answered b) l) e = tt
-    main-says (held r n d) e = freed-says st s i (placed st s i (held r n d) e refl)
-
-    pub happened-says : (p : Slot) → getD (st .slots) i free ≡ p → (h : Happened) → Says c (happenedOn c i st p h)
-    unfolding happenedOn offHookOn offHookStage upOn downOn takeOn giveOn
-    happened-says p e (heard m) = heard-says p e (meaning c m)
-    happened-says p e onHook = over-says p e
-    happened-says free e offHook = tt
-    happened-says taken e offHook = tt
-    happened-says (pending k r d) e offHook = tt
-    happened-says (busy r (dialling d) l) e offHook = tt
-    happened-says (busy r (answered b) l) e offHook = tt
-    happened-says (held r n d) e offHook = tt
-    happened-says free e carrierUp = tt
-    happened-says taken e carrierUp = tt
-    happened-says (pending k r d) e carrierUp = tt
-    happened-says (busy r g l) e carrierUp = tt
-    happened-says (held r n d) e carrierUp = tt
-    happened-says free e carrierDown = tt
-    happened-says taken e carrierDown = tt
-    happened-says (pending k r d) e carrierDown = tt
-    happened-says (busy r g l) e carrierDown = tt
-    happened-says (held r n d) e carrierDown = tt
-    happened-says free e takes = tt
-    happened-says taken e takes = tt
-    happened-says (pending k r d) e takes = tt
-    happened-says (busy r g l) e takes = tt
-    happened-says (held r n d) e takes = tt
-    happened-says free e givesBack = tt
-    happened-says taken e givesBack = freed-says st s i (placed st s i taken e refl)
-    happened-says (pending k r d) e givesBack = tt
-    happened-says (busy r g l) e givesBack = tt
-    happened-says (held r n d) e givesBack = tt
+    pub outcome-says : {f : Line → Line} {w : Word → Word} {cs : List Stop} {o : Out} (p : Slot) → Outcome i st f w cs p o → getD (st .slots) i free ≡ p → Says c o
+    outcome-says p (passed x y z) e = tt
+    outcome-says p (moved {n = stays} u x y z) e = move-placed p _ _ e u
+    outcome-says p (moved {n = becomes q} u x y z) e = move-placed p _ _ e u
+    outcome-says p (moved {n = frees} {acts} u x y z) e = each-append (Speaks c) acts (freed i st .acts) (move-placed p frees acts e u) (freed-says st s i (placed st s i p e (move-frees i (st .clock) p acts u)))
 
   fire-says : (st : Station) → Stored c st → (w : Wait) → Says c (fire st w)
   unfolding fire
   fire-says st s (ofQueue k) = tt
-  fire-says st s (loss i) = over-says st s i (getD (st .slots) i free) refl
-  fire-says st s (main i) = main-says st s i (getD (st .slots) i free) refl
+  fire-says st s (loss i) = outcome-says st s i (getD (st .slots) i free) (end-outcome i st (getD (st .slots) i free)) refl
+  fire-says st s (main i) = outcome-says st s i (getD (st .slots) i free) (main-outcome i st (getD (st .slots) i free)) refl
 
   pub ticked-says : (st : Station) → Stored c st → (t : ℕ) (o : Option Due) → Says c (ticked st t o)
   unfolding ticked

@@ -42,8 +42,8 @@ pub found-owner : (x : Party) (i : ℕ) (l : List R.Slot) (q : List Party) → (
 found-owner x i [] q = refl
 found-owner x i (free ∷ l) q = found-owner x (suc i) l q
 found-owner x i (taken ∷ l) q = found-owner x (suc i) l q
-found-owner x i (pending k r d ∷ l) q = hit-or (is x (r .who)) i (lowestFrom (owns x) (suc i) l) (elem is x q) (elem is x (owners l q)) (found-owner x (suc i) l q)
-found-owner x i (busy r g c ∷ l) q = hit-or (is x (r .who)) i (lowestFrom (owns x) (suc i) l) (elem is x q) (elem is x (owners l q)) (found-owner x (suc i) l q)
+found-owner x i (pending k r d ∷ l) q = hit-or (is x (r .request .who)) i (lowestFrom (owns x) (suc i) l) (elem is x q) (elem is x (owners l q)) (found-owner x (suc i) l q)
+found-owner x i (busy r g c ∷ l) q = hit-or (is x (r .request .who)) i (lowestFrom (owns x) (suc i) l) (elem is x q) (elem is x (owners l q)) (found-owner x (suc i) l q)
 found-owner x i (held r n d ∷ l) q = found-owner x (suc i) l q
 
 -- ── one turn ──

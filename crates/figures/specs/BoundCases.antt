@@ -10,7 +10,8 @@ use Rattle.sequence.specs.declared.Field.the-variants.{Blank, Channel}
 use Rattle.sequence.specs.Layout.{valid, layout}
 use Rattle.rules.specs.Words.{Party, is, Mode, simplex, duplex, modeNumber, Config, heard, offHook, onHook, carrierUp, carrierDown, takes, givesBack, tick, onChannel70, Event, carrierOn}
 use Rattle.rules.specs.Actions.{theShip, does, over, charge}
-use Rattle.rules.specs.Station.{offered, firstRing, secondRing, acknowledged, dialling, answered, free, taken, pending, busy, held, Waiting, Station, fresh}
+use Rattle.rules.specs.Station.{offered, firstRing, secondRing, acknowledged, dialling, answered, free, taken, Waiting, Station, fresh}
+use Rattle.rules.specs.Slots.{pending, busy, held}
 use Rattle.rules.specs.Verdict.{step}
 use Rattle.rules.specs.Bytes.{numberOf, ableSaid, unableSaid, overSaid, blocks}
 use Rattle.rules.specs.Printed.{lines}

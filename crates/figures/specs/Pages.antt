@@ -9,7 +9,8 @@ use Rattle.sequence.specs.declared.Field.the-variants.{Blank, Channel}
 use Rattle.rules.specs.Words.{Party, simplex, duplex, modeNumber, Request, Config, offHook, onHook, carrierUp, carrierDown, takes, givesBack, onChannel70, onSlot, Event, Deed, carrierOn, carrierOff, acknowledge, ringBack, unable, dial, releaseLine}
 use Rattle.rules.specs.Heard.{Heard, callRequest, dataRequest, bq, workingCall, endOfCall, nothing}
 use Rattle.rules.specs.Actions.{theShip, Action, does, over, charge}
-use Rattle.rules.specs.Station.{offered, dialling, answered, free, taken, pending, busy, held}
+use Rattle.rules.specs.Station.{offered, dialling, answered, free, taken}
+use Rattle.rules.specs.Slots.{pending, busy, held}
 use Rattle.rules.specs.Book.{Note, Said, silent, toldBQ, toldRQ, settled, Call, quiet, dialled, talking, Line, Place, Book, blankBook, alike}
 use Rattle.rules.specs.Reading.{turn, numbered, counted, countedByCalls}
 use Rattle.rules.specs.ThreeWords.{Word, idle, ringing, since, wordHeard, wordsDone, wordAfter, wordOf}

@@ -11,7 +11,7 @@ use Rattle.sequence.specs.Symbols.{allAtMost}
 use Rattle.sequence.specs.Answers.{isDone}
 use Rattle.sequence.specs.Reading.{readingOf}
 use Rattle.reading.proofs.Passed.{passed}
-use Rattle.rules.specs.Words.{Happened, heard, offHook, onHook, carrierUp, carrierDown, takes, givesBack, What, tick, onChannel70, onSlot}
+use Rattle.rules.specs.Words.{Happened, heard, signal, operator, What, tick, onChannel70, onSlot}
 use Rattle.rules.specs.Sound.{limit}
 use Rattle.rules.specs.Verdict.{slotThere, readerSays, readOn, readIn}
 use Rattle.rules.proofs.PlaceLaws.{and-true}
@@ -32,12 +32,8 @@ read-in-bytes m h = in-bytes m (passed m h .symbols)
 
 happened-in-c : (h : Happened) → isDone (readOn h) ≡ true → HappenedInC h
 happened-in-c (heard m) r = read-in-bytes m r
-happened-in-c offHook r = tt
-happened-in-c onHook r = tt
-happened-in-c carrierUp r = tt
-happened-in-c carrierDown r = tt
-happened-in-c takes r = tt
-happened-in-c givesBack r = tt
+happened-in-c (signal g) r = tt
+happened-in-c (operator n) r = tt
 
 what-in-c : (n : ℕ) → n ≤ 16 → (w : What) → slotThere n w ≡ true → isDone (readIn w) ≡ true → WhatInC w
 what-in-c n few tick t r = tt

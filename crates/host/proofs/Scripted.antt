@@ -9,7 +9,7 @@ use borrow.Author.Tests.{eq-eqb}
 use contract.Lifetimes.{Lfts}
 use denote.Ref.{RefT}
 use Rattle.units.specs.declared.Channel.{Channel}
-use Rattle.rules.specs.Words.{Happened, heard, offHook, onHook, carrierUp, carrierDown, takes, givesBack, What, tick, onChannel70, onSlot, Event}
+use Rattle.rules.specs.Words.{Happened, heard, signal, operator, lineLifted, lineHung, carrierHeard, carrierLost, handTakes, handGives, What, tick, onChannel70, onSlot, Event}
 use Rattle.rules.specs.Verdict.{setUpVerdict}
 use Rattle.station.specs.Step.{channelNumber, given, setUpBy}
 use Rattle.exchange.specs.Events.{returned, stationAfter, roomLeft, setUpReturned, stationSetUp}
@@ -34,12 +34,12 @@ module _ (b room : List ℕ) (time : ℕ) where
   onto i bytes l = (lent bytes, (time, (i, (lent l, tt))))
 
   on-slot : (i : ℕ) (h : Happened) → Entered (callFor (onSlot i h))
-  on-slot i offHook = by-off-hook lives (onto i b room) _ (onto i _ _) (refl, (refl, refl))
-  on-slot i onHook = by-on-hook lives (onto i b room) _ (onto i _ _) (refl, (refl, refl))
-  on-slot i carrierUp = by-carrier-up lives (onto i b room) _ (onto i _ _) (refl, (refl, refl))
-  on-slot i carrierDown = by-carrier-down lives (onto i b room) _ (onto i _ _) (refl, (refl, refl))
-  on-slot i takes = by-take-slot lives (onto i b room) _ (onto i _ _) (refl, (refl, refl))
-  on-slot i givesBack = by-give-back lives (onto i b room) _ (onto i _ _) (refl, (refl, refl))
+  on-slot i (signal lineLifted) = by-off-hook lives (onto i b room) _ (onto i _ _) (refl, (refl, refl))
+  on-slot i (signal lineHung) = by-on-hook lives (onto i b room) _ (onto i _ _) (refl, (refl, refl))
+  on-slot i (signal carrierHeard) = by-carrier-up lives (onto i b room) _ (onto i _ _) (refl, (refl, refl))
+  on-slot i (signal carrierLost) = by-carrier-down lives (onto i b room) _ (onto i _ _) (refl, (refl, refl))
+  on-slot i (operator handTakes) = by-take-slot lives (onto i b room) _ (onto i _ _) (refl, (refl, refl))
+  on-slot i (operator handGives) = by-give-back lives (onto i b room) _ (onto i _ _) (refl, (refl, refl))
   on-slot i (heard m) = by-heard-on-slot more-lives (lent b, (time, (i, (lent m, (lent room, tt))))) _ (lent _, (time, (i, (lent m, (lent _, tt))))) (refl, (refl, refl))
 
   call-entered : (w : What) → Entered (callFor w)

@@ -4,7 +4,7 @@ use mathlib.Core.Path.{_≡_}
 use mathlib.Core.List.{List, map}
 use mathlib.Core.Option.{none}
 use lib.ListN.{length}
-use Rattle.rules.specs.Words.{Config, Happened, heard, offHook, onHook, carrierUp, carrierDown, takes, givesBack, What, tick, onChannel70, onSlot, Event}
+use Rattle.rules.specs.Words.{Config, Happened, heard, signal, operator, What, tick, onChannel70, onSlot, Event}
 use Rattle.rules.specs.Station.{Station}
 use Rattle.rules.specs.Verdict.{verdict, setUpVerdict}
 use Rattle.host.specs.Calls.{Call, HostRun}
@@ -24,12 +24,8 @@ EveryScriptIsHosted = (c : Config) → setUpVerdict c ≡ none
 -- what C's types hold of an event: a slot of 32 bits, symbols in bytes
 abbrev pub HappenedInC : Happened → Type 0
 HappenedInC (heard symbols) = InBytes symbols
-HappenedInC offHook = Unit {0}
-HappenedInC onHook = Unit {0}
-HappenedInC carrierUp = Unit {0}
-HappenedInC carrierDown = Unit {0}
-HappenedInC takes = Unit {0}
-HappenedInC givesBack = Unit {0}
+HappenedInC (signal g) = Unit {0}
+HappenedInC (operator n) = Unit {0}
 
 abbrev pub WhatInC : What → Type 0
 WhatInC tick = Unit {0}

@@ -151,9 +151,9 @@ slot-wide : (c : Channel) (s : R.Slot) → Wide (slotImage c s .request)
 unfolding slotImage
 slot-wide c free = blank-wide
 slot-wide c taken = blank-wide
-slot-wide c (pending k r t) = request-wide r
-slot-wide c (busy r g l) = request-wide r
-slot-wide c (held r n t) = request-wide r
+slot-wide c (pending k r t) = request-wide (r .request)
+slot-wide c (busy r g l) = request-wide (r .request)
+slot-wide c (held r n t) = request-wide (r .request)
 
 slots-wide : (cs : List Channel) (ss : List R.Slot) → Each (λ x. Wide (x .request)) (slotImages cs ss)
 slots-wide [] ss = tt

@@ -9,7 +9,7 @@ use native.Mathlib.Omega.{arith}
 use lib.Dec.{eqb}
 use borrow.Author.Tests.{eqb-true, le-leb, leb-true}
 use Rattle.rules.specs.Places.{all}
-use Rattle.rules.specs.Words.{Happened, heard, offHook, onHook, carrierUp, carrierDown, takes, givesBack, tick, onChannel70, onSlot}
+use Rattle.rules.specs.Words.{Happened, lineLifted, lineHung, carrierHeard, carrierLost, handTakes, handGives, heard, signal, operator, offHook, onHook, carrierUp, carrierDown, takes, givesBack, tick, onChannel70, onSlot}
 use Rattle.sequence.proofs.Tests.{Either, yes!, no!, which, both-true}
 use Rattle.lines.specs.declared.Kind.{Kind}
 use Rattle.lines.specs.declared.Kind.the-variants.{Unreadable, SetUp, Channel70, Working, OffHook, OnHook, CarrierUp, CarrierDown, Take, GiveBack, Tick}
@@ -103,12 +103,12 @@ own (setsUp identity channels) = refl
 own (happens time tick) = refl
 own (happens time (onChannel70 symbols)) = refl
 own (happens time (onSlot i (heard symbols))) = refl
-own (happens time (onSlot i offHook)) = refl
-own (happens time (onSlot i onHook)) = refl
-own (happens time (onSlot i carrierUp)) = refl
-own (happens time (onSlot i carrierDown)) = refl
-own (happens time (onSlot i takes)) = refl
-own (happens time (onSlot i givesBack)) = refl
+own (happens time (onSlot i (signal lineLifted))) = refl
+own (happens time (onSlot i (signal lineHung))) = refl
+own (happens time (onSlot i (signal carrierHeard))) = refl
+own (happens time (onSlot i (signal carrierLost))) = refl
+own (happens time (onSlot i (operator handTakes))) = refl
+own (happens time (onSlot i (operator handGives))) = refl
 
 -- only its own letter names a kind that says something
 pub its-letter : (b : ℕ) (ns : List ℕ) (said : Said) → says (kindOf b) ns ≡ some said → b ≡ letterOf said
@@ -128,12 +128,12 @@ said-of (happens time (onChannel70 symbols)) e = rw (both-true (isNumber time) (
 said-of (happens time (onSlot i (heard symbols))) e =
     let h = both-true (isNumber time) (isNumber i && all isSymbol symbols) e in
     rw (both-true (isNumber i) (all isSymbol symbols) (h .1) .1)
-said-of (happens time (onSlot i offHook)) e = refl
-said-of (happens time (onSlot i onHook)) e = refl
-said-of (happens time (onSlot i carrierUp)) e = refl
-said-of (happens time (onSlot i carrierDown)) e = refl
-said-of (happens time (onSlot i takes)) e = refl
-said-of (happens time (onSlot i givesBack)) e = refl
+said-of (happens time (onSlot i (signal lineLifted))) e = refl
+said-of (happens time (onSlot i (signal lineHung))) e = refl
+said-of (happens time (onSlot i (signal carrierHeard))) e = refl
+said-of (happens time (onSlot i (signal carrierLost))) e = refl
+said-of (happens time (onSlot i (operator handTakes))) e = refl
+said-of (happens time (onSlot i (operator handGives))) e = refl
 
 -- and its numbers are numbers; a symbol is a number
 symbols-are : (l : List ℕ) → all isSymbol l ≡ true → all isNumber l ≡ true

@@ -6,7 +6,7 @@ use mathlib.Core.Path.{_≡_}
 use Prim.Native.Nat.{ℕ}
 use lib.Dec.{leb}
 use Rattle.rules.specs.Places.{all}
-use Rattle.rules.specs.Words.{Happened, heard, offHook, onHook, carrierUp, carrierDown, takes, givesBack, What, tick, onChannel70, onSlot}
+use Rattle.rules.specs.Words.{Happened, lineLifted, lineHung, carrierHeard, carrierLost, handTakes, handGives, heard, signal, operator, What, tick, onChannel70, onSlot}
 use Rattle.lines.specs.Decimal.{isDecimal, valueOf}
 
 -- what a line says: a set-up with its identity and channels, or what happens at a time
@@ -18,12 +18,12 @@ pub data Said : Type 0 where
 
 abbrev pub slotLetter : Happened → ℕ
 slotLetter (heard symbols) = 87
-slotLetter offHook = 79
-slotLetter onHook = 72
-slotLetter carrierUp = 85
-slotLetter carrierDown = 68
-slotLetter takes = 77
-slotLetter givesBack = 70
+slotLetter (signal lineLifted) = 79
+slotLetter (signal lineHung) = 72
+slotLetter (signal carrierHeard) = 85
+slotLetter (signal carrierLost) = 68
+slotLetter (operator handTakes) = 77
+slotLetter (operator handGives) = 70
 
 abbrev pub whatLetter : What → ℕ
 whatLetter tick = 84
@@ -39,12 +39,8 @@ letterOf (happens time what) = whatLetter what
 -- only a sequence has symbols; "a list may be empty"
 abbrev pub symbolsIn : Happened → List ℕ
 symbolsIn (heard symbols) = symbols
-symbolsIn offHook = []
-symbolsIn onHook = []
-symbolsIn carrierUp = []
-symbolsIn carrierDown = []
-symbolsIn takes = []
-symbolsIn givesBack = []
+symbolsIn (signal g) = []
+symbolsIn (operator h) = []
 
 abbrev pub whatNumbers : What → List ℕ
 whatNumbers tick = []

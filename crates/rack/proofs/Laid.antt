@@ -70,13 +70,13 @@ slot-exact : (c : Channel) (s : R.Slot) → ShortSlot s → slotExact (slotImage
 unfolding slotExact slotImage requestImage
 slot-exact c free h = refl
 slot-exact c taken h = refl
-slot-exact c (pending offered r d) h = number-exact (r .number) h
-slot-exact c (pending firstRing r d) h = number-exact (r .number) h
-slot-exact c (pending secondRing r d) h = number-exact (r .number) h
-slot-exact c (pending acknowledged r d) h = number-exact (r .number) h
-slot-exact c (busy r (dialling d) l) h = number-exact (r .number) h
-slot-exact c (busy r (answered b) l) h = number-exact (r .number) h
-slot-exact c (held r n d) h = number-exact (r .number) h
+slot-exact c (pending offered r d) h = number-exact (r .request .number) h
+slot-exact c (pending firstRing r d) h = number-exact (r .request .number) h
+slot-exact c (pending secondRing r d) h = number-exact (r .request .number) h
+slot-exact c (pending acknowledged r d) h = number-exact (r .request .number) h
+slot-exact c (busy r (dialling d) l) h = number-exact (r .request .number) h
+slot-exact c (busy r (answered b) l) h = number-exact (r .request .number) h
+slot-exact c (held r n d) h = number-exact (r .request .number) h
 
 slots-exact : (cs : List Channel) (ss : List R.Slot) → Each ShortSlot ss → all slotExact (slotImages cs ss) ≡ true
 slots-exact [] ss h = refl

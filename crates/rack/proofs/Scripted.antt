@@ -11,7 +11,7 @@ use denote.Ref.{RefT}
 use Rattle.units.specs.declared.Channel.{Channel}
 use Rattle.units.specs.declared.Tenths.{Tenths}
 use Rattle.units.specs.declared.SlotNumber.{SlotNumber}
-use Rattle.rules.specs.Words.{Config, Happened, heard, offHook, onHook, carrierUp, carrierDown, takes, givesBack, What, tick, onChannel70, onSlot, Event}
+use Rattle.rules.specs.Words.{Config, Happened, lineLifted, lineHung, carrierHeard, carrierLost, handTakes, handGives, heard, signal, operator, What, tick, onChannel70, onSlot, Event}
 use Rattle.rules.specs.Verdict.{setUpVerdict}
 use Rattle.rules.specs.Bytes.{padded}
 use Rattle.requests.proofs.ArrayLaws.{padded-front}
@@ -48,12 +48,12 @@ module _ (s : Station) (room : List ℕ) (time : ℕ) where
   stepFor w = stepOf (eventOf w) s room (steppedBy s (eventOf w)) (roomAfter s room (eventOf w))
 
   on-slot : (i : ℕ) (h : Happened) → Allowed (stepFor (onSlot i h))
-  on-slot i offHook = by-off-hook life (onto i room) _ (onto i _) (refl, refl)
-  on-slot i onHook = by-on-hook life (onto i room) _ (onto i _) (refl, refl)
-  on-slot i carrierUp = by-carrier-up life (onto i room) _ (onto i _) (refl, refl)
-  on-slot i carrierDown = by-carrier-down life (onto i room) _ (onto i _) (refl, refl)
-  on-slot i takes = by-take-slot life (onto i room) _ (onto i _) (refl, refl)
-  on-slot i givesBack = by-give-back life (onto i room) _ (onto i _) (refl, refl)
+  on-slot i (signal lineLifted) = by-off-hook life (onto i room) _ (onto i _) (refl, refl)
+  on-slot i (signal lineHung) = by-on-hook life (onto i room) _ (onto i _) (refl, refl)
+  on-slot i (signal carrierHeard) = by-carrier-up life (onto i room) _ (onto i _) (refl, refl)
+  on-slot i (signal carrierLost) = by-carrier-down life (onto i room) _ (onto i _) (refl, refl)
+  on-slot i (operator handTakes) = by-take-slot life (onto i room) _ (onto i _) (refl, refl)
+  on-slot i (operator handGives) = by-give-back life (onto i room) _ (onto i _) (refl, refl)
   on-slot i (heard m) = by-heard-on-slot lives (s, (timed, (record { 0 = i }, (lent m, (lent room, tt))))) _ (s, (timed, (record { 0 = i }, (lent m, (lent _, tt))))) (refl, refl)
 
   pub step-allowed : (w : What) → Allowed (stepFor w)

@@ -12,8 +12,8 @@ use Rattle.sequence.specs.Answers.{isDone}
 use Rattle.rules.specs.Places.{lowest, all, elem, distinct, isSome}
 use Rattle.rules.specs.Words.{Party, is, Config, Event}
 use Rattle.rules.specs.Waits.{Wait, loss, main, Due, running, queueTable}
-use Rattle.rules.specs.Station.{Stage, dialling, answered, Slot, free, taken, pending, busy, held, Waiting, Station, dueAfter, kindWait, carrierWait, lossDue, mainDue, slotTable, table}
-use Rattle.rules.specs.Sound.{configKeeps, oneSlotEach, slotKeeps, waitingKeeps, limit, queueRoom, owners, noShipTwice, fits, stageFits, lossFits, slotFits, placeFits, storedKeeps, timesFit, sound}
+use Rattle.rules.specs.Station.{Stage, dialling, answered, Slot, free, taken, pending, busy, held, shipOf, Waiting, Station, dueAfter, kindWait, carrierWait, lossDue, mainDue, slotTable, table}
+use Rattle.rules.specs.Sound.{configKeeps, oneSlotEach, slotKeeps, waitingKeeps, limit, queueRoom, listed, owners, noShipTwice, fits, stageFits, lossFits, slotFits, placeFits, storedKeeps, timesFit, sound}
 use Rattle.rules.specs.Requests.{owns, waitsFor}
 use Rattle.rules.specs.Verdict.{roomNeeded, overtaken, slotThere, readIn, refusals, verdict}
 use Rattle.rules.proofs.PlaceLaws.{or-false, and-true}
@@ -105,7 +105,7 @@ fits-begun c free h = refl
 fits-begun c taken h = refl
 fits-begun c (pending k r d) h = refl
 fits-begun c (busy r (dialling d) l) h = refl
-fits-begun c (busy r (answered b) l) h = and-true (leb b c) (lossFits c (r .mode) l) h .0
+fits-begun c (busy r (answered b) l) h = and-true (leb b c) (lossFits c (r .request .mode) l) h .0
 fits-begun c (held r n d) h = refl
 
 all-begun : (c : ℕ) (ss : List Slot) → all (slotFits c) ss ≡ true → all (begunBy c) ss ≡ true
@@ -124,7 +124,7 @@ slot-due : (c i d : ℕ) (s : Slot) → slotFits c s ≡ true → mainDue s ≡ 
 slot-due c i d free h e = cc
 slot-due c i d taken h e = cc
 slot-due c i d (pending k r u) h e = let y : u ≡ d = cc in rw (← y) (and-true (leb c u) (leb u (dueAfter c (kindWait k))) h .0)
-slot-due c i d (busy r (dialling u) l) h e = let y : u ≡ d = cc in rw (← y) (and-true (leb c u) (leb u (dueAfter c 600)) (and-true (fits c 600 u) (lossFits c (r .mode) l) h .0) .0)
+slot-due c i d (busy r (dialling u) l) h e = let y : u ≡ d = cc in rw (← y) (and-true (leb c u) (leb u (dueAfter c 600)) (and-true (fits c 600 u) (lossFits c (r .request .mode) l) h .0) .0)
 slot-due c i d (busy r (answered b) l) h e = cc
 slot-due c i d (held r n u) h e = let y : u ≡ d = cc in rw (← y) (and-true (leb c u) (leb u (dueAfter c 40)) h .0)
 
@@ -133,7 +133,7 @@ slot-loss c i d free h e = cc
 slot-loss c i d taken h e = cc
 slot-loss c i d (pending k r u) h e = cc
 slot-loss c i d (busy r g none) h e = cc
-slot-loss c i d (busy r g (some u)) h e = let y : u ≡ d = cc in rw (← y) (and-true (leb c u) (leb u (dueAfter c (carrierWait (r .mode)))) (and-true (stageFits c g) (fits c (carrierWait (r .mode)) u) h .1) .0)
+slot-loss c i d (busy r g (some u)) h e = let y : u ≡ d = cc in rw (← y) (and-true (leb c u) (leb u (dueAfter c (carrierWait (r .request .mode)))) (and-true (stageFits c g) (fits c (carrierWait (r .request .mode)) u) h .1) .0)
 slot-loss c i d (held r n u) h e = cc
 
 slots-due : (c i : ℕ) (ss : List Slot) → all (slotFits c) ss ≡ true → all (λ p. leb c (p .at)) (slotTable i ss) ≡ true
@@ -151,11 +151,11 @@ due-all cfg st s = queue-due (st .clock) 0 (st .queue) (slotTable 0 (st .slots))
 
 elem-tail : (x : Party) (ss : List Slot) (q : List Party) → elem is x (owners ss q) ≡ false → elem is x q ≡ false
 elem-tail x [] q h = h
-elem-tail x (free ∷ ss) q h = elem-tail x ss q h
-elem-tail x (taken ∷ ss) q h = elem-tail x ss q h
-elem-tail x (pending k r d ∷ ss) q h = elem-tail x ss q (or-false (is x (r .who)) (elem is x (owners ss q)) h .1)
-elem-tail x (busy r g c ∷ ss) q h = elem-tail x ss q (or-false (is x (r .who)) (elem is x (owners ss q)) h .1)
-elem-tail x (held r n d ∷ ss) q h = elem-tail x ss q h
+elem-tail x (s ∷ ss) q h = elem-tail x ss q (go (shipOf s) h)
+  where
+    go : (o : Option Party) → elem is x (listed o (owners ss q)) ≡ false → elem is x (owners ss q) ≡ false
+    go none h = h
+    go (some y) h = or-false (is x y) (elem is x (owners ss q)) h .1
 
 pub elem-waiting : (x : Party) (q : List Waiting) → elem is x (map (λ w. w .request .who) q) ≡ false → lowest (waitsFor x) q ≡ none
 elem-waiting x [] h = refl

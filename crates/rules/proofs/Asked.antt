@@ -1,7 +1,7 @@
 -- A request on channel 70, rules b to g; what soundness gives is that the ship has one slot at most, and then does not wait.
 use mathlib.Core.Path.{_≡_, refl, ap, _∙_}
 use mathlib.Core.List.{List, [], _∷_, map, append-nil}
-use mathlib.Core.Bool.{Bool, true, false, cond, not, _&&_}
+use mathlib.Core.Bool.{Bool, true, false, cond, not}
 use mathlib.Core.Option.{Option, none, some}
 use Prim.Native.Nat.{ℕ, zero, suc, _+_}
 use native.Mathlib.Nat.{zero-add, add-zero, add-suc, suc-add}
@@ -9,15 +9,16 @@ use native.Mathlib.Omega.{arith}
 use borrow.Author.Tests.{not-true}
 use lib.ListN.{getD}
 use Rattle.rules.specs.Places.{modAt, shift, lowest, elem, distinct}
-use Rattle.rules.specs.Words.{Party, is, Mode, simplex, duplex, Request}
-use Rattle.rules.specs.Station.{Kind, offered, firstRing, secondRing, acknowledged, Stage, dialling, answered, Slot, free, taken, pending, busy, held, Waiting, Station, setSlot, setQueue, dueAfter}
-use Rattle.rules.specs.Sound.{owner, owners}
-use Rattle.rules.specs.Requests.{rungBack, freedFor, freed, coastEnd, owns, slotOf, placeOf, standsAt, repeated, afresh, same, ruleB, dToG, redial, ruleC, bOrC, requested}
-use Rattle.rules.specs.Book.{Stop, Line, Book, blank, atLine, stopOf, lost, askedAgain, stopsAgain}
+use Rattle.rules.specs.Words.{Party, is, Request}
+use Rattle.rules.specs.Station.{Dealing, Stage, dialling, answered, Slot, free, taken, pending, busy, held, shipOf, Waiting, Station, setSlot, setQueue}
+use Rattle.rules.specs.Sound.{listed, owner, owners}
+use Rattle.rules.specs.Requests.{Out, rungBack, freedFor, freed, coastEnd, isOf, owns, slotOf, placeOf, standsAt, repeated, afresh, dToG, redial, requested}
+use Rattle.rules.specs.Book.{Stop, Line, Book, blank, atLine, stopOf, askedAgain, stopsAgain}
 use Rattle.rules.specs.Reading.{again, tell, letGo, hush, reads}
 use Rattle.rules.proofs.PlaceLaws.{or-false, and-true, lowest-is, shift-none}
-use Rattle.rules.proofs.Base.{callIn, view, seen, is-true, alike-same, atLine², stay, moves}
-use Rattle.rules.proofs.Pieces.{Good, good-if, good-also, good-ignored, coastEnd-good, newcomer-good, ruleD-good}
+use Rattle.rules.proofs.Base.{callIn, view, seen, is-true, atLine², stay, moves}
+use Rattle.rules.proofs.Ruling.{offerOf, againOf, Ruling, passes, repeats, renews, redials, bOrC-ruling}
+use Rattle.rules.proofs.Pieces.{Good, good-also, coastEnd-good, newcomer-good, ruleD-good}
 
 -- ── no ship twice ────────────────────────────────────────────────────────────
 
@@ -32,11 +33,11 @@ others x (held r n d) h = refl
 
 pub elem-none : (x : Party) (ss : List Slot) (q : List Party) → elem is x (owners ss q) ≡ false → lowest (owns x) ss ≡ none
 elem-none x [] q h = refl
-elem-none x (free ∷ ss) q h = rw (elem-none x ss q h) refl
-elem-none x (taken ∷ ss) q h = rw (elem-none x ss q h) refl
-elem-none x (pending k r d ∷ ss) q h = let w = or-false (is x (r .who)) (elem is x (owners ss q)) h in rw (w .0, elem-none x ss q (w .1)) refl
-elem-none x (busy r g c ∷ ss) q h = let w = or-false (is x (r .who)) (elem is x (owners ss q)) h in rw (w .0, elem-none x ss q (w .1)) refl
-elem-none x (held r n d ∷ ss) q h = rw (elem-none x ss q h) refl
+elem-none x (s ∷ ss) q h = go (shipOf s) h (elem-none x ss q)
+  where
+    go : (o : Option Party) → elem is x (listed o (owners ss q)) ≡ false → (elem is x (owners ss q) ≡ false → lowest (owns x) ss ≡ none) → cond (isOf x o) (some zero) (shift (lowest (owns x) ss)) ≡ none
+    go none h ih = rw (ih h) refl
+    go (some y) h ih = let w = or-false (is x y) (elem is x (owners ss q)) h in rw (w .0, ih (w .1)) refl
 
 record Untouched (t : ℕ) (x : Party) (k : ℕ) (ls : List Line) : Type 0 where
   lines-same : map (again x) ls ≡ ls
@@ -50,31 +51,26 @@ untouched t x k (s ∷ ss) h = go (owns x s) refl (λ e. untouched t x (suc k) s
     go true e ih = let z : _≡_ {A = Option ℕ} (some zero) none = rw e at h in record { lines-same = cc; no-stop = cc }
     go false e ih = let u = ih (shift-none _ (rw e at h)) in record { lines-same = rw (others x s e, u .lines-same) refl; no-stop = rw (others x s e, u .no-stop) refl }
 
--- what the one slot's line gives
-againOf : ℕ → Party → ℕ → Line → List Stop
-againOf t x i l = cond (askedAgain x (l .call) (l .gone)) (stopOf t i (l .call)) []
-
 record Touched (t : ℕ) (x : Party) (k i : ℕ) (ss : List Slot) : Type 0 where
   one-line : map (again x) (map view ss) ≡ modAt (again x) i (map view ss)
   one-stop : stopsAgain t x k (map view ss) ≡ againOf t x (k + i) (view (getD ss i free))
 
 -- the first slot is the ship's, and the others' ships are others
 pub owned : (x : Party) (s : Slot) (r : List Party) → owns x s ≡ true → distinct is (owner s r) ≡ true → elem is x r ≡ false
-owned x free r h d = cc
-owned x taken r h d = cc
-owned x (pending k q u) r h d = rw (is-true x (q .who) h) (not-true (elem is (q .who) r) (and-true (not (elem is (q .who) r)) (distinct is r) d .0))
-owned x (busy q g c) r h d = rw (is-true x (q .who) h) (not-true (elem is (q .who) r) (and-true (not (elem is (q .who) r)) (distinct is r) d .0))
-owned x (held q n u) r h d = cc
+owned x s r h d = go (shipOf s) h d
+  where
+    go : (o : Option Party) → isOf x o ≡ true → distinct is (listed o r) ≡ true → elem is x r ≡ false
+    go none h d = cc
+    go (some y) h d = rw (is-true x y h) (not-true (elem is y r) (and-true (not (elem is y r)) (distinct is r) d .0))
 
 pub rest-distinct : (s : Slot) (r : List Party) → distinct is (owner s r) ≡ true → distinct is r ≡ true
-rest-distinct free r d = d
-rest-distinct taken r d = d
-rest-distinct (pending k q u) r d = and-true (not (elem is (q .who) r)) (distinct is r) d .1
-rest-distinct (busy q g c) r d = and-true (not (elem is (q .who) r)) (distinct is r) d .1
-rest-distinct (held q n u) r d = d
+rest-distinct s r d = go (shipOf s) d
+  where
+    go : (o : Option Party) → distinct is (listed o r) ≡ true → distinct is r ≡ true
+    go none d = d
+    go (some y) d = and-true (not (elem is y r)) (distinct is r) d .1
 
 touched : (t : ℕ) (x : Party) (k i : ℕ) (ss : List Slot) (q : List Party) → distinct is (owners ss q) ≡ true → lowest (owns x) ss ≡ some i → Touched t x k i ss
-unfolding againOf
 touched t x k i [] q d h = record { one-line = cc; one-stop = cc }
 touched t x k i (s ∷ ss) q d h = go (owns x s) refl (lowest (owns x) ss) refl i h (λ j e. touched t x (suc k) j ss q (rest-distinct s (owners ss q) d) e)
   where
@@ -100,15 +96,6 @@ module _ (i : ℕ) (st : Station) (r : Request) where
   B : Book
   B = atLine i (again (r .who)) (seen st)
 
-  ruleB-good : (k : Kind) (o : Request) (d : ℕ) → getD (st .slots) i free ≡ pending k o d → Good (st .clock) B [] (ruleB i k o st r)
-  unfolding B ruleB repeated afresh reads
-  ruleB-good offered o d e = good-if _ _ _ (same r o) (repeated i st r) (afresh i st r)
-      (λ h. record { reading = atLine² i (again (r .who)) (tell (st .clock) r) (seen st) ∙ stay i st (pending offered o d) e (λ l. tell (st .clock) r (again (r .who) l)) (rw (alike-same r o, h) refl); charging = refl })
-      (λ h. record { reading = atLine² i (again (r .who)) (tell (st .clock) r) (seen st) ∙ moves i st (pending offered o d) e (λ l. tell (st .clock) r (again (r .who) l)) (pending offered r (dueAfter (st .clock) 160)) (rw (alike-same r o, h) refl); charging = refl })
-  ruleB-good firstRing o d e = record { reading = atLine² i (again (r .who)) (tell (st .clock) r) (seen st) ∙ moves i st (pending firstRing o d) e (λ l. tell (st .clock) r (again (r .who) l)) (pending offered r (dueAfter (st .clock) 160)) refl; charging = refl }
-  ruleB-good secondRing o d e = record { reading = atLine² i (again (r .who)) (tell (st .clock) r) (seen st) ∙ moves i st (pending secondRing o d) e (λ l. tell (st .clock) r (again (r .who) l)) (pending offered r (dueAfter (st .clock) 160)) refl; charging = refl }
-  ruleB-good acknowledged o d e = record { reading = atLine² i (again (r .who)) (tell (st .clock) r) (seen st) ∙ moves i st (pending acknowledged o d) e (λ l. tell (st .clock) r (again (r .who) l)) (pending offered r (dueAfter (st .clock) 160)) refl; charging = refl }
-
   freedFor-clock : (q : List Waiting) → freedFor i st q .next .clock ≡ st .clock
   unfolding freedFor rungBack setSlot setQueue
   freedFor-clock [] = refl
@@ -118,33 +105,22 @@ module _ (i : ℕ) (st : Station) (r : Request) where
   unfolding coastEnd freed
   coastEnd-clock o g = freedFor-clock (st .queue)
 
-  redial-good : (o : Request) (g : Stage) (c : Option ℕ) → getD (st .slots) i free ≡ busy o g c → hush (letGo (again (r .who) (view (busy o g c)))) ≡ blank
-      → Good (st .clock) B (stopOf (st .clock) i (callIn o g)) (redial i o g st r)
+  redial-good : (o : Dealing) (g : Stage) (c : Option ℕ) → getD (st .slots) i free ≡ busy o g c → hush (letGo (again (r .who) (view (busy o g c)))) ≡ blank
+      → Good (st .clock) B (stopOf (st .clock) i (callIn (o .request) g)) (redial i (o .request) g st r)
   unfolding B redial
   redial-good o g c e h =
-      let w = coastEnd-good i o g st (busy o g c) e (again (r .who)) h in
-      let n = coastEnd i o g st .next in
+      let w = coastEnd-good i (o .request) g st (busy o g c) e (again (r .who)) h in
+      let n = coastEnd i (o .request) g st .next in
       let y = placeOf (r .who) n in
-      let a : Good (st .clock) (seen n) [] (dToG n r y) = rw (coastEnd-clock o g) at (dToG-good n r y refl) in
-      rw (← (append-nil (stopOf (st .clock) i (callIn o g)))) (good-also (st .clock) (atLine i (again (r .who)) (seen st)) (seen n) (stopOf (st .clock) i (callIn o g)) [] (coastEnd i o g st .acts) (dToG n r y) (w .reading) (w .charging) a)
+      let a : Good (st .clock) (seen n) [] (dToG n r y) = rw (coastEnd-clock (o .request) g) at (dToG-good n r y refl) in
+      rw (← (append-nil (stopOf (st .clock) i (callIn (o .request) g)))) (good-also (st .clock) (atLine i (again (r .who)) (seen st)) (seen n) (stopOf (st .clock) i (callIn (o .request) g)) [] (coastEnd i (o .request) g st .acts) (dToG n r y) (w .reading) (w .charging) a)
 
-  ruleC-good : (o : Request) (g : Stage) (m : Mode) (c : Option ℕ) → getD (st .slots) i free ≡ busy o g c → o .mode ≡ m → is (r .who) (o .who) ≡ true
-      → Good (st .clock) B (againOf (st .clock) (r .who) i (view (busy o g c))) (ruleC i o g m c st r)
-  unfolding B ruleC againOf
-  ruleC-good o (dialling d) duplex c e em h = good-ignored st _ (stay i st (busy o (dialling d) c) e (again (r .who)) refl)
-  ruleC-good o (answered b) duplex c e em h = rw (h, em) (good-ignored st _ (stay i st (busy o (answered b) c) e (again (r .who)) (rw (h, em) refl)))
-  ruleC-good o (dialling d) simplex none e em h = good-ignored st _ (stay i st (busy o (dialling d) none) e (again (r .who)) refl)
-  ruleC-good o (answered b) simplex none e em h = rw (h, em) (good-ignored st _ (stay i st (busy o (answered b) none) e (again (r .who)) (rw (h, em) refl)))
-  ruleC-good o (dialling d) simplex (some u) e em h = redial-good o (dialling d) (some u) e refl
-  ruleC-good o (answered b) simplex (some u) e em h = let a : ((is (r .who) (o .who)) && (lost (o .mode) (some u))) ≡ true = rw (h, em) refl in rw a (redial-good o (answered b) (some u) e (rw a refl))
-
-  bOrC-good : (p : Slot) → getD (st .slots) i free ≡ p → owns (r .who) p ≡ true → Good (st .clock) B (againOf (st .clock) (r .who) i (view p)) (bOrC i p st r)
-  unfolding B bOrC againOf
-  bOrC-good free e h = good-ignored st _ (stay i st free e (again (r .who)) refl)
-  bOrC-good taken e h = good-ignored st _ (stay i st taken e (again (r .who)) refl)
-  bOrC-good (pending k o d) e h = ruleB-good k o d e
-  bOrC-good (busy o g c) e h = ruleC-good o g (o .mode) c e refl h
-  bOrC-good (held o n d) e h = good-ignored st _ (stay i st (held o n d) e (again (r .who)) refl)
+  ruling-good : (cs : List Stop) (p : Slot) (x : Out) → Ruling i st r cs p x → getD (st .slots) i free ≡ p → owns (r .who) p ≡ true → Good (st .clock) B cs x
+  unfolding B repeated afresh reads
+  ruling-good cs _ _ (passes p a) e h = record { reading = stay i st p e (again (r .who)) (a h .0); charging = a h .1 }
+  ruling-good cs _ _ (repeats k o d a b) e h = record { reading = atLine² i (again (r .who)) (tell (st .clock) r) (seen st) ∙ stay i st (pending k o d) e (λ l. tell (st .clock) r (again (r .who) l)) a; charging = b }
+  ruling-good cs _ _ (renews k o d a b) e h = record { reading = atLine² i (again (r .who)) (tell (st .clock) r) (seen st) ∙ moves i st (pending k o d) e (λ l. tell (st .clock) r (again (r .who) l)) (offerOf r st) a; charging = b }
+  ruling-good cs _ _ (redials o g c a) e h = rw (a h .1) (redial-good o g c e (a h .0))
 
 -- the whole request
 pub request-good : (st : Station) (r : Request) (q : List Party) → distinct is (owners (st .slots) q) ≡ true → (o k : Option ℕ) → slotOf (r .who) st ≡ o → placeOf (r .who) st ≡ k
@@ -152,4 +128,4 @@ pub request-good : (st : Station) (r : Request) (q : List Party) → distinct is
 unfolding requested seen B
 request-good st r q d none none h w = let u = untouched (st .clock) (r .who) 0 (st .slots) h in rw (u .lines-same, u .no-stop) (newcomer-good st r w)
 request-good st r q d none (some k) h w = let u = untouched (st .clock) (r .who) 0 (st .slots) h in rw (u .lines-same, u .no-stop) (ruleD-good k st r w)
-request-good st r q d (some i) k h w = let u = touched (st .clock) (r .who) 0 i (st .slots) q d h in rw (u .one-line, u .one-stop, zero-add i) (bOrC-good i st r (getD (st .slots) i free) refl (lowest-is free (owns (r .who)) (st .slots) i h))
+request-good st r q d (some i) k h w = let u = touched (st .clock) (r .who) 0 i (st .slots) q d h in rw (u .one-line, u .one-stop, zero-add i) (ruling-good i st r _ (getD (st .slots) i free) _ (bOrC-ruling i st r (getD (st .slots) i free)) refl (lowest-is free (owns (r .who)) (st .slots) i h))

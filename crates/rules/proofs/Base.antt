@@ -2,16 +2,15 @@
 use mathlib.Core.Path.{_≡_, refl, ap, _∙_}
 use mathlib.Core.List.{List, [], _∷_, _++_, map}
 use mathlib.Core.Bool.{Bool, true, false, _&&_}
-use mathlib.Core.Option.{none, some}
 use Prim.Native.Nat.{ℕ, suc, _*_}
 use lib.Dec.{eqb}
 use lib.ListN.{getD, List·getD-map}
 use borrow.Author.Tests.{eq-eqb, eqb-true}
 use Rattle.rules.specs.Words.{Party, is, Mode, simplex, duplex, Request, Deed}
 use Rattle.rules.specs.Actions.{Action, does, over, charge}
-use Rattle.rules.specs.Station.{Kind, offered, firstRing, secondRing, acknowledged, Stage, dialling, answered, Slot, free, taken, pending, busy, held, Waiting, Station, setSlot, carrierWait, lossDue, stageDue, mainDue, slotTable, table, fires}
+use Rattle.rules.specs.Station.{Kind, offered, firstRing, secondRing, acknowledged, Stage, dialling, answered, Slot, free, taken, pending, busy, held, Waiting, Station, setSlot, carrierWait, lossDue, mainDue, slotTable, table, fires}
 use Rattle.rules.specs.Requests.{sameMode, sameNumber, same}
-use Rattle.rules.specs.Book.{silence, alikeMode, alikeDigits, alike, Said, silent, toldBQ, toldRQ, settled, Call, quiet, dialled, talking, Line, Place, Book, blank, atLine, line, lineTable, falls}
+use Rattle.rules.specs.Book.{silence, alikeMode, alikeDigits, alike, Said, silent, toldBQ, toldRQ, settled, Call, quiet, dialled, talking, Line, Place, Book, atLine, line, lineTable, falls}
 use Rattle.rules.specs.Reading.{read, reads}
 use Rattle.rules.specs.Statement.{deedsOf, chargesOf}
 use Rattle.rules.proofs.PlaceLaws.{modAt-modAt, modAt-map, modAt-same}
@@ -26,12 +25,22 @@ abbrev pub callIn : Request → Stage → Call
 callIn r (dialling d) = dialled (r .who) (r .mode)
 callIn r (answered b) = talking (r .who) (r .mode) b
 
+abbrev saidIn : Slot → Said
+saidIn free = silent
+saidIn taken = silent
+saidIn (pending k r d) = saidOf k (r .request)
+saidIn (busy r g c) = silent
+saidIn (held r n d) = silent
+
+abbrev callOn : Slot → Call
+callOn free = quiet
+callOn taken = quiet
+callOn (pending k r d) = quiet
+callOn (busy r g c) = callIn (r .request) g
+callOn (held r n d) = quiet
+
 abbrev pub view : Slot → Line
-view free = blank
-view taken = blank
-view (pending k r d) = record { said = saidOf k r; wait = some d; call = quiet; gone = none }
-view (busy r g c) = record { said = silent; wait = stageDue g; call = callIn r g; gone = c }
-view (held r n d) = record { said = silent; wait = some d; call = quiet; gone = none }
+view s = record { said = saidIn s; wait = mainDue s; call = callOn s; gone = lossDue s }
 
 abbrev pub place : Waiting → Place
 place w = record { who = w .request .who; due = w .due }
@@ -116,23 +125,9 @@ atLine² i f g b = ap (λ (x : List Line). record { now = b .now; lines = x; pla
 
 -- ── the waits ────────────────────────────────────────────────────────────────
 
-view-gone : (s : Slot) → view s .gone ≡ lossDue s
-view-gone free = refl
-view-gone taken = refl
-view-gone (pending k r d) = refl
-view-gone (busy r g c) = refl
-view-gone (held r n d) = refl
-
-view-wait : (s : Slot) → view s .wait ≡ mainDue s
-view-wait free = refl
-view-wait taken = refl
-view-wait (pending k r d) = refl
-view-wait (busy r g c) = refl
-view-wait (held r n d) = refl
-
 lines-table : (i : ℕ) (ss : List Slot) → lineTable i (map view ss) ≡ slotTable i ss
 lines-table i [] = refl
-lines-table i (s ∷ ss) = simp (view-gone, view-wait, lines-table (suc i) ss)
+lines-table i (s ∷ ss) = rw (lines-table (suc i) ss) refl
 
 places-due : (q : List Waiting) → map (λ p. p .due) (map place q) ≡ map (λ w. w .due) q
 places-due [] = refl

@@ -1,23 +1,26 @@
 -- What each event answers and dials, and what the station knows of what was asked: whatever is no call request.
 use mathlib.Core.Path.{_≡_, refl, ap, _∙_}
-use mathlib.Core.List.{List, [], _∷_, map}
-use mathlib.Core.Bool.{Bool, true, false, cond}
+use mathlib.Core.List.{List, [], _∷_, _++_, map}
+use mathlib.Core.Bool.{Bool, true, false, _||_}
 use mathlib.Core.Option.{Option, none, some}
 use Prim.Native.Nat.{ℕ}
 use lib.ListN.{getD, List·getD-map}
 use Rattle.rules.specs.Places.{dropAt, Each}
-use Rattle.rules.specs.Words.{Party, is, Request, Config, Happened, heard, offHook, onHook, carrierUp, carrierDown, takes, givesBack, Deed}
+use Rattle.rules.specs.Words.{Party, Request, Deed}
 use Rattle.rules.specs.Waits.{Wait, ofQueue, loss, main, Due}
-use Rattle.rules.specs.Heard.{Heard, callRequest, dataRequest, bq, workingCall, endOfCall, nothing, meaning}
-use Rattle.rules.specs.Station.{Kind, offered, firstRing, secondRing, acknowledged, Stage, dialling, answered, Slot, free, taken, pending, busy, held, Waiting, Station, setSlot, setClock, setQueue, dueAfter, kindWait, replyWait, holdWait}
-use Rattle.rules.specs.Requests.{Out, ignored, rungBack, freedFor, freed, lasted, coastEnd}
-use Rattle.rules.specs.Calls.{dialNow, workingKind, workingOn, agreed, bqKind, bqFor, offHookStage, offHookOn, startLoss, downOn, upOn, shipEnd, sayAgain, shipEndOn, endOn, takeOn, giveOn, offerDue, ringAgain, pendingDue, replyDue, mainOn, fire, ticked, heardOn, happenedOn}
-use Rattle.rules.specs.Book.{silent, Line, Book, atLine, line}
-use Rattle.rules.specs.Reading.{letGo, hush}
-use Rattle.rules.specs.Repeated.{toldToWait, Repeats, RingsSame, DialsNamed, EachRead}
+use Rattle.rules.specs.Heard.{Heard, callRequest}
+use Rattle.rules.specs.Actions.{Ender, theShip, theCoast, Action}
+use Rattle.rules.specs.Station.{Dealing, dealing, firstRing, Stage, dialling, answered, Slot, free, pending, Waiting, Station, setSlot, setClock, setQueue, dueAfter, kindWait}
+use Rattle.rules.specs.Requests.{Out, also, rungBack, freedFor, freed, endActs, coastEnd}
+use Rattle.rules.specs.Calls.{fire, ticked}
+use Rattle.rules.specs.Book.{silent, Stop, Line, Book, atLine, line}
+use Rattle.rules.specs.Reading.{letGo, hush, read, reads}
+use Rattle.rules.specs.Repeated.{putsOff, toldToWait, Repeats, switchedOn, RingsSame, DialsNamed, EachRead}
+use Rattle.rules.specs.ThreeWords.{Word}
 use Rattle.rules.specs.Statement.{deedsOf}
-use Rattle.rules.proofs.PlaceLaws.{each-set, each-at, each-dropped}
-use Rattle.rules.proofs.Base.{view}
+use Rattle.rules.proofs.PlaceLaws.{each-set, each-at, each-dropped, each-append}
+use Rattle.rules.proofs.Base.{view, deeds-append}
+use Rattle.rules.proofs.Outcome.{Next, stays, becomes, frees, Move, to-dial, to-agree, to-ring, to-drop, to-answer, to-lose, to-regain, to-hold, to-end, to-repeat, to-run-out, to-take, to-give, played, Outcome, passed, moved, end-outcome, main-outcome}
 use Rattle.rules.proofs.Laws.{there}
 
 -- ── what a station knows: a is what each ship last asked for that was told to wait ──
@@ -25,16 +28,9 @@ use Rattle.rules.proofs.Laws.{there}
 abbrev pub Asked : (Party → Heard) → Waiting → Type 0
 Asked a w = a (w .request .who) ≡ callRequest (w .request)
 
--- a slot whose ring-back may be repeated
+-- a slot rung back once, whose ring-back may be repeated
 abbrev pub Rung : (Party → Heard) → Slot → Type 0
-Rung a free = Unit {0}
-Rung a taken = Unit {0}
-Rung a (pending offered r d) = Unit {0}
-Rung a (pending firstRing r d) = a (r .who) ≡ callRequest r
-Rung a (pending secondRing r d) = Unit {0}
-Rung a (pending acknowledged r d) = Unit {0}
-Rung a (busy r g c) = Unit {0}
-Rung a (held r n d) = Unit {0}
+Rung a s = (r : Dealing) (d : ℕ) → s ≡ pending firstRing r d → a (r .request .who) ≡ callRequest (r .request)
 
 pub record Known (a : Party → Heard) (st : Station) : Type 0 where
   pub waiting : Each (Asked a) (st .queue)
@@ -44,11 +40,14 @@ pub record Known (a : Party → Heard) (st : Station) : Type 0 where
 abbrev pub Fits : Option ℕ → Book → Deed → Type 0
 Fits on b d = RingsSame on b d × DialsNamed on b d
 
--- an outcome that repeats, and tells nobody to wait
+-- deeds that repeat, and tell nobody to wait
+pub record Mild (h : Heard) (a : Party → Heard) (b : Book) (ds : List Deed) : Type 0 where
+  pub repeats : Each (Repeats h a) ds
+  pub fits : (t : ℕ) (on : Option ℕ) → EachRead Fits t on b ds
+  pub untold : (x : Party) → toldToWait x ds ≡ false
+
 pub record Calm (h : Heard) (a : Party → Heard) (b : Book) (o : Out) : Type 0 where
-  pub repeats : Each (Repeats h a) (deedsOf (o .acts))
-  pub fits : (t : ℕ) (on : Option ℕ) → EachRead Fits t on b (deedsOf (o .acts))
-  pub untold : (x : Party) → toldToWait x (deedsOf (o .acts)) ≡ false
+  pub mild : Mild h a b (deedsOf (o .acts))
   pub known : Known a (o .next)
 
 -- ── the pieces ───────────────────────────────────────────────────────────────
@@ -66,164 +65,113 @@ module _ (a : Party → Heard) where
   unfolding setClock
   clock-known t st k = record { waiting = k .waiting; ringing = k .ringing }
 
+-- what is said behind deeds that tell nobody to wait
+pub told-append : (x : Party) (ds es : List Deed) → toldToWait x ds ≡ false → toldToWait x (ds ++ es) ≡ toldToWait x es
+told-append x [] es h = refl
+told-append x (d ∷ ds) es h = go (putsOff x d) h (told-append x ds es)
+  where
+    go : (b : Bool) → (b || toldToWait x ds) ≡ false → (toldToWait x ds ≡ false → toldToWait x (ds ++ es) ≡ toldToWait x es) → (b || toldToWait x (ds ++ es)) ≡ toldToWait x es
+    go true e ih = let y : true ≡ false = e in cc
+    go false e ih = ih e
+
+pub fits-append : (t : ℕ) (on : Option ℕ) (b : Book) (ds es : List Deed) → EachRead Fits t on b ds → ((o : Option ℕ) → EachRead Fits t o (reads t ds b) es) → EachRead Fits t on b (ds ++ es)
+unfolding reads
+fits-append t on b [] es p q = q on
+fits-append t on b (d ∷ ds) es p q = (p .0, fits-append t (switchedOn d) (read t d b) ds es (p .1) q)
+
 -- the carrier is off: channel 70 has said nothing
 hushed : (i : ℕ) (b : Book) → line (atLine i hush b) i .said ≡ silent
 hushed i b = ap (λ (l : Line). l .said) (there hush refl i (b .lines))
 
-module _ (h : Heard) (a : Party → Heard) (b : Book) (i : ℕ) (quiet : line b i .said ≡ silent) (st : Station) (k : Known a st) where
+module _ (h : Heard) (a : Party → Heard) where
+  also-calm : (b : Book) (acts : List Action) (o : Out) → Mild h a b (deedsOf acts) → ((t : ℕ) → Calm h a (reads t (deedsOf acts) b) o) → Calm h a b (also acts o)
+  also-calm b acts o m c = record {
+    mild = rw (deeds-append acts (o .acts)) (record {
+      repeats = each-append (Repeats h a) (deedsOf acts) (deedsOf (o .acts)) (m .repeats) (c 0 .mild .repeats);
+      fits = λ t on. fits-append t on b (deedsOf acts) (deedsOf (o .acts)) (m .fits t on) (c t .mild .fits t);
+      untold = λ x. told-append x (deedsOf acts) (deedsOf (o .acts)) (m .untold x) ∙ c 0 .mild .untold x;
+    });
+    known = c 0 .known;
+  }
+
   -- the oldest is rung back with its request
-  freedFor-calm : (q : List Waiting) → st .queue ≡ q → Calm h a b (freedFor i st q)
+  freedFor-calm : (b : Book) (i : ℕ) (st : Station) → line b i .said ≡ silent → Known a st → (q : List Waiting) → st .queue ≡ q → Calm h a b (freedFor i st q)
   unfolding freedFor rungBack
-  freedFor-calm [] e = record { repeats = tt; fits = λ t on. tt; untold = λ x. refl; known = set-known a i free st tt k }
-  freedFor-calm (w ∷ q) e =
+  freedFor-calm b i st quiet k [] e = record { mild = record { repeats = tt; fits = λ t on. tt; untold = λ x. refl }; known = set-known a i free st (λ r d h. cc) k }
+  freedFor-calm b i st quiet k (w ∷ q) e =
       let p : Each (Asked a) (w ∷ q) = rw e at (k .waiting) in
       record {
-        repeats = (tt, (p .0, tt));
-        fits = λ t on. ((tt, tt), ((rw quiet refl, tt), tt));
-        untold = λ x. refl;
-        known = set-known a i (pending firstRing (w .request) (dueAfter (st .clock) (kindWait firstRing))) (setQueue q st) (p .0) (queue-known a q st (p .1) k);
+        mild = record { repeats = (tt, (p .0, tt)); fits = λ t on. ((tt, tt), ((rw quiet refl, tt), tt)); untold = λ x. refl };
+        known = set-known a i (pending firstRing (dealing (w .request)) (dueAfter (st .clock) (kindWait firstRing))) (setQueue q st) (λ r d h. let y : dealing (w .request) ≡ r = cc in rw (← y) (p .0)) (queue-known a q st (p .1) k);
       }
 
-  freed-calm : Calm h a b (freed i st)
+  freed-calm : (b : Book) (i : ℕ) (st : Station) → line b i .said ≡ silent → Known a st → Calm h a b (freed i st)
   unfolding freed
-  freed-calm = freedFor-calm (st .queue) refl
+  freed-calm b i st quiet k = freedFor-calm b i st quiet k (st .queue) refl
 
-module _ (h : Heard) (a : Party → Heard) (b : Book) where
-  pub calm-if : (t : Bool) (x y : Out) → Calm h a b x → Calm h a b y → Calm h a b (cond t x y)
-  calm-if true x y p q = p
-  calm-if false x y p q = q
+  module _ (b : Book) where
+    no-deed : Mild h a b []
+    no-deed = record { repeats = tt; fits = λ t on. tt; untold = λ x. refl }
 
-  -- no action
-  pub still : (n : ℕ) (st : Station) → Known a st → Calm h a b (record { answer = n; next = st; acts = [] })
-  still n st k = record { repeats = tt; fits = λ t on. tt; untold = λ x. refl; known = k }
+    -- no action
+    pub still : (n : ℕ) (st : Station) → Known a st → Calm h a b (record { answer = n; next = st; acts = [] })
+    still n st k = record { mild = no-deed; known = k }
 
-  module _ (i : ℕ) (st : Station) (k : Known a st) where
-    -- behind the release of the line
-    released : Calm h a (atLine i hush (atLine i letGo b)) (freed i st)
-    released = freed-calm h a (atLine i hush (atLine i letGo b)) i (hushed i (atLine i letGo b)) st k
+    -- the line is released, and the carrier off
+    end-mild : (i : ℕ) (e : Ender) (r : Request) (g : Stage) (t : ℕ) → Mild h a b (deedsOf (endActs i e r g t))
+    end-mild i e r (dialling d) t = record { repeats = (tt, (tt, tt)); fits = λ t on. ((tt, tt), ((tt, tt), tt)); untold = λ x. refl }
+    end-mild i e r (answered s) t = record { repeats = (tt, (tt, tt)); fits = λ t on. ((tt, tt), ((tt, tt), tt)); untold = λ x. refl }
 
-    pub coastEnd-calm : (r : Request) (g : Stage) → Calm h a b (coastEnd i r g st)
+    end-quiet : (i : ℕ) (e : Ender) (r : Request) (g : Stage) (t u : ℕ) → line (reads u (deedsOf (endActs i e r g t)) b) i .said ≡ silent
+    unfolding reads
+    end-quiet i e r (dialling d) t u = hushed i (atLine i letGo b)
+    end-quiet i e r (answered s) t u = hushed i (atLine i letGo b)
+
+    pub coastEnd-calm : (i : ℕ) (st : Station) → Known a st → (r : Request) (g : Stage) → Calm h a b (coastEnd i r g st)
     unfolding coastEnd
-    coastEnd-calm r (dialling d) = let f = released in record { repeats = (tt, (tt, f .repeats)); fits = λ t on. ((tt, tt), ((tt, tt), f .fits t none)); untold = f .untold; known = f .known }
-    coastEnd-calm r (answered s) = let f = released in record { repeats = (tt, (tt, f .repeats)); fits = λ t on. ((tt, tt), ((tt, tt), f .fits t none)); untold = f .untold; known = f .known }
-
-    offerDue-calm : Calm h a b (offerDue i st)
-    unfolding offerDue
-    offerDue-calm = let f = freed-calm h a (atLine i hush b) i (hushed i b) st k in record { repeats = (tt, f .repeats); fits = λ t on. ((tt, tt), f .fits t none); untold = f .untold; known = f .known }
-
-    -- nothing is done, and the slot becomes q
-    turns : (n : ℕ) (q : Slot) → Rung a q → Calm h a b (record { answer = n; next = setSlot i q st; acts = [] })
-    turns n q p = still n (setSlot i q st) (set-known a i q st p k)
-
-    said-is : b .lines ≡ map view (st .slots) → (p : Slot) → getD (st .slots) i free ≡ p → line b i .said ≡ view p .said
-    said-is v p e = rw v (ap (λ (l : Line). l .said) (List·getD-map view (st .slots) i free ∙ ap view e))
+    coastEnd-calm i st k r g = also-calm b (endActs i theCoast r g (st .clock)) (freed i st) (end-mild i theCoast r g (st .clock)) (λ t. freed-calm _ i st (end-quiet i theCoast r g (st .clock) t) k)
 
     -- ── on a slot ────────────────────────────────────────────────────────────
 
-    working-calm : b .lines ≡ map view (st .slots) → (x : Party) (j : Kind) (r : Request) (d : ℕ) → getD (st .slots) i free ≡ pending j r d → Calm h a b (cond (is x (r .who)) (workingKind i j r st) (ignored st))
-    unfolding workingKind dialNow
-    working-calm v x offered r d e = calm-if (is x (r .who)) (workingKind i offered r st) (ignored st) (record { repeats = (tt, tt); fits = λ t on. ((tt, rw (said-is v (pending offered r d) e) refl), tt); untold = λ x. refl; known = set-known a i (busy r (dialling (dueAfter (st .clock) replyWait)) none) st tt k }) (still 1 st k)
-    working-calm v x firstRing r d e = calm-if (is x (r .who)) (ignored st) (ignored st) (still 1 st k) (still 1 st k)
-    working-calm v x secondRing r d e = calm-if (is x (r .who)) (ignored st) (ignored st) (still 1 st k) (still 1 st k)
-    working-calm v x acknowledged r d e = calm-if (is x (r .who)) (workingKind i acknowledged r st) (ignored st) (record { repeats = (tt, tt); fits = λ t on. ((tt, rw (said-is v (pending acknowledged r d) e) refl), tt); untold = λ x. refl; known = set-known a i (busy r (dialling (dueAfter (st .clock) replyWait)) none) st tt k }) (still 1 st k)
+    -- what it leaves: a slot of which the station knows, or nothing said of a slot that is free
+    abbrev Leaves : ℕ → Next → Book → Type 0
+    Leaves i stays c = Unit {0}
+    Leaves i (becomes q) c = Rung a q
+    Leaves i frees c = line c i .said ≡ silent
 
-    hold-calm : (r : Request) (g : Stage) → Calm h a b (shipEnd i r g st)
-    unfolding shipEnd
-    hold-calm r (dialling d) = record { repeats = (tt, (tt, tt)); fits = λ t on. ((tt, tt), ((tt, tt), tt)); untold = λ x. refl; known = set-known a i (held r (lasted (dialling d) (st .clock)) (dueAfter (st .clock) holdWait)) st tt k }
-    hold-calm r (answered b) = record { repeats = (tt, (tt, tt)); fits = λ t on. ((tt, tt), ((tt, tt), tt)); untold = λ x. refl; known = set-known a i (held r (lasted (answered b) (st .clock)) (dueAfter (st .clock) holdWait)) st tt k }
+    move-calm : (i t : ℕ) (p : Slot) (n : Next) (acts : List Action) → Move i t p n acts → Rung a p → line b i .said ≡ view p .said → Mild h a b (deedsOf acts) × ((u : ℕ) → Leaves i n (reads u (deedsOf acts) b))
+    unfolding reads
+    move-calm i t _ _ _ (to-dial k r d z) g s = (record { repeats = (tt, tt); fits = λ u on. ((tt, rw s z), tt); untold = λ x. refl }, λ u o e x. cc)
+    move-calm i t _ _ _ (to-agree k r d) g s = (no-deed, λ u o e x. cc)
+    move-calm i t _ _ _ (to-ring r d) g s = (record { repeats = (g r d refl, tt); fits = λ u on. ((rw s refl, tt), tt); untold = λ x. refl }, λ u o e x. cc)
+    move-calm i t _ _ _ (to-drop k r d) g s = (record { repeats = (tt, tt); fits = λ u on. ((tt, tt), tt); untold = λ x. refl }, λ u. hushed i b)
+    move-calm i t _ _ _ (to-answer r d c) g s = (no-deed, λ u o e x. cc)
+    move-calm i t _ _ _ (to-lose r g c) k s = (no-deed, λ u o e x. cc)
+    move-calm i t _ _ _ (to-regain r g c) k s = (no-deed, λ u o e x. cc)
+    move-calm i t _ _ _ (to-hold r g c) k s = (end-mild i theShip (r .request) g t, λ u o e x. cc)
+    move-calm i t _ _ _ (to-end r g c) k s = (end-mild i theCoast (r .request) g t, λ u. end-quiet i theCoast (r .request) g t u)
+    move-calm i t _ _ _ (to-repeat r n d) g s = (record { repeats = (tt, (tt, tt)); fits = λ u on. ((tt, tt), ((tt, tt), tt)); untold = λ x. refl }, λ u. tt)
+    move-calm i t _ _ _ (to-run-out r n d) g s = (no-deed, λ u. s)
+    move-calm i t _ _ _ to-take g s = (no-deed, λ u o e x. cc)
+    move-calm i t _ _ _ to-give g s = (no-deed, λ u. s)
 
-    said-calm : b .lines ≡ map view (st .slots) → (p : Slot) → getD (st .slots) i free ≡ p → (m : Heard) → Calm h a b (heardOn i st p m)
-    unfolding heardOn workingOn shipEndOn sayAgain
-    said-calm v p e (callRequest r) = still 1 st k
-    said-calm v p e (dataRequest x n) = still 1 st k
-    said-calm v p e (bq j x) = still 1 st k
-    said-calm v p e nothing = still 1 st k
-    said-calm v free e (workingCall x) = still 1 st k
-    said-calm v taken e (workingCall x) = still 1 st k
-    said-calm v (pending j r d) e (workingCall x) = working-calm v x j r d e
-    said-calm v (busy r g c) e (workingCall x) = still 1 st k
-    said-calm v (held r n d) e (workingCall x) = still 1 st k
-    said-calm v free e (endOfCall x) = still 1 st k
-    said-calm v taken e (endOfCall x) = still 1 st k
-    said-calm v (pending j r d) e (endOfCall x) = still 1 st k
-    said-calm v (busy r g c) e (endOfCall x) = calm-if (is x (r .who)) (shipEnd i r g st) (ignored st) (hold-calm r g) (still 1 st k)
-    said-calm v (held r n d) e (endOfCall x) = calm-if (is x (r .who)) (sayAgain i r n st) (ignored st) (record { repeats = (tt, (tt, tt)); fits = λ t on. ((tt, tt), ((tt, tt), tt)); untold = λ x. refl; known = k }) (still 1 st k)
+    module _ (i : ℕ) (st : Station) (k : Known a st) where
+      played-calm : (n : Next) (acts : List Action) → Mild h a b (deedsOf acts) × ((u : ℕ) → Leaves i n (reads u (deedsOf acts) b)) → Calm h a b (played i st n acts)
+      played-calm stays acts m = record { mild = m .0; known = k }
+      played-calm (becomes q) acts m = record { mild = m .0; known = set-known a i q st (m .1 0) k }
+      played-calm frees acts m = also-calm b acts (freed i st) (m .0) (λ t. freed-calm _ i st (m .1 t) k)
 
-    end-calm : (p : Slot) → Calm h a b (endOn i st p)
-    unfolding endOn
-    end-calm free = still 1 st k
-    end-calm taken = still 1 st k
-    end-calm (pending j r d) = still 1 st k
-    end-calm (busy r g c) = coastEnd-calm r g
-    end-calm (held r n d) = still 1 st k
+      pub outcome-calm : b .lines ≡ map view (st .slots) → {f : Line → Line} {w : Word → Word} {cs : List Stop} {o : Out} → Outcome i st f w cs (getD (st .slots) i free) o → Calm h a b o
+      outcome-calm v (passed x y z) = still 1 st k
+      outcome-calm v (moved {n} {acts} u x y z) = played-calm n acts (move-calm i (st .clock) _ n acts u (each-at (Rung a) free (λ r d x. cc) i (st .slots) (k .ringing)) (rw v (ap (λ (l : Line). l .said) (List·getD-map view (st .slots) i free))))
 
-    pub happened-calm : b .lines ≡ map view (st .slots) → (cfg : Config) (p : Slot) → getD (st .slots) i free ≡ p → (c : Happened) → Calm h a b (happenedOn cfg i st p c)
-    unfolding happenedOn offHookOn offHookStage upOn downOn takeOn giveOn
-    happened-calm v cfg p e (heard m) = said-calm v p e (meaning cfg m)
-    happened-calm v cfg p e onHook = end-calm p
-    happened-calm v cfg free e offHook = still 1 st k
-    happened-calm v cfg taken e offHook = still 1 st k
-    happened-calm v cfg (pending j r d) e offHook = still 1 st k
-    happened-calm v cfg (busy r (dialling d) c) e offHook = turns 0 (busy r (answered (st .clock)) c) tt
-    happened-calm v cfg (busy r (answered b) c) e offHook = still 1 st k
-    happened-calm v cfg (held r n d) e offHook = still 1 st k
-    happened-calm v cfg free e carrierUp = still 1 st k
-    happened-calm v cfg taken e carrierUp = still 1 st k
-    happened-calm v cfg (pending j r d) e carrierUp = still 1 st k
-    happened-calm v cfg (busy r g c) e carrierUp = turns 0 (busy r g none) tt
-    happened-calm v cfg (held r n d) e carrierUp = still 1 st k
-    happened-calm v cfg free e carrierDown = still 1 st k
-    happened-calm v cfg taken e carrierDown = still 1 st k
-    happened-calm v cfg (pending j r d) e carrierDown = still 1 st k
-    happened-calm v cfg (busy r g c) e carrierDown = turns 0 (busy r g (startLoss (st .clock) (r .mode) c)) tt
-    happened-calm v cfg (held r n d) e carrierDown = still 1 st k
-    happened-calm v cfg free e takes = turns 0 taken tt
-    happened-calm v cfg taken e takes = still 1 st k
-    happened-calm v cfg (pending j r d) e takes = still 1 st k
-    happened-calm v cfg (busy r g c) e takes = still 1 st k
-    happened-calm v cfg (held r n d) e takes = still 1 st k
-    happened-calm v cfg free e givesBack = still 1 st k
-    happened-calm v cfg taken e givesBack = freed-calm h a b i (said-is v taken e) st k
-    happened-calm v cfg (pending j r d) e givesBack = still 1 st k
-    happened-calm v cfg (busy r g c) e givesBack = still 1 st k
-    happened-calm v cfg (held r n d) e givesBack = still 1 st k
+    fire-calm : (st : Station) → b .lines ≡ map view (st .slots) → Known a st → (w : Wait) → Calm h a b (fire st w)
+    unfolding fire
+    fire-calm st v k (ofQueue j) = still 0 (setQueue (dropAt j (st .queue)) st) (queue-known a (dropAt j (st .queue)) st (each-dropped (Asked a) j (st .queue) (k .waiting)) k)
+    fire-calm st v k (loss i) = outcome-calm i st k v (end-outcome i st (getD (st .slots) i free))
+    fire-calm st v k (main i) = outcome-calm i st k v (main-outcome i st (getD (st .slots) i free))
 
-    -- ── channel 70, and the waits ────────────────────────────────────────────
-
-    agreed-calm : (j : Kind) (r : Request) → Calm h a b (bqKind i j r st)
-    unfolding bqKind agreed
-    agreed-calm offered r = still 1 st k
-    agreed-calm firstRing r = turns 0 (pending acknowledged r (dueAfter (st .clock) (kindWait acknowledged))) tt
-    agreed-calm secondRing r = turns 0 (pending acknowledged r (dueAfter (st .clock) (kindWait acknowledged))) tt
-    agreed-calm acknowledged r = still 1 st k
-
-    pub agree-calm : (x : Party) (p : Slot) → Calm h a b (bqFor i x st p)
-    unfolding bqFor
-    agree-calm x free = still 1 st k
-    agree-calm x taken = still 1 st k
-    agree-calm x (pending j r d) = calm-if (is x (r .who)) (bqKind i j r st) (ignored st) (agreed-calm j r) (still 1 st k)
-    agree-calm x (busy r g c) = still 1 st k
-    agree-calm x (held r n d) = still 1 st k
-
-    main-calm : b .lines ≡ map view (st .slots) → (p : Slot) → getD (st .slots) i free ≡ p → Calm h a b (mainOn i st p)
-    unfolding mainOn pendingDue replyDue ringAgain
-    main-calm v free e = still 1 st k
-    main-calm v taken e = still 1 st k
-    main-calm v (pending offered r d) e = offerDue-calm
-    main-calm v (pending firstRing r d) e = record { repeats = (rw e at (each-at (Rung a) free tt i (st .slots) (k .ringing)), tt); fits = λ t on. ((rw (said-is v (pending firstRing r d) e) refl, tt), tt); untold = λ x. refl; known = set-known a i (pending secondRing r (dueAfter (st .clock) (kindWait secondRing))) st tt k }
-    main-calm v (pending secondRing r d) e = offerDue-calm
-    main-calm v (pending acknowledged r d) e = offerDue-calm
-    main-calm v (busy r (dialling d) c) e = coastEnd-calm r (dialling d)
-    main-calm v (busy r (answered b) c) e = still 1 st k
-    main-calm v (held r n d) e = freed-calm h a b i (said-is v (held r n d) e) st k
-
-  fire-calm : (st : Station) → b .lines ≡ map view (st .slots) → Known a st → (w : Wait) → Calm h a b (fire st w)
-  unfolding fire
-  fire-calm st v k (ofQueue j) = still 0 (setQueue (dropAt j (st .queue)) st) (queue-known a (dropAt j (st .queue)) st (each-dropped (Asked a) j (st .queue) (k .waiting)) k)
-  fire-calm st v k (loss i) = end-calm i st k (getD (st .slots) i free)
-  fire-calm st v k (main i) = main-calm i st k v (getD (st .slots) i free) refl
-
-  pub tick-calm : (st : Station) → b .lines ≡ map view (st .slots) → Known a st → (t : ℕ) (o : Option Due) → Calm h a b (ticked st t o)
-  unfolding ticked setClock
-  tick-calm st v k t none = still 0 (setClock t st) (clock-known a t st k)
-  tick-calm st v k t (some p) = fire-calm (setClock (p .at) st) v (clock-known a (p .at) st k) (p .what)
+    pub tick-calm : (st : Station) → b .lines ≡ map view (st .slots) → Known a st → (t : ℕ) (o : Option Due) → Calm h a b (ticked st t o)
+    unfolding ticked setClock
+    tick-calm st v k t none = still 0 (setClock t st) (clock-known a t st k)
+    tick-calm st v k t (some p) = fire-calm (setClock (p .at) st) v (clock-known a (p .at) st k) (p .what)

@@ -42,7 +42,7 @@ slot-known c free k = refl
 slot-known c taken k = refl
 slot-known c (pending j r d) k = refl
 slot-known c (busy r (dialling d) l) k = refl
-slot-known c (busy r (answered b) l) k = ship-known c r k
+slot-known c (busy r (answered b) l) k = ship-known c (r .request) k
 slot-known c (held r n d) k = refl
 
 all-known : (c : Config) (ss : List Slot) → all (slotKeeps c) ss ≡ true → all (λ l. aShips (l .call)) (map view ss) ≡ true

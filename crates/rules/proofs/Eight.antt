@@ -8,17 +8,20 @@ use native.Mathlib.Omega.{arith}
 use lib.Dec.{ltb}
 use lib.ListN.{getD, length, length-append}
 use Rattle.rules.specs.Places.{lowest, all, Each}
-use Rattle.rules.specs.Words.{Party, is, Mode, simplex, duplex, Request, Config, Happened, heard, offHook, onHook, carrierUp, carrierDown, takes, givesBack, What, tick, onChannel70, onSlot, Event, carrierOn, carrierOff}
+use Rattle.rules.specs.Words.{Request, Config, What, tick, onChannel70, onSlot, Event, carrierOn}
 use Rattle.rules.specs.Waits.{Wait, ofQueue, loss, main, Due}
 use Rattle.rules.specs.Heard.{Heard, callRequest, dataRequest, bq, workingCall, endOfCall, nothing, meaning}
 use Rattle.rules.specs.Actions.{Ender, theShip, theCoast, Action, does}
-use Rattle.rules.specs.Station.{Kind, offered, firstRing, secondRing, acknowledged, Stage, dialling, answered, Slot, free, taken, pending, busy, held, Waiting, Station, setClock, fires}
-use Rattle.rules.specs.Sound.{requestKeeps, slotKeeps, sound}
-use Rattle.rules.specs.Requests.{Out, ignored, also, rungBack, freedFor, freed, bill, lasted, endActs, coastEnd, Standing, nowhere, holds, waits, placeOf, standing, ruleA, repeated, afresh, same, ruleB, ruleD, offer, ruleF, ruleG, isFree, eToG, newcomer, dToG, redial, ruleC, bOrC, requested}
-use Rattle.rules.specs.Calls.{dialNow, workingKind, workingOn, agreed, bqKind, bqFor, offHookStage, offHookOn, downOn, upOn, shipEnd, sayAgain, shipEndOn, endOn, takeOn, giveOn, offerDue, ringAgain, pendingDue, replyDue, mainOn, fire, ticked, heardOn70, heardOn, happenedOn, actAt, act}
-use Rattle.rules.specs.ThreeWords.{answer}
+use Rattle.rules.specs.Station.{Stage, dialling, answered, Slot, free, Waiting, Station, setClock, fires}
+use Rattle.rules.specs.Sound.{slotKeeps, sound}
+use Rattle.rules.specs.Requests.{Out, also, rungBack, freedFor, freed, bill, lasted, endActs, coastEnd, Standing, nowhere, holds, waits, placeOf, standing, ruleA, repeated, afresh, ruleD, offer, ruleF, ruleG, isFree, eToG, newcomer, dToG, redial, requested}
+use Rattle.rules.specs.Calls.{fire, ticked, heardOn70, actAt, act}
+use Rattle.rules.specs.Book.{Stop, Line}
+use Rattle.rules.specs.ThreeWords.{Word}
 use Rattle.rules.specs.Statement.{AtMostEight}
 use Rattle.rules.proofs.PlaceLaws.{all-at, each-append}
+use Rattle.rules.proofs.Outcome.{Next, stays, becomes, frees, Move, to-dial, to-agree, to-ring, to-drop, to-answer, to-lose, to-regain, to-hold, to-end, to-repeat, to-run-out, to-take, to-give, played, Outcome, passed, moved, end-outcome, bq-outcome, main-outcome, happened-outcome}
+use Rattle.rules.proofs.Ruling.{Ruling, passes, repeats, renews, redials, bOrC-ruling}
 use Rattle.rules.proofs.Accepted.{sounds}
 use Rattle.rules.proofs.Payloads.{Slim, on-slim, off-slim, release-slim, acknowledge-slim, ringBack-slim, unable-slim, over-slim, bill-slim, dial-slim}
 
@@ -100,164 +103,75 @@ module _ (cfg : Config) where
   unfolding redial
   redial-few i o g st r = let w = coastEnd-few i o g st in also-few 6 2 (coastEnd i o g st .acts) (dToG (coastEnd i o g st .next) r (placeOf (r .who) (coastEnd i o g st .next))) (w .many) (w .slim) (dToG-few (coastEnd i o g st .next) r (placeOf (r .who) (coastEnd i o g st .next)))
 
-  ruleC-few : (i : ℕ) (o : Request) (g : Stage) (m : Mode) (c : Option ℕ) (st : Station) (r : Request) → Few cfg 8 (ruleC i o g m c st r)
-  unfolding ruleC
-  ruleC-few i o g duplex c st r = none-few 8 st
-  ruleC-few i o g simplex none st r = none-few 8 st
-  ruleC-few i o g simplex (some d) st r = redial-few i o g st r
-
-  ruleB-few : (i : ℕ) (k : Kind) (o : Request) (st : Station) (r : Request) → Few cfg 8 (ruleB i k o st r)
-  unfolding ruleB repeated
-  ruleB-few i offered o st r = few-if 8 (same r o) (repeated i st r) (afresh i st r) (one-few 8 st _ (acknowledge-slim cfg i r) (omega arith)) (afresh-few 8 i st r (omega arith))
-  ruleB-few i firstRing o st r = afresh-few 8 i st r (omega arith)
-  ruleB-few i secondRing o st r = afresh-few 8 i st r (omega arith)
-  ruleB-few i acknowledged o st r = afresh-few 8 i st r (omega arith)
-
-  bOrC-few : (i : ℕ) (p : Slot) (st : Station) (r : Request) → Few cfg 8 (bOrC i p st r)
-  unfolding bOrC
-  bOrC-few i free st r = none-few 8 st
-  bOrC-few i taken st r = none-few 8 st
-  bOrC-few i (pending k o d) st r = ruleB-few i k o st r
-  bOrC-few i (busy o g c) st r = ruleC-few i o g (o .mode) c st r
-  bOrC-few i (held o n d) st r = none-few 8 st
+  ruling-few : (i : ℕ) (st : Station) (r : Request) (cs : List Stop) (p : Slot) (o : Out) → Ruling i st r cs p o → Few cfg 8 o
+  unfolding repeated
+  ruling-few i st r cs _ _ (passes p a) = none-few 8 st
+  ruling-few i st r cs _ _ (repeats k o d a b) = one-few 8 st _ (acknowledge-slim cfg i r) (omega arith)
+  ruling-few i st r cs _ _ (renews k o d a b) = afresh-few 8 i st r (omega arith)
+  ruling-few i st r cs _ _ (redials o g c a) = redial-few i (o .request) g st r
 
   request-few : (st : Station) (r : Request) (o : Standing) → Few cfg 8 (requested st r o)
   unfolding requested
   request-few st r nowhere = up-to 2 8 (omega arith) (newcomer st r) (newcomer-few st r)
   request-few st r (waits k) = up-to 2 8 (omega arith) (ruleD k st r) (ruleD-few k st r)
-  request-few st r (holds i) = bOrC-few i (getD (st .slots) i free) st r
-
-  bq-few : (i : ℕ) (x : Party) (st : Station) (p : Slot) → Few cfg 8 (bqFor i x st p)
-  unfolding bqFor bqKind agreed
-  bq-few i x st free = none-few 8 st
-  bq-few i x st taken = none-few 8 st
-  bq-few i x st (pending offered r d) = few-if 8 (is x (r .who)) (bqKind i offered r st) (ignored st) (none-few 8 st) (none-few 8 st)
-  bq-few i x st (pending firstRing r d) = few-if 8 (is x (r .who)) (bqKind i firstRing r st) (ignored st) (zero-few 8 _) (none-few 8 st)
-  bq-few i x st (pending secondRing r d) = few-if 8 (is x (r .who)) (bqKind i secondRing r st) (ignored st) (zero-few 8 _) (none-few 8 st)
-  bq-few i x st (pending acknowledged r d) = few-if 8 (is x (r .who)) (bqKind i acknowledged r st) (ignored st) (none-few 8 st) (none-few 8 st)
-  bq-few i x st (busy r g c) = none-few 8 st
-  bq-few i x st (held r n d) = none-few 8 st
-
-  heard-few : (st : Station) (h : Heard) → Few cfg 8 (heardOn70 st h)
-  unfolding heardOn70 ruleA
-  heard-few st (callRequest r) = request-few st r (standing st (r .who))
-  heard-few st (dataRequest x n) = one-few 8 st _ (unable-slim cfg 109 x n) (omega arith)
-  heard-few st (bq i x) = bq-few i x st (getD (st .slots) i free)
-  heard-few st (workingCall x) = none-few 8 st
-  heard-few st (endOfCall x) = none-few 8 st
-  heard-few st nothing = none-few 8 st
+  request-few st r (holds i) = ruling-few i st r _ (getD (st .slots) i free) _ (bOrC-ruling i st r (getD (st .slots) i free))
 
   -- ── on a slot ──────────────────────────────────────────────────────────────
 
-  dial-few : (i : ℕ) (k : Kind) (r : Request) (st : Station) → requestKeeps cfg r ≡ true → Few cfg 8 (workingKind i k r st)
-  unfolding workingKind dialNow
-  dial-few i offered r st h = one-few 8 _ _ (dial-slim cfg i r h) (omega arith)
-  dial-few i firstRing r st h = none-few 8 st
-  dial-few i secondRing r st h = none-few 8 st
-  dial-few i acknowledged r st h = one-few 8 _ _ (dial-slim cfg i r h) (omega arith)
+  move-slim : (i t : ℕ) (p : Slot) (n : Next) (acts : List Action) → Move i t p n acts → slotKeeps cfg p ≡ true → (length acts ≤ 4) × Each (Slim cfg) acts
+  move-slim i t _ _ _ (to-dial k r d z) h = (omega arith, (dial-slim cfg i (r .request) h, tt))
+  move-slim i t _ _ _ (to-agree k r d) h = (omega arith, tt)
+  move-slim i t _ _ _ (to-ring r d) h = (omega arith, (ringBack-slim cfg i (r .request), tt))
+  move-slim i t _ _ _ (to-drop k r d) h = (omega arith, (off-slim cfg i, tt))
+  move-slim i t _ _ _ (to-answer r d c) h = (omega arith, tt)
+  move-slim i t _ _ _ (to-lose r g c) h = (omega arith, tt)
+  move-slim i t _ _ _ (to-regain r g c) h = (omega arith, tt)
+  move-slim i t _ _ _ (to-hold r g c) h = (end-few i theShip (r .request) g t, end-slim i theShip (r .request) g t)
+  move-slim i t _ _ _ (to-end r g c) h = (end-few i theCoast (r .request) g t, end-slim i theCoast (r .request) g t)
+  move-slim i t _ _ _ (to-repeat r n d) h = (omega arith, (on-slim cfg i, (over-slim cfg i theShip (r .request .who) (r .request .number) n, (off-slim cfg i, tt))))
+  move-slim i t _ _ _ (to-run-out r n d) h = (omega arith, tt)
+  move-slim i t _ _ _ to-take h = (omega arith, tt)
+  move-slim i t _ _ _ to-give h = (omega arith, tt)
 
-  working-few : (i : ℕ) (x : Party) (st : Station) (p : Slot) → slotKeeps cfg p ≡ true → Few cfg 8 (workingOn i x st p)
-  unfolding workingOn
-  working-few i x st free h = none-few 8 st
-  working-few i x st taken h = none-few 8 st
-  working-few i x st (pending k r d) h = few-if 8 (is x (r .who)) (workingKind i k r st) (ignored st) (dial-few i k r st h) (none-few 8 st)
-  working-few i x st (busy r g c) h = none-few 8 st
-  working-few i x st (held r n d) h = none-few 8 st
+  played-few : (i : ℕ) (st : Station) (n : Next) (acts : List Action) → (length acts ≤ 4) × Each (Slim cfg) acts → Few cfg 8 (played i st n acts)
+  played-few i st stays acts h = let k = h .0 in record { many = omega arith; slim = h .1; told = omega arith }
+  played-few i st (becomes q) acts h = let k = h .0 in record { many = omega arith; slim = h .1; told = omega arith }
+  played-few i st frees acts h = up-to 6 8 (omega arith) (also acts (freed i st)) (also-few 4 2 acts (freed i st) (h .0) (h .1) (freed-few i st))
 
-  hold-few : (i : ℕ) (r : Request) (g : Stage) (st : Station) → Few cfg 8 (shipEnd i r g st)
-  unfolding shipEnd
-  hold-few i r g st = let k = end-few i theShip r g (st .clock) in record { many = omega arith; slim = end-slim i theShip r g (st .clock); told = omega arith }
+  outcome-few : (i : ℕ) (st : Station) {f : Line → Line} {w : Word → Word} {cs : List Stop} (p : Slot) {o : Out} → Outcome i st f w cs p o → slotKeeps cfg p ≡ true → Few cfg 8 o
+  outcome-few i st p (passed a b c) h = none-few 8 st
+  outcome-few i st p (moved {n} {acts} u a b c) h = played-few i st n acts (move-slim i (st .clock) p n acts u h)
 
-  shipEnd-few : (i : ℕ) (x : Party) (st : Station) (p : Slot) → Few cfg 8 (shipEndOn i x st p)
-  unfolding shipEndOn sayAgain
-  shipEnd-few i x st free = none-few 8 st
-  shipEnd-few i x st taken = none-few 8 st
-  shipEnd-few i x st (pending k r d) = none-few 8 st
-  shipEnd-few i x st (busy r g c) = few-if 8 (is x (r .who)) (shipEnd i r g st) (ignored st) (hold-few i r g st) (none-few 8 st)
-  shipEnd-few i x st (held r n d) = few-if 8 (is x (r .who)) (sayAgain i r n st) (ignored st) (record { many = omega arith; slim = (on-slim cfg i, (over-slim cfg i theShip (r .who) (r .number) n, (off-slim cfg i, tt))); told = omega arith }) (none-few 8 st)
+  -- ── an event, of a station whose stored requests keep the rules ────────────
 
-  said-few : (i : ℕ) (st : Station) (p : Slot) → slotKeeps cfg p ≡ true → (m : Heard) → Few cfg 8 (heardOn i st p m)
-  unfolding heardOn
-  said-few i st p k (callRequest r) = none-few 8 st
-  said-few i st p k (dataRequest x n) = none-few 8 st
-  said-few i st p k (bq j x) = none-few 8 st
-  said-few i st p k (workingCall x) = working-few i x st p k
-  said-few i st p k (endOfCall x) = shipEnd-few i x st p
-  said-few i st p k nothing = none-few 8 st
+  module _ (st : Station) (k : all (slotKeeps cfg) (st .slots) ≡ true) where
+    slot-few : (i : ℕ) {f : Line → Line} {w : Word → Word} {cs : List Stop} {o : Out} → Outcome i st f w cs (getD (st .slots) i free) o → Few cfg 8 o
+    slot-few i u = outcome-few i st (getD (st .slots) i free) u (all-at (slotKeeps cfg) free refl i (st .slots) k)
 
-  lost-few : (i : ℕ) (st : Station) (p : Slot) → Few cfg 8 (endOn i st p)
-  unfolding endOn
-  lost-few i st free = none-few 8 st
-  lost-few i st taken = none-few 8 st
-  lost-few i st (pending k r d) = none-few 8 st
-  lost-few i st (busy r g c) = up-to 6 8 (omega arith) (coastEnd i r g st) (coastEnd-few i r g st)
-  lost-few i st (held r n d) = none-few 8 st
+    heard-few : (h : Heard) → Few cfg 8 (heardOn70 st h)
+    unfolding heardOn70 ruleA
+    heard-few (callRequest r) = request-few st r (standing st (r .who))
+    heard-few (dataRequest x n) = one-few 8 st _ (unable-slim cfg 109 x n) (omega arith)
+    heard-few (bq i x) = slot-few i (bq-outcome i st x (getD (st .slots) i free))
+    heard-few (workingCall x) = none-few 8 st
+    heard-few (endOfCall x) = none-few 8 st
+    heard-few nothing = none-few 8 st
 
-  happened-few : (i : ℕ) (st : Station) (p : Slot) → slotKeeps cfg p ≡ true → (h : Happened) → Few cfg 8 (happenedOn cfg i st p h)
-  unfolding happenedOn offHookOn offHookStage upOn downOn takeOn giveOn
-  happened-few i st p k (heard m) = said-few i st p k (meaning cfg m)
-  happened-few i st p k onHook = lost-few i st p
-  happened-few i st free k offHook = none-few 8 st
-  happened-few i st taken k offHook = none-few 8 st
-  happened-few i st (pending j r d) k offHook = none-few 8 st
-  happened-few i st (busy r (dialling d) c) k offHook = zero-few 8 _
-  happened-few i st (busy r (answered b) c) k offHook = none-few 8 st
-  happened-few i st (held r n d) k offHook = none-few 8 st
-  happened-few i st free k carrierUp = none-few 8 st
-  happened-few i st taken k carrierUp = none-few 8 st
-  happened-few i st (pending j r d) k carrierUp = none-few 8 st
-  happened-few i st (busy r g c) k carrierUp = zero-few 8 _
-  happened-few i st (held r n d) k carrierUp = none-few 8 st
-  happened-few i st free k carrierDown = none-few 8 st
-  happened-few i st taken k carrierDown = none-few 8 st
-  happened-few i st (pending j r d) k carrierDown = none-few 8 st
-  happened-few i st (busy r g c) k carrierDown = zero-few 8 _
-  happened-few i st (held r n d) k carrierDown = none-few 8 st
-  happened-few i st free k takes = zero-few 8 _
-  happened-few i st taken k takes = none-few 8 st
-  happened-few i st (pending j r d) k takes = none-few 8 st
-  happened-few i st (busy r g c) k takes = none-few 8 st
-  happened-few i st (held r n d) k takes = none-few 8 st
-  happened-few i st free k givesBack = none-few 8 st
-  happened-few i st taken k givesBack = up-to 2 8 (omega arith) (freed i st) (freed-few i st)
-  happened-few i st (pending j r d) k givesBack = none-few 8 st
-  happened-few i st (busy r g c) k givesBack = none-few 8 st
-  happened-few i st (held r n d) k givesBack = none-few 8 st
-
-  -- ── a wait due ─────────────────────────────────────────────────────────────
-
-  drop-few : (i : ℕ) (st : Station) → Few cfg 8 (offerDue i st)
-  unfolding offerDue
-  drop-few i st = up-to 3 8 (omega arith) (offerDue i st) (also-few 1 2 (does (carrierOff i) ∷ []) (freed i st) (omega arith) (off-slim cfg i, tt) (freed-few i st))
-
-  main-few : (i : ℕ) (st : Station) (p : Slot) → Few cfg 8 (mainOn i st p)
-  unfolding mainOn pendingDue replyDue ringAgain
-  main-few i st free = none-few 8 st
-  main-few i st taken = none-few 8 st
-  main-few i st (pending offered r d) = drop-few i st
-  main-few i st (pending firstRing r d) = one-few 8 _ _ (ringBack-slim cfg i r) (omega arith)
-  main-few i st (pending secondRing r d) = drop-few i st
-  main-few i st (pending acknowledged r d) = drop-few i st
-  main-few i st (busy r (dialling d) c) = up-to 6 8 (omega arith) (coastEnd i r (dialling d) st) (coastEnd-few i r (dialling d) st)
-  main-few i st (busy r (answered b) c) = none-few 8 st
-  main-few i st (held r n d) = up-to 2 8 (omega arith) (freed i st) (freed-few i st)
-
-  fire-few : (st : Station) (w : Wait) → Few cfg 8 (fire st w)
-  unfolding fire
-  fire-few st (ofQueue k) = zero-few 8 _
-  fire-few st (loss i) = lost-few i st (getD (st .slots) i free)
-  fire-few st (main i) = main-few i st (getD (st .slots) i free)
-
-  tick-few : (st : Station) (t : ℕ) (o : Option Due) → Few cfg 8 (ticked st t o)
-  unfolding ticked
-  tick-few st t none = zero-few 8 _
-  tick-few st t (some p) = fire-few (setClock (p .at) st) (p .what)
+    fire-few : (w : Wait) → Few cfg 8 (fire st w)
+    unfolding fire
+    fire-few (ofQueue n) = zero-few 8 _
+    fire-few (loss i) = slot-few i (end-outcome i st (getD (st .slots) i free))
+    fire-few (main i) = slot-few i (main-outcome i st (getD (st .slots) i free))
 
   act-few : (st : Station) → all (slotKeeps cfg) (st .slots) ≡ true → (t : ℕ) (w : What) → Few cfg 8 (actAt cfg st t w)
-  unfolding actAt
-  act-few st k t tick = tick-few st t (fires t st)
-  act-few st k t (onChannel70 m) = heard-few (setClock t st) (meaning cfg m)
-  act-few st k t (onSlot i h) = happened-few i (setClock t st) (getD (st .slots) i free) (all-at (slotKeeps cfg) free refl i (st .slots) k) h
+  unfolding actAt ticked setClock
+  act-few st k t tick = due (fires t st)
+    where
+      due : (o : Option Due) → Few cfg 8 (ticked st t o)
+      due none = zero-few 8 _
+      due (some p) = fire-few (setClock (p .at) st) k (p .what)
+  act-few st k t (onChannel70 m) = heard-few (setClock t st) k (meaning cfg m)
+  act-few st k t (onSlot i h) = slot-few (setClock t st) k i (happened-outcome i (setClock t st) cfg (getD (st .slots) i free) h)
 
 pub answers-few : (cfg : Config) (st : Station) (e : Event) → sound cfg st ≡ true → act cfg st e .answer ≤ 1
 answers-few cfg st e s = act-few cfg st (sounds cfg st s .slots-keep) (e .time) (e .what) .told

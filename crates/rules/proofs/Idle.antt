@@ -8,6 +8,7 @@ use Prim.Native.Nat.{ℕ, zero, suc}
 use native.Mathlib.Omega.{arith}
 use Rattle.rules.specs.Places.{modAt, dropAt, lowest}
 use Rattle.rules.specs.Words.{Request, Config, Event}
+use Rattle.rules.specs.Actions.{Action}
 use Rattle.rules.specs.Station.{Slot, Waiting, Station, fresh, setSlot, setClock, setQueue}
 use Rattle.rules.specs.Requests.{rungBack, freedFor, freed, ruleD, ruleF, isFree}
 use Rattle.rules.specs.Calls.{act}
@@ -15,7 +16,9 @@ use Rattle.rules.specs.Verdict.{verdict, final}
 use Rattle.rules.specs.Statement.{NoChannelIdle}
 use Rattle.rules.proofs.PlaceLaws.{shift-none}
 use Rattle.rules.proofs.Run.{final-on, final-past}
-use Rattle.rules.proofs.Walk.{Turn, to-dial, to-renew, to-answer, to-lose, to-regain, to-hold, to-take, offerOf, Closed, act-kept}
+use Rattle.rules.proofs.Outcome.{becomes, Move, to-dial, to-agree, to-ring, to-answer, to-lose, to-regain, to-hold, to-take}
+use Rattle.rules.proofs.Ruling.{offerOf}
+use Rattle.rules.proofs.Walk.{Closed, act-kept}
 
 -- nobody waits, or no slot is free
 Fair : Station → Type 0
@@ -47,14 +50,15 @@ freed-fair : (i : ℕ) (st : Station) → Fair st → Fair (freed i st .next)
 unfolding freed
 freed-fair i st f = freedFor-fair i st (st .queue) refl f
 
-turned-busy : (t : ℕ) (p q : Slot) → Turn t p q → isFree q ≡ false
-turned-busy t _ _ (to-dial k r d) = refl
-turned-busy t _ _ (to-renew k j r d) = refl
-turned-busy t _ _ (to-answer r d c) = refl
-turned-busy t _ _ (to-lose r g c) = refl
-turned-busy t _ _ (to-regain r g c) = refl
-turned-busy t _ _ (to-hold r g c) = refl
-turned-busy t _ _ to-take = refl
+turned-busy : (i t : ℕ) (p q : Slot) (acts : List Action) → Move i t p (becomes q) acts → isFree q ≡ false
+turned-busy i t _ _ _ (to-dial k r d z) = refl
+turned-busy i t _ _ _ (to-agree k r d) = refl
+turned-busy i t _ _ _ (to-ring r d) = refl
+turned-busy i t _ _ _ (to-answer r d c) = refl
+turned-busy i t _ _ _ (to-lose r g c) = refl
+turned-busy i t _ _ _ (to-regain r g c) = refl
+turned-busy i t _ _ _ (to-hold r g c) = refl
+turned-busy i t _ _ _ to-take = refl
 
 still-none : (k : ℕ) (g : Waiting → Waiting) (q : List Waiting) → q ≡ [] → modAt g k q ≡ []
 still-none k g [] h = refl
@@ -81,7 +85,7 @@ drop-fair k st (inr h) = inr h
 
 fair-closed : (cfg : Config) → Closed cfg Fair
 fair-closed cfg = record {
-  turned = λ i st p q e t f. set-fair i q st (turned-busy (st .clock) p q t) f;
+  turning = λ i st p q acts e t f. set-fair i q st (turned-busy i (st .clock) p q acts t) f;
   freeing = freed-fair;
   renewed = λ i st r h k o d e y f. set-fair i (offerOf r st) st refl f;
   offering = λ i st r h n y f. set-fair i (offerOf r st) st refl f;

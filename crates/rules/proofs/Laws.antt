@@ -11,105 +11,29 @@ use native.Mathlib.Nat.{add-zero, add-suc, suc-add, zero-add}
 use native.Mathlib.Omega.{arith}
 use lib.ListN.{getD}
 use Rattle.rules.specs.Places.{modAt}
-use Rattle.rules.specs.Words.{Party, is, Mode, Request, Config, Happened, heard, offHook, onHook, carrierUp, carrierDown, takes, givesBack, What, tick, onChannel70, onSlot, Deed, carrierOn, carrierOff, acknowledge, ringBack, unable, dial, releaseLine}
+use Rattle.rules.specs.Words.{Party, is, Mode, Config, offHook, What, tick, onChannel70, onSlot, Deed}
 use Rattle.rules.specs.Waits.{Wait, ofQueue, loss, main, Due}
 use Rattle.rules.specs.Heard.{Heard, callRequest, dataRequest, bq, workingCall, endOfCall, nothing, meaning}
-use Rattle.rules.specs.Book.{Note, Stop, after, offerTime, holdTime, alike, Said, silent, toldBQ, toldRQ, settled, Call, quiet, dialled, talking, Line, Book, blank, line, falling, moment, stopOf, callOf, stopsSaid, stopsOn, stopsDue, lost, askedAgain, stopsAgain, stopsHeard, stopsAt}
-use Rattle.rules.specs.Reading.{closed, close, withWait, withGone, pickUp, lose, signOff, hearSaid, hearLine, settle, again, hearHeard, hearDue, hear, told, tell, rungUp, beginCall, dialUp, letGo, hush, read, reads, setNow, turn, stopsIn}
+use Rattle.rules.specs.Book.{Note, Stop, after, holdTime, Said, Call, quiet, dialled, talking, Line, Book, blank, line, falling, moment, stopOf, callOf, stopsOn, stopsDue, lost, askedAgain, stopsAgain, stopsHeard, stopsAt}
+use Rattle.rules.specs.Reading.{closed, close, withWait, pickUp, signOff, hearLine, settle, again, hearHeard, hearDue, hear, read, reads, setNow, turn, stopsIn}
 use Rattle.rules.specs.ReadingLaws.{In, stopAt, Begins, Lifts, Ends}
-use Rattle.rules.proofs.Talked.{line-of, queued-lines}
+use Rattle.rules.proofs.Hears.{line-of, talk, talk-is, Same, settle-same, Leaves, elsewhere, at-line, read-leaves, Hears, says-nothing, says-begun, says-over, says-end, line-hears}
 
--- the answered part of a call
-abbrev talk : Call → Call
-talk quiet = quiet
-talk (dialled x m) = quiet
-talk (talking x m b) = talking x m b
-
-talk-is : (c : Call) (x : Party) (m : Mode) (t : ℕ) → talk c ≡ talking x m t → c ≡ talking x m t
-talk-is quiet x m t h = cc
-talk-is (dialled y k) x m t h = cc
-talk-is (talking y k b) x m t h = h
-
--- ── what leaves the answered part alone ──────────────────────────────────────
-
-Same : (Line → Line) → Type 0
-Same f = (l : Line) → talk (f l .call) ≡ talk (l .call)
+-- ── no deed begins or stops an answered call ─────────────────────────────────
 
 same-at : (f : Line → Line) → Same f → (i j : ℕ) (ls : List Line) → talk (getD (modAt f i ls) j blank .call) ≡ talk (getD ls j blank .call)
-unfolding Same
 same-at f h i j [] = refl
 same-at f h zero zero (l ∷ ls) = h l
 same-at f h zero (suc j) (l ∷ ls) = refl
 same-at f h (suc i) zero (l ∷ ls) = refl
 same-at f h (suc i) (suc j) (l ∷ ls) = same-at f h i j ls
 
-cond-same : (c : Call) (b : Bool) (x y : Line) → talk (x .call) ≡ c → talk (y .call) ≡ c → talk (cond b x y .call) ≡ c
-cond-same c true x y p q = p
-cond-same c false x y p q = q
-
-tell-same : (u : ℕ) (r : Request) → Same (tell u r)
-unfolding Same
-tell-same u r l = go (l .said)
-  where
-    go : (s : Said) → talk (tell u r (line-of s (l .wait) (l .call) (l .gone)) .call) ≡ talk (l .call)
-    go silent = refl
-    go (toldBQ o) = cond-same _ (alike r o) (line-of (toldBQ o) (l .wait) (l .call) (l .gone)) (told u r (line-of (toldBQ o) (l .wait) (l .call) (l .gone))) refl refl
-    go (toldRQ o) = refl
-    go (settled o) = refl
-
-begin-same : (r : Request) (c : Call) → talk (beginCall r c) ≡ talk c
-begin-same r quiet = refl
-begin-same r (dialled x m) = refl
-begin-same r (talking x m b) = refl
-
-dial-same : (u : ℕ) → Same (dialUp u)
-unfolding Same
-dial-same u l = go (l .said)
-  where
-    go : (s : Said) → talk (dialUp u (line-of s (l .wait) (l .call) (l .gone)) .call) ≡ talk (l .call)
-    go silent = refl
-    go (toldBQ r) = begin-same r (l .call)
-    go (toldRQ r) = begin-same r (l .call)
-    go (settled r) = begin-same r (l .call)
-
-release-same : Same letGo
-unfolding Same
-release-same l = go (l .call)
-  where
-    go : (c : Call) → talk (letGo (line-of (l .said) (l .wait) c (l .gone)) .call) ≡ talk c
-    go quiet = refl
-    go (dialled x m) = refl
-    go (talking x m b) = refl
-
-lose-same : (u : ℕ) → Same (lose u)
-unfolding Same
-lose-same u l = go (l .call)
-  where
-    go : (c : Call) → talk (lose u (line-of (l .said) (l .wait) c (l .gone)) .call) ≡ talk c
-    go quiet = refl
-    go (dialled x m) = refl
-    go (talking x m b) = refl
-
-settle-same : (u : ℕ) (x : Party) → Same (settle u x)
-unfolding Same
-settle-same u x l = go (l .said)
-  where
-    go : (s : Said) → talk (settle u x (line-of s (l .wait) (l .call) (l .gone)) .call) ≡ talk (l .call)
-    go silent = refl
-    go (toldBQ r) = refl
-    go (toldRQ r) = cond-same _ (is x (r .who)) (line-of (settled r) (some (after u offerTime)) (l .call) (l .gone)) (line-of (toldRQ r) (l .wait) (l .call) (l .gone)) refl refl
-    go (settled r) = refl
-
--- no deed begins or stops an answered call
 read-same : (u j : ℕ) (d : Deed) (b : Book) → talk (line (read u d b) j .call) ≡ talk (line b j .call)
-unfolding Same
-read-same u j (carrierOn i) b = refl
-read-same u j (carrierOff i) b = same-at hush (λ l. refl) i j (b .lines)
-read-same u j (acknowledge i r) b = same-at (tell u r) (tell-same u r) i j (b .lines)
-read-same u j (ringBack i r) b = same-at (rungUp u r) (λ l. refl) i j (b .lines)
-read-same u j (unable n x digits) b = ap (λ (ls : List Line). talk (getD ls j blank .call)) (queued-lines u n x b)
-read-same u j (dial i n) b = same-at (dialUp u) (dial-same u) i j (b .lines)
-read-same u j (releaseLine i) b = same-at letGo release-same i j (b .lines)
+read-same u j d b = go (read u d b .lines) (read-leaves u d b)
+  where
+    go : (ls : List Line) → Leaves (b .lines) ls → talk (getD ls j blank .call) ≡ talk (getD (b .lines) j blank .call)
+    go _ elsewhere = refl
+    go _ (at-line i f h) = same-at f h i j (b .lines)
 
 reads-same : (u j : ℕ) (ds : List Deed) (b : Book) → talk (line (reads u ds b) j .call) ≡ talk (line b j .call)
 unfolding reads
@@ -124,12 +48,12 @@ data After (e : What) (u j : ℕ) (cs : List Stop) (c k : Call) : Type 0 where
   starts : (x : Party) (m : Mode) → e ≡ onSlot j offHook → c ≡ dialled x m → k ≡ talking x m u → After e u j cs c k
   stopped : (x : Party) (m : Mode) (t : ℕ) → c ≡ talking x m t → talk k ≡ quiet → In (stopAt j x t u) cs → After e u j cs c k
 
-elsewhere : (f : Line → Line) (i j : ℕ) (ls : List Line) → (j ≡ i) ⊎ (getD (modAt f i ls) j blank ≡ getD ls j blank)
-elsewhere f i j [] = inr refl
-elsewhere f zero zero (l ∷ ls) = inl refl
-elsewhere f zero (suc j) (l ∷ ls) = inr refl
-elsewhere f (suc i) zero (l ∷ ls) = inr refl
-elsewhere f (suc i) (suc j) (l ∷ ls) = go (elsewhere f i j ls)
+aside : (f : Line → Line) (i j : ℕ) (ls : List Line) → (j ≡ i) ⊎ (getD (modAt f i ls) j blank ≡ getD ls j blank)
+aside f i j [] = inr refl
+aside f zero zero (l ∷ ls) = inl refl
+aside f zero (suc j) (l ∷ ls) = inr refl
+aside f (suc i) zero (l ∷ ls) = inr refl
+aside f (suc i) (suc j) (l ∷ ls) = go (aside f i j ls)
   where
     go : (j ≡ i) ⊎ (getD (modAt f i ls) j blank ≡ getD ls j blank) → (suc j ≡ suc i) ⊎ (getD (modAt f i ls) j blank ≡ getD ls j blank)
     go (inl p) = inl (ap suc p)
@@ -144,7 +68,7 @@ there f h (suc i) (l ∷ ls) = there f h i ls
 module _ (e : What) (u i j : ℕ) (cs : List Stop) (f : Line → Line) (fb : f blank ≡ blank) (ls : List Line)
     (at-i : After e u i cs (getD ls i blank .call) (f (getD ls i blank) .call)) where
   one-line : After e u j cs (getD ls j blank .call) (getD (modAt f i ls) j blank .call)
-  one-line = go (elsewhere f i j ls)
+  one-line = go (aside f i j ls)
     where
       go : (j ≡ i) ⊎ (getD (modAt f i ls) j blank ≡ getD ls j blank) → After e u j cs (getD ls j blank .call) (getD (modAt f i ls) j blank .call)
       go (inl p) = rw (p, there f fb i ls) at-i
@@ -168,10 +92,10 @@ signOff-after e u x i s w (talking y m t) g = go (is x y)
     go true = stopped y m t refl refl (inl refl)
     go false = goes-on refl
 
-pickUp-after : (u i : ℕ) (cs : List Stop) (s : Said) (w : Option ℕ) (c : Call) (g : Option ℕ) → After (onSlot i offHook) u i cs c (pickUp u (line-of s w c g) .call)
-pickUp-after u i cs s w quiet g = goes-on refl
-pickUp-after u i cs s w (dialled x m) g = starts x m refl refl refl
-pickUp-after u i cs s w (talking x m b) g = goes-on refl
+pickUp-after : (e : What) (u i : ℕ) (cs : List Stop) → e ≡ onSlot i offHook → (s : Said) (w : Option ℕ) (c : Call) (g : Option ℕ) → After e u i cs c (pickUp u (line-of s w c g) .call)
+pickUp-after e u i cs h s w quiet g = goes-on refl
+pickUp-after e u i cs h s w (dialled x m) g = starts x m h refl refl
+pickUp-after e u i cs h s w (talking x m b) g = goes-on refl
 
 in-append : (c : Stop) (a b : List Stop) → In c b → In c (a ++ b)
 in-append c [] b h = h
@@ -201,37 +125,22 @@ again-after e u x k (suc j) (l ∷ ls) = rw (add-suc k j, ← (suc-add k j)) (mo
     more (starts y m p q r) = starts y m p q r
     more (stopped y m t p q r) = stopped y m t p q (in-append _ (cond (askedAgain x (l .call) (l .gone)) (stopOf u k (l .call)) []) _ r)
 
+hears-after : (u i j : ℕ) (e : What) (f : Line → Line) (s : Call → List Stop) → Hears u i e f s → (ls : List Line) → After e u j (s (getD ls i blank .call)) (getD ls j blank .call) (getD (modAt f i ls) j blank .call)
+hears-after u i j e _ _ (says-nothing f h) ls = goes-on (same-at f h i j ls)
+hears-after u i j e _ _ (says-begun h) ls = let l = getD ls i blank in one-line e u i j [] (pickUp u) refl ls (pickUp-after e u i [] h (l .said) (l .wait) (l .call) (l .gone))
+hears-after u i j e _ _ says-over ls = one-line e u i j (stopOf u i (getD ls i blank .call)) close refl ls (close-after e u i (getD ls i blank .call))
+hears-after u i j e _ _ (says-end x) ls = let l = getD ls i blank in one-line e u i j (cond (callOf x (l .call)) (stopOf u i (l .call)) []) (signOff u x) refl ls (signOff-after e u x i (l .said) (l .wait) (l .call) (l .gone))
+
 due-after : (e : What) (u j : ℕ) (b : Book) (o : Option Due) → After e u j (stopsDue u b o) (line b j .call) (line (hearDue (setNow u b) o) j .call)
-unfolding Same
 due-after e u j b none = goes-on refl
 due-after e u j b (some p) = go (p .what)
   where
     go : (w : Wait) → After e u j (stopsDue u b (some record { what = w; at = p .at })) (line b j .call) (line (hearDue (setNow u b) (some record { what = w; at = p .at })) j .call)
     go (ofQueue k) = goes-on refl
-    go (loss i) = one-line e u i j (stopOf u i (line b i .call)) close refl (b .lines) (close-after e u i (line b i .call))
-    go (main i) = goes-on (same-at (withWait none) (λ l. refl) i j (b .lines))
-
-said-after : (e : What) (b : Book) (u i j : ℕ) (m : Heard) → After e u j (stopsSaid u i (line b i .call) m) (line b j .call) (getD (modAt (hearSaid u m) i (b .lines)) j blank .call)
-unfolding Same
-said-after e b u i j (callRequest r) = goes-on (same-at (λ l. l) (λ l. refl) i j (b .lines))
-said-after e b u i j (dataRequest x n) = goes-on (same-at (λ l. l) (λ l. refl) i j (b .lines))
-said-after e b u i j (bq k x) = goes-on (same-at (λ l. l) (λ l. refl) i j (b .lines))
-said-after e b u i j (workingCall x) = goes-on (same-at (λ l. l) (λ l. refl) i j (b .lines))
-said-after e b u i j (endOfCall x) = let l = line b i in one-line e u i j (cond (callOf x (l .call)) (stopOf u i (l .call)) []) (signOff u x) refl (b .lines) (signOff-after e u x i (l .said) (l .wait) (l .call) (l .gone))
-said-after e b u i j nothing = goes-on (same-at (λ l. l) (λ l. refl) i j (b .lines))
-
-line-after : (cfg : Config) (b : Book) (u i j : ℕ) (h : Happened) → After (onSlot i h) u j (stopsOn cfg u i (line b i .call) h) (line b j .call) (getD (modAt (hearLine cfg u h) i (b .lines)) j blank .call)
-unfolding Same
-line-after cfg b u i j (heard m) = said-after (onSlot i (heard m)) b u i j (meaning cfg m)
-line-after cfg b u i j offHook = let l = line b i in one-line (onSlot i offHook) u i j [] (pickUp u) refl (b .lines) (pickUp-after u i [] (l .said) (l .wait) (l .call) (l .gone))
-line-after cfg b u i j onHook = one-line (onSlot i onHook) u i j (stopOf u i (line b i .call)) close refl (b .lines) (close-after (onSlot i onHook) u i (line b i .call))
-line-after cfg b u i j carrierUp = goes-on (same-at (withGone none) (λ l. refl) i j (b .lines))
-line-after cfg b u i j carrierDown = goes-on (same-at (lose u) (lose-same u) i j (b .lines))
-line-after cfg b u i j takes = goes-on (same-at (λ l. l) (λ l. refl) i j (b .lines))
-line-after cfg b u i j givesBack = goes-on (same-at (λ l. l) (λ l. refl) i j (b .lines))
+    go (loss i) = hears-after u i j e close (stopOf u i) says-over (b .lines)
+    go (main i) = hears-after u i j e (withWait none) (λ k. []) (says-nothing (withWait none) (λ l. refl)) (b .lines)
 
 heard-after : (e : What) (b : Book) (u j : ℕ) (m : Heard) → After e u j (stopsHeard u (b .lines) m) (line b j .call) (line (hearHeard u m b) j .call)
-unfolding Same
 heard-after e b u j (callRequest r) = rw (zero-add j) at (again-after e u (r .who) 0 j (b .lines))
 heard-after e b u j (dataRequest x n) = goes-on refl
 heard-after e b u j (bq i x) = goes-on (same-at (settle u x) (settle-same u x) i j (b .lines))
@@ -242,7 +151,7 @@ heard-after e b u j nothing = goes-on refl
 hear-after : (cfg : Config) (b : Book) (u : ℕ) (o : Option Due) (w : What) (j : ℕ) → After w u j (stopsAt cfg u b o w) (line b j .call) (line (hear cfg u o w (setNow u b)) j .call)
 hear-after cfg b u o tick j = due-after tick u j b o
 hear-after cfg b u o (onChannel70 m) j = heard-after (onChannel70 m) (setNow u b) u j (meaning cfg m)
-hear-after cfg b u o (onSlot i h) j = line-after cfg b u i j h
+hear-after cfg b u o (onSlot i h) j = hears-after u i j (onSlot i h) (hearLine cfg u h) (λ k. stopsOn cfg u i k h) (line-hears cfg u i h) (b .lines)
 
 -- ── the two laws ─────────────────────────────────────────────────────────────
 

@@ -2,11 +2,14 @@ pub mod PlaceLaws
 pub mod KindLaws
 pub mod Readable
 pub mod Base
+pub mod Outcome
+pub mod Ruling
 pub mod Pieces
 pub mod OneSlot
 pub mod Asked
 pub mod Accepted
 pub mod Run
+pub mod Hears
 pub mod Talked
 pub mod Tenths
 pub mod Once

@@ -9,9 +9,9 @@ use lib.ListN.{getD}
 use borrow.Author.Tests.{not-true}
 use Rattle.rules.specs.Places.{modAt, lowest, elem, distinct}
 use Rattle.rules.specs.Words.{Party, is, Request}
-use Rattle.rules.specs.Station.{firstRing, Stage, Slot, free, taken, pending, busy, held, Waiting, Station, setSlot, setQueue, dueAfter}
-use Rattle.rules.specs.Sound.{owners}
-use Rattle.rules.specs.Requests.{rungBack, freedFor, freed, coastEnd, owns, waitsFor}
+use Rattle.rules.specs.Station.{dealing, firstRing, Stage, Slot, free, pending, shipOf, Waiting, Station, setSlot, setQueue, dueAfter}
+use Rattle.rules.specs.Sound.{listed, owners}
+use Rattle.rules.specs.Requests.{rungBack, freedFor, freed, coastEnd, isOf, owns, waitsFor}
 use Rattle.rules.proofs.PlaceLaws.{or-false, and-true, shift-none}
 use Rattle.rules.proofs.Base.{is-same, is-true}
 
@@ -33,11 +33,11 @@ countQ x (w ∷ q) = bit (is x (w .request .who)) + countQ x q
 
 occ-owners : (x : Party) (ss : List Slot) (r : List Party) → occ x (owners ss r) ≡ countS x ss + occ x r
 occ-owners x [] r = omega arith
-occ-owners x (free ∷ ss) r = omega (arith, occ-owners x ss r)
-occ-owners x (taken ∷ ss) r = omega (arith, occ-owners x ss r)
-occ-owners x (pending k q d ∷ ss) r = omega (arith, occ-owners x ss r)
-occ-owners x (busy q g c ∷ ss) r = omega (arith, occ-owners x ss r)
-occ-owners x (held q n d ∷ ss) r = omega (arith, occ-owners x ss r)
+occ-owners x (s ∷ ss) r = go (shipOf s) (occ-owners x ss r)
+  where
+    go : (o : Option Party) → occ x (owners ss r) ≡ countS x ss + occ x r → occ x (listed o (owners ss r)) ≡ (bit (isOf x o) + countS x ss) + occ x r
+    go none h = omega arith
+    go (some y) h = omega arith
 
 occ-queue : (x : Party) (q : List Waiting) → occ x (map (λ w. w .request .who) q) ≡ countQ x q
 occ-queue x [] = refl
@@ -110,7 +110,7 @@ freedFor-gone i x st w h [] e = none-left (countS x (modAt (λ y. free) i (st .s
   where
     none-left : (n s k : ℕ) → n + 1 ≤ s + 0 → s + k ≤ 1 → n ≡ 0
     none-left n s k a b = omega arith
-freedFor-gone i x st w h (v ∷ q) e = none-left (countS x (modAt (λ y. pending firstRing (v .request) (dueAfter (st .clock) 50)) i (st .slots))) (countS x (st .slots)) (bit (is x (v .request .who))) (countQ x q) (rw h at (count-set x i (pending firstRing (v .request) (dueAfter (st .clock) 50)) (st .slots))) (rw e at (w x))
+freedFor-gone i x st w h (v ∷ q) e = none-left (countS x (modAt (λ y. pending firstRing (dealing (v .request)) (dueAfter (st .clock) 50)) i (st .slots))) (countS x (st .slots)) (bit (is x (v .request .who))) (countQ x q) (rw h at (count-set x i (pending firstRing (dealing (v .request)) (dueAfter (st .clock) 50)) (st .slots))) (rw e at (w x))
   where
     none-left : (n s b k : ℕ) → n + 1 ≤ s + b → s + (b + k) ≤ 1 → n ≡ 0
     none-left n s b k u v = omega arith

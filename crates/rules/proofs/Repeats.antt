@@ -1,6 +1,6 @@
 -- `AnswersRepeat`, `SecondRingRepeats` and `DialsAsked`: a call request, any event, and then the run.
 use mathlib.Core.Path.{_≡_, refl, sym, ap, subst, _∙_}
-use mathlib.Core.List.{List, [], _∷_, _++_}
+use mathlib.Core.List.{List, [], _∷_, _++_, map}
 use mathlib.Core.Bool.{Bool, true, false, cond, _||_}
 use mathlib.Core.Option.{Option, none, some}
 use Prim.Native.Nat.{ℕ, zero, suc, _+_, _≤_}
@@ -8,23 +8,24 @@ use native.Mathlib.Omega.{arith}
 use lib.Dec.{ltb}
 use lib.ListN.{getD, length, replicate}
 use Rattle.rules.specs.Places.{modAt, shift, lowest, Each}
-use Rattle.rules.specs.Words.{Party, is, Mode, simplex, duplex, Request, Config, What, tick, onChannel70, onSlot, Event, Deed}
+use Rattle.rules.specs.Words.{Party, is, Request, Config, What, tick, onChannel70, onSlot, Event, Deed}
 use Rattle.rules.specs.Heard.{Heard, callRequest, dataRequest, bq, workingCall, endOfCall, nothing, meaning}
-use Rattle.rules.specs.Station.{Kind, offered, firstRing, secondRing, acknowledged, Stage, Slot, free, taken, pending, busy, held, Waiting, Station, fresh, setSlot, setClock, setQueue, dueAfter, queueWait, fires}
-use Rattle.rules.specs.Requests.{Out, also, rungBack, freedFor, freed, coastEnd, owns, waitsFor, slotOf, placeOf, standsAt, standing, ruleA, repeated, afresh, same, ruleB, ruleD, offer, ruleF, ruleG, isFree, eToG, newcomer, dToG, redial, ruleC, bOrC, requested}
+use Rattle.rules.specs.Station.{Stage, Slot, free, Waiting, Station, fresh, setSlot, setClock, setQueue, dueAfter, queueWait, fires}
+use Rattle.rules.specs.Requests.{Out, also, rungBack, freedFor, freed, coastEnd, owns, waitsFor, slotOf, placeOf, standsAt, standing, ruleA, repeated, afresh, ruleD, offer, ruleF, ruleG, isFree, eToG, newcomer, dToG, redial, requested}
 use Rattle.rules.specs.Calls.{heardOn70, actAt, act}
 use Rattle.rules.specs.Verdict.{verdict, play}
-use Rattle.rules.specs.Book.{Note, Book, blankBook}
+use Rattle.rules.specs.Book.{Note, Stop, Book, blankBook}
 use Rattle.rules.specs.Reading.{read, reads, turn, readAll}
-use Rattle.rules.specs.Repeated.{heardAt, heardIn, putsOff, toldToWait, lastAsked, Repeats, switchedOn, EachRead}
+use Rattle.rules.specs.Repeated.{heardAt, heardIn, toldToWait, lastAsked, Repeats, switchedOn, EachRead}
 use Rattle.rules.specs.Statement.{deedsOf, notes, AnswersRepeat, SecondRingRepeats, DialsAsked}
 use Rattle.rules.proofs.PlaceLaws.{shift-some, lowest-is, each-append}
-use Rattle.rules.proofs.Base.{seen, is-same, deeds-append}
+use Rattle.rules.proofs.Base.{view, seen, is-same, deeds-append}
 use Rattle.rules.proofs.Accepted.{accepted, sounds}
 use Rattle.rules.proofs.Run.{noteOf, turn-is, play-on, play-past, fresh-seen}
 use Rattle.rules.proofs.Once.{bit, countS, countQ, Once, distinct-once, none-count, waiting-count, coastEnd-gone}
-use Rattle.rules.proofs.Walk.{offerOf}
-use Rattle.rules.proofs.Calm.{Asked, Rung, Known, Fits, Calm, calm-if, still, set-known, coastEnd-calm, happened-calm, agree-calm, clock-known, tick-calm}
+use Rattle.rules.proofs.Outcome.{bq-outcome, happened-outcome}
+use Rattle.rules.proofs.Ruling.{offerOf, Ruling, passes, repeats, renews, redials, bOrC-ruling}
+use Rattle.rules.proofs.Calm.{Asked, Rung, Known, Fits, Calm, still, set-known, told-append, fits-append, coastEnd-calm, outcome-calm, clock-known, tick-calm}
 
 -- what each ship last asked for, once the deeds are done
 abbrev told : Heard → (Party → Heard) → List Deed → Party → Heard
@@ -37,7 +38,7 @@ record Said (h : Heard) (a : Party → Heard) (b : Book) (o : Out) : Type 0 wher
   known : Known (told h a (deedsOf (o .acts))) (o .next)
 
 calm-said : (h : Heard) (a : Party → Heard) (b : Book) (o : Out) → Calm h a b o → Said h a b o
-calm-said h a b o c = record { repeats = c .repeats; fits = c .fits; known = subst (λ z. Known z (o .next)) (λ i x. cond (sym (c .untold x) i) h (a x)) (c .known) }
+calm-said h a b o c = record { repeats = c .mild .repeats; fits = c .mild .fits; known = subst (λ z. Known z (o .next)) (λ i x. cond (sym (c .mild .untold x) i) h (a x)) (c .known) }
 
 -- ── the ship that is told to wait is the only one concerned ──────────────────
 
@@ -58,14 +59,7 @@ module _ (r : Request) (a : Party → Heard) (b : Book) where
       go false e ih = let z : 0 + countQ (r .who) q ≡ 0 = rw e at n in (rw e (k .0), ih (omega arith))
 
   other-rings : (s : Slot) → owns (r .who) s ≡ false → Rung a s → Rung now s
-  other-rings free e k = tt
-  other-rings taken e k = tt
-  other-rings (pending offered o d) e k = tt
-  other-rings (pending firstRing o d) e k = rw e k
-  other-rings (pending secondRing o d) e k = tt
-  other-rings (pending acknowledged o d) e k = tt
-  other-rings (busy o g c) e k = tt
-  other-rings (held o n d) e k = tt
+  other-rings s e k o d h = let y : is (r .who) (o .request .who) ≡ false = rw h at e in rw y (k o d h)
 
   others-ring : (ss : List Slot) → countS (r .who) ss ≡ 0 → Each (Rung a) ss → Each (Rung now) ss
   others-ring [] n k = tt
@@ -104,12 +98,12 @@ module _ (r : Request) (a : Party → Heard) (b : Book) where
 
     eToG-said : placeOf (r .who) st ≡ none → (o : Option ℕ) → Said (callRequest r) a b (eToG st r o)
     unfolding eToG offer afresh ruleG
-    eToG-said h (some i) = calm-said _ a b _ (record { repeats = (tt, (refl, tt)); fits = λ t on. ((tt, tt), ((tt, tt), tt)); untold = λ x. refl; known = set-known a i (offerOf r st) st tt k })
+    eToG-said h (some i) = calm-said _ a b _ (record { mild = record { repeats = (tt, (refl, tt)); fits = λ t on. ((tt, tt), ((tt, tt), tt)); untold = λ x. refl }; known = set-known a i (offerOf r st) st (λ o d x. cc) k })
     eToG-said h none = go (ltb (length (st .queue)) 32)
       where
         go : (t : Bool) → Said (callRequest r) a b (cond t (ruleF st r) (ruleG st r))
         go true = ruleF-said (waiting-count (r .who) (st .queue) h)
-        go false = calm-said _ a b _ (record { repeats = ((refl, refl), tt); fits = λ t on. ((tt, tt), tt); untold = λ x. refl; known = k })
+        go false = calm-said _ a b _ (record { mild = record { repeats = ((refl, refl), tt); fits = λ t on. ((tt, tt), tt); untold = λ x. refl }; known = k })
 
     newcomer-said : placeOf (r .who) st ≡ none → Said (callRequest r) a b (newcomer st r)
     unfolding newcomer
@@ -124,35 +118,22 @@ module _ (r : Request) (a : Party → Heard) (b : Book) where
 
   afresh-calm : (i : ℕ) (st : Station) → Known a st → Calm (callRequest r) a b (afresh i st r)
   unfolding afresh
-  afresh-calm i st k = record { repeats = (refl, tt); fits = λ t on. ((tt, tt), tt); untold = λ x. refl; known = set-known a i (offerOf r st) st tt k }
+  afresh-calm i st k = record { mild = record { repeats = (refl, tt); fits = λ t on. ((tt, tt), tt); untold = λ x. refl }; known = set-known a i (offerOf r st) st (λ o d x. cc) k }
 
   repeated-calm : (i : ℕ) (st : Station) → Known a st → Calm (callRequest r) a b (repeated i st r)
   unfolding repeated
-  repeated-calm i st k = record { repeats = (refl, tt); fits = λ t on. ((tt, tt), tt); untold = λ x. refl; known = k }
+  repeated-calm i st k = record { mild = record { repeats = (refl, tt); fits = λ t on. ((tt, tt), tt); untold = λ x. refl }; known = k }
 
 -- what is said behind a calm piece
-told-append : (x : Party) (ds es : List Deed) → toldToWait x ds ≡ false → toldToWait x (ds ++ es) ≡ toldToWait x es
-told-append x [] es h = refl
-told-append x (d ∷ ds) es h = go (putsOff x d) h (told-append x ds es)
-  where
-    go : (b : Bool) → (b || toldToWait x ds) ≡ false → (toldToWait x ds ≡ false → toldToWait x (ds ++ es) ≡ toldToWait x es) → (b || toldToWait x (ds ++ es)) ≡ toldToWait x es
-    go true e ih = let y : true ≡ false = e in cc
-    go false e ih = ih e
-
-fits-append : (t : ℕ) (on : Option ℕ) (b : Book) (ds es : List Deed) → EachRead Fits t on b ds → ((o : Option ℕ) → EachRead Fits t o (reads t ds b) es) → EachRead Fits t on b (ds ++ es)
-unfolding reads
-fits-append t on b [] es p q = q on
-fits-append t on b (d ∷ ds) es p q = (p .0, fits-append t (switchedOn d) (read t d b) ds es (p .1) q)
-
 also-said : (h : Heard) (a : Party → Heard) (b : Book) (p o : Out) → Calm h a b p → ((t : ℕ) → Said h a (reads t (deedsOf (p .acts)) b) o) → Said h a b (also (p .acts) o)
 also-said h a b p o c s = record {
-  repeats = rw (deeds-append (p .acts) (o .acts)) (each-append (Repeats h a) (deedsOf (p .acts)) (deedsOf (o .acts)) (c .repeats) (s 0 .repeats));
-  fits = λ t on. rw (deeds-append (p .acts) (o .acts)) (fits-append t on b (deedsOf (p .acts)) (deedsOf (o .acts)) (c .fits t on) (s t .fits t));
+  repeats = rw (deeds-append (p .acts) (o .acts)) (each-append (Repeats h a) (deedsOf (p .acts)) (deedsOf (o .acts)) (c .mild .repeats) (s 0 .repeats));
+  fits = λ t on. rw (deeds-append (p .acts) (o .acts)) (fits-append t on b (deedsOf (p .acts)) (deedsOf (o .acts)) (c .mild .fits t on) (s t .fits t));
   known = subst (λ z. Known z (o .next)) (λ i x. cond (sym (same-told x) i) h (a x)) (s 0 .known);
 }
   where
     same-told : (x : Party) → toldToWait x (deedsOf (p .acts ++ o .acts)) ≡ toldToWait x (deedsOf (o .acts))
-    same-told x = ap (toldToWait x) (deeds-append (p .acts) (o .acts)) ∙ told-append x (deedsOf (p .acts)) (deedsOf (o .acts)) (c .untold x)
+    same-told x = ap (toldToWait x) (deeds-append (p .acts) (o .acts)) ∙ told-append x (deedsOf (p .acts)) (deedsOf (o .acts)) (c .mild .untold x)
 
 freedFor-fewer : (i : ℕ) (x : Party) (st : Station) (q : List Waiting) → st .queue ≡ q → countQ x (st .queue) ≤ 1 → countQ x (freedFor i st q .next .queue) ≤ 1
 unfolding freedFor rungBack setSlot setQueue
@@ -167,52 +148,39 @@ module _ (r : Request) (a : Party → Heard) (b : Book) (st : Station) (k : Know
   waits-once : countQ (r .who) (st .queue) ≤ 1
   waits-once = omega (arith, once (r .who))
 
-  ruleC-said : (i : ℕ) (o : Request) (g : Stage) (m : Mode) (c : Option ℕ) → owns (r .who) (getD (st .slots) i free) ≡ true → Said (callRequest r) a b (ruleC i o g m c st r)
-  unfolding ruleC redial
-  ruleC-said i o g duplex c h = calm-said _ a b _ (still (callRequest r) a b 1 st k)
-  ruleC-said i o g simplex none h = calm-said _ a b _ (still (callRequest r) a b 1 st k)
-  ruleC-said i o g simplex (some d) h =
-      let end = coastEnd-calm (callRequest r) a b i st k o g in
-      also-said (callRequest r) a b (coastEnd i o g st) _ end (λ t. dToG-said r a (reads t (deedsOf (coastEnd i o g st .acts)) b) (coastEnd i o g st .next) (end .known) (coastEnd-gone i (r .who) o g st once h) (placeOf (r .who) (coastEnd i o g st .next)) refl (coastEnd-fewer i (r .who) o g st waits-once))
-
-  ruleB-calm : (i : ℕ) (j : Kind) (o : Request) → Calm (callRequest r) a b (ruleB i j o st r)
-  unfolding ruleB
-  ruleB-calm i offered o = calm-if (callRequest r) a b (same r o) (repeated i st r) (afresh i st r) (repeated-calm r a b i st k) (afresh-calm r a b i st k)
-  ruleB-calm i firstRing o = afresh-calm r a b i st k
-  ruleB-calm i secondRing o = afresh-calm r a b i st k
-  ruleB-calm i acknowledged o = afresh-calm r a b i st k
-
-  bOrC-said : (i : ℕ) (p : Slot) → getD (st .slots) i free ≡ p → owns (r .who) p ≡ true → Said (callRequest r) a b (bOrC i p st r)
-  unfolding bOrC
-  bOrC-said i free e h = calm-said _ a b _ (still (callRequest r) a b 1 st k)
-  bOrC-said i taken e h = calm-said _ a b _ (still (callRequest r) a b 1 st k)
-  bOrC-said i (pending j o d) e h = calm-said _ a b _ (ruleB-calm i j o)
-  bOrC-said i (busy o g c) e h = ruleC-said i o g (o .mode) c (rw e h)
-  bOrC-said i (held o n d) e h = calm-said _ a b _ (still (callRequest r) a b 1 st k)
+  ruling-said : (i : ℕ) (cs : List Stop) (p : Slot) (o : Out) → Ruling i st r cs p o → getD (st .slots) i free ≡ p → owns (r .who) p ≡ true → Said (callRequest r) a b o
+  unfolding redial
+  ruling-said i cs _ _ (passes p x) e h = calm-said _ a b _ (still (callRequest r) a b 1 st k)
+  ruling-said i cs _ _ (repeats j o d x y) e h = calm-said _ a b _ (repeated-calm r a b i st k)
+  ruling-said i cs _ _ (renews j o d x y) e h = calm-said _ a b _ (afresh-calm r a b i st k)
+  ruling-said i cs _ _ (redials o g c x) e h =
+      let q = o .request in
+      let end = coastEnd-calm (callRequest r) a b i st k q g in
+      also-said (callRequest r) a b (coastEnd i q g st) _ end (λ t. dToG-said r a (reads t (deedsOf (coastEnd i q g st .acts)) b) (coastEnd i q g st .next) (end .known) (coastEnd-gone i (r .who) q g st once (rw e h)) (placeOf (r .who) (coastEnd i q g st .next)) refl (coastEnd-fewer i (r .who) q g st waits-once))
 
   request-said : (o q : Option ℕ) → slotOf (r .who) st ≡ o → placeOf (r .who) st ≡ q → Said (callRequest r) a b (requested st r (standsAt o q))
   unfolding requested
   request-said none none e h = newcomer-said r a b st k (none-count (r .who) (st .slots) e) h
   request-said none (some j) e h = ruleD-said r a b st k (none-count (r .who) (st .slots) e) j h waits-once
-  request-said (some i) q e h = bOrC-said i (getD (st .slots) i free) refl (lowest-is free (owns (r .who)) (st .slots) i e)
+  request-said (some i) q e h = ruling-said i _ (getD (st .slots) i free) _ (bOrC-ruling i st r (getD (st .slots) i free)) refl (lowest-is free (owns (r .who)) (st .slots) i e)
 
 -- ── any event ────────────────────────────────────────────────────────────────
 
 module _ (a : Party → Heard) where
-  heard-said : (b : Book) (st : Station) → Known a st → Once st → (m : Heard) → Said m a b (heardOn70 st m)
+  heard-said : (b : Book) (st : Station) → b .lines ≡ map view (st .slots) → Known a st → Once st → (m : Heard) → Said m a b (heardOn70 st m)
   unfolding heardOn70 ruleA standing
-  heard-said b st k once (callRequest r) = request-said r a b st k once (slotOf (r .who) st) (placeOf (r .who) st) refl refl
-  heard-said b st k once (dataRequest x n) = calm-said _ a b _ (record { repeats = ((refl, refl), tt); fits = λ t on. ((tt, tt), tt); untold = λ x. refl; known = k })
-  heard-said b st k once (bq i x) = calm-said _ a b _ (agree-calm (bq i x) a b i st k x (getD (st .slots) i free))
-  heard-said b st k once (workingCall x) = calm-said _ a b _ (still (workingCall x) a b 1 st k)
-  heard-said b st k once (endOfCall x) = calm-said _ a b _ (still (endOfCall x) a b 1 st k)
-  heard-said b st k once nothing = calm-said _ a b _ (still nothing a b 1 st k)
+  heard-said b st v k once (callRequest r) = request-said r a b st k once (slotOf (r .who) st) (placeOf (r .who) st) refl refl
+  heard-said b st v k once (dataRequest x n) = calm-said _ a b _ (record { mild = record { repeats = ((refl, refl), tt); fits = λ t on. ((tt, tt), tt); untold = λ x. refl }; known = k })
+  heard-said b st v k once (bq i x) = calm-said _ a b _ (outcome-calm (bq i x) a b i st k v (bq-outcome i st x (getD (st .slots) i free)))
+  heard-said b st v k once (workingCall x) = calm-said _ a b _ (still (workingCall x) a b 1 st k)
+  heard-said b st v k once (endOfCall x) = calm-said _ a b _ (still (endOfCall x) a b 1 st k)
+  heard-said b st v k once nothing = calm-said _ a b _ (still nothing a b 1 st k)
 
   act-said : (cfg : Config) (st : Station) → Known a st → Once st → (t : ℕ) (w : What) → Said (heardAt cfg w) a (seen st) (actAt cfg st t w)
   unfolding actAt setClock seen
   act-said cfg st k once t tick = calm-said _ a (seen st) _ (tick-calm nothing a (seen st) st refl k t (fires t st))
-  act-said cfg st k once t (onChannel70 m) = heard-said (seen st) (setClock t st) (clock-known a t st k) once (meaning cfg m)
-  act-said cfg st k once t (onSlot i h) = calm-said _ a (seen st) _ (happened-calm nothing a (seen st) i (setClock t st) (clock-known a t st k) refl cfg (getD (st .slots) i free) refl h)
+  act-said cfg st k once t (onChannel70 m) = heard-said (seen st) (setClock t st) refl (clock-known a t st k) once (meaning cfg m)
+  act-said cfg st k once t (onSlot i h) = calm-said _ a (seen st) _ (outcome-calm nothing a (seen st) i (setClock t st) (clock-known a t st k) refl (happened-outcome i (setClock t st) cfg (getD (st .slots) i free) h))
 
 -- ── the run ──────────────────────────────────────────────────────────────────
 
@@ -252,7 +220,7 @@ run-answered cfg (e ∷ es) a st k = go (verdict cfg st e) refl (λ c s. run-ans
 
 no-rings : (a : Party → Heard) (n : ℕ) → Each (Rung a) (replicate n free)
 no-rings a zero = tt
-no-rings a (suc n) = (tt, no-rings a n)
+no-rings a (suc n) = (λ r d x. cc, no-rings a n)
 
 all-answered : (cfg : Config) (es : List Event) → AllAnswered cfg (λ x. nothing) (blankBook cfg) (notes (play cfg es (fresh cfg)))
 unfolding fresh

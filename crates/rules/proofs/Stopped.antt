@@ -6,10 +6,12 @@ use mathlib.Core.Option.{Option, none, some}
 use Prim.Native.Nat.{ℕ, zero, suc}
 use lib.ListN.{getD}
 use Rattle.rules.specs.Places.{all, Each}
-use Rattle.rules.specs.Words.{Party, Config, Happened, heard, offHook, onHook, carrierUp, carrierDown, takes, givesBack, What, tick, onChannel70, onSlot}
+use Rattle.rules.specs.Words.{Party, Config, What, tick, onChannel70, onSlot}
 use Rattle.rules.specs.Waits.{Wait, ofQueue, loss, main, Due}
 use Rattle.rules.specs.Heard.{Heard, callRequest, dataRequest, bq, workingCall, endOfCall, nothing, meaning}
-use Rattle.rules.specs.Book.{Stop, Call, quiet, Line, Book, blank, line, stopOf, callOf, stopsSaid, stopsOn, stopsDue, askedAgain, stopsAgain, stopsHeard, stopsAt}
+use Rattle.rules.specs.Book.{Stop, Call, quiet, Line, Book, blank, line, stopOf, callOf, stopsOn, stopsDue, askedAgain, stopsAgain, stopsHeard, stopsAt}
+use Rattle.rules.specs.Reading.{hearLine}
+use Rattle.rules.proofs.Hears.{Hears, says-nothing, says-begun, says-over, says-end, line-hears}
 use Rattle.rules.proofs.PlaceLaws.{and-true, each-append}
 
 -- of a stop that a call gives where it passes a test
@@ -27,22 +29,11 @@ module _ (cfg : Config) (t : ℕ) (P : Stop → Type 0) (fine : Call → Bool) (
   at-line zero (l ∷ ls) e = and-true (fine (l .call)) (all (λ l. fine (l .call)) ls) e .0
   at-line (suc i) (l ∷ ls) e = at-line i ls (and-true (fine (l .call)) (all (λ l. fine (l .call)) ls) e .1)
 
-  said-stops : (i : ℕ) (k : Call) → fine k ≡ true → (m : Heard) → Each P (stopsSaid t i k m)
-  said-stops i k e (callRequest r) = tt
-  said-stops i k e (dataRequest x n) = tt
-  said-stops i k e (bq j x) = tt
-  said-stops i k e (workingCall x) = tt
-  said-stops i k e (endOfCall x) = stop-if (callOf x k) (stopOf t i k) (one i k e)
-  said-stops i k e nothing = tt
-
-  slot-stops : (i : ℕ) (k : Call) → fine k ≡ true → (x : Happened) → Each P (stopsOn cfg t i k x)
-  slot-stops i k e (heard m) = said-stops i k e (meaning cfg m)
-  slot-stops i k e offHook = tt
-  slot-stops i k e onHook = one i k e
-  slot-stops i k e carrierUp = tt
-  slot-stops i k e carrierDown = tt
-  slot-stops i k e takes = tt
-  slot-stops i k e givesBack = tt
+  hears-stops : (i : ℕ) (e : What) (f : Line → Line) (s : Call → List Stop) → Hears t i e f s → (k : Call) → fine k ≡ true → Each P (s k)
+  hears-stops i e _ _ (says-nothing f h) k g = tt
+  hears-stops i e _ _ (says-begun h) k g = tt
+  hears-stops i e _ _ says-over k g = one i k g
+  hears-stops i e _ _ (says-end x) k g = stop-if (callOf x k) (stopOf t i k) (one i k g)
 
   heard-stops : (ls : List Line) → all (λ l. fine (l .call)) ls ≡ true → (m : Heard) → Each P (stopsHeard t ls m)
   heard-stops ls e (callRequest r) = again-stops (r .who) 0 ls e
@@ -61,4 +52,4 @@ module _ (cfg : Config) (t : ℕ) (P : Stop → Type 0) (fine : Call → Bool) (
       go (loss i) = one i (line b i .call) (at-line i (b .lines) e)
       go (main i) = tt
   each-stop b e o (onChannel70 m) = heard-stops (b .lines) e (meaning cfg m)
-  each-stop b e o (onSlot i x) = slot-stops i (line b i .call) (at-line i (b .lines) e) x
+  each-stop b e o (onSlot i x) = hears-stops i (onSlot i x) (hearLine cfg t x) (λ k. stopsOn cfg t i k x) (line-hears cfg t i x) (line b i .call) (at-line i (b .lines) e)

@@ -13,11 +13,14 @@ use Rattle.units.specs.declared.Told.the-variants.{Nothing, Lasting}
 use Rattle.sequence.specs.Field.{durationOk}
 use Rattle.rules.specs.Places.{modAt, dropAt, all}
 use Rattle.rules.specs.Words.{Request, Config}
-use Rattle.rules.specs.Station.{firstRing, Stage, dialling, answered, Slot, free, pending, Waiting, Station, setSlot, setClock, setQueue, dueAfter, kindWait}
+use Rattle.rules.specs.Actions.{Action}
+use Rattle.rules.specs.Station.{dealing, firstRing, Stage, dialling, answered, Slot, free, pending, Waiting, Station, setSlot, setClock, setQueue, dueAfter, kindWait}
 use Rattle.rules.specs.Sound.{requestKeeps, durationKeeps, slotKeeps, waitingKeeps}
 use Rattle.rules.specs.Requests.{rungBack, freedFor, freed, lasted, ruleD, ruleF}
 use Rattle.rules.proofs.PlaceLaws.{and-true, modAt-length, all-set, all-at, all-end, all-dropped}
-use Rattle.rules.proofs.Walk.{Turn, to-dial, to-renew, to-answer, to-lose, to-regain, to-hold, to-take, offerOf, Closed}
+use Rattle.rules.proofs.Outcome.{becomes, Move, to-dial, to-agree, to-ring, to-answer, to-lose, to-regain, to-hold, to-take}
+use Rattle.rules.proofs.Ruling.{offerOf}
+use Rattle.rules.proofs.Walk.{Closed}
 
 pub record Stored (cfg : Config) (st : Station) : Type 0 where
   pub slots-keep : all (slotKeeps cfg) (st .slots) ≡ true
@@ -59,24 +62,25 @@ module _ (cfg : Config) where
   clock-stored t st s = record { slots-keep = s .slots-keep; queue-keeps = s .queue-keeps; many = s .many }
 
   -- the request of a slot is the one that it had
-  turned-keeps : (t : ℕ) (p q : Slot) → Turn t p q → slotKeeps cfg p ≡ true → slotKeeps cfg q ≡ true
-  turned-keeps t _ _ (to-dial k r d) h = h
-  turned-keeps t _ _ (to-renew k j r d) h = h
-  turned-keeps t _ _ (to-answer r d c) h = h
-  turned-keeps t _ _ (to-lose r g c) h = h
-  turned-keeps t _ _ (to-regain r g c) h = h
-  turned-keeps t _ _ (to-hold r g c) h = rw (h, lasted-keeps g t) refl
-  turned-keeps t _ _ to-take h = refl
+  turned-keeps : (i t : ℕ) (p q : Slot) (acts : List Action) → Move i t p (becomes q) acts → slotKeeps cfg p ≡ true → slotKeeps cfg q ≡ true
+  turned-keeps i t _ _ _ (to-dial k r d z) h = h
+  turned-keeps i t _ _ _ (to-agree k r d) h = h
+  turned-keeps i t _ _ _ (to-ring r d) h = h
+  turned-keeps i t _ _ _ (to-answer r d c) h = h
+  turned-keeps i t _ _ _ (to-lose r g c) h = h
+  turned-keeps i t _ _ _ (to-regain r g c) h = h
+  turned-keeps i t _ _ _ (to-hold r g c) h = rw (h, lasted-keeps g t) refl
+  turned-keeps i t _ _ _ to-take h = refl
 
-  turned-stored : (i : ℕ) (st : Station) (p q : Slot) → getD (st .slots) i free ≡ p → Turn (st .clock) p q → Stored cfg st → Stored cfg (setSlot i q st)
-  turned-stored i st p q e t s = set-stored i q st (turned-keeps (st .clock) p q t (rw e at (all-at (slotKeeps cfg) free refl i (st .slots) (s .slots-keep)))) s
+  turned-stored : (i : ℕ) (st : Station) (p q : Slot) (acts : List Action) → getD (st .slots) i free ≡ p → Move i (st .clock) p (becomes q) acts → Stored cfg st → Stored cfg (setSlot i q st)
+  turned-stored i st p q acts e t s = set-stored i q st (turned-keeps i (st .clock) p q acts t (rw e at (all-at (slotKeeps cfg) free refl i (st .slots) (s .slots-keep)))) s
 
   freedFor-stored : (i : ℕ) (st : Station) → Stored cfg st → (q : List Waiting) → st .queue ≡ q → Stored cfg (freedFor i st q .next)
   unfolding freedFor rungBack
   freedFor-stored i st s [] e = set-stored i free st refl s
   freedFor-stored i st s (w ∷ q) e =
       let k = and-true (waitingKeeps cfg w) (all (waitingKeeps cfg) q) (rw e at (s .queue-keeps)) in
-      set-stored i (pending firstRing (w .request) (dueAfter (st .clock) (kindWait firstRing))) (setQueue q st) (k .0) (queue-stored q st (k .1) s)
+      set-stored i (pending firstRing (dealing (w .request)) (dueAfter (st .clock) (kindWait firstRing))) (setQueue q st) (k .0) (queue-stored q st (k .1) s)
 
   freed-stored : (i : ℕ) (st : Station) → Stored cfg st → Stored cfg (freed i st .next)
   unfolding freed
@@ -97,7 +101,7 @@ module _ (cfg : Config) where
 
   pub stored-closed : Closed cfg (Stored cfg)
   stored-closed = record {
-    turned = turned-stored;
+    turning = turned-stored;
     freeing = freed-stored;
     renewed = λ i st r h k o d e y s. set-stored i (offerOf r st) st h s;
     offering = λ i st r h n y s. set-stored i (offerOf r st) st h s;

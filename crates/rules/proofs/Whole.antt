@@ -10,7 +10,8 @@ use lib.ListN.{getD, length, length-append}
 use borrow.Author.Tests.{leb-true, ltb-true, le-leb}
 use Rattle.rules.specs.Places.{modAt, dropAt, all}
 use Rattle.rules.specs.Words.{Party, is, Mode, Request, Config}
-use Rattle.rules.specs.Station.{Kind, offered, firstRing, Stage, Slot, free, pending, Waiting, Station, setSlot, setQueue, dueAfter, kindWait, carrierWait, replyWait, holdWait, queueWait}
+use Rattle.rules.specs.Actions.{Action}
+use Rattle.rules.specs.Station.{Dealing, dealing, Kind, offered, firstRing, secondRing, acknowledged, Stage, Slot, free, pending, Waiting, Station, setSlot, setQueue, dueAfter, kindWait, carrierWait, replyWait, holdWait, queueWait}
 use Rattle.rules.specs.Sound.{queueRoom, fits, stageFits, lossFits, slotFits, placeFits}
 use Rattle.rules.specs.Requests.{rungBack, freedFor, freed, owns, waitsFor, placeOf, ruleD, ruleF}
 use Rattle.rules.specs.Calls.{startLoss}
@@ -18,7 +19,9 @@ use Rattle.rules.proofs.PlaceLaws.{and-true, lowest-is, all-set, all-at
 use Rattle.rules.proofs.Base.{is-true}
 use Rattle.rules.proofs.Accepted.{Sound}
 use Rattle.rules.proofs.Once.{bit, countS, countQ, Once, distinct-once, count-set, waiting-count}
-use Rattle.rules.proofs.Walk.{Turn, to-dial, to-renew, to-answer, to-lose, to-regain, to-hold, to-take, offerOf, Closed}
+use Rattle.rules.proofs.Outcome.{becomes, Move, to-dial, to-agree, to-ring, to-answer, to-lose, to-regain, to-hold, to-take}
+use Rattle.rules.proofs.Ruling.{offerOf}
+use Rattle.rules.proofs.Walk.{Closed}
 
 pub record Whole (st : Station) : Type 0 where
   pub once : Once st
@@ -59,26 +62,28 @@ down-fits t g m none h k = rw h (new-wait t (carrierWait m))
 down-fits t g m (some d) h k = rw h k
 
 -- what the slot becomes fits the clock, and is no other ship's
-turned-fits : (t : ℕ) (p q : Slot) → Turn t p q → slotFits t p ≡ true → slotFits t q ≡ true
-turned-fits t _ _ (to-dial k r d) h = rw (new-wait t replyWait) refl
-turned-fits t _ _ (to-renew k j r d) h = new-wait t (kindWait j)
-turned-fits t _ _ (to-answer r d c) h = rw (le-leb t t (omega arith)) (and-true (fits t replyWait d) (lossFits t (r .mode) c) h .1)
-turned-fits t _ _ (to-lose r g c) h = let f = and-true (stageFits t g) (lossFits t (r .mode) c) h in down-fits t g (r .mode) c (f .0) (f .1)
-turned-fits t _ _ (to-regain r g c) h = rw (and-true (stageFits t g) (lossFits t (r .mode) c) h .0) refl
-turned-fits t _ _ (to-hold r g c) h = new-wait t holdWait
-turned-fits t _ _ to-take h = refl
+turned-fits : (i t : ℕ) (p q : Slot) (acts : List Action) → Move i t p (becomes q) acts → slotFits t p ≡ true → slotFits t q ≡ true
+turned-fits i t _ _ _ (to-dial k r d z) h = rw (new-wait t replyWait) refl
+turned-fits i t _ _ _ (to-agree k r d) h = new-wait t (kindWait acknowledged)
+turned-fits i t _ _ _ (to-ring r d) h = new-wait t (kindWait secondRing)
+turned-fits i t _ _ _ (to-answer r d c) h = rw (le-leb t t (omega arith)) (and-true (fits t replyWait d) (lossFits t (r .request .mode) c) h .1)
+turned-fits i t _ _ _ (to-lose r g c) h = let f = and-true (stageFits t g) (lossFits t (r .request .mode) c) h in down-fits t g (r .request .mode) c (f .0) (f .1)
+turned-fits i t _ _ _ (to-regain r g c) h = rw (and-true (stageFits t g) (lossFits t (r .request .mode) c) h .0) refl
+turned-fits i t _ _ _ (to-hold r g c) h = new-wait t holdWait
+turned-fits i t _ _ _ to-take h = refl
 
-turned-owner : (t : ℕ) (p q : Slot) → Turn t p q → (x : Party) → bit (owns x q) ≤ bit (owns x p)
-turned-owner t _ _ (to-dial k r d) x = omega arith
-turned-owner t _ _ (to-renew k j r d) x = omega arith
-turned-owner t _ _ (to-answer r d c) x = omega arith
-turned-owner t _ _ (to-lose r g c) x = omega arith
-turned-owner t _ _ (to-regain r g c) x = omega arith
-turned-owner t _ _ (to-hold r g c) x = omega arith
-turned-owner t _ _ to-take x = omega arith
+turned-owner : (i t : ℕ) (p q : Slot) (acts : List Action) → Move i t p (becomes q) acts → (x : Party) → bit (owns x q) ≤ bit (owns x p)
+turned-owner i t _ _ _ (to-dial k r d z) x = omega arith
+turned-owner i t _ _ _ (to-agree k r d) x = omega arith
+turned-owner i t _ _ _ (to-ring r d) x = omega arith
+turned-owner i t _ _ _ (to-answer r d c) x = omega arith
+turned-owner i t _ _ _ (to-lose r g c) x = omega arith
+turned-owner i t _ _ _ (to-regain r g c) x = omega arith
+turned-owner i t _ _ _ (to-hold r g c) x = omega arith
+turned-owner i t _ _ _ to-take x = omega arith
 
-turned-whole : (i : ℕ) (st : Station) (p q : Slot) → getD (st .slots) i free ≡ p → Turn (st .clock) p q → Whole st → Whole (setSlot i q st)
-turned-whole i st p q e t w = turn-whole i st p e w q (turned-fits (st .clock) p q t (rw e at (all-at (slotFits (st .clock)) free refl i (st .slots) (w .fit)))) (turned-owner (st .clock) p q t)
+turned-whole : (i : ℕ) (st : Station) (p q : Slot) (acts : List Action) → getD (st .slots) i free ≡ p → Move i (st .clock) p (becomes q) acts → Whole st → Whole (setSlot i q st)
+turned-whole i st p q acts e t w = turn-whole i st p e w q (turned-fits i (st .clock) p q acts t (rw e at (all-at (slotFits (st .clock)) free refl i (st .slots) (w .fit)))) (turned-owner i (st .clock) p q acts t)
 
 -- ── a slot freed ─────────────────────────────────────────────────────────────
 
@@ -86,8 +91,8 @@ freedFor-whole : (i : ℕ) (st : Station) → Whole st → (q : List Waiting) �
 unfolding freedFor rungBack setSlot setQueue
 freedFor-whole i st w [] e = turn-whole i st (getD (st .slots) i free) refl w free refl (λ x. omega arith)
 freedFor-whole i st w (v ∷ q) e = record {
-  once = λ x. less (countS x (modAt (λ y. pending firstRing (v .request) (dueAfter (st .clock) 50)) i (st .slots))) (bit (owns x (getD (st .slots) i free))) (countS x (st .slots)) (bit (is x (v .request .who))) (countQ x q) (count-set x i (pending firstRing (v .request) (dueAfter (st .clock) 50)) (st .slots)) (rw e at (w .once x));
-  fit = all-set (slotFits (st .clock)) i (pending firstRing (v .request) (dueAfter (st .clock) 50)) (st .slots) (w .fit) (new-wait (st .clock) 50);
+  once = λ x. less (countS x (modAt (λ y. pending firstRing (dealing (v .request)) (dueAfter (st .clock) 50)) i (st .slots))) (bit (owns x (getD (st .slots) i free))) (countS x (st .slots)) (bit (is x (v .request .who))) (countQ x q) (count-set x i (pending firstRing (dealing (v .request)) (dueAfter (st .clock) 50)) (st .slots)) (rw e at (w .once x));
+  fit = all-set (slotFits (st .clock)) i (pending firstRing (dealing (v .request)) (dueAfter (st .clock) 50)) (st .slots) (w .fit) (new-wait (st .clock) 50);
   placed = and-true (placeFits (st .clock) v) (all (placeFits (st .clock)) q) (rw e at (w .placed)) .1;
   room = shorter (length q) (rw e at (w .room));
 }
@@ -160,8 +165,8 @@ module _ (st : Station) (r : Request) (here : countS (r .who) (st .slots) ≡ 0)
       weaker : (b n : ℕ) → n ≤ 1 → n ≤ 1 + b
       weaker b n h = omega arith
 
-renewed-whole : (i : ℕ) (st : Station) (r : Request) (k : Kind) (o : Request) (d : ℕ) → getD (st .slots) i free ≡ pending k o d → is (r .who) (o .who) ≡ true → Whole st → Whole (setSlot i (offerOf r st) st)
-renewed-whole i st r k o d e h w = turn-whole i st (pending k o d) e w (offerOf r st) (new-wait (st .clock) (kindWait offered)) (λ x. rw (is-true (r .who) (o .who) h) (omega arith))
+renewed-whole : (i : ℕ) (st : Station) (r : Request) (k : Kind) (o : Dealing) (d : ℕ) → getD (st .slots) i free ≡ pending k o d → is (r .who) (o .request .who) ≡ true → Whole st → Whole (setSlot i (offerOf r st) st)
+renewed-whole i st r k o d e h w = turn-whole i st (pending k o d) e w (offerOf r st) (new-wait (st .clock) (kindWait offered)) (λ x. rw (is-true (r .who) (o .request .who) h) (omega arith))
 
 -- ── the queue ────────────────────────────────────────────────────────────────
 
@@ -187,7 +192,7 @@ dropped-whole k st w = record {
 
 pub whole-closed : (cfg : Config) → Closed cfg Whole
 whole-closed cfg = record {
-  turned = turned-whole;
+  turning = turned-whole;
   freeing = freed-whole;
   renewed = λ i st r k. renewed-whole i st r;
   offering = λ i st r k n h w. offer-whole st r n h w i;

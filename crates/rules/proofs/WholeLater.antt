@@ -33,7 +33,7 @@ slot-later : (c t : ℕ) → c ≤ t → (s : Slot) → ((d : ℕ) → lossDue s
 slot-later c t h free f g e = refl
 slot-later c t h taken f g e = refl
 slot-later c t h (pending k r d) f g e = within-later c t (kindWait k) d h (g d refl) e
-slot-later c t h (busy r a l) f g e = let w = and-true (stageFits c a) (lossFits c (r .mode) l) e in rw (stage-later c t h a g (w .0)) (loss-later c t h (r .mode) l f (w .1))
+slot-later c t h (busy r a l) f g e = let w = and-true (stageFits c a) (lossFits c (r .request .mode) l) e in rw (stage-later c t h a g (w .0)) (loss-later c t h (r .request .mode) l f (w .1))
 slot-later c t h (held r n d) f g e = within-later c t 40 d h (g d refl) e
 
 abbrev pub From : ℕ → Due → Bool

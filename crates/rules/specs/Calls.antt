@@ -6,26 +6,26 @@ use Prim.Native.Nat.{ℕ}
 use lib.ListN.{getD}
 use Rattle.units.specs.declared.Told.{Told}
 use Rattle.rules.specs.Places.{dropAt}
-use Rattle.rules.specs.Words.{Party, is, Mode, Request, Config, Happened, heard, offHook, onHook, carrierUp, carrierDown, takes, givesBack, What, tick, onChannel70, onSlot, Event, carrierOn, carrierOff, ringBack, dial}
+use Rattle.rules.specs.Words.{Party, is, Mode, Request, Config, Signal, lineLifted, lineHung, carrierHeard, carrierLost, Hand, handTakes, handGives, Happened, heard, signal, operator, What, tick, onChannel70, onSlot, Event, carrierOn, carrierOff, ringBack, dial}
 use Rattle.rules.specs.Waits.{Wait, ofQueue, loss, main, Due}
 use Rattle.rules.specs.Heard.{Heard, callRequest, dataRequest, bq, workingCall, endOfCall, nothing, meaning}
 use Rattle.rules.specs.Actions.{does, over, theShip}
-use Rattle.rules.specs.Station.{Kind, offered, firstRing, secondRing, acknowledged, Stage, dialling, answered, Slot, free, taken, pending, busy, held, Station, setSlot, setClock, setQueue, dueAfter, kindWait, carrierWait, replyWait, holdWait, fires}
+use Rattle.rules.specs.Station.{Kind, offered, firstRing, secondRing, acknowledged, Stage, dialling, answered, Dealing, Slot, free, taken, pending, busy, held, Station, setSlot, setClock, setQueue, dueAfter, kindWait, carrierWait, replyWait, holdWait, fires}
 use Rattle.rules.specs.Requests.{Out, done, ignored, also, freed, lasted, endActs, coastEnd, standing, ruleA, requested}
 
 -- ── working call ─────────────────────────────────────────────────────────────
 
 -- "dial the stored request's number .. Carrier counts as present; wait 600 for a reply" (house: from the start of dialling, and in the stored mode)
-unfoldable pub dialNow : ℕ → Request → Station → Out
+unfoldable pub dialNow : ℕ → Dealing → Station → Out
 dialNow i r st =
     record {
       answer = 0;
       next = setSlot i (busy r (dialling (dueAfter (st .clock) replyWait)) none) st;
-      acts = does (dial i (r .number)) ∷ [];
+      acts = does (dial i (r .request .number)) ∷ [];
     }
 
 -- "on an offered or acknowledged slot"
-unfoldable pub workingKind : ℕ → Kind → Request → Station → Out
+unfoldable pub workingKind : ℕ → Kind → Dealing → Station → Out
 workingKind i offered r st = dialNow i r st
 workingKind i firstRing r st = ignored st
 workingKind i secondRing r st = ignored st
@@ -35,17 +35,17 @@ workingKind i acknowledged r st = dialNow i r st
 unfoldable pub workingOn : ℕ → Party → Station → Slot → Out
 workingOn i x st free = ignored st
 workingOn i x st taken = ignored st
-workingOn i x st (pending k r d) = cond (is x (r .who)) (workingKind i k r st) (ignored st)
+workingOn i x st (pending k r d) = cond (is x (r .request .who)) (workingKind i k r st) (ignored st)
 workingOn i x st (busy r g c) = ignored st
 workingOn i x st (held r n d) = ignored st
 
 -- ── ring-back acknowledged ───────────────────────────────────────────────────
 
 -- "acknowledged, wait 160" (house)
-unfoldable pub agreed : ℕ → Request → Station → Out
+unfoldable pub agreed : ℕ → Dealing → Station → Out
 agreed i r st = done (setSlot i (pending acknowledged r (dueAfter (st .clock) (kindWait acknowledged))) st)
 
-unfoldable pub bqKind : ℕ → Kind → Request → Station → Out
+unfoldable pub bqKind : ℕ → Kind → Dealing → Station → Out
 bqKind i offered r st = ignored st
 bqKind i firstRing r st = agreed i r st
 bqKind i secondRing r st = agreed i r st
@@ -55,14 +55,14 @@ bqKind i acknowledged r st = ignored st
 unfoldable pub bqFor : ℕ → Party → Station → Slot → Out
 bqFor i x st free = ignored st
 bqFor i x st taken = ignored st
-bqFor i x st (pending k r d) = cond (is x (r .who)) (bqKind i k r st) (ignored st)
+bqFor i x st (pending k r d) = cond (is x (r .request .who)) (bqKind i k r st) (ignored st)
 bqFor i x st (busy r g c) = ignored st
 bqFor i x st (held r n d) = ignored st
 
 -- ── off-hook, carrier down, carrier up ───────────────────────────────────────
 
 -- "while dialling: answered, the reply wait ends, a carrier wait runs on"
-unfoldable pub offHookStage : ℕ → Request → Option ℕ → Station → Stage → Out
+unfoldable pub offHookStage : ℕ → Dealing → Option ℕ → Station → Stage → Out
 offHookStage i r c st (dialling d) = done (setSlot i (busy r (answered (st .clock)) c) st)
 offHookStage i r c st (answered b) = ignored st
 
@@ -83,7 +83,7 @@ unfoldable pub downOn : ℕ → Station → Slot → Out
 downOn i st free = ignored st
 downOn i st taken = ignored st
 downOn i st (pending k r d) = ignored st
-downOn i st (busy r g c) = done (setSlot i (busy r g (startLoss (st .clock) (r .mode) c)) st)
+downOn i st (busy r g c) = done (setSlot i (busy r g (startLoss (st .clock) (r .request .mode) c)) st)
 downOn i st (held r n d) = ignored st
 
 -- "carrier up ends it"
@@ -97,12 +97,12 @@ upOn i st (held r n d) = ignored st
 -- ── ship's end of call ───────────────────────────────────────────────────────
 
 -- ".. with BQ and the duration, carrier off, hold for 40" (house: not given to others)
-unfoldable pub shipEnd : ℕ → Request → Stage → Station → Out
+unfoldable pub shipEnd : ℕ → Dealing → Stage → Station → Out
 shipEnd i r g st =
     record {
       answer = 0;
       next = setSlot i (held r (lasted g (st .clock)) (dueAfter (st .clock) holdWait)) st;
-      acts = endActs i theShip r g (st .clock);
+      acts = endActs i theShip (r .request) g (st .clock);
     }
 
 -- "in the hold: carrier on, the same answer sent, carrier off; the wait unchanged"
@@ -114,8 +114,8 @@ unfoldable pub shipEndOn : ℕ → Party → Station → Slot → Out
 shipEndOn i x st free = ignored st
 shipEndOn i x st taken = ignored st
 shipEndOn i x st (pending k r d) = ignored st
-shipEndOn i x st (busy r g c) = cond (is x (r .who)) (shipEnd i r g st) (ignored st)
-shipEndOn i x st (held r n d) = cond (is x (r .who)) (sayAgain i r n st) (ignored st)
+shipEndOn i x st (busy r g c) = cond (is x (r .request .who)) (shipEnd i r g st) (ignored st)
+shipEndOn i x st (held r n d) = cond (is x (r .request .who)) (sayAgain i (r .request) n st) (ignored st)
 
 -- ── coast's end: on-hook, carrier loss ───────────────────────────────────────
 
@@ -123,7 +123,7 @@ unfoldable pub endOn : ℕ → Station → Slot → Out
 endOn i st free = ignored st
 endOn i st taken = ignored st
 endOn i st (pending k r d) = ignored st
-endOn i st (busy r g c) = coastEnd i r g st
+endOn i st (busy r g c) = coastEnd i (r .request) g st
 endOn i st (held r n d) = ignored st
 
 -- ── operator ─────────────────────────────────────────────────────────────────
@@ -151,16 +151,16 @@ unfoldable pub offerDue : ℕ → Station → Out
 offerDue i st = also (does (carrierOff i) ∷ []) (freed i st)
 
 -- "send once more, wait 50"
-unfoldable pub ringAgain : ℕ → Request → Station → Out
+unfoldable pub ringAgain : ℕ → Dealing → Station → Out
 ringAgain i r st =
     record {
       answer = 0;
       next = setSlot i (pending secondRing r (dueAfter (st .clock) (kindWait secondRing))) st;
-      acts = does (ringBack i r) ∷ [];
+      acts = does (ringBack i (r .request)) ∷ [];
     }
 
 -- "then carrier off, details dropped, slot freed"; acknowledged: "then as an offer due"
-unfoldable pub pendingDue : ℕ → Kind → Request → Station → Out
+unfoldable pub pendingDue : ℕ → Kind → Dealing → Station → Out
 pendingDue i offered r st = offerDue i st
 pendingDue i firstRing r st = ringAgain i r st
 pendingDue i secondRing r st = offerDue i st
@@ -176,7 +176,7 @@ unfoldable pub mainOn : ℕ → Station → Slot → Out
 mainOn i st free = ignored st
 mainOn i st taken = ignored st
 mainOn i st (pending k r d) = pendingDue i k r st
-mainOn i st (busy r g c) = replyDue i r st g
+mainOn i st (busy r g c) = replyDue i (r .request) st g
 mainOn i st (held r n d) = freed i st
 
 -- "A queue entry due is dropped."
@@ -210,14 +210,20 @@ heardOn i st s (workingCall x) = workingOn i x st s
 heardOn i st s (endOfCall x) = shipEndOn i x st s
 heardOn i st s nothing = ignored st
 
+abbrev pub signalOn : ℕ → Station → Slot → Signal → Out
+signalOn i st s lineLifted = offHookOn i st s
+signalOn i st s lineHung = endOn i st s
+signalOn i st s carrierHeard = upOn i st s
+signalOn i st s carrierLost = downOn i st s
+
+abbrev pub handOn : ℕ → Station → Slot → Hand → Out
+handOn i st s handTakes = takeOn i st s
+handOn i st s handGives = giveOn i st s
+
 unfoldable pub happenedOn : Config → ℕ → Station → Slot → Happened → Out
 happenedOn c i st s (heard m) = heardOn i st s (meaning c m)
-happenedOn c i st s offHook = offHookOn i st s
-happenedOn c i st s onHook = endOn i st s
-happenedOn c i st s carrierUp = upOn i st s
-happenedOn c i st s carrierDown = downOn i st s
-happenedOn c i st s takes = takeOn i st s
-happenedOn c i st s givesBack = giveOn i st s
+happenedOn c i st s (signal g) = signalOn i st s g
+happenedOn c i st s (operator h) = handOn i st s h
 
 -- "Any other accepted event sets the clock to its own time."
 unfoldable pub actAt : Config → Station → ℕ → What → Out

@@ -9,6 +9,7 @@ pub mod Kinds
 pub mod Actions
 -- the rules: time and the slots, what each event does, answer numbers, actions handed out
 pub mod Station
+pub mod Slots
 pub mod Sound
 pub mod Requests
 pub mod Calls

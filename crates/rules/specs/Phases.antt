@@ -5,7 +5,8 @@ use Prim.Native.Nat.{ℕ}
 use Rattle.units.specs.declared.Told.the-variants.{Nothing}
 use Rattle.sequence.specs.declared.Field.the-variants.{Blank, Channel}
 use Rattle.rules.specs.Words.{simplex, duplex, Request, heard, offHook, onHook, carrierUp, carrierDown, takes, givesBack, What, tick, onChannel70, onSlot}
-use Rattle.rules.specs.Station.{offered, firstRing, secondRing, acknowledged, dialling, answered, Slot, free, taken, pending, busy, held, Station}
+use Rattle.rules.specs.Station.{offered, firstRing, secondRing, acknowledged, dialling, answered, Slot, free, taken, Station}
+use Rattle.rules.specs.Slots.{pending, busy, held}
 use Rattle.rules.specs.Requests.{Out}
 use Rattle.rules.specs.Verdict.{step}
 use Rattle.rules.specs.Bytes.{kindNumber}

@@ -5,7 +5,7 @@ use mathlib.Core.Option.{Option, none, some}
 use Prim.Native.Nat.{ℕ, suc, _+_, _-_, _*_}
 use lib.Dec.{eqb}
 use Rattle.rules.specs.Places.{dropAt}
-use Rattle.rules.specs.Words.{Party, is, Mode, Request, Config, Happened, heard, offHook, onHook, carrierUp, carrierDown, takes, givesBack, What, tick, onChannel70, onSlot, Deed, carrierOn, carrierOff, acknowledge, ringBack, unable, dial, releaseLine}
+use Rattle.rules.specs.Words.{Party, is, Mode, Request, Config, Signal, lineLifted, lineHung, carrierHeard, carrierLost, Happened, heard, signal, operator, What, tick, onChannel70, onSlot, Deed, carrierOn, carrierOff, acknowledge, ringBack, unable, dial, releaseLine}
 use Rattle.rules.specs.Waits.{ofQueue, loss, main, Due}
 use Rattle.rules.specs.Heard.{Heard, callRequest, dataRequest, bq, workingCall, endOfCall, nothing, meaning}
 use Rattle.rules.specs.Book.{Note, Stop, after, silence, offerTime, ringTime, replyTime, holdTime, queueTime, Said, silent, toldBQ, toldRQ, settled, Call, quiet, dialled, talking, Line, Place, Book, atLine, atPlaces, falling, moment, callOf, askedAgain, stopsAt}
@@ -67,14 +67,16 @@ hearSaid t (workingCall x) l = l
 hearSaid t (endOfCall x) l = signOff t x l
 hearSaid t nothing l = l
 
+abbrev pub hearSignal : ℕ → Signal → Line → Line
+hearSignal t lineLifted l = pickUp t l
+hearSignal t lineHung l = close l
+hearSignal t carrierHeard l = withGone none l
+hearSignal t carrierLost l = lose t l
+
 abbrev pub hearLine : Config → ℕ → Happened → Line → Line
 hearLine c t (heard m) l = hearSaid t (meaning c m) l
-hearLine c t offHook l = pickUp t l
-hearLine c t onHook l = close l
-hearLine c t carrierUp l = withGone none l
-hearLine c t carrierDown l = lose t l
-hearLine c t takes l = l
-hearLine c t givesBack l = l
+hearLine c t (signal g) l = hearSignal t g l
+hearLine c t (operator h) l = l
 
 -- the ship's BQ to a ring-back
 abbrev pub settleSaid : ℕ → Party → Said → Line → Line

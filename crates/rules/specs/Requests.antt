@@ -11,7 +11,7 @@ use Rattle.units.specs.declared.Told.the-variants.{Nothing}
 use Rattle.rules.specs.Places.{modAt, lowest}
 use Rattle.rules.specs.Words.{Party, is, Mode, simplex, duplex, Request, Deed, carrierOn, carrierOff, acknowledge, ringBack, unable, releaseLine}
 use Rattle.rules.specs.Actions.{Action, does, over, charge, Ender, theCoast}
-use Rattle.rules.specs.Station.{Kind, offered, firstRing, secondRing, acknowledged, Stage, dialling, answered, Slot, free, taken, pending, busy, held, Waiting, Station, setSlot, setQueue, dueAfter, kindWait, queueWait}
+use Rattle.rules.specs.Station.{Kind, offered, firstRing, secondRing, acknowledged, Stage, dialling, answered, Slot, free, taken, pending, busy, held, dealing, shipOf, Waiting, Station, setSlot, setQueue, dueAfter, kindWait, queueWait}
 use Rattle.rules.specs.Sound.{queueRoom}
 
 -- what an accepted event gives: its answer, the next station, the actions in order
@@ -43,7 +43,7 @@ unfoldable pub rungBack : ℕ → Station → Waiting → List Waiting → Out
 rungBack i st w q =
     record {
       answer = 0;
-      next = setSlot i (pending firstRing (w .request) (dueAfter (st .clock) (kindWait firstRing))) (setQueue q st);
+      next = setSlot i (pending firstRing (dealing (w .request)) (dueAfter (st .clock) (kindWait firstRing))) (setQueue q st);
       acts = does (carrierOn i) ∷ does (ringBack i (w .request)) ∷ [];
     }
 
@@ -89,13 +89,13 @@ pub data Standing : Type 0 where
   holds : ℕ → Standing  -- a slot
   waits : ℕ → Standing  -- a place in the queue
 
--- the slot is the ship's: a hold and a taken slot are nobody's
+abbrev pub isOf : Party → Option Party → Bool
+isOf x none = false
+isOf x (some y) = is x y
+
+-- the slot is the ship's
 abbrev pub owns : Party → Slot → Bool
-owns x free = false
-owns x taken = false
-owns x (pending k r d) = is x (r .who)
-owns x (busy r g c) = is x (r .who)
-owns x (held r n d) = false
+owns x s = isOf x (shipOf s)
 
 abbrev pub waitsFor : Party → Waiting → Bool
 waitsFor x w = is x (w .request .who)
@@ -130,7 +130,7 @@ unfoldable pub afresh : ℕ → Station → Request → Out
 afresh i st r =
     record {
       answer = 0;
-      next = setSlot i (pending offered r (dueAfter (st .clock) (kindWait offered))) st;
+      next = setSlot i (pending offered (dealing r) (dueAfter (st .clock) (kindWait offered))) st;
       acts = does (acknowledge i r) ∷ [];
     }
 
@@ -216,8 +216,8 @@ ruleC i o g simplex (some d) st r = redial i o g st r
 unfoldable pub bOrC : ℕ → Slot → Station → Request → Out
 bOrC i free st r = ignored st
 bOrC i taken st r = ignored st
-bOrC i (pending k o d) st r = ruleB i k o st r
-bOrC i (busy o g c) st r = ruleC i o g (o .mode) c st r
+bOrC i (pending k o d) st r = ruleB i k (o .request) st r
+bOrC i (busy o g c) st r = ruleC i (o .request) g (o .request .mode) c st r
 bOrC i (held o n d) st r = ignored st
 
 -- the first rule that fits, by where the ship stands

@@ -14,7 +14,7 @@ use Rattle.sequence.specs.Field.{channelOk, durationOk}
 use Rattle.rules.specs.Places.{all, distinct}
 use Rattle.rules.specs.Words.{Party, is, Mode, Request, Config}
 use Rattle.rules.specs.Heard.{sameChannel}
-use Rattle.rules.specs.Station.{Stage, dialling, answered, Slot, free, taken, pending, busy, held, Waiting, Station, dueAfter, kindWait, carrierWait, replyWait, holdWait, queueWait}
+use Rattle.rules.specs.Station.{Stage, dialling, answered, Slot, free, taken, pending, busy, held, shipOf, Waiting, Station, dueAfter, kindWait, carrierWait, replyWait, holdWait, queueWait}
 
 -- "its identity": a coast station's
 unfoldable pub identityKeeps : Config → Bool
@@ -48,9 +48,9 @@ durationKeeps (Lasting d) = durationOk d
 abbrev pub slotKeeps : Config → Slot → Bool
 slotKeeps c free = true
 slotKeeps c taken = true
-slotKeeps c (pending k r d) = requestKeeps c r
-slotKeeps c (busy r g l) = requestKeeps c r
-slotKeeps c (held r n d) = requestKeeps c r && durationKeeps n
+slotKeeps c (pending k r d) = requestKeeps c (r .request)
+slotKeeps c (busy r g l) = requestKeeps c (r .request)
+slotKeeps c (held r n d) = requestKeeps c (r .request) && durationKeeps n
 
 abbrev pub waitingKeeps : Config → Waiting → Bool
 waitingKeeps c w = requestKeeps c (w .request)
@@ -63,13 +63,13 @@ limit = 4000000000
 abbrev pub queueRoom : ℕ
 queueRoom = 32
 
+abbrev pub listed : Option Party → List Party → List Party
+listed none r = r
+listed (some x) r = x ∷ r
+
 -- the ship of an offered, ring-back, acknowledged, dialling or answered slot
 abbrev pub owner : Slot → List Party → List Party
-owner free r = r
-owner taken r = r
-owner (pending k q d) r = q .who ∷ r
-owner (busy q g c) r = q .who ∷ r
-owner (held q n d) r = r
+owner s r = listed (shipOf s) r
 
 abbrev pub owners : List Slot → List Party → List Party
 owners [] r = r
@@ -96,7 +96,7 @@ abbrev pub slotFits : ℕ → Slot → Bool
 slotFits c free = true
 slotFits c taken = true
 slotFits c (pending k r d) = fits c (kindWait k) d
-slotFits c (busy r g l) = stageFits c g && lossFits c (r .mode) l
+slotFits c (busy r g l) = stageFits c g && lossFits c (r .request .mode) l
 slotFits c (held r n d) = fits c holdWait d
 
 abbrev pub placeFits : ℕ → Waiting → Bool

@@ -6,7 +6,8 @@ use lib.ListN.{replicate}
 use Rattle.units.specs.declared.Told.{Told}
 use Rattle.units.specs.declared.Told.the-variants.{Nothing, Lasting}
 use Rattle.rules.specs.Words.{Mode, simplex, duplex, Request, Config}
-use Rattle.rules.specs.Station.{offered, firstRing, secondRing, acknowledged, dialling, answered, Slot, free, pending, busy, held, Waiting, Station}
+use Rattle.rules.specs.Station.{offered, firstRing, secondRing, acknowledged, dialling, answered, Slot, free, Waiting, Station}
+use Rattle.rules.specs.Slots.{pending, busy, held}
 use Rattle.rules.specs.Verdict.{verdict, setUpVerdict}
 use Rattle.rules.specs.Runs.{channel, station, seven, usual, ticks}
 use Rattle.rules.specs.Scripts.{waits, waitingShips}

@@ -5,7 +5,7 @@ use Prim.Native.Nat.{ℕ, suc, _+_}
 use lib.ListN.{length, replicate}
 use Rattle.units.specs.declared.Told.{Told}
 use Rattle.rules.specs.Places.{modAt}
-use Rattle.rules.specs.Words.{Mode, simplex, duplex, Request, Config}
+use Rattle.rules.specs.Words.{Party, Mode, simplex, duplex, Request, Config}
 use Rattle.rules.specs.Waits.{loss, main, Due, running, earliest, ifDue, queueTable}
 
 -- ── what a station holds ─────────────────────────────────────────────────────
@@ -18,12 +18,27 @@ pub data Stage : Type 0 where
   dialling : ℕ → Stage  -- the due time of the reply wait
   answered : ℕ → Stage  -- since when
 
+-- what a slot keeps of its call
+pub record Dealing : Type 0 where
+  pub request : Request
+
+abbrev pub dealing : Request → Dealing
+dealing r = record { request = r }
+
 pub data Slot : Type 0 where
   free : Slot
   taken : Slot  -- by the operator
-  pending : Kind → Request → ℕ → Slot  -- with its due time
-  busy : Request → Stage → Option ℕ → Slot  -- with the due time of the carrier wait: none where the carrier is present
-  held : Request → Told → ℕ → Slot  -- the hold after a ship's end of call: the duration told, the due time
+  pending : Kind → Dealing → ℕ → Slot  -- with its due time
+  busy : Dealing → Stage → Option ℕ → Slot  -- with the due time of the carrier wait: none where the carrier is present
+  held : Dealing → Told → ℕ → Slot  -- the hold after a ship's end of call: the duration told, the due time
+
+-- the ship that a slot is dealing with: a hold and a taken slot are nobody's
+abbrev pub shipOf : Slot → Option Party
+shipOf free = none
+shipOf taken = none
+shipOf (pending k r d) = some (r .request .who)
+shipOf (busy r g c) = some (r .request .who)
+shipOf (held r n d) = none
 
 pub record Waiting : Type 0 where
   pub request : Request

@@ -3,7 +3,7 @@ use mathlib.Core.List.{List, [], _∷_}
 use mathlib.Core.Bool.{cond}
 use Prim.Native.Nat.{ℕ}
 use lib.Dec.{eqb}
-use Rattle.rules.specs.Words.{Happened, heard, offHook, onHook, carrierUp, carrierDown, takes, givesBack, What, tick, onChannel70, onSlot, Deed, carrierOn, carrierOff, acknowledge, ringBack, unable, dial, releaseLine}
+use Rattle.rules.specs.Words.{Signal, lineLifted, lineHung, carrierHeard, carrierLost, Happened, heard, signal, operator, What, tick, onChannel70, onSlot, Deed, carrierOn, carrierOff, acknowledge, ringBack, unable, dial, releaseLine}
 use Rattle.rules.specs.Book.{Note, Call, quiet, dialled, talking}
 
 pub data Word : Type 0 where
@@ -16,14 +16,16 @@ answer t idle = idle
 answer t ringing = since t
 answer t (since b) = since b
 
+abbrev pub liftedBy : ℕ → Signal → Word → Word
+liftedBy t lineLifted w = answer t w
+liftedBy t lineHung w = w
+liftedBy t carrierHeard w = w
+liftedBy t carrierLost w = w
+
 abbrev pub lifted : ℕ → Happened → Word → Word
 lifted t (heard m) w = w
-lifted t offHook w = answer t w
-lifted t onHook w = w
-lifted t carrierUp w = w
-lifted t carrierDown w = w
-lifted t takes w = w
-lifted t givesBack w = w
+lifted t (signal g) w = liftedBy t g w
+lifted t (operator h) w = w
 
 -- an off-hook on slot i
 abbrev pub wordHeard : ℕ → ℕ → What → Word → Word

@@ -11,7 +11,7 @@ use Rattle.sequence.specs.Refusals.{Row, row, firstRefusal}
 use Rattle.sequence.specs.Answers.{answerNumber, isDone}
 use Rattle.sequence.specs.Reading.{readingOf}
 use Rattle.rules.specs.Places.{isSome}
-use Rattle.rules.specs.Words.{Config, Happened, heard, offHook, onHook, carrierUp, carrierDown, takes, givesBack, What, tick, onChannel70, onSlot, Event}
+use Rattle.rules.specs.Words.{Config, Hand, handTakes, handGives, Happened, heard, signal, operator, What, tick, onChannel70, onSlot, Event}
 use Rattle.rules.specs.Actions.{Action}
 use Rattle.rules.specs.Station.{Slot, free, taken, pending, busy, held, Station, fires}
 use Rattle.rules.specs.Sound.{configKeeps, limit, sound}
@@ -44,12 +44,8 @@ readerSays m = readingOf m .answer
 
 abbrev pub readOn : Happened → Answer
 readOn (heard m) = readerSays m
-readOn offHook = Done
-readOn onHook = Done
-readOn carrierUp = Done
-readOn carrierDown = Done
-readOn takes = Done
-readOn givesBack = Done
+readOn (signal g) = Done
+readOn (operator h) = Done
 
 abbrev pub readIn : What → Answer
 readIn tick = Done
@@ -63,14 +59,14 @@ isTaken (pending k r d) = false
 isTaken (busy r g c) = false
 isTaken (held r n d) = false
 
+abbrev pub barredHand : Slot → Hand → Bool
+barredHand s handTakes = not (isFree s)
+barredHand s handGives = not (isTaken s)
+
 abbrev pub barredOn : Slot → Happened → Bool
 barredOn s (heard m) = false
-barredOn s offHook = false
-barredOn s onHook = false
-barredOn s carrierUp = false
-barredOn s carrierDown = false
-barredOn s takes = not (isFree s)
-barredOn s givesBack = not (isTaken s)
+barredOn s (signal g) = false
+barredOn s (operator h) = barredHand s h
 
 -- 35: "operator takes a slot not free, or gives back one not taken"
 abbrev pub barred : List Slot → What → Bool

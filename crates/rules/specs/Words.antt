@@ -38,11 +38,38 @@ pub record Config : Type 0 where
 
 -- ── an event: a time and what ────────────────────────────────────────────────
 
+-- from the line and from the receiver
+pub data Signal : Type 0 where
+  lineLifted lineHung : Signal  -- ashore
+  carrierHeard carrierLost : Signal
+
+-- the operator's
+pub data Hand : Type 0 where
+  handTakes handGives : Hand
+
 pub data Happened : Type 0 where
   heard : List ℕ → Happened  -- symbols, on the working channel
-  offHook onHook : Happened  -- ashore
-  carrierUp carrierDown : Happened
-  takes givesBack : Happened  -- the operator
+  signal : Signal → Happened
+  operator : Hand → Happened
+
+-- their names in 01
+abbrev pub offHook : Happened
+offHook = signal lineLifted
+
+abbrev pub onHook : Happened
+onHook = signal lineHung
+
+abbrev pub carrierUp : Happened
+carrierUp = signal carrierHeard
+
+abbrev pub carrierDown : Happened
+carrierDown = signal carrierLost
+
+abbrev pub takes : Happened
+takes = operator handTakes
+
+abbrev pub givesBack : Happened
+givesBack = operator handGives
 
 pub data What : Type 0 where
   tick : What

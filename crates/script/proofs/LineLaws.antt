@@ -12,7 +12,7 @@ use Rattle.units.specs.declared.Channel.{Channel}
 use Rattle.sequence.proofs.Paste.{front-turn}
 use Rattle.sequence.proofs.Tests.{both-true}
 use Rattle.rules.specs.Places.{all}
-use Rattle.rules.specs.Words.{heard, offHook, onHook, carrierUp, carrierDown, takes, givesBack, What, tick, onChannel70, onSlot}
+use Rattle.rules.specs.Words.{lineLifted, lineHung, carrierHeard, carrierLost, handTakes, handGives, heard, signal, operator, What, tick, onChannel70, onSlot}
 use Rattle.rules.specs.Bytes.{padded}
 use Rattle.requests.proofs.ArrayLaws.{padded-front}
 use Rattle.lines.specs.declared.Kind.{Kind}
@@ -82,24 +82,24 @@ event-as time (onChannel70 symbols) room h e =
 event-as time (onSlot i (heard symbols)) room h e =
     let s = both-true (isNumber i) (all isSymbol symbols) (both-true (isNumber time) _ e .1) .1 in
     ap (λ l. eventAt time (onSlot i (heard l)) room) (symbols-second time i symbols (omega arith) s)
-event-as time (onSlot i offHook) room h e = refl
-event-as time (onSlot i onHook) room h e = refl
-event-as time (onSlot i carrierUp) room h e = refl
-event-as time (onSlot i carrierDown) room h e = refl
-event-as time (onSlot i takes) room h e = refl
-event-as time (onSlot i givesBack) room h e = refl
+event-as time (onSlot i (signal lineLifted)) room h e = refl
+event-as time (onSlot i (signal lineHung)) room h e = refl
+event-as time (onSlot i (signal carrierHeard)) room h e = refl
+event-as time (onSlot i (signal carrierLost)) room h e = refl
+event-as time (onSlot i (operator handTakes)) room h e = refl
+event-as time (onSlot i (operator handGives)) room h e = refl
 
 an-event : (what : What) → (isUnreadable (kindOf (whatLetter what)) ≡ false) × (isSetUp (kindOf (whatLetter what)) ≡ false)
 unfolding kindOf
 an-event tick = (refl, refl)
 an-event (onChannel70 symbols) = (refl, refl)
 an-event (onSlot i (heard symbols)) = (refl, refl)
-an-event (onSlot i offHook) = (refl, refl)
-an-event (onSlot i onHook) = (refl, refl)
-an-event (onSlot i carrierUp) = (refl, refl)
-an-event (onSlot i carrierDown) = (refl, refl)
-an-event (onSlot i takes) = (refl, refl)
-an-event (onSlot i givesBack) = (refl, refl)
+an-event (onSlot i (signal lineLifted)) = (refl, refl)
+an-event (onSlot i (signal lineHung)) = (refl, refl)
+an-event (onSlot i (signal carrierHeard)) = (refl, refl)
+an-event (onSlot i (signal carrierLost)) = (refl, refl)
+an-event (onSlot i (operator handTakes)) = (refl, refl)
+an-event (onSlot i (operator handGives)) = (refl, refl)
 
 -- what an unreadable line says is in range too
 abbrev pub inRangeOf : Option Said → Bool

@@ -12,7 +12,7 @@ use Rattle.rules.specs.Words.{Config, simplex, duplex}
 use Rattle.rules.specs.Places.{Each}
 use Rattle.rules.specs.Bytes.{padded}
 use Rattle.rules.specs.Station as R
-use Rattle.rules.specs.Station.{free, taken, pending, busy, held, offered, firstRing, secondRing, acknowledged, dialling, answered}
+use Rattle.rules.specs.Station.{dealing, free, taken, pending, busy, held, offered, firstRing, secondRing, acknowledged, dialling, answered}
 use Rattle.requests.specs.Views.{viewed, itself, modeOf, digitsOf, requestOf}
 use Rattle.requests.specs.Images.{modeImage, requestImage}
 use Rattle.slots.specs.declared.Slot.{Slot}
@@ -50,13 +50,13 @@ pub slot-there : (c : Channel) (s : R.Slot) → ShortSlot s → slotView (slotIm
 unfolding slotImage
 slot-there c free h = refl
 slot-there c taken h = refl
-slot-there c (pending offered r t) h = ap (λ x. pending offered x t) (request-there r h)
-slot-there c (pending firstRing r t) h = ap (λ x. pending firstRing x t) (request-there r h)
-slot-there c (pending secondRing r t) h = ap (λ x. pending secondRing x t) (request-there r h)
-slot-there c (pending acknowledged r t) h = ap (λ x. pending acknowledged x t) (request-there r h)
-slot-there c (busy r (dialling d) l) h = rw (request-there r h, carrier-there l)
-slot-there c (busy r (answered d) l) h = rw (request-there r h, carrier-there l)
-slot-there c (held r n t) h = ap (λ x. held x n t) (request-there r h)
+slot-there c (pending offered r t) h = ap (λ x. pending offered (dealing x) t) (request-there (r .request) h)
+slot-there c (pending firstRing r t) h = ap (λ x. pending firstRing (dealing x) t) (request-there (r .request) h)
+slot-there c (pending secondRing r t) h = ap (λ x. pending secondRing (dealing x) t) (request-there (r .request) h)
+slot-there c (pending acknowledged r t) h = ap (λ x. pending acknowledged (dealing x) t) (request-there (r .request) h)
+slot-there c (busy r (dialling d) l) h = rw (request-there (r .request) h, carrier-there l)
+slot-there c (busy r (answered d) l) h = rw (request-there (r .request) h, carrier-there l)
+slot-there c (held r n t) h = ap (λ x. held (dealing x) n t) (request-there (r .request) h)
 
 pub waiting-there : (w : R.Waiting) → Short (w .request) → waitingView (waitingImage w) ≡ w
 unfolding waitingImage

@@ -47,9 +47,9 @@ phaseImage (held r n t) = Hold (tenths t) n
 abbrev pub storedImage : R.Slot → Request
 storedImage free = blankRequest
 storedImage taken = blankRequest
-storedImage (pending k r t) = requestImage r
-storedImage (busy r g c) = requestImage r
-storedImage (held r n t) = requestImage r
+storedImage (pending k r t) = requestImage (r .request)
+storedImage (busy r g c) = requestImage (r .request)
+storedImage (held r n t) = requestImage (r .request)
 
 unfoldable pub slotImage : Channel → R.Slot → Slot
 slotImage c s = record { phase = phaseImage s; channel = c; request = storedImage s }
@@ -83,9 +83,9 @@ Short r = length (r .number) ≤ 16
 abbrev pub ShortSlot : R.Slot → Type 0
 ShortSlot free = Unit {0}
 ShortSlot taken = Unit {0}
-ShortSlot (pending k r t) = Short r
-ShortSlot (busy r g c) = Short r
-ShortSlot (held r n t) = Short r
+ShortSlot (pending k r t) = Short (r .request)
+ShortSlot (busy r g c) = Short (r .request)
+ShortSlot (held r n t) = Short (r .request)
 
 pub record Fits (c : Config) (m : R.Station) : Type 0 where
   pub beside : length (c .channels) ≡ length (m .slots)

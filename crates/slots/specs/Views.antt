@@ -8,7 +8,8 @@ use Rattle.rules.specs.Words as W
 use Rattle.rules.specs.Waits as T
 use Rattle.rules.specs.Waits.{ofQueue, loss, main}
 use Rattle.rules.specs.Station as R
-use Rattle.rules.specs.Station.{free, taken, pending, busy, held, offered, firstRing, secondRing, acknowledged, dialling, answered}
+use Rattle.rules.specs.Station.{free, taken, offered, firstRing, secondRing, acknowledged, dialling, answered}
+use Rattle.rules.specs.Slots.{pending, busy, held}
 use Rattle.rules.specs.Requests as Q
 use Rattle.rules.specs.Requests.{nowhere, holds, waits}
 use Rattle.requests.specs.declared.Mode.the-variants.{Simplex}

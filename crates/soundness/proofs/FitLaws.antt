@@ -36,9 +36,9 @@ module _ (c : Config) where
   short-slot : (s : R.Slot) → slotKeeps c s ≡ true → ShortSlot s
   short-slot free h = tt
   short-slot taken h = tt
-  short-slot (pending k r d) h = short r h
-  short-slot (busy r g l) h = short r h
-  short-slot (held r n d) h = short r (and-true (requestKeeps c r) _ h .0)
+  short-slot (pending k r d) h = short (r .request) h
+  short-slot (busy r g l) h = short (r .request) h
+  short-slot (held r n d) h = short (r .request) (and-true (requestKeeps c (r .request)) _ h .0)
 
   few-channels : configKeeps c ≡ true → length (c .channels) ≤ 16
   unfolding configKeeps channelsKeep

@@ -70,7 +70,7 @@ module _ (d : Draft) (r : Request) where
     repeated-is ch b q h = rw (h, q, clip-clip)
 
     pub afresh-is : (t : ℕ) (ch : Channel) (b : List ℕ) → t ≡ dueAfter (d .station .clock) 160 → ch ≡ channelAt (d .config) i → b ≡ block 3 i (sent (ableSaid ch 122 r))
-        → answering 0 (handing b (placing i (pending offered r t) d)) ≡ doing (λ st. afresh i st r) d
+        → answering 0 (handing b (placing i (pending offered (R.dealing r) t) d)) ≡ doing (λ st. afresh i st r) d
     unfolding answering handing placing doing afresh sentBlock sentPayload
     afresh-is t ch b p q h = rw (h, q, p, clip-clip)
 
@@ -89,7 +89,7 @@ module _ (st : R.Station) (r : Request) where
   unfolding ruleB
   b-other i o h = rw h
 
-  pub c-is : (i : ℕ) (o : Request) (g : R.Stage) (m : Mode) (c : Option ℕ) → busy o g c ≡ getD (st .slots) i free → ruleCBy i m c r st ≡ ruleC i o g m c st r
+  pub c-is : (i : ℕ) (o : Request) (g : R.Stage) (m : Mode) (c : Option ℕ) → busy (R.dealing o) g c ≡ getD (st .slots) i free → ruleCBy i m c r st ≡ ruleC i o g m c st r
   unfolding ruleCBy ruleC behind onSlotBy withoutSlot endOn redial
   c-is i o g duplex c e = refl
   c-is i o g simplex none e = refl

@@ -12,11 +12,11 @@ use Rattle.rules.specs.Calls.{offHookOn, upOn, downOn, endOn, takeOn, giveOn}
 use Rattle.rules.specs.Verdict.{isTaken}
 use Rattle.station.specs.Draft.{Busy, busyIn}
 
-pub call-is : (p : R.Slot) (b : Busy) → some b ≡ busyIn p → busy (b .request) (b .stage) (b .loss) ≡ p
+pub call-is : (p : R.Slot) (b : Busy) → some b ≡ busyIn p → busy (R.dealing (b .request)) (b .stage) (b .loss) ≡ p
 call-is free b h = cc
 call-is taken b h = cc
 call-is (pending k r d) b h = cc
-call-is (busy r g c) b h = let e : b ≡ record { request = r; stage = g; loss = c } = cc in rw e
+call-is (busy r g c) b h = let e : b ≡ record { request = r .request; stage = g; loss = c } = cc in rw e
 call-is (held r n d) b h = cc
 
 pub carrier-short : (m : Mode) → carrierWait m ≤ 9000

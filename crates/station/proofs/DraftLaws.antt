@@ -5,7 +5,8 @@ use native.Mathlib.Omega.{arith}
 use mathlib.Core.Path.{_≡_, refl, sym, ap, _∙_}
 use lib.ListN.{take, getD, length}
 use Rattle.rules.specs.Station as R
-use Rattle.rules.specs.Station.{free, pending, busy, firstRing, secondRing, dialling, answered, setSlot, setQueue, dueAfter}
+use Rattle.rules.specs.Slots.{pending, busy}
+use Rattle.rules.specs.Station.{free, firstRing, secondRing, dialling, answered, setSlot, setQueue, dueAfter}
 use Rattle.rules.specs.Requests.{Out, done, ignored, rungBack, freedFor, freed, coastEnd}
 use Rattle.rules.specs.Calls.{endOn, offerDue, ringAgain, fire}
 use Rattle.rules.specs.Waits.{ofQueue}
@@ -117,7 +118,7 @@ module _ (i : ℕ) (d : Draft) where
   offer-is b p = rw (p, clip-on (d .blocks) (block 2 i []) _)
 
   pub again-is : (r : Request) (t : ℕ) (ch : Channel) (b : List ℕ) → t ≡ dueAfter (d .station .clock) 50 → ch ≡ channelAt (d .config) i → b ≡ block 3 i (sent (ableSaid ch 117 r))
-      → answering 0 (handing b (placing i (pending secondRing r t) d)) ≡ doing (ringAgain i r) d
+      → answering 0 (handing b (placing i (pending secondRing r t) d)) ≡ doing (ringAgain i (R.dealing r)) d
   unfolding answering handing placing doing ringAgain sentBlock sentPayload
   again-is r t ch b p q h = rw (h, q, p, clip-clip)
 

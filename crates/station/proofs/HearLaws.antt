@@ -9,7 +9,8 @@ use Rattle.units.specs.declared.Told.{Told}
 use Rattle.units.specs.declared.Told.the-variants.{Nothing}
 use Rattle.rules.specs.Words.{Party, Request, is}
 use Rattle.rules.specs.Station as R
-use Rattle.rules.specs.Station.{pending, busy, held, acknowledged, dialling, answered, setSlot, dueAfter}
+use Rattle.rules.specs.Station.{dealing, acknowledged, dialling, answered, setSlot, dueAfter}
+use Rattle.rules.specs.Slots.{pending, busy, held}
 use Rattle.rules.specs.Requests.{done, ignored}
 use Rattle.rules.specs.Actions.{theShip}
 use Rattle.rules.specs.Calls.{dialNow, workingOn, workingKind, bqFor, bqKind, agreed, shipEnd, sayAgain, shipEndOn}
@@ -24,7 +25,7 @@ use Rattle.station.proofs.DraftLaws.{clip-on, clip-clip}
 
 module _ (i : ℕ) (d : Draft) where
   pub dialled-is : (r : Request) (t : ℕ) (b : List ℕ) → t ≡ dueAfter (d .station .clock) 600 → b ≡ block 5 i (r .number)
-      → answering 0 (handing b (placing i (busy r (dialling t) none) d)) ≡ doing (dialNow i r) d
+      → answering 0 (handing b (placing i (busy r (dialling t) none) d)) ≡ doing (dialNow i (dealing r)) d
   unfolding answering handing placing doing dialNow sentBlock sentPayload
   dialled-is r t b p q = rw (q, p, clip-clip)
 
@@ -40,14 +41,14 @@ module _ (i : ℕ) (d : Draft) where
   again-said r n x y z p q s = rw (p, q, s, clip-clip, clip-on _ (block 4 i (sent (overSaid theShip (r .who) (r .number) n))) _, clip-on _ (block 1 i []) _)
 
   -- the ship ends a call that was not answered
-  pub ship-dialling : (r : Request) (t : ℕ) → doing (holding i r Nothing) d ≡ doing (shipEnd i r (dialling t)) d
+  pub ship-dialling : (r : Request) (t : ℕ) → doing (holding i r Nothing) d ≡ doing (shipEnd i (dealing r) (dialling t)) d
   unfolding doing holding shipEnd
   ship-dialling r t = refl
 
   -- an answered call: the charge goes before
   pub ship-answered : (r : Request) (t : ℕ) (n : Told) (b : List ℕ) → n ≡ durationOf (wholeSeconds (record { 0 = d .station .clock - t }))
       → b ≡ block 7 i (four (r .who .ship) (four t (four (d .station .clock) (four (wholeSeconds (record { 0 = d .station .clock - t }) .0) []))))
-      → doing (holding i r n) (handing b d) ≡ doing (shipEnd i r (answered t)) d
+      → doing (holding i r n) (handing b d) ≡ doing (shipEnd i (dealing r) (answered t)) d
   unfolding handing doing holding shipEnd sentBlock sentPayload payloadOf
   ship-answered r t n b p q = rw (p, q, clip-on (d .blocks) (block 7 i (four (r .who .ship) (four t (four (d .station .clock) (four (wholeSeconds (record { 0 = d .station .clock - t }) .0) []))))) _)
 
@@ -57,7 +58,7 @@ either-way false a = refl
 
 -- what a slot does with a sequence of its ship, and with another's
 module _ (i : ℕ) (x : Party) (st : R.Station) (r : Request) where
-  pub working-yes : (p : Phase) → (awaitsCall p && is x (r .who)) ≡ true → workingOn i x st (phaseView p r) ≡ dialNow i r st
+  pub working-yes : (p : Phase) → (awaitsCall p && is x (r .who)) ≡ true → workingOn i x st (phaseView p r) ≡ dialNow i (dealing r) st
   unfolding workingOn workingKind
   working-yes Free h = cc
   working-yes (Offered t) h = rw h
@@ -117,7 +118,7 @@ module _ (i : ℕ) (x : Party) (st : R.Station) (r : Request) where
   end-stranger (Hold t n) h = rw h
   end-stranger Taken h = refl
 
-  pub end-own : (g : R.Stage) (c : Option ℕ) → is x (r .who) ≡ true → shipEnd i r g st ≡ shipEndOn i x st (busy r g c)
+  pub end-own : (g : R.Stage) (c : Option ℕ) → is x (r .who) ≡ true → shipEnd i (dealing r) g st ≡ shipEndOn i x st (busy r g c)
   unfolding shipEndOn
   end-own g c h = rw h
 

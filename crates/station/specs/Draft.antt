@@ -9,7 +9,7 @@ use Rattle.units.specs.declared.Told.{Told}
 use Rattle.rules.specs.Actions.{does, over, theCoast, theShip}
 use Rattle.rules.specs.Words.{carrierOff, releaseLine, Config, Request}
 use Rattle.rules.specs.Station as R
-use Rattle.rules.specs.Station.{free, taken, pending, busy, held, setSlot, setClock, setQueue, nextDue, dueAfter, holdWait}
+use Rattle.rules.specs.Station.{dealing, free, taken, pending, busy, held, setSlot, setClock, setQueue, nextDue, dueAfter, holdWait}
 use Rattle.rules.specs.Requests.{Out, also, freed}
 use Rattle.slots.specs.Views.{carrierOf}
 use Rattle.rules.specs.Waits.{Wait}
@@ -49,7 +49,7 @@ abbrev pub busyIn : R.Slot → Option Busy
 busyIn free = none
 busyIn taken = none
 busyIn (pending k r d) = none
-busyIn (busy r g c) = some (record { request = r; stage = g; loss = c })
+busyIn (busy r g c) = some (record { request = r .request; stage = g; loss = c })
 busyIn (held r n d) = none
 
 abbrev pub busyOf : Call → Request → Option Busy
@@ -112,7 +112,7 @@ unfoldable pub holding : ℕ → Request → Told → R.Station → Out
 holding i r n st =
     record {
       answer = 0;
-      next = setSlot i (held r n (dueAfter (st .clock) holdWait)) st;
+      next = setSlot i (held (dealing r) n (dueAfter (st .clock) holdWait)) st;
       acts = does (releaseLine i) ∷ over i theShip (r .who) (r .number) n ∷ does (carrierOff i) ∷ [];
     }
 

@@ -1,7 +1,7 @@
 // A wait falls due.
 ghost use mathlib.Core.Path.{_≡_};
 ghost use Prim.Native.Nat.{_≤_};
-ghost use Rattle.rules.specs.Station.{fires};
+ghost use Rattle.rules.specs.Station.{dealing, fires};
 ghost use Rattle.rules.specs.Calls.{offerDue, ringAgain, mainOn, ticked};
 ghost use Rattle.requests.specs.Views.{requestOf};
 ghost use Rattle.slots.specs.Views.{waitView};
@@ -37,7 +37,7 @@ impl Plan {
     // "send once more, wait 50"
     pub(crate) fn ring_again(self, i: SlotNumber, q: Request) -> Plan
         requires { ⌜ self .station .clock .0 ≤ 4_000_000_000 ⌝ }
-        ensures { λ r. ⌜ draftOf r ≡ doing (ringAgain (i .0) (requestOf q)) (draftOf self) ⌝ }
+        ensures { λ r. ⌜ draftOf r ≡ doing (ringAgain (i .0) (dealing (requestOf q))) (draftOf self) ⌝ }
     {
         let s = self.station;
         let c = s.channel_at(i);

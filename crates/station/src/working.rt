@@ -3,6 +3,7 @@ ghost use mathlib.Core.Path.{_≡_};
 ghost use mathlib.Core.Bool.{_&&_};
 ghost use Prim.Native.Nat.{_≤_};
 ghost use Rattle.rules.specs.Words.{is, heard};
+ghost use Rattle.rules.specs.Station.{dealing};
 ghost use Rattle.rules.specs.Calls.{dialNow, workingOn, shipEndOn, sayAgain, heardOn};
 ghost use Rattle.requests.specs.Views.{requestOf};
 ghost use Rattle.station.specs.Step.{slotAt, steppedBy, roomAfter};
@@ -65,7 +66,7 @@ impl Plan {
     // "dial the stored request's number .. Carrier counts as present; wait 600 for a reply"
     pub(crate) fn dial_now(self, i: SlotNumber, q: Request) -> Plan
         requires { ⌜ self .station .clock .0 ≤ 4_000_000_000 ⌝ }
-        ensures { λ r. ⌜ draftOf r ≡ doing (dialNow (i .0) (requestOf q)) (draftOf self) ⌝ }
+        ensures { λ r. ⌜ draftOf r ≡ doing (dialNow (i .0) (dealing (requestOf q))) (draftOf self) ⌝ }
     {
         let s = self.station;
         let n = q.number;

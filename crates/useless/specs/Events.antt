@@ -5,7 +5,7 @@ use mathlib.Core.Bool.{cond}
 use mathlib.Core.List.{List, map}
 use lib.Dec.{eqb}
 use lib.ListN.{length, take, drop, replicate}
-use Rattle.rules.specs.Words.{Config, Happened, heard, offHook, onHook, carrierUp, carrierDown, takes, givesBack, What, tick, onChannel70, onSlot, Event}
+use Rattle.rules.specs.Words.{Config, Happened, heard, signal, operator, lineLifted, lineHung, carrierHeard, carrierLost, handTakes, handGives, What, tick, onChannel70, onSlot, Event}
 use Rattle.station.specs.declared.Station.{Station}
 use Rattle.station.specs.declared.Stepped.{Stepped}
 use Rattle.rack.specs.Rooms.{kindIn}
@@ -19,12 +19,12 @@ pub data Method : Type 0 where
 
 abbrev pub methodOn : Happened → Method
 methodOn (heard m) = heard-on-slot
-methodOn offHook = off-hook
-methodOn onHook = on-hook
-methodOn carrierUp = carrier-up
-methodOn carrierDown = carrier-down
-methodOn takes = take-slot
-methodOn givesBack = give-back
+methodOn (signal lineLifted) = off-hook
+methodOn (signal lineHung) = on-hook
+methodOn (signal carrierHeard) = carrier-up
+methodOn (signal carrierLost) = carrier-down
+methodOn (operator handTakes) = take-slot
+methodOn (operator handGives) = give-back
 
 abbrev pub methodOf : What → Method
 methodOf tick = on-tick

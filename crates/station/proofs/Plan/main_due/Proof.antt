@@ -1,5 +1,6 @@
 use mathlib.Core.Path.{refl, _∙_}
 use Rattle.units.specs.declared.Told.the-variants.{Nothing}
+use Rattle.rules.specs.Station.{dealing}
 use Rattle.rules.specs.Requests.{freed, coastEnd}
 use Rattle.rules.specs.Calls.{mainOn, pendingDue, offerDue, ringAgain, replyDue}
 use Rattle.requests.specs.Views.{requestOf}
@@ -19,7 +20,7 @@ returns-2 c = let i = c .before .before .before .before .before .before .args .i
 
 returns-3 : tie.Need-returns-3
 unfolding draftOf mainOn pendingDue replyDue coastEnd closing
-returns-3 c = let i = c .before .before .before .before .before .before .args .i .0 in c .ring-again .ensures ∙ slot-is i (draftOf (c .before .before .before .before .before .before .args .self)) (mainOn i) _ (rw (c .before .enum-told3 .given .1) at (c .before .before .before .before .slot-at .ensures)) (ringAgain i (requestOf (c .before .before .before .before .slot-at .result .request))) refl
+returns-3 c = let i = c .before .before .before .before .before .before .args .i .0 in c .ring-again .ensures ∙ slot-is i (draftOf (c .before .before .before .before .before .before .args .self)) (mainOn i) _ (rw (c .before .enum-told3 .given .1) at (c .before .before .before .before .slot-at .ensures)) (ringAgain i (dealing (requestOf (c .before .before .before .before .slot-at .result .request)))) refl
 
 returns-4 : tie.Need-returns-4
 unfolding draftOf mainOn pendingDue replyDue coastEnd closing

@@ -1,6 +1,7 @@
 use borrow.Author.Tests.{not-true, not-false}
 use mathlib.Core.Path.{refl, sym, _∙_}
 use native.Mathlib.Omega.{arith}
+use Rattle.rules.specs.Station.{dealing}
 use Rattle.rules.specs.Calls.{shipEnd, sayAgain, shipEndOn}
 use Rattle.requests.specs.Views.{requestOf}
 use Rattle.station.proofs.PlanLaws.{say-clock}
@@ -41,11 +42,11 @@ returns-6 c = let a = c .before .before .before .before .before .before .before 
 
 returns-7 : tie.Need-returns-7
 unfolding draftOf requestOf
-returns-7 c = let a = c .before .before .before .before .before .before .before .before .before .args in let r = requestOf (c .before .before .before .before .before .before .slot-at .result .request) in c .held .ensures ∙ ship-dialling (a .i .0) (draftOf (a .self)) r _ ∙ slot-is (a .i .0) (draftOf (a .self)) (shipEndOn (a .i .0) (requestOf (a .x) .who)) _ (rw (c .before .enum-told6 .given .1) at (c .before .before .before .before .before .before .slot-at .ensures)) (shipEnd (a .i .0) r _) (end-own (a .i .0) _ _ r _ _ (sym (c .before .before .before .before .is-by .ensures) ∙ not-false _ (c .before .before .before .if1 .left)))
+returns-7 c = let a = c .before .before .before .before .before .before .before .before .before .args in let r = requestOf (c .before .before .before .before .before .before .slot-at .result .request) in c .held .ensures ∙ ship-dialling (a .i .0) (draftOf (a .self)) r _ ∙ slot-is (a .i .0) (draftOf (a .self)) (shipEndOn (a .i .0) (requestOf (a .x) .who)) _ (rw (c .before .enum-told6 .given .1) at (c .before .before .before .before .before .before .slot-at .ensures)) (shipEnd (a .i .0) (dealing r) _) (end-own (a .i .0) _ _ r _ _ (sym (c .before .before .before .before .is-by .ensures) ∙ not-false _ (c .before .before .before .if1 .left)))
 
 returns-8 : tie.Need-returns-8
 unfolding draftOf modelOf requestOf
-returns-8 c = let a = c .before .before .before .before .before .before .before .before .before .before .before .before .before .args in let r = requestOf (c .before .before .before .before .before .before .before .before .before .before .slot-at .result .request) in rw (c .held2 .ensures, c .before .say .ensures) (ship-answered (a .i .0) (draftOf (a .self)) r _ _ _ (c .before .before .before .lasted .ensures) (c .before .before .charge .ensures .1)) ∙ slot-is (a .i .0) (draftOf (a .self)) (shipEndOn (a .i .0) (requestOf (a .x) .who)) _ (rw (c .before .before .before .before .before .p .given .1) at (c .before .before .before .before .before .before .before .before .before .before .slot-at .ensures)) (shipEnd (a .i .0) r _) (end-own (a .i .0) _ _ r _ _ (sym (c .before .before .before .before .before .before .before .before .is-by .ensures) ∙ not-false _ (c .before .before .before .before .before .before .before .if1 .left)))
+returns-8 c = let a = c .before .before .before .before .before .before .before .before .before .before .before .before .before .args in let r = requestOf (c .before .before .before .before .before .before .before .before .before .before .slot-at .result .request) in rw (c .held2 .ensures, c .before .say .ensures) (ship-answered (a .i .0) (draftOf (a .self)) r _ _ _ (c .before .before .before .lasted .ensures) (c .before .before .charge .ensures .1)) ∙ slot-is (a .i .0) (draftOf (a .self)) (shipEndOn (a .i .0) (requestOf (a .x) .who)) _ (rw (c .before .before .before .before .before .p .given .1) at (c .before .before .before .before .before .before .before .before .before .before .slot-at .ensures)) (shipEnd (a .i .0) (dealing r) _) (end-own (a .i .0) _ _ r _ _ (sym (c .before .before .before .before .before .before .before .before .is-by .ensures) ∙ not-false _ (c .before .before .before .before .before .before .before .if1 .left)))
 
 returns-9 : tie.Need-returns-9
 unfolding draftOf requestOf

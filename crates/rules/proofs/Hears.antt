@@ -1,0 +1,131 @@
+-- What a deed and an event say on a line, as to who talks on it: nothing, or a call begins, or one stops. It speaks of the list alone.
+use mathlib.Core.Path.{_≡_, refl}
+use mathlib.Core.List.{List, []}
+use mathlib.Core.Bool.{Bool, true, false, cond}
+use mathlib.Core.Option.{Option, none, some}
+use Prim.Native.Nat.{ℕ}
+use lib.Dec.{eqb}
+use Rattle.rules.specs.Places.{modAt}
+use Rattle.rules.specs.Words.{Party, is, Mode, Request, Config, lineLifted, lineHung, carrierHeard, carrierLost, Happened, heard, signal, operator, offHook, What, onSlot, Deed, carrierOn, carrierOff, acknowledge, ringBack, unable, dial, releaseLine}
+use Rattle.rules.specs.Heard.{Heard, callRequest, dataRequest, bq, workingCall, endOfCall, nothing, meaning}
+use Rattle.rules.specs.Book.{Stop, after, offerTime, alike, Said, silent, toldBQ, toldRQ, settled, Call, quiet, dialled, talking, Line, Book, atPlaces, stopOf, callOf, stopsSaid, stopsOn}
+use Rattle.rules.specs.Reading.{close, withGone, pickUp, lose, signOff, hearSaid, hearLine, settle, told, tell, rungUp, beginCall, dialUp, letGo, hush, join, queued, read}
+
+abbrev pub line-of : Said → Option ℕ → Call → Option ℕ → Line
+line-of s w c g = record { said = s; wait = w; call = c; gone = g }
+
+-- the answered part of a call
+abbrev pub talk : Call → Call
+talk quiet = quiet
+talk (dialled x m) = quiet
+talk (talking x m b) = talking x m b
+
+pub talk-is : (c : Call) (x : Party) (m : Mode) (t : ℕ) → talk c ≡ talking x m t → c ≡ talking x m t
+talk-is quiet x m t h = cc
+talk-is (dialled y k) x m t h = cc
+talk-is (talking y k b) x m t h = h
+
+-- ── what leaves the answered part alone ──────────────────────────────────────
+
+abbrev pub Same : (Line → Line) → Type 0
+Same f = (l : Line) → talk (f l .call) ≡ talk (l .call)
+
+cond-same : (c : Call) (b : Bool) (x y : Line) → talk (x .call) ≡ c → talk (y .call) ≡ c → talk (cond b x y .call) ≡ c
+cond-same c true x y p q = p
+cond-same c false x y p q = q
+
+tell-same : (u : ℕ) (r : Request) → Same (tell u r)
+tell-same u r l = go (l .said)
+  where
+    go : (s : Said) → talk (tell u r (line-of s (l .wait) (l .call) (l .gone)) .call) ≡ talk (l .call)
+    go silent = refl
+    go (toldBQ o) = cond-same _ (alike r o) (line-of (toldBQ o) (l .wait) (l .call) (l .gone)) (told u r (line-of (toldBQ o) (l .wait) (l .call) (l .gone))) refl refl
+    go (toldRQ o) = refl
+    go (settled o) = refl
+
+begin-same : (r : Request) (c : Call) → talk (beginCall r c) ≡ talk c
+begin-same r quiet = refl
+begin-same r (dialled x m) = refl
+begin-same r (talking x m b) = refl
+
+dial-same : (u : ℕ) → Same (dialUp u)
+dial-same u l = go (l .said)
+  where
+    go : (s : Said) → talk (dialUp u (line-of s (l .wait) (l .call) (l .gone)) .call) ≡ talk (l .call)
+    go silent = refl
+    go (toldBQ r) = begin-same r (l .call)
+    go (toldRQ r) = begin-same r (l .call)
+    go (settled r) = begin-same r (l .call)
+
+release-same : Same letGo
+release-same l = go (l .call)
+  where
+    go : (c : Call) → talk (letGo (line-of (l .said) (l .wait) c (l .gone)) .call) ≡ talk c
+    go quiet = refl
+    go (dialled x m) = refl
+    go (talking x m b) = refl
+
+lose-same : (u : ℕ) → Same (lose u)
+lose-same u l = go (l .call)
+  where
+    go : (c : Call) → talk (lose u (line-of (l .said) (l .wait) c (l .gone)) .call) ≡ talk c
+    go quiet = refl
+    go (dialled x m) = refl
+    go (talking x m b) = refl
+
+pub settle-same : (u : ℕ) (x : Party) → Same (settle u x)
+settle-same u x l = go (l .said)
+  where
+    go : (s : Said) → talk (settle u x (line-of s (l .wait) (l .call) (l .gone)) .call) ≡ talk (l .call)
+    go silent = refl
+    go (toldBQ r) = refl
+    go (toldRQ r) = cond-same _ (is x (r .who)) (line-of (settled r) (some (after u offerTime)) (l .call) (l .gone)) (line-of (toldRQ r) (l .wait) (l .call) (l .gone)) refl refl
+    go (settled r) = refl
+
+-- ── what a deed says ─────────────────────────────────────────────────────────
+
+pub queued-lines : (u n : ℕ) (x : Party) (b : Book) → queued u n x b .lines ≡ b .lines
+queued-lines u n x b = go (eqb n 103)
+  where
+    go : (c : Bool) → cond c (atPlaces (join u x) b) b .lines ≡ b .lines
+    go true = refl
+    go false = refl
+
+-- no deed begins or stops an answered call
+pub data Leaves (ls : List Line) : List Line → Type 0 where
+  elsewhere : Leaves ls ls
+  at-line : (i : ℕ) (f : Line → Line) → Same f → Leaves ls (modAt f i ls)
+
+pub read-leaves : (u : ℕ) (d : Deed) (b : Book) → Leaves (b .lines) (read u d b .lines)
+read-leaves u (carrierOn i) b = elsewhere
+read-leaves u (carrierOff i) b = at-line i hush (λ l. refl)
+read-leaves u (acknowledge i r) b = at-line i (tell u r) (tell-same u r)
+read-leaves u (ringBack i r) b = at-line i (rungUp u r) (λ l. refl)
+read-leaves u (unable n x digits) b = rw (queued-lines u n x b) elsewhere
+read-leaves u (dial i n) b = at-line i (dialUp u) (dial-same u)
+read-leaves u (releaseLine i) b = at-line i letGo release-same
+
+-- ── what an event says, on the line i at the time u ──────────────────────────
+
+-- it is read by f, and a call k on the line gives the stops s k
+pub data Hears (u i : ℕ) (e : What) : (Line → Line) → (Call → List Stop) → Type 0 where
+  says-nothing : (f : Line → Line) → Same f → Hears u i e f (λ k. [])
+  says-begun : e ≡ onSlot i offHook → Hears u i e (pickUp u) (λ k. [])
+  says-over : Hears u i e close (stopOf u i)
+  says-end : (x : Party) → Hears u i e (signOff u x) (λ k. cond (callOf x k) (stopOf u i k) [])
+
+said-hears : (u i : ℕ) (e : What) (m : Heard) → Hears u i e (hearSaid u m) (λ k. stopsSaid u i k m)
+said-hears u i e (callRequest r) = says-nothing (λ l. l) (λ l. refl)
+said-hears u i e (dataRequest x n) = says-nothing (λ l. l) (λ l. refl)
+said-hears u i e (bq j x) = says-nothing (λ l. l) (λ l. refl)
+said-hears u i e (workingCall x) = says-nothing (λ l. l) (λ l. refl)
+said-hears u i e (endOfCall x) = says-end x
+said-hears u i e nothing = says-nothing (λ l. l) (λ l. refl)
+
+pub line-hears : (cfg : Config) (u i : ℕ) (h : Happened) → Hears u i (onSlot i h) (hearLine cfg u h) (λ k. stopsOn cfg u i k h)
+line-hears cfg u i (heard m) = said-hears u i (onSlot i (heard m)) (meaning cfg m)
+line-hears cfg u i (signal lineLifted) = says-begun refl
+line-hears cfg u i (signal lineHung) = says-over
+line-hears cfg u i (signal carrierHeard) = says-nothing (withGone none) (λ l. refl)
+line-hears cfg u i (signal carrierLost) = says-nothing (lose u) (lose-same u)
+line-hears cfg u i (operator h) = says-nothing (λ l. l) (λ l. refl)

@@ -1,0 +1,268 @@
+-- What an event does to a slot, said once: the one walk of events by phases. A law on every event goes by outcome.
+use mathlib.Core.Path.{_≡_, refl}
+use mathlib.Core.List.{List, [], _∷_, map}
+use mathlib.Core.Bool.{Bool, true, false, cond}
+use mathlib.Core.Option.{Option, none, some}
+use Prim.Native.Nat.{ℕ}
+use Rattle.units.specs.declared.Told.{Told}
+use Rattle.rules.specs.Places.{Each}
+use Rattle.rules.specs.Words.{Party, is, Request, Config, lineLifted, lineHung, carrierHeard, carrierLost, handTakes, handGives, Happened, heard, signal, operator, offHook, Deed, carrierOn, carrierOff, acknowledge, ringBack, unable, dial, releaseLine}
+use Rattle.rules.specs.Heard.{Heard, callRequest, dataRequest, bq, workingCall, endOfCall, nothing, meaning}
+use Rattle.rules.specs.Actions.{Action, does, over, Ender, theShip, theCoast}
+use Rattle.rules.specs.Station.{Kind, offered, firstRing, secondRing, acknowledged, Stage, dialling, answered, Dealing, Slot, free, taken, pending, busy, held, Station, setSlot, dueAfter, kindWait, replyWait, holdWait}
+use Rattle.rules.specs.Requests.{Out, ignored, also, freed, lasted, endActs, coastEnd}
+use Rattle.rules.specs.Calls.{dialNow, workingKind, workingOn, agreed, bqKind, bqFor, offHookStage, offHookOn, startLoss, downOn, upOn, shipEnd, sayAgain, shipEndOn, endOn, takeOn, giveOn, offerDue, ringAgain, pendingDue, replyDue, mainOn, heardOn, happenedOn}
+use Rattle.rules.specs.Book.{Stop, Line, Place, stopOf, callOf, stopsSaid, stopsOn}
+use Rattle.rules.specs.Reading.{close, withWait, withGone, pickUp, lose, signOff, hearSaid, hearLine, settle, tell, rungUp, dialUp, letGo, hush, leave}
+use Rattle.rules.specs.Repeated.{Dials}
+use Rattle.rules.specs.ThreeWords.{Word, idle, ringing, lifted, wordOf}
+use Rattle.rules.specs.Statement.{deedsOf, chargesOf, owed}
+use Rattle.rules.proofs.Base.{saidOf, view, silence-is}
+
+-- ── what a slot can do, and the actions with it, at the time t ───────────────
+
+-- it stays as it is, turns into another, or is freed, with the ring-back that follows
+pub data Next : Type 0 where
+  stays : Next
+  becomes : Slot → Next
+  frees : Next
+
+pub data Move (i t : ℕ) : Slot → Next → List Action → Type 0 where
+  -- before its line is dialled: the number is the one named on channel 70
+  to-dial : (k : Kind) (r : Dealing) (d : ℕ) → Dials (r .request .number) (saidOf k (r .request))
+      → Move i t (pending k r d) (becomes (busy r (dialling (dueAfter t replyWait)) none)) (does (dial i (r .request .number)) ∷ [])
+  to-agree : (k : Kind) (r : Dealing) (d : ℕ)
+      → Move i t (pending k r d) (becomes (pending acknowledged r (dueAfter t (kindWait acknowledged)))) []
+  to-ring : (r : Dealing) (d : ℕ)
+      → Move i t (pending firstRing r d) (becomes (pending secondRing r (dueAfter t (kindWait secondRing)))) (does (ringBack i (r .request)) ∷ [])
+  to-drop : (k : Kind) (r : Dealing) (d : ℕ) → Move i t (pending k r d) frees (does (carrierOff i) ∷ [])
+  -- dialling or answered
+  to-answer : (r : Dealing) (d : ℕ) (c : Option ℕ) → Move i t (busy r (dialling d) c) (becomes (busy r (answered t) c)) []
+  to-lose : (r : Dealing) (g : Stage) (c : Option ℕ) → Move i t (busy r g c) (becomes (busy r g (startLoss t (r .request .mode) c))) []
+  to-regain : (r : Dealing) (g : Stage) (c : Option ℕ) → Move i t (busy r g c) (becomes (busy r g none)) []
+  to-hold : (r : Dealing) (g : Stage) (c : Option ℕ)
+      → Move i t (busy r g c) (becomes (held r (lasted g t) (dueAfter t holdWait))) (endActs i theShip (r .request) g t)
+  to-end : (r : Dealing) (g : Stage) (c : Option ℕ) → Move i t (busy r g c) frees (endActs i theCoast (r .request) g t)
+  -- in its hold
+  to-repeat : (r : Dealing) (n : Told) (d : ℕ)
+      → Move i t (held r n d) stays (does (carrierOn i) ∷ over i theShip (r .request .who) (r .request .number) n ∷ does (carrierOff i) ∷ [])
+  to-run-out : (r : Dealing) (n : Told) (d : ℕ) → Move i t (held r n d) frees []
+  -- the operator's
+  to-take : Move i t free (becomes taken) []
+  to-give : Move i t taken frees []
+
+-- what a move gives
+abbrev pub played : ℕ → Station → Next → List Action → Out
+played i st stays acts = record { answer = 0; next = st; acts = acts }
+played i st (becomes q) acts = record { answer = 0; next = setSlot i q st; acts = acts }
+played i st frees acts = also acts (freed i st)
+
+-- what it leaves in the slot, before a ring-back
+abbrev pub leaves : Slot → Next → Slot
+leaves p stays = p
+leaves p (becomes q) = q
+leaves p frees = free
+
+-- ── what is read of it: the book's line of the slot, and its three words ─────
+
+abbrev pub word : Slot → Word
+word s = wordOf (view s .call)
+
+-- a deed about the slot itself
+abbrev pub lineDone : ℕ → Deed → Line → Line
+lineDone t (carrierOn i) l = l
+lineDone t (carrierOff i) l = hush l
+lineDone t (acknowledge i r) l = tell t r l
+lineDone t (ringBack i r) l = rungUp t r l
+lineDone t (unable n x digits) l = l
+lineDone t (dial i digits) l = dialUp t l
+lineDone t (releaseLine i) l = letGo l
+
+abbrev pub linesDone : ℕ → List Deed → Line → Line
+linesDone t [] l = l
+linesDone t (d ∷ ds) l = linesDone t ds (lineDone t d l)
+
+abbrev pub oneDone : Deed → Word → Word
+oneDone (carrierOn i) w = w
+oneDone (carrierOff i) w = w
+oneDone (acknowledge i r) w = w
+oneDone (ringBack i r) w = w
+oneDone (unable n x digits) w = w
+oneDone (dial i digits) w = ringing
+oneDone (releaseLine i) w = idle
+
+abbrev pub allDone : List Deed → Word → Word
+allDone [] w = w
+allDone (d ∷ ds) w = allDone ds (oneDone d w)
+
+-- a deed about the slot i, and not about a ship among those that wait
+abbrev pub About : ℕ → List Place → Deed → Type 0
+About i ps (carrierOn j) = i ≡ j
+About i ps (carrierOff j) = i ≡ j
+About i ps (acknowledge j r) = i ≡ j
+About i ps (ringBack j r) = (i ≡ j) × (leave (r .who) ps ≡ ps)
+About i ps (unable n x digits) = ⊥
+About i ps (dial j digits) = i ≡ j
+About i ps (releaseLine j) = i ≡ j
+
+-- no ship that a pending slot has stands among those that wait
+abbrev pub Apart : List Place → Slot → Type 0
+Apart ps p = (k : Kind) (r : Dealing) (d : ℕ) → p ≡ pending k r d → leave (r .request .who) ps ≡ ps
+
+end-about : (i : ℕ) (ps : List Place) (e : Ender) (r : Request) (g : Stage) (t : ℕ) → Each (About i ps) (deedsOf (endActs i e r g t))
+end-about i ps e r (dialling d) t = (refl, (refl, tt))
+end-about i ps e r (answered b) t = (refl, (refl, tt))
+
+-- all that a slot does is about itself
+pub move-about : (ps : List Place) (i t : ℕ) (p : Slot) (n : Next) (acts : List Action) → Move i t p n acts → Apart ps p → Each (About i ps) (deedsOf acts)
+move-about ps i t _ _ _ (to-dial k r d z) h = (refl, tt)
+move-about ps i t _ _ _ (to-agree k r d) h = tt
+move-about ps i t _ _ _ (to-ring r d) h = ((refl, h firstRing r d refl), tt)
+move-about ps i t _ _ _ (to-drop k r d) h = (refl, tt)
+move-about ps i t _ _ _ (to-answer r d c) h = tt
+move-about ps i t _ _ _ (to-lose r g c) h = tt
+move-about ps i t _ _ _ (to-regain r g c) h = tt
+move-about ps i t _ _ _ (to-hold r g c) h = end-about i ps theShip (r .request) g t
+move-about ps i t _ _ _ (to-end r g c) h = end-about i ps theCoast (r .request) g t
+move-about ps i t _ _ _ (to-repeat r n d) h = (refl, (refl, tt))
+move-about ps i t _ _ _ (to-run-out r n d) h = tt
+move-about ps i t _ _ _ to-take h = tt
+move-about ps i t _ _ _ to-give h = tt
+
+-- ── the outcome ──────────────────────────────────────────────────────────────
+
+-- the slot i of st holds p; the event is read on its line by f and on its word by w, and stops cs
+pub data Outcome (i : ℕ) (st : Station) (f : Line → Line) (w : Word → Word) (cs : List Stop) (p : Slot) : Out → Type 0 where
+  passed : f (view p) ≡ view p → w (word p) ≡ word p → [] ≡ map owed cs → Outcome i st f w cs p (ignored st)
+  moved : {n : Next} {acts : List Action} → Move i (st .clock) p n acts
+      → linesDone (st .clock) (deedsOf acts) (f (view p)) ≡ view (leaves p n)
+      → allDone (deedsOf acts) (w (word p)) ≡ word (leaves p n) → chargesOf acts ≡ map owed cs
+      → Outcome i st f w cs p (played i st n acts)
+
+module _ (i : ℕ) (st : Station) where
+  outcome-if : {f : Line → Line} {w : Word → Word} {cs : List Stop} {p : Slot} (b : Bool) (x y : Out) → (b ≡ true → Outcome i st f w cs p x) → (b ≡ false → Outcome i st f w cs p y) → Outcome i st f w cs p (cond b x y)
+  outcome-if true x y g h = g refl
+  outcome-if false x y g h = h refl
+
+  -- ── off-hook, carrier ──
+  offHook-outcome : (p : Slot) → Outcome i st (pickUp (st .clock)) (lifted (st .clock) offHook) [] p (offHookOn i st p)
+  unfolding offHookOn offHookStage
+  offHook-outcome free = passed refl refl refl
+  offHook-outcome taken = passed refl refl refl
+  offHook-outcome (pending k r d) = passed refl refl refl
+  offHook-outcome (busy r (dialling d) c) = moved (to-answer r d c) refl refl refl
+  offHook-outcome (busy r (answered b) c) = passed refl refl refl
+  offHook-outcome (held r n d) = passed refl refl refl
+
+  up-outcome : (p : Slot) → Outcome i st (withGone none) (λ w. w) [] p (upOn i st p)
+  unfolding upOn
+  up-outcome free = passed refl refl refl
+  up-outcome taken = passed refl refl refl
+  up-outcome (pending k r d) = passed refl refl refl
+  up-outcome (busy r g c) = moved (to-regain r g c) refl refl refl
+  up-outcome (held r n d) = passed refl refl refl
+
+  down-outcome : (p : Slot) → Outcome i st (lose (st .clock)) (λ w. w) [] p (downOn i st p)
+  unfolding downOn
+  down-outcome free = passed refl refl refl
+  down-outcome taken = passed refl refl refl
+  down-outcome (pending k r d) = passed refl refl refl
+  down-outcome (busy r (dialling d) none) = moved (to-lose r (dialling d) none) (rw (silence-is (r .request .mode)) refl) refl refl
+  down-outcome (busy r (dialling d) (some u)) = moved (to-lose r (dialling d) (some u)) refl refl refl
+  down-outcome (busy r (answered b) none) = moved (to-lose r (answered b) none) (rw (silence-is (r .request .mode)) refl) refl refl
+  down-outcome (busy r (answered b) (some u)) = moved (to-lose r (answered b) (some u)) refl refl refl
+  down-outcome (held r n d) = passed refl refl refl
+
+  -- ── on-hook, and carrier loss ──
+  pub end-outcome : (p : Slot) → Outcome i st close (λ w. w) (stopOf (st .clock) i (view p .call)) p (endOn i st p)
+  unfolding endOn coastEnd
+  end-outcome free = passed refl refl refl
+  end-outcome taken = passed refl refl refl
+  end-outcome (pending k r d) = passed refl refl refl
+  end-outcome (busy r (dialling d) c) = moved (to-end r (dialling d) c) refl refl refl
+  end-outcome (busy r (answered b) c) = moved (to-end r (answered b) c) refl refl refl
+  end-outcome (held r n d) = passed refl refl refl
+
+  -- ── the ship's end ──
+  shipEnd-outcome : (x : Party) (p : Slot) → Outcome i st (signOff (st .clock) x) (λ w. w) (cond (callOf x (view p .call)) (stopOf (st .clock) i (view p .call)) []) p (shipEndOn i x st p)
+  unfolding shipEndOn shipEnd sayAgain
+  shipEnd-outcome x free = passed refl refl refl
+  shipEnd-outcome x taken = passed refl refl refl
+  shipEnd-outcome x (pending k r d) = passed refl refl refl
+  shipEnd-outcome x (busy r (dialling d) c) = outcome-if (is x (r .request .who)) (shipEnd i r (dialling d) st) (ignored st) (λ h. moved (to-hold r (dialling d) c) (rw h refl) refl (rw h refl)) (λ h. passed (rw h refl) refl (rw h refl))
+  shipEnd-outcome x (busy r (answered b) c) = outcome-if (is x (r .request .who)) (shipEnd i r (answered b) st) (ignored st) (λ h. moved (to-hold r (answered b) c) (rw h refl) refl (rw h refl)) (λ h. passed (rw h refl) refl (rw h refl))
+  shipEnd-outcome x (held r n d) = outcome-if (is x (r .request .who)) (sayAgain i (r .request) n st) (ignored st) (λ h. moved (to-repeat r n d) refl refl refl) (λ h. passed refl refl refl)
+
+  -- ── the working call ──
+  working-outcome : (x : Party) (p : Slot) → Outcome i st (λ l. l) (λ w. w) [] p (workingOn i x st p)
+  unfolding workingOn workingKind dialNow
+  working-outcome x free = passed refl refl refl
+  working-outcome x taken = passed refl refl refl
+  working-outcome x (pending offered r d) = outcome-if (is x (r .request .who)) (dialNow i r st) (ignored st) (λ h. moved (to-dial offered r d refl) refl refl refl) (λ h. passed refl refl refl)
+  working-outcome x (pending firstRing r d) = outcome-if (is x (r .request .who)) (ignored st) (ignored st) (λ h. passed refl refl refl) (λ h. passed refl refl refl)
+  working-outcome x (pending secondRing r d) = outcome-if (is x (r .request .who)) (ignored st) (ignored st) (λ h. passed refl refl refl) (λ h. passed refl refl refl)
+  working-outcome x (pending acknowledged r d) = outcome-if (is x (r .request .who)) (dialNow i r st) (ignored st) (λ h. moved (to-dial acknowledged r d refl) refl refl refl) (λ h. passed refl refl refl)
+  working-outcome x (busy r g c) = passed refl refl refl
+  working-outcome x (held r n d) = passed refl refl refl
+
+  -- ── the ring-back agreed to ──
+  pub bq-outcome : (x : Party) (p : Slot) → Outcome i st (settle (st .clock) x) (λ w. w) [] p (bqFor i x st p)
+  unfolding bqFor bqKind agreed
+  bq-outcome x free = passed refl refl refl
+  bq-outcome x taken = passed refl refl refl
+  bq-outcome x (pending offered r d) = outcome-if (is x (r .request .who)) (ignored st) (ignored st) (λ h. passed refl refl refl) (λ h. passed refl refl refl)
+  bq-outcome x (pending firstRing r d) = outcome-if (is x (r .request .who)) (agreed i r st) (ignored st) (λ h. moved (to-agree firstRing r d) (rw h refl) refl refl) (λ h. passed (rw h refl) refl refl)
+  bq-outcome x (pending secondRing r d) = outcome-if (is x (r .request .who)) (agreed i r st) (ignored st) (λ h. moved (to-agree secondRing r d) (rw h refl) refl refl) (λ h. passed (rw h refl) refl refl)
+  bq-outcome x (pending acknowledged r d) = outcome-if (is x (r .request .who)) (ignored st) (ignored st) (λ h. passed refl refl refl) (λ h. passed refl refl refl)
+  bq-outcome x (busy r g c) = passed refl refl refl
+  bq-outcome x (held r n d) = passed refl refl refl
+
+  -- ── the operator ──
+  take-outcome : (p : Slot) → Outcome i st (λ l. l) (λ w. w) [] p (takeOn i st p)
+  unfolding takeOn
+  take-outcome free = moved to-take refl refl refl
+  take-outcome taken = passed refl refl refl
+  take-outcome (pending k r d) = passed refl refl refl
+  take-outcome (busy r g c) = passed refl refl refl
+  take-outcome (held r n d) = passed refl refl refl
+
+  give-outcome : (p : Slot) → Outcome i st (λ l. l) (λ w. w) [] p (giveOn i st p)
+  unfolding giveOn
+  give-outcome free = passed refl refl refl
+  give-outcome taken = moved to-give refl refl refl
+  give-outcome (pending k r d) = passed refl refl refl
+  give-outcome (busy r g c) = passed refl refl refl
+  give-outcome (held r n d) = passed refl refl refl
+
+  -- ── the slot's other wait falls due ──
+  pub main-outcome : (p : Slot) → Outcome i st (withWait none) (λ w. w) [] p (mainOn i st p)
+  unfolding mainOn pendingDue offerDue ringAgain replyDue coastEnd
+  main-outcome free = passed refl refl refl
+  main-outcome taken = passed refl refl refl
+  main-outcome (pending offered r d) = moved (to-drop offered r d) refl refl refl
+  main-outcome (pending firstRing r d) = moved (to-ring r d) refl refl refl
+  main-outcome (pending secondRing r d) = moved (to-drop secondRing r d) refl refl refl
+  main-outcome (pending acknowledged r d) = moved (to-drop acknowledged r d) refl refl refl
+  main-outcome (busy r (dialling d) c) = moved (to-end r (dialling d) c) refl refl refl
+  main-outcome (busy r (answered b) c) = passed refl refl refl
+  main-outcome (held r n d) = moved (to-run-out r n d) refl refl refl
+
+  -- ── whatever is heard on the slot, and whatever happens on it ──
+  said-outcome : (p : Slot) (m : Heard) → Outcome i st (hearSaid (st .clock) m) (λ w. w) (stopsSaid (st .clock) i (view p .call) m) p (heardOn i st p m)
+  unfolding heardOn
+  said-outcome p (callRequest r) = passed refl refl refl
+  said-outcome p (dataRequest x n) = passed refl refl refl
+  said-outcome p (bq j x) = passed refl refl refl
+  said-outcome p (workingCall x) = working-outcome x p
+  said-outcome p (endOfCall x) = shipEnd-outcome x p
+  said-outcome p nothing = passed refl refl refl
+
+  pub happened-outcome : (cfg : Config) (p : Slot) (h : Happened) → Outcome i st (hearLine cfg (st .clock) h) (lifted (st .clock) h) (stopsOn cfg (st .clock) i (view p .call) h) p (happenedOn cfg i st p h)
+  unfolding happenedOn
+  happened-outcome cfg p (heard m) = said-outcome p (meaning cfg m)
+  happened-outcome cfg p (signal lineLifted) = offHook-outcome p
+  happened-outcome cfg p (signal lineHung) = end-outcome p
+  happened-outcome cfg p (signal carrierHeard) = up-outcome p
+  happened-outcome cfg p (signal carrierLost) = down-outcome p
+  happened-outcome cfg p (operator handTakes) = take-outcome p
+  happened-outcome cfg p (operator handGives) = give-outcome p
