@@ -1,4 +1,4 @@
--- An action of the rack, its block of 40 bytes, and what a room holds once the blocks are laid.
+-- An action of the rack, its block, and what a room holds once the blocks are laid.
 use Prim.Native.Nat.{ℕ, _-_, _*_, min}
 use mathlib.Core.Bool.{Bool, cond}
 use mathlib.Core.List.{List, [], _++_, _∷_}
@@ -6,13 +6,13 @@ use lib.Dec.{leb}
 use lib.ListN.{length, take, drop}
 use Rattle.units.specs.declared.Tenths.{Tenths}
 use Rattle.units.specs.Units.{wholeSeconds}
-use Rattle.rules.specs.Bytes.{padded, block, four}
+use Rattle.rules.specs.Bytes.{padded, block, four, mostActions, blockSize, payloadRoom}
 use Rattle.requests.specs.Views.{viewed}
 use Rattle.actions.specs.declared.Action.{Action}
 
 -- an action as it is laid out: its payload, and zeros
 unfoldable pub actionOf : ℕ → ℕ → List ℕ → Action
-actionOf kind slot payload = record { kind = kind; slot = record { 0 = slot }; length = length payload; payload = padded 0 36 payload }
+actionOf kind slot payload = record { kind = kind; slot = record { 0 = slot }; length = length payload; payload = padded 0 payloadRoom payload }
 
 unfoldable pub actionBlock : Action → List ℕ
 actionBlock a = block (a .kind) (a .slot .0) (take (a .length) (a .payload))
@@ -30,7 +30,7 @@ chargeBytes ship start stop = four ship (four (start .0) (four (stop .0) (four (
 
 -- "At most 8 a step"
 unfoldable pub clip : {A : Type 0} → List A → List A
-clip l = take 8 l
+clip l = take mostActions l
 
 -- the blocks of the first n actions
 unfoldable pub handed : ℕ → List Action → List (List ℕ)
@@ -49,11 +49,11 @@ joined (b ∷ bs) = inBytes b ++ joined bs
 
 -- a room holds the blocks
 unfoldable pub holds : List (List ℕ) → ℕ → Bool
-holds bs room = leb (40 * length bs) room
+holds bs room = leb (blockSize * length bs) room
 
 unfoldable pub putCount : List (List ℕ) → ℕ → ℕ
 putCount bs room = cond (holds bs room) (length bs) 0
 
 -- "Bytes after the last action stay."
 unfoldable pub putRoom : List (List ℕ) → List ℕ → List ℕ
-putRoom bs room = cond (holds bs (length room)) (joined bs ++ drop (40 * length bs) room) room
+putRoom bs room = cond (holds bs (length room)) (joined bs ++ drop (blockSize * length bs) room) room

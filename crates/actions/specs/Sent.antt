@@ -3,6 +3,7 @@ use Prim.Native.Nat.{ℕ}
 use mathlib.Core.Bool.{Bool, true, cond}
 use mathlib.Core.List.{List, []}
 use Rattle.sequence.specs.declared.Meaning.{Meaning}
+use Rattle.sequence.specs.Figures.{endRq, endBq}
 use Rattle.sequence.specs.Layout.{valid, layout}
 use Rattle.rules.specs.Words.{Party, Config, carrierOn, carrierOff, acknowledge, ringBack, unable, dial, releaseLine}
 use Rattle.rules.specs.Actions as R
@@ -25,8 +26,8 @@ enderOf Coast = theCoast
 unfoldable pub sentPayload : Config → R.Action → List ℕ
 sentPayload c (does (carrierOn i)) = []
 sentPayload c (does (carrierOff i)) = []
-sentPayload c (does (acknowledge i r)) = sent (ableSaid (channelAt c i) 122 r)
-sentPayload c (does (ringBack i r)) = sent (ableSaid (channelAt c i) 117 r)
+sentPayload c (does (acknowledge i r)) = sent (ableSaid (channelAt c i) endBq r)
+sentPayload c (does (ringBack i r)) = sent (ableSaid (channelAt c i) endRq r)
 sentPayload c (does (unable n x digits)) = sent (unableSaid n x digits)
 sentPayload c (does (dial i digits)) = digits
 sentPayload c (does (releaseLine i)) = []
@@ -40,8 +41,8 @@ sentBlock c a = block (kindNumber a) (slotNumber a) (sentPayload c a)
 abbrev pub speaks : Config → R.Action → Bool
 speaks c (does (carrierOn i)) = true
 speaks c (does (carrierOff i)) = true
-speaks c (does (acknowledge i r)) = valid (ableSaid (channelAt c i) 122 r)
-speaks c (does (ringBack i r)) = valid (ableSaid (channelAt c i) 117 r)
+speaks c (does (acknowledge i r)) = valid (ableSaid (channelAt c i) endBq r)
+speaks c (does (ringBack i r)) = valid (ableSaid (channelAt c i) endRq r)
 speaks c (does (unable n x digits)) = valid (unableSaid n x digits)
 speaks c (does (dial i digits)) = true
 speaks c (does (releaseLine i)) = true

@@ -7,7 +7,9 @@ ghost use Rattle.rules.specs.Bytes.{block};
 ghost use Rattle.requests.specs.Views.{digitsOf};
 ghost use Rattle.actions.specs.Blocks.{actionOf, actionBlock, chargeBytes, span};
 use crate::Action;
+use crate::PAYLOAD;
 use requests::least;
+use sequence::MOST_DIGITS;
 use sequence::Number;
 use units::SlotNumber;
 use units::Tenths;
@@ -20,7 +22,7 @@ fn plain(kind: u8, i: SlotNumber) -> Action
         kind: kind,
         slot: i,
         length: 0,
-        payload: [0u8; 36],
+        payload: [0u8; PAYLOAD],
     }
 }
 
@@ -50,10 +52,10 @@ pub fn dial(i: SlotNumber, number: Number) -> Action
     ensures { λ r. ⌜ r ≡ actionOf 5 (i .0) (digitsOf number) ⌝ }
     ensures { λ r. ⌜ actionBlock r ≡ block 5 (i .0) (digitsOf number) ⌝ }
 {
-    let count = least(number.count, 16);
+    let count = least(number.count, MOST_DIGITS);
     let n = count as usize;
     let digits = number.digits;
-    let mut payload = [0u8; 36];
+    let mut payload = [0u8; PAYLOAD];
     let mut k = 0;
     while k < n {
         payload[k] = digits[k];
@@ -96,7 +98,7 @@ pub fn charge(i: SlotNumber, ship: u32, start: Tenths, stop: Tenths) -> Action
     let n = seconds.count();
     let a = start.0;
     let b = stop.0;
-    let mut payload = [0u8; 36];
+    let mut payload = [0u8; PAYLOAD];
     payload[0] = (ship % 256) as u8;
     payload[1] = (ship / 256 % 256) as u8;
     payload[2] = (ship / 65536 % 256) as u8;

@@ -1,18 +1,31 @@
 // The actions that send a sequence: the writer lays it into the payload.
 ghost use mathlib.Core.Path.{_≡_};
+ghost use Rattle.sequence.specs.Figures.{endRq, endBq};
 ghost use Rattle.rules.specs.Words.{modeNumber};
-ghost use Rattle.rules.specs.Bytes.{block, numberOf, ableSaid, unableSaid, overSaid, toldField, endSymbol};
+ghost use Rattle.rules.specs.Bytes.{block, numberOf, ableSaid, unableSaid, overSaid, toldField, endSymbol, unableSlot};
 ghost use Rattle.requests.specs.Views.{digitsOf, requestOf, modeOf};
 ghost use Rattle.actions.specs.Blocks.{actionOf, actionBlock};
 ghost use Rattle.actions.specs.Sent.{sent, party, enderOf};
 use crate::Action;
 use crate::Ender;
+use crate::PAYLOAD;
+use crate::UNABLE_SLOT;
 use requests::Mode;
 use requests::Request;
 use requests::least;
+use sequence::DIGITS;
+use sequence::END_BQ;
+use sequence::END_LAST;
+use sequence::END_RQ;
+use sequence::FIRST_DUPLEX;
+use sequence::FIRST_OVER;
+use sequence::FIRST_SIMPLEX;
+use sequence::FIRST_UNABLE;
 use sequence::Field;
+use sequence::MOST_DIGITS;
 use sequence::Meaning;
 use sequence::Number;
+use sequence::UNTOLD;
 use units::Channel;
 use units::SlotNumber;
 use units::Told;
@@ -22,10 +35,10 @@ use writing::write;
 fn tidied(n: Number) -> Number
     ensures { λ r. ⌜ r ≡ numberOf (digitsOf n) ⌝ }
 {
-    let count = least(n.count, 16);
+    let count = least(n.count, MOST_DIGITS);
     let m = count as usize;
     let d = n.digits;
-    let mut digits = [0u8; 16];
+    let mut digits = [0u8; DIGITS];
     let mut k = 0;
     while k < m {
         digits[k] = d[k];
@@ -41,7 +54,7 @@ fn tidied(n: Number) -> Number
 fn send(kind: u8, i: SlotNumber, m: Meaning) -> Action
     ensures { λ r. ⌜ r ≡ actionOf kind (i .0) (sent m) ⌝ }
 {
-    let mut payload = [0u8; 36];
+    let mut payload = [0u8; PAYLOAD];
     let w = write(m, &mut payload);
     Action {
         kind: kind,
@@ -55,8 +68,8 @@ fn first_of(m: Mode) -> u8
     ensures { λ r. ⌜ r ≡ modeNumber (modeOf m) ⌝ }
 {
     match m {
-        Mode::Simplex => 100,
-        Mode::Duplex => 101,
+        Mode::Simplex => FIRST_SIMPLEX,
+        Mode::Duplex => FIRST_DUPLEX,
     }
 }
 
@@ -82,42 +95,42 @@ fn able(i: SlotNumber, channel: Channel, end: u8, q: Request) -> Action
 
 // "acknowledgement with the channel and BQ"
 pub fn acknowledgement(i: SlotNumber, channel: Channel, q: Request) -> Action
-    ensures { λ r. ⌜ r ≡ actionOf 3 (i .0) (sent (ableSaid channel 122 (requestOf q))) ⌝ }
-    ensures { λ r. ⌜ actionBlock r ≡ block 3 (i .0) (sent (ableSaid channel 122 (requestOf q))) ⌝ }
+    ensures { λ r. ⌜ r ≡ actionOf 3 (i .0) (sent (ableSaid channel endBq (requestOf q))) ⌝ }
+    ensures { λ r. ⌜ actionBlock r ≡ block 3 (i .0) (sent (ableSaid channel endBq (requestOf q))) ⌝ }
 {
-    able(i, channel, 122, q)
+    able(i, channel, END_BQ, q)
 }
 
 // "the able answer but with RQ"
 pub fn ring_back(i: SlotNumber, channel: Channel, q: Request) -> Action
-    ensures { λ r. ⌜ r ≡ actionOf 3 (i .0) (sent (ableSaid channel 117 (requestOf q))) ⌝ }
-    ensures { λ r. ⌜ actionBlock r ≡ block 3 (i .0) (sent (ableSaid channel 117 (requestOf q))) ⌝ }
+    ensures { λ r. ⌜ r ≡ actionOf 3 (i .0) (sent (ableSaid channel endRq (requestOf q))) ⌝ }
+    ensures { λ r. ⌜ actionBlock r ≡ block 3 (i .0) (sent (ableSaid channel endRq (requestOf q))) ⌝ }
 {
-    able(i, channel, 117, q)
+    able(i, channel, END_RQ, q)
 }
 
 // "for 104 the field 126s", and 255 in the slot's place
 pub fn unable(second: u8, ship: u32, station: u32, number: Number) -> Action
-    ensures { λ r. ⌜ r ≡ actionOf 3 255 (sent (unableSaid second (party ship station) (digitsOf number))) ⌝ }
-    ensures { λ r. ⌜ actionBlock r ≡ block 3 255 (sent (unableSaid second (party ship station) (digitsOf number))) ⌝ }
+    ensures { λ r. ⌜ r ≡ actionOf 3 unableSlot (sent (unableSaid second (party ship station) (digitsOf number))) ⌝ }
+    ensures { λ r. ⌜ actionBlock r ≡ block 3 unableSlot (sent (unableSaid second (party ship station) (digitsOf number))) ⌝ }
 {
     let n = tidied(number);
     let m = Meaning {
         address: ship,
         sender: station,
-        first: 104,
+        first: FIRST_UNABLE,
         second: second,
         field: Field::Blank,
         number: n,
-        end: 122,
+        end: END_BQ,
     };
-    send(3, SlotNumber(255), m)
+    send(3, UNABLE_SLOT, m)
 }
 
 // The same answer to a stored request.
 pub fn unable_to(second: u8, q: Request) -> Action
-    ensures { λ r. ⌜ r ≡ actionOf 3 255 (sent (unableSaid second (requestOf q .who) (requestOf q .number))) ⌝ }
-    ensures { λ r. ⌜ actionBlock r ≡ block 3 255 (sent (unableSaid second (requestOf q .who) (requestOf q .number))) ⌝ }
+    ensures { λ r. ⌜ r ≡ actionOf 3 unableSlot (sent (unableSaid second (requestOf q .who) (requestOf q .number))) ⌝ }
+    ensures { λ r. ⌜ actionBlock r ≡ block 3 unableSlot (sent (unableSaid second (requestOf q .who) (requestOf q .number))) ⌝ }
 {
     let number = q.number;
     unable(second, q.ship, q.station, number)
@@ -137,8 +150,8 @@ fn end_of(by: Ender) -> u8
     ensures { λ r. ⌜ r ≡ endSymbol (enderOf by) ⌝ }
 {
     match by {
-        Ender::Ship => 122,
-        Ender::Coast => 127,
+        Ender::Ship => END_BQ,
+        Ender::Coast => END_LAST,
     }
 }
 
@@ -154,8 +167,8 @@ pub fn over(i: SlotNumber, by: Ender, q: Request, told: Told) -> Action
     let m = Meaning {
         address: q.ship,
         sender: q.station,
-        first: 105,
-        second: 126,
+        first: FIRST_OVER,
+        second: UNTOLD,
         field: field,
         number: number,
         end: end,

@@ -18,8 +18,12 @@ use finding::slot_from;
 use requests::least;
 use sequence::parts::channel_ok;
 use slots::Found;
+use slots::MOST_SLOTS;
+use slots::MOST_WAITING;
 use slots::Place;
+use slots::QUEUE_ROOM;
 use slots::QueuePlace;
+use slots::SLOTS;
 use slots::Slot;
 use slots::Waiting;
 use units::SlotNumber;
@@ -42,10 +46,10 @@ fn is_waiting(k: Place) -> bool
     }
 }
 
-fn channels_ok(a: [Slot; 16], n: u8) -> bool
+fn channels_ok(a: [Slot; SLOTS], n: u8) -> bool
     ensures { λ r. ⌜ r ≡ all channelOk (viewed channelOf n a) ⌝ }
 {
-    let m = least(n, 16);
+    let m = least(n, MOST_SLOTS);
     let mut i: u8 = 0;
     while i < m {
         let s = a[i as usize];
@@ -58,10 +62,10 @@ fn channels_ok(a: [Slot; 16], n: u8) -> bool
     true
 }
 
-fn channels_apart(a: [Slot; 16], n: u8) -> bool
+fn channels_apart(a: [Slot; SLOTS], n: u8) -> bool
     ensures { λ r. ⌜ r ≡ distinct sameChannel (viewed channelOf n a) ⌝ }
 {
-    let m = least(n, 16);
+    let m = least(n, MOST_SLOTS);
     let mut i: u8 = 0;
     while i < m {
         let s = a[i as usize];
@@ -76,7 +80,7 @@ fn channels_apart(a: [Slot; 16], n: u8) -> bool
 }
 
 // "1 to 16 distinct channels of the kind above"
-pub fn channels_keep(a: [Slot; 16], n: u8) -> bool
+pub fn channels_keep(a: [Slot; SLOTS], n: u8) -> bool
     ensures { λ r. ⌜ r ≡ channelsKeep (viewed channelOf n a) ⌝ }
 {
     if n < 1 {
@@ -88,10 +92,10 @@ pub fn channels_keep(a: [Slot; 16], n: u8) -> bool
     channels_apart(a, n)
 }
 
-fn queue_apart(b: [Waiting; 32], m: u8) -> bool
+fn queue_apart(b: [Waiting; QUEUE_ROOM], m: u8) -> bool
     ensures { λ r. ⌜ r ≡ distinct is (map whoOf (viewed waitingView m b)) ⌝ }
 {
-    let n = least(m, 32);
+    let n = least(m, MOST_WAITING);
     let mut k: u8 = 0;
     while k < n {
         let w = b[k as usize];
@@ -107,10 +111,10 @@ fn queue_apart(b: [Waiting; 32], m: u8) -> bool
 
 // The ship stands in a slot, from a number on, or in the queue.
 fn stands_on(
-    a: [Slot; 16],
+    a: [Slot; SLOTS],
     n: u8,
     from: SlotNumber,
-    b: [Waiting; 32],
+    b: [Waiting; QUEUE_ROOM],
     m: u8,
     ship: u32,
     station: u32,
@@ -126,7 +130,14 @@ fn stands_on(
 }
 
 // The slot is a ship's that stands once more.
-fn stands_again(s: Slot, a: [Slot; 16], n: u8, from: SlotNumber, b: [Waiting; 32], m: u8) -> bool
+fn stands_again(
+    s: Slot,
+    a: [Slot; SLOTS],
+    n: u8,
+    from: SlotNumber,
+    b: [Waiting; QUEUE_ROOM],
+    m: u8,
+) -> bool
     ensures { λ r. ⌜ r ≡ cond (owned (s .phase)) (elem is (requestOf (s .request) .who) (owners (left slotView n a (from .0)) (map whoOf (viewed waitingView m b)))) false ⌝ }
 {
     let p = s.phase;
@@ -138,10 +149,10 @@ fn stands_again(s: Slot, a: [Slot; 16], n: u8, from: SlotNumber, b: [Waiting; 32
 }
 
 // "no ship stands twice in the queue and the offered, ring-back, acknowledged, dialling and answered slots together"
-pub fn no_ship_twice(a: [Slot; 16], n: u8, b: [Waiting; 32], m: u8) -> bool
+pub fn no_ship_twice(a: [Slot; SLOTS], n: u8, b: [Waiting; QUEUE_ROOM], m: u8) -> bool
     ensures { λ r. ⌜ r ≡ distinct is (owners (viewed slotView n a) (map whoOf (viewed waitingView m b))) ⌝ }
 {
-    let k = least(n, 16);
+    let k = least(n, MOST_SLOTS);
     let mut i: u8 = 0;
     while i < k {
         let s = a[i as usize];

@@ -3,31 +3,41 @@ ghost use mathlib.Core.Path.{_≡_};
 ghost use mathlib.Core.List.{[], _∷_, _++_};
 ghost use Prim.Native.Nat.{_+_, min};
 ghost use lib.ListN.{getD, length, set, replicate};
+ghost use Rattle.rules.specs.Bytes.{mostActions};
 ghost use Rattle.requests.specs.Views.{viewed};
 ghost use Rattle.actions.specs.Blocks.{actionBlock, blankAction, clip, handed, inBytes, putCount, putRoom};
+use actions::ACTIONS;
 use actions::Action;
+use actions::BLOCK;
+use actions::PAYLOAD;
 use requests::least;
 use units::SlotNumber;
 
+const MOST: u8 = ACTIONS as u8;
+
+const BEFORE_LAST: u8 = MOST - 1;
+
+const MOST_BYTES: u8 = PAYLOAD as u8;
+
 // "At most 8 a step": none of them yet.
-pub fn no_actions() -> [Action; 8]
-    ensures { λ r. ⌜ r ≡ replicate 8 blankAction ⌝ }
+pub fn no_actions() -> [Action; ACTIONS]
+    ensures { λ r. ⌜ r ≡ replicate mostActions blankAction ⌝ }
 {
     let blank = Action {
         kind: 0,
         slot: SlotNumber(0),
         length: 0,
-        payload: [0u8; 36],
+        payload: [0u8; PAYLOAD],
     };
-    [blank; 8]
+    [blank; ACTIONS]
 }
 
 // One action more behind the first n, where there are not yet eight.
-pub fn push_in(mut a: [Action; 8], n: u8, x: Action) -> [Action; 8]
+pub fn push_in(mut a: [Action; ACTIONS], n: u8, x: Action) -> [Action; ACTIONS]
     ensures { λ r. ⌜ r ≡ set a n x ⌝ }
     ensures { λ r. ⌜ viewed actionBlock (min n 7 + 1) r ≡ clip (viewed actionBlock n a ++ (actionBlock x ∷ [])) ⌝ }
 {
-    if 8 <= n {
+    if MOST <= n {
         return a;
     }
     a[n as usize] = x;
@@ -38,7 +48,7 @@ pub fn push_in(mut a: [Action; 8], n: u8, x: Action) -> [Action; 8]
 pub fn one_more(n: u8) -> u8
     ensures { λ r. ⌜ r ≡ min n 7 + 1 ⌝ }
 {
-    least(n, 7) + 1
+    least(n, BEFORE_LAST) + 1
 }
 
 // A slot's number in its block's byte; 255, which no slot has, for one past it.
@@ -63,12 +73,12 @@ fn block_byte(a: Action, j: usize) -> u8
         return slot_byte(i);
     }
     if j == 2 {
-        return least(a.length, 36);
+        return least(a.length, MOST_BYTES);
     }
     if j < 4 {
         return 0;
     }
-    if 40 <= j {
+    if BLOCK <= j {
         return 0;
     }
     let n = a.length as usize;
@@ -81,19 +91,19 @@ fn block_byte(a: Action, j: usize) -> u8
 
 // Lays the first n actions, block after block, at the front of a room that holds them, and returns their count;
 // a shorter room is left as it is.
-pub fn put(a: [Action; 8], n: u8, room: &mut [u8]) -> u8
+pub fn put(a: [Action; ACTIONS], n: u8, room: &mut [u8]) -> u8
     ensures { λ r. ⌜ r ≡ putCount (handed n a) (length (now (room .entry))) ⌝ }
     ensures { λ _. ⌜ now (room .exit) ≡ putRoom (handed n a) (now (room .entry)) ⌝ }
 {
-    let k = least(n, 8);
-    let m = k as usize * 40;
+    let k = least(n, MOST);
+    let m = k as usize * BLOCK;
     if room.len() < m {
         return 0;
     }
     let mut i = 0;
     while i < m {
-        let x = a[i / 40];
-        room[i] = block_byte(x, i % 40);
+        let x = a[i / BLOCK];
+        room[i] = block_byte(x, i % BLOCK);
         i += 1;
     }
     k

@@ -2,6 +2,7 @@
 ghost use mathlib.Core.Path.{_≡_};
 ghost use mathlib.Core.List.{map};
 ghost use Prim.Native.Nat.{_+_, _<_, min};
+ghost use Rattle.units.specs.Units.{greatest};
 ghost use Rattle.rules.specs.Places.{isSome};
 ghost use Rattle.rules.specs.Waits.{loss, main, sooner, earliest, ifDue, queueTable};
 ghost use Rattle.rules.specs.Station.{lossDue, mainDue, slotTable, carrierWait, dueAfter};
@@ -12,13 +13,33 @@ use requests::Mode;
 use requests::least;
 use slots::Carrier;
 use slots::Due;
+use slots::MOST_SLOTS;
+use slots::MOST_WAITING;
 use slots::Phase;
+use slots::QUEUE_ROOM;
 use slots::QueuePlace;
+use slots::SLOTS;
 use slots::Slot;
 use slots::Wait;
 use slots::Waiting;
+use units::GREATEST;
 use units::SlotNumber;
 use units::Tenths;
+
+// Rules b and e, and a ring-back acknowledged: "wait 160".
+pub const OFFER_WAIT: Tenths = Tenths(160);
+
+// "wait 50, send once more, wait 50"
+pub const RING_WAIT: Tenths = Tenths(50);
+
+// "wait 600 for a reply"
+pub const REPLY_WAIT: Tenths = Tenths(600);
+
+// "hold for 40"
+pub const HOLD_WAIT: Tenths = Tenths(40);
+
+// "join it, wait 9000"
+pub const QUEUE_WAIT: Tenths = Tenths(9000);
 
 // "a wait of 50 duplex, 450 simplex"
 pub fn carrier_wait(m: Mode) -> Tenths
@@ -30,15 +51,17 @@ pub fn carrier_wait(m: Mode) -> Tenths
     }
 }
 
+const LAST: u64 = GREATEST as u64;
+
 // A wait of p begun at s; the greatest time stands for all that lie past it.
 pub fn due_after(s: Tenths, p: Tenths) -> Tenths
-    ensures { λ r. ⌜ r .0 ≡ min (dueAfter (s .0) (p .0)) 4294967295 ⌝ }
+    ensures { λ r. ⌜ r .0 ≡ min (dueAfter (s .0) (p .0)) greatest ⌝ }
 {
     let d = s.0 as u64 + (p.0 as u64 + 1);
-    if d <= 4294967295 {
+    if d <= LAST {
         return Tenths(d as u32);
     }
-    Tenths(4294967295)
+    Tenths(GREATEST)
 }
 
 // The wait w due at t, or d where that is due before it.
@@ -95,11 +118,11 @@ fn main_due(s: Slot, i: SlotNumber, d: Due) -> Due
 }
 
 // The earliest wait of the first n slots: from the last slot to the first, so that of two due together the lower stands.
-fn slots_due(a: [Slot; 16], n: u8) -> Due
+fn slots_due(a: [Slot; SLOTS], n: u8) -> Due
     ensures { λ r. ⌜ dueView r ≡ earliest (slotTable 0 (viewed slotView n a)) ⌝ }
 {
     let mut d = Due::Never;
-    let mut i = least(n, 16) as u32;
+    let mut i = least(n, MOST_SLOTS) as u32;
     while 0 < i {
         i -= 1;
         let s = a[i as usize];
@@ -110,11 +133,11 @@ fn slots_due(a: [Slot; 16], n: u8) -> Due
 }
 
 // The earliest wait of the first n waiting ships, before d.
-fn queue_due(a: [Waiting; 32], n: u8, d: Due) -> Due
+fn queue_due(a: [Waiting; QUEUE_ROOM], n: u8, d: Due) -> Due
     ensures { λ r. ⌜ dueView r ≡ queueJoined 0 (map dueOf (viewed waitingView n a)) (dueView d) ⌝ }
 {
     let mut e = d;
-    let mut k = least(n, 32);
+    let mut k = least(n, MOST_WAITING);
     while 0 < k {
         k -= 1;
         let w = a[k as usize];
@@ -125,7 +148,7 @@ fn queue_due(a: [Waiting; 32], n: u8, d: Due) -> Due
 }
 
 // The earliest wait of all: "queue entries, oldest first; slots, lowest first".
-pub fn earliest_due(a: [Slot; 16], n: u8, b: [Waiting; 32], m: u8) -> Due
+pub fn earliest_due(a: [Slot; SLOTS], n: u8, b: [Waiting; QUEUE_ROOM], m: u8) -> Due
     ensures { λ r. ⌜ dueView r ≡ earliest (queueTable 0 (map dueOf (viewed waitingView m b)) (slotTable 0 (viewed slotView n a))) ⌝ }
 {
     let d = slots_due(a, n);

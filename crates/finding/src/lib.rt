@@ -11,9 +11,13 @@ ghost use Rattle.finding.specs.Searches.{lowestFrom};
 use requests::least;
 use requests::sameness::is_by;
 use slots::Found;
+use slots::MOST_SLOTS;
+use slots::MOST_WAITING;
 use slots::Phase;
 use slots::Place;
+use slots::QUEUE_ROOM;
 use slots::QueuePlace;
+use slots::SLOTS;
 use slots::Slot;
 use slots::Standing;
 use slots::Waiting;
@@ -38,10 +42,10 @@ pub fn is_free(s: Slot) -> bool
 }
 
 // The lowest free slot of n.
-pub fn first_free(a: [Slot; 16], n: u8) -> Found
+pub fn first_free(a: [Slot; SLOTS], n: u8) -> Found
     ensures { λ r. ⌜ foundView r ≡ lowest isFree (viewed slotView n a) ⌝ }
 {
-    let m = least(n, 16) as u32;
+    let m = least(n, MOST_SLOTS) as u32;
     let mut i: u32 = 0;
     while i < m {
         let s = a[i as usize];
@@ -54,10 +58,10 @@ pub fn first_free(a: [Slot; 16], n: u8) -> Found
 }
 
 // The lowest slot, from a number on, that works on the channel c.
-pub fn channel_from(a: [Slot; 16], n: u8, from: SlotNumber, c: Channel) -> Found
+pub fn channel_from(a: [Slot; SLOTS], n: u8, from: SlotNumber, c: Channel) -> Found
     ensures { λ r. ⌜ foundView r ≡ lowestFrom (sameChannel c) (from .0) (left channelOf n a (from .0)) ⌝ }
 {
-    let m = least(n, 16) as u32;
+    let m = least(n, MOST_SLOTS) as u32;
     let mut i = from.0;
     while i < m {
         let s = a[i as usize];
@@ -71,7 +75,7 @@ pub fn channel_from(a: [Slot; 16], n: u8, from: SlotNumber, c: Channel) -> Found
 }
 
 // The slot whose channel is named.
-pub fn slot_named(a: [Slot; 16], n: u8, c: Channel) -> Found
+pub fn slot_named(a: [Slot; SLOTS], n: u8, c: Channel) -> Found
     ensures { λ r. ⌜ foundView r ≡ lowest (sameChannel c) (viewed channelOf n a) ⌝ }
 {
     channel_from(a, n, SlotNumber(0), c)
@@ -106,10 +110,10 @@ fn is_of(s: Slot, ship: u32, station: u32) -> bool
 }
 
 // The lowest slot, from a number on, that is the ship's.
-pub fn slot_from(a: [Slot; 16], n: u8, from: SlotNumber, ship: u32, station: u32) -> Found
+pub fn slot_from(a: [Slot; SLOTS], n: u8, from: SlotNumber, ship: u32, station: u32) -> Found
     ensures { λ r. ⌜ foundView r ≡ lowestFrom (owns (partyOf ship station)) (from .0) (left slotView n a (from .0)) ⌝ }
 {
-    let m = least(n, 16) as u32;
+    let m = least(n, MOST_SLOTS) as u32;
     let mut i = from.0;
     while i < m {
         let s = a[i as usize];
@@ -122,10 +126,16 @@ pub fn slot_from(a: [Slot; 16], n: u8, from: SlotNumber, ship: u32, station: u32
 }
 
 // The first place of the queue, from a place on, where the ship waits.
-pub fn place_from(b: [Waiting; 32], m: u8, from: QueuePlace, ship: u32, station: u32) -> Place
+pub fn place_from(
+    b: [Waiting; QUEUE_ROOM],
+    m: u8,
+    from: QueuePlace,
+    ship: u32,
+    station: u32,
+) -> Place
     ensures { λ r. ⌜ placeView r ≡ lowestFrom (waitsFor (partyOf ship station)) (from .0) (left waitingView m b (from .0)) ⌝ }
 {
-    let n = least(m, 32);
+    let n = least(m, MOST_WAITING);
     let mut k = from.0;
     while k < n {
         let w = b[k as usize];
@@ -139,7 +149,7 @@ pub fn place_from(b: [Waiting; 32], m: u8, from: QueuePlace, ship: u32, station:
 }
 
 // The ship's place in the queue.
-pub fn place_of(b: [Waiting; 32], m: u8, ship: u32, station: u32) -> Place
+pub fn place_of(b: [Waiting; QUEUE_ROOM], m: u8, ship: u32, station: u32) -> Place
     ensures { λ r. ⌜ placeView r ≡ lowest (waitsFor (partyOf ship station)) (viewed waitingView m b) ⌝ }
 {
     place_from(b, m, QueuePlace(0), ship, station)
@@ -156,7 +166,14 @@ fn waiting_at(k: Place) -> Standing
 }
 
 // Where a ship stands: its slot, or else its place in the queue.
-pub fn standing(a: [Slot; 16], n: u8, b: [Waiting; 32], m: u8, ship: u32, station: u32) -> Standing
+pub fn standing(
+    a: [Slot; SLOTS],
+    n: u8,
+    b: [Waiting; QUEUE_ROOM],
+    m: u8,
+    ship: u32,
+    station: u32,
+) -> Standing
     ensures { λ r. ⌜ standingView r ≡ standsAt (lowest (owns (partyOf ship station)) (viewed slotView n a)) (lowest (waitsFor (partyOf ship station)) (viewed waitingView m b)) ⌝ }
 {
     let k = place_of(b, m, ship, station);

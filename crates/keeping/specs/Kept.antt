@@ -5,6 +5,7 @@ use mathlib.Core.List.{List, []}
 use lib.Dec.{leb}
 use lib.ListN.{drop}
 use Rattle.sequence.specs.declared.Number.{Number}
+use Rattle.sequence.specs.Figures.{mostDigits}
 use Rattle.sequence.specs.Symbols.{allAtMost}
 use Rattle.rules.specs.Words.{Config}
 use Rattle.requests.specs.Views.{viewed}
@@ -22,7 +23,7 @@ named identity = record { identity = identity; channels = [] }
 
 -- "The reader sets unused digits of a number to 0": a count within the sixteen places, and 0 behind it
 unfoldable pub numberExact : Number → Bool
-numberExact n = leb (n .count) 16 && allAtMost 0 (drop (n .count) (n .digits))
+numberExact n = leb (n .count) mostDigits && allAtMost 0 (drop (n .count) (n .digits))
 
 unfoldable pub slotExact : Slot → Bool
 slotExact s = cond (stored (s .phase)) (numberExact (s .request .number)) true

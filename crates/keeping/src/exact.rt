@@ -6,8 +6,13 @@ ghost use Rattle.rules.specs.Places.{all};
 ghost use Rattle.requests.specs.Views.{viewed, itself};
 ghost use Rattle.keeping.specs.Kept.{numberExact, slotExact, waitingExact};
 use requests::least;
+use sequence::DIGITS;
 use sequence::Number;
 use sequence::symbols::all_at_most;
+use slots::MOST_SLOTS;
+use slots::MOST_WAITING;
+use slots::QUEUE_ROOM;
+use slots::SLOTS;
 use slots::Slot;
 use slots::Waiting;
 use slots::laying::stores;
@@ -17,7 +22,7 @@ fn number_exact(number: Number) -> bool
 {
     let count = number.count as usize;
     let digits = number.digits;
-    if 16 < count {
+    if DIGITS < count {
         return false;
     }
     all_at_most(&digits[count..], 0)
@@ -35,10 +40,10 @@ fn slot_exact(s: Slot) -> bool
     true
 }
 
-fn slots_exact(a: [Slot; 16], n: u8) -> bool
+fn slots_exact(a: [Slot; SLOTS], n: u8) -> bool
     ensures { λ r. ⌜ r ≡ all slotExact (viewed itself n a) ⌝ }
 {
-    let m = least(n, 16);
+    let m = least(n, MOST_SLOTS);
     let mut i: u8 = 0;
     while i < m {
         let s = a[i as usize];
@@ -50,10 +55,10 @@ fn slots_exact(a: [Slot; 16], n: u8) -> bool
     true
 }
 
-fn queue_exact(b: [Waiting; 32], m: u8) -> bool
+fn queue_exact(b: [Waiting; QUEUE_ROOM], m: u8) -> bool
     ensures { λ r. ⌜ r ≡ all waitingExact (viewed itself m b) ⌝ }
 {
-    let n = least(m, 32);
+    let n = least(m, MOST_WAITING);
     let mut k: u8 = 0;
     while k < n {
         let w = b[k as usize];
@@ -67,7 +72,7 @@ fn queue_exact(b: [Waiting; 32], m: u8) -> bool
     true
 }
 
-pub fn is_exact(a: [Slot; 16], n: u8, b: [Waiting; 32], m: u8) -> bool
+pub fn is_exact(a: [Slot; SLOTS], n: u8, b: [Waiting; QUEUE_ROOM], m: u8) -> bool
     ensures { λ r. ⌜ r ≡ (all slotExact (viewed itself n a) && all waitingExact (viewed itself m b)) ⌝ }
 {
     if !slots_exact(a, n) {

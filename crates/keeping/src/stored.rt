@@ -9,11 +9,18 @@ ghost use Rattle.slots.specs.Views.{slotView, waitingView};
 ghost use Rattle.keeping.specs.Kept.{named, configFor};
 use requests::Request;
 use requests::least;
+use sequence::LAST_SECOND;
+use sequence::LEAST_SECOND;
+use sequence::MOST_DIGITS;
 use sequence::Number;
 use sequence::parts::duration_ok;
 use sequence::parts::is_ship;
 use sequence::symbols::all_at_most;
+use slots::MOST_SLOTS;
+use slots::MOST_WAITING;
 use slots::Phase;
+use slots::QUEUE_ROOM;
+use slots::SLOTS;
 use slots::Slot;
 use slots::Waiting;
 use units::Told;
@@ -22,7 +29,7 @@ use units::Told;
 fn number_keeps(number: Number) -> bool
     ensures { λ r. ⌜ r ≡ numberKeeps (digitsOf number) ⌝ }
 {
-    let k = least(number.count, 16);
+    let k = least(number.count, MOST_DIGITS);
     let count = k as usize;
     let digits = number.digits;
     if count < 1 {
@@ -44,10 +51,10 @@ fn request_keeps(q: Request, identity: u32) -> bool
     if y != identity {
         return false;
     }
-    if s < 100 {
+    if s < LEAST_SECOND {
         return false;
     }
-    if 126 < s {
+    if LAST_SECOND < s {
         return false;
     }
     number_keeps(n)
@@ -89,10 +96,10 @@ fn slot_keeps(s: Slot, identity: u32) -> bool
     }
 }
 
-fn slots_keep(a: [Slot; 16], n: u8, identity: u32) -> bool
+fn slots_keep(a: [Slot; SLOTS], n: u8, identity: u32) -> bool
     ensures { λ r. ⌜ r ≡ all (slotKeeps (named identity)) (viewed slotView n a) ⌝ }
 {
-    let m = least(n, 16);
+    let m = least(n, MOST_SLOTS);
     let mut i: u8 = 0;
     while i < m {
         let s = a[i as usize];
@@ -104,10 +111,10 @@ fn slots_keep(a: [Slot; 16], n: u8, identity: u32) -> bool
     true
 }
 
-fn queue_keeps(b: [Waiting; 32], m: u8, identity: u32) -> bool
+fn queue_keeps(b: [Waiting; QUEUE_ROOM], m: u8, identity: u32) -> bool
     ensures { λ r. ⌜ r ≡ all (waitingKeeps (named identity)) (viewed waitingView m b) ⌝ }
 {
-    let n = least(m, 32);
+    let n = least(m, MOST_WAITING);
     let mut k: u8 = 0;
     while k < n {
         let w = b[k as usize];
@@ -121,7 +128,7 @@ fn queue_keeps(b: [Waiting; 32], m: u8, identity: u32) -> bool
 }
 
 // "stored requests (simplex or duplex, to this station) and hold durations keep these rules"
-pub fn stored_keep(identity: u32, a: [Slot; 16], n: u8, b: [Waiting; 32], m: u8) -> bool
+pub fn stored_keep(identity: u32, a: [Slot; SLOTS], n: u8, b: [Waiting; QUEUE_ROOM], m: u8) -> bool
     ensures { λ r. ⌜ r ≡ (all (slotKeeps (configFor identity n a)) (viewed slotView n a) && all (waitingKeeps (configFor identity n a)) (viewed waitingView m b)) ⌝ }
 {
     if !slots_keep(a, n, identity) {

@@ -7,11 +7,20 @@ ghost use Rattle.rules.specs.Places.{all};
 ghost use Rattle.rules.specs.Sound.{fits, lossFits, slotFits, placeFits};
 ghost use Rattle.requests.specs.Views.{viewed, modeOf};
 ghost use Rattle.slots.specs.Views.{slotView, waitingView, carrierOf};
+use dues::HOLD_WAIT;
+use dues::OFFER_WAIT;
+use dues::QUEUE_WAIT;
+use dues::REPLY_WAIT;
+use dues::RING_WAIT;
 use dues::carrier_wait;
 use requests::Mode;
 use requests::least;
 use slots::Carrier;
+use slots::MOST_SLOTS;
+use slots::MOST_WAITING;
 use slots::Phase;
+use slots::QUEUE_ROOM;
+use slots::SLOTS;
 use slots::Slot;
 use slots::Waiting;
 use units::Tenths;
@@ -41,7 +50,7 @@ fn loss_fits(c: Tenths, m: Mode, l: Carrier) -> bool
 fn dialling_fits(c: Tenths, t: Tenths, m: Mode, l: Carrier) -> bool
     ensures { λ r. ⌜ r ≡ (fits (c .0) 600 (t .0) && lossFits (c .0) (modeOf m) (carrierOf l)) ⌝ }
 {
-    if !fits_wait(c, Tenths(600), t) {
+    if !fits_wait(c, REPLY_WAIT, t) {
         return false;
     }
     loss_fits(c, m, l)
@@ -67,21 +76,21 @@ fn slot_fits(s: Slot, c: Tenths) -> bool
     let m = q.mode;
     match p {
         Phase::Free => true,
-        Phase::Offered(t) => fits_wait(c, Tenths(160), t),
-        Phase::RingBack(t) => fits_wait(c, Tenths(50), t),
-        Phase::RingAgain(t) => fits_wait(c, Tenths(50), t),
-        Phase::Acknowledged(t) => fits_wait(c, Tenths(160), t),
+        Phase::Offered(t) => fits_wait(c, OFFER_WAIT, t),
+        Phase::RingBack(t) => fits_wait(c, RING_WAIT, t),
+        Phase::RingAgain(t) => fits_wait(c, RING_WAIT, t),
+        Phase::Acknowledged(t) => fits_wait(c, OFFER_WAIT, t),
         Phase::Dialling(t, l) => dialling_fits(c, t, m, l),
         Phase::Answered(t, l) => answered_fits(c, t, m, l),
-        Phase::Hold(t, _) => fits_wait(c, Tenths(40), t),
+        Phase::Hold(t, _) => fits_wait(c, HOLD_WAIT, t),
         Phase::Taken => true,
     }
 }
 
-fn slots_fit(a: [Slot; 16], n: u8, c: Tenths) -> bool
+fn slots_fit(a: [Slot; SLOTS], n: u8, c: Tenths) -> bool
     ensures { λ r. ⌜ r ≡ all (slotFits (c .0)) (viewed slotView n a) ⌝ }
 {
-    let m = least(n, 16);
+    let m = least(n, MOST_SLOTS);
     let mut i: u8 = 0;
     while i < m {
         let s = a[i as usize];
@@ -93,15 +102,15 @@ fn slots_fit(a: [Slot; 16], n: u8, c: Tenths) -> bool
     true
 }
 
-fn queue_fits(b: [Waiting; 32], m: u8, c: Tenths) -> bool
+fn queue_fits(b: [Waiting; QUEUE_ROOM], m: u8, c: Tenths) -> bool
     ensures { λ r. ⌜ r ≡ all (placeFits (c .0)) (viewed waitingView m b) ⌝ }
 {
-    let n = least(m, 32);
+    let n = least(m, MOST_WAITING);
     let mut k: u8 = 0;
     while k < n {
         let w = b[k as usize];
         let d = w.due;
-        if !fits_wait(c, Tenths(9000), d) {
+        if !fits_wait(c, QUEUE_WAIT, d) {
             return false;
         }
         k += 1;
@@ -109,7 +118,7 @@ fn queue_fits(b: [Waiting; 32], m: u8, c: Tenths) -> bool
     true
 }
 
-pub fn times_fit(c: Tenths, a: [Slot; 16], n: u8, b: [Waiting; 32], m: u8) -> bool
+pub fn times_fit(c: Tenths, a: [Slot; SLOTS], n: u8, b: [Waiting; QUEUE_ROOM], m: u8) -> bool
     ensures { λ r. ⌜ r ≡ (all (slotFits (c .0)) (viewed slotView n a) && all (placeFits (c .0)) (viewed waitingView m b)) ⌝ }
 {
     if !slots_fit(a, n, c) {

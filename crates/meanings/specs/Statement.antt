@@ -5,6 +5,7 @@ use mathlib.Core.Logic.{_↔_}
 use mathlib.Core.Bool.{true}
 use mathlib.Core.List.{List}
 use lib.ListN.{length, take}
+use Rattle.sequence.specs.Figures.{longest}
 use Rattle.sequence.specs.declared.Answer.the-variants.{Done}
 use Rattle.sequence.specs.declared.Meaning.{Meaning}
 use Rattle.sequence.specs.Layout.{valid, layout}
@@ -32,6 +33,6 @@ ReadsWhatWasWritten =
 -- writing a meaning that was read gives the same symbols back
 abbrev pub WritesWhatWasRead : Type 0
 WritesWhatWasRead =
-    (s room : List ℕ) → readingOf s .answer ≡ Done → 28 ≤ length room
+    (s room : List ℕ) → readingOf s .answer ≡ Done → longest ≤ length room
     → (writtenOf (readingOf s .meaning) (length room) ≡ record { answer = Done; length = length s })
     × (take (length s) (roomAfter (readingOf s .meaning) room) ≡ s)

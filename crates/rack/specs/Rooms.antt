@@ -9,10 +9,12 @@ use Rattle.units.specs.declared.Told.the-variants.{Nothing, Lasting}
 use Rattle.sequence.specs.declared.Field.{Field}
 use Rattle.sequence.specs.declared.Field.the-variants.{Blank, Channel, Duration}
 use Rattle.sequence.specs.declared.Meaning.{Meaning}
+use Rattle.sequence.specs.Figures.{firstSimplex, firstUnable, endRq, endBq}
 use Rattle.sequence.specs.Reading.{readingOf}
 use Rattle.rules.specs.Words.{Party, Mode, simplex, duplex, Request, Deed, carrierOn, carrierOff, acknowledge, ringBack, unable, dial, releaseLine}
 use Rattle.rules.specs.Heard.{digitsIn}
 use Rattle.rules.specs.Actions.{Charge, Ender, theShip, theCoast, Action, does, over, charge}
+use Rattle.rules.specs.Bytes.{blockSize}
 
 -- ── what a sequence says that the station sent ───────────────────────────────
 
@@ -22,7 +24,7 @@ partyIn m = record { ship = m .address; station = m .sender }
 
 -- "100 simplex, 101 duplex"
 abbrev pub modeIn : ℕ → Mode
-modeIn first = cond (eqb first 100) simplex duplex
+modeIn first = cond (eqb first firstSimplex) simplex duplex
 
 unfoldable pub requestIn : Meaning → Request
 requestIn m = record { who = partyIn m; mode = modeIn (m .first); second = m .second; number = digitsIn (m .number) }
@@ -30,12 +32,12 @@ requestIn m = record { who = partyIn m; mode = modeIn (m .first); second = m .se
 -- on channel 70: 104; else the "able" answer with RQ or with BQ
 unfoldable pub answerIn : ℕ → Meaning → Deed
 answerIn slot m =
-    cond (eqb (m .first) 104) (unable (m .second) (partyIn m) (digitsIn (m .number)))
-    (cond (eqb (m .end) 117) (ringBack slot (requestIn m)) (acknowledge slot (requestIn m)))
+    cond (eqb (m .first) firstUnable) (unable (m .second) (partyIn m) (digitsIn (m .number)))
+    (cond (eqb (m .end) endRq) (ringBack slot (requestIn m)) (acknowledge slot (requestIn m)))
 
 -- on the working channel: BQ at the ship's end, 127 at the coast's
 abbrev pub enderIn : ℕ → Ender
-enderIn end = cond (eqb end 122) theShip theCoast
+enderIn end = cond (eqb end endBq) theShip theCoast
 
 abbrev pub toldIn : Field → Told
 toldIn Blank = Nothing
@@ -89,9 +91,9 @@ actionIn b = actionAs (kindIn b) (slotIn b) (payloadIn b)
 -- "40 bytes each": the first n blocks of a room
 unfoldable pub actionsIn : ℕ → List ℕ → List Action
 actionsIn zero room = []
-actionsIn (suc n) room = actionIn (take 40 room) ++ actionsIn n (drop 40 room)
+actionsIn (suc n) room = actionIn (take blockSize room) ++ actionsIn n (drop blockSize room)
 
 -- what a script prints of them: kind, slot, payload bytes
 unfoldable pub shownIn : ℕ → List ℕ → List (List ℕ)
 shownIn zero room = []
-shownIn (suc n) room = (kindIn (take 40 room) ∷ slotIn (take 40 room) ∷ payloadIn (take 40 room)) ∷ shownIn n (drop 40 room)
+shownIn (suc n) room = (kindIn (take blockSize room) ∷ slotIn (take blockSize room) ∷ payloadIn (take blockSize room)) ∷ shownIn n (drop blockSize room)

@@ -12,7 +12,7 @@ use Rattle.rules.specs.Station as R
 use Rattle.rules.specs.Sound.{sound}
 use Rattle.rules.specs.Calls.{act}
 use Rattle.rules.specs.Verdict.{verdict, Entry}
-use Rattle.rules.specs.Bytes.{block, blocks}
+use Rattle.rules.specs.Bytes.{block, blocks, blockSize}
 use Rattle.rules.specs.Book.{blankBook}
 use Rattle.rules.specs.Reading.{stops, counted}
 use Rattle.rules.specs.Printed.{printed}
@@ -149,4 +149,4 @@ laidOut (a ∷ more) = block (getD a 0 0) (getD a 1 0) (drop 2 a) ++ laidOut mor
 
 unfoldable pub RoomsStay : Type 0
 RoomsStay = (x : Step) → Allowed x
-    → x .left ≡ laidOut (shownIn (x .back .count) (x .left)) ++ drop (40 * x .back .count) (x .lent)
+    → x .left ≡ laidOut (shownIn (x .back .count) (x .left)) ++ drop (blockSize * x .back .count) (x .lent)

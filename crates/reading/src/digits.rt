@@ -3,7 +3,9 @@ ghost use mathlib.Core.Path.{_≡_};
 ghost use Prim.Native.Nat.{_≤_};
 ghost use lib.ListN.{getD, length, drop};
 ghost use Rattle.sequence.specs.Reading.{digitsOf, sixteen, numberOf};
+use sequence::DIGITS;
 use sequence::Number;
+use sequence::ODD_COUNT;
 use sequence::symbols::at;
 
 fn digit(pairs: &[u8], j: usize) -> u8
@@ -14,13 +16,13 @@ fn digit(pairs: &[u8], j: usize) -> u8
 }
 
 // Sixteen digits, from the second on where the first is the 0 put before an odd count.
-fn sixteen_digits(pairs: &[u8], start: usize) -> [u8; 16]
+fn sixteen_digits(pairs: &[u8], start: usize) -> [u8; DIGITS]
     requires { ⌜ start ≤ 1 ⌝ }
     ensures { λ r. ⌜ r ≡ sixteen (drop start (digitsOf (now (pairs .entry)))) ⌝ }
 {
-    let mut digits = [0u8; 16];
+    let mut digits = [0u8; DIGITS];
     let mut i = 0;
-    while i < 16 {
+    while i < DIGITS {
         digits[i] = digit(pairs, start + i);
         i += 1;
     }
@@ -32,7 +34,7 @@ pub(crate) fn number_of(parity: u8, pairs: &[u8]) -> Number
     ensures { λ r. ⌜ r ≡ numberOf parity (now (pairs .entry)) ⌝ }
 {
     let n = pairs.len();
-    if parity == 105 {
+    if parity == ODD_COUNT {
         let digits = sixteen_digits(pairs, 1);
         return Number {
             count: (2 * n - 1) as u8,

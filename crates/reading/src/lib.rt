@@ -20,7 +20,9 @@ use crate::places::length_in;
 use crate::places::number_in;
 use crate::places::telecommands_in;
 use sequence::Answer;
+use sequence::DIGITS;
 use sequence::Field;
+use sequence::LAST_SYMBOL;
 use sequence::Meaning;
 use sequence::Number;
 use sequence::Reading;
@@ -33,7 +35,7 @@ fn answer_to(s: &[u8]) -> Answer
     if !length_in(s) {
         return Answer::BadLength;
     }
-    if !all_at_most(s, 127) {
+    if !all_at_most(s, LAST_SYMBOL) {
         return Answer::BadSymbol;
     }
     if !check_in(s) {
@@ -89,7 +91,7 @@ pub fn blank_meaning() -> Meaning
 {
     let number = Number {
         count: 0,
-        digits: [0u8; 16],
+        digits: [0u8; DIGITS],
     };
     Meaning {
         address: 0,

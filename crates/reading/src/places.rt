@@ -5,7 +5,17 @@ ghost use lib.ListN.{length};
 ghost use Rattle.sequence.specs.Identity.{identityPairs, identityOf};
 ghost use Rattle.reading.specs.Five.{fiveAt};
 ghost use Rattle.sequence.specs.Reading.{lengthIn, checkIn, formatIn, identityAt, identitiesIn, categoryIn, telecommandsIn, blankSymbols, channelSymbols, fieldSymbols, fieldOf, fieldIn, parityOk, pairsOk, numberIn, endIn};
+use sequence::CATEGORY;
+use sequence::CHANNEL_TOLD;
+use sequence::EVEN_COUNT;
+use sequence::FIRST_OVER;
+use sequence::FORMAT;
 use sequence::Field;
+use sequence::LAST_PAIR;
+use sequence::LONGEST;
+use sequence::ODD_COUNT;
+use sequence::SHORTEST;
+use sequence::UNTOLD;
 use sequence::parts::channel_ok;
 use sequence::parts::duration_ok;
 use sequence::parts::end_ok;
@@ -22,7 +32,7 @@ pub(crate) fn length_in(s: &[u8]) -> bool
     ensures { λ r. ⌜ r ≡ lengthIn (now (s .entry)) ⌝ }
 {
     let n = s.len();
-    21 <= n && n <= 28
+    SHORTEST <= n && n <= LONGEST
 }
 
 // The last symbol is the exclusive-or of those before it.
@@ -40,7 +50,7 @@ pub(crate) fn check_in(s: &[u8]) -> bool
 pub(crate) fn format_in(s: &[u8]) -> bool
     ensures { λ r. ⌜ r ≡ formatIn (now (s .entry)) ⌝ }
 {
-    at(s, 0) == 123
+    at(s, 0) == FORMAT
 }
 
 // The five symbols of an identity.
@@ -68,19 +78,19 @@ fn five_at(s: &[u8], i: usize) -> Five
 fn identity_pairs(f: Five) -> bool
     ensures { λ r. ⌜ r ≡ identityPairs (f .a) (f .b) (f .c) (f .d) (f .e) ⌝ }
 {
-    if 99 < f.a {
+    if LAST_PAIR < f.a {
         return false;
     }
-    if 99 < f.b {
+    if LAST_PAIR < f.b {
         return false;
     }
-    if 99 < f.c {
+    if LAST_PAIR < f.c {
         return false;
     }
-    if 99 < f.d {
+    if LAST_PAIR < f.d {
         return false;
     }
-    if 99 < f.e {
+    if LAST_PAIR < f.e {
         return false;
     }
     f.e % 10 == 0
@@ -120,7 +130,7 @@ pub(crate) fn identities_in(s: &[u8]) -> bool
 pub(crate) fn category_in(s: &[u8]) -> bool
     ensures { λ r. ⌜ r ≡ categoryIn (now (s .entry)) ⌝ }
 {
-    at(s, 6) == 100
+    at(s, 6) == CATEGORY
 }
 
 pub(crate) fn telecommands_in(s: &[u8]) -> bool
@@ -132,8 +142,8 @@ pub(crate) fn telecommands_in(s: &[u8]) -> bool
 fn blank_symbols(x: u8, y: u8, z: u8) -> bool
     ensures { λ r. ⌜ r ≡ blankSymbols x y z ⌝ }
 {
-    if x == 126 {
-        return y == 126 && z == 126;
+    if x == UNTOLD {
+        return y == UNTOLD && z == UNTOLD;
     }
     false
 }
@@ -141,7 +151,7 @@ fn blank_symbols(x: u8, y: u8, z: u8) -> bool
 fn channel_symbols(x: u8, y: u8, z: u8) -> bool
     ensures { λ r. ⌜ r ≡ channelSymbols x y z ⌝ }
 {
-    if x == 90 {
+    if x == CHANNEL_TOLD {
         if y == 0 {
             return channel_ok(Channel(z as u32));
         }
@@ -160,7 +170,7 @@ fn field_symbols(first: u8, x: u8, y: u8, z: u8) -> bool
     if is_call(first) {
         return channel_symbols(x, y, z);
     }
-    if first == 105 {
+    if first == FIRST_OVER {
         return duration_ok(Duration {
             hours: x,
             minutes: y,
@@ -197,17 +207,17 @@ pub(crate) fn field_in(s: &[u8]) -> bool
 fn parity_ok(parity: u8, pair: u8) -> bool
     ensures { λ r. ⌜ r ≡ parityOk parity pair ⌝ }
 {
-    if parity == 105 {
+    if parity == ODD_COUNT {
         return pair <= 9;
     }
-    parity == 106
+    parity == EVEN_COUNT
 }
 
 fn pairs_ok(parity: u8, pairs: &[u8]) -> bool
     ensures { λ r. ⌜ r ≡ pairsOk parity (now (pairs .entry)) ⌝ }
 {
     if parity_ok(parity, at(pairs, 0)) {
-        return all_at_most(pairs, 99);
+        return all_at_most(pairs, LAST_PAIR);
     }
     false
 }

@@ -1,5 +1,6 @@
 -- How a request is laid out for what it stands for, every unused place blank.
 use lib.ListN.{replicate}
+use Rattle.sequence.specs.Figures.{mostDigits}
 use Rattle.rules.specs.Words as W
 use Rattle.rules.specs.Words.{simplex, duplex}
 use Rattle.rules.specs.Bytes.{numberOf}
@@ -24,7 +25,7 @@ requestImage r =
 
 unfoldable pub blankRequest : Request
 blankRequest =
-    record { ship = 0; station = 0; mode = Simplex; second = 0; number = record { count = 0; digits = replicate 16 0 } }
+    record { ship = 0; station = 0; mode = Simplex; second = 0; number = record { count = 0; digits = replicate mostDigits 0 } }
 
 -- a record laid out anew
 unfoldable pub tidyRequest : Request → Request

@@ -4,6 +4,7 @@ pub mod sameness;
 ghost use mathlib.Core.Path.{_≡_};
 ghost use Prim.Native.Nat.{min};
 ghost use Rattle.requests.specs.Images.{blankRequest};
+use sequence::DIGITS;
 use sequence::Number;
 
 pub enum Mode {
@@ -32,7 +33,7 @@ pub fn blank_request() -> Request
 {
     let number = Number {
         count: 0,
-        digits: [0u8; 16],
+        digits: [0u8; DIGITS],
     };
     Request {
         ship: 0,

@@ -7,6 +7,7 @@ ghost use Rattle.requests.specs.Views.{requestOf, partyOf, modeOf, digit
 use crate::Mode;
 use crate::Request;
 use crate::least;
+use sequence::MOST_DIGITS;
 use sequence::Number;
 
 // The request is of this ship, at this station.
@@ -39,8 +40,8 @@ fn same_mode(a: Mode, b: Mode) -> bool
 fn same_number(a: Number, b: Number) -> bool
     ensures { λ r. ⌜ r ≡ sameNumber (digitsOf a) (digitsOf b) ⌝ }
 {
-    let n = least(a.count, 16);
-    let m = least(b.count, 16);
+    let n = least(a.count, MOST_DIGITS);
+    let m = least(b.count, MOST_DIGITS);
     if n != m {
         return false;
     }

@@ -12,7 +12,7 @@ use Rattle.sequence.specs.Answers.{isDone}
 use Rattle.rules.specs.Places.{lowest, all, elem, distinct, isSome}
 use Rattle.rules.specs.Words.{Party, is, Config, Event}
 use Rattle.rules.specs.Waits.{Wait, loss, main, Due, running, queueTable}
-use Rattle.rules.specs.Station.{Stage, dialling, answered, Slot, free, taken, pending, busy, held, shipOf, Waiting, Station, dueAfter, kindWait, carrierWait, lossDue, mainDue, slotTable, table}
+use Rattle.rules.specs.Station.{Stage, dialling, answered, Slot, free, taken, pending, busy, held, shipOf, Waiting, Station, dueAfter, kindWait, carrierWait, lossDue, mainDue, slotTable, table, replyWait, holdWait, queueWait}
 use Rattle.rules.specs.Sound.{configKeeps, oneSlotEach, slotKeeps, waitingKeeps, limit, queueRoom, listed, owners, noShipTwice, fits, stageFits, lossFits, slotFits, placeFits, storedKeeps, timesFit, sound}
 use Rattle.rules.specs.Requests.{owns, waitsFor}
 use Rattle.rules.specs.Verdict.{roomNeeded, overtaken, slotThere, readIn, refusals, verdict}
@@ -124,9 +124,9 @@ slot-due : (c i d : ℕ) (s : Slot) → slotFits c s ≡ true → mainDue s ≡ 
 slot-due c i d free h e = cc
 slot-due c i d taken h e = cc
 slot-due c i d (pending k r u) h e = let y : u ≡ d = cc in rw (← y) (and-true (leb c u) (leb u (dueAfter c (kindWait k))) h .0)
-slot-due c i d (busy r (dialling u) l) h e = let y : u ≡ d = cc in rw (← y) (and-true (leb c u) (leb u (dueAfter c 600)) (and-true (fits c 600 u) (lossFits c (r .request .mode) l) h .0) .0)
+slot-due c i d (busy r (dialling u) l) h e = let y : u ≡ d = cc in rw (← y) (and-true (leb c u) (leb u (dueAfter c replyWait)) (and-true (fits c replyWait u) (lossFits c (r .request .mode) l) h .0) .0)
 slot-due c i d (busy r (answered b) l) h e = cc
-slot-due c i d (held r n u) h e = let y : u ≡ d = cc in rw (← y) (and-true (leb c u) (leb u (dueAfter c 40)) h .0)
+slot-due c i d (held r n u) h e = let y : u ≡ d = cc in rw (← y) (and-true (leb c u) (leb u (dueAfter c holdWait)) h .0)
 
 slot-loss : (c i d : ℕ) (s : Slot) → slotFits c s ≡ true → lossDue s ≡ some d → leb c d ≡ true
 slot-loss c i d free h e = cc
@@ -143,7 +143,7 @@ slots-due c i (s ∷ ss) h = let w = and-true (slotFits c s) (all (slotFits c) s
 
 queue-due : (c k : ℕ) (q : List Waiting) (r : List Due) → all (placeFits c) q ≡ true → all (λ p. leb c (p .at)) r ≡ true → all (λ p. leb c (p .at)) (queueTable k (map (λ w. w .due) q) r) ≡ true
 queue-due c k [] r h e = e
-queue-due c k (w ∷ q) r h e = let v = and-true (placeFits c w) (all (placeFits c) q) h in rw (and-true (leb c (w .due)) (leb (w .due) (dueAfter c 9000)) (v .0) .0) (queue-due c (suc k) q r (v .1) e)
+queue-due c k (w ∷ q) r h e = let v = and-true (placeFits c w) (all (placeFits c) q) h in rw (and-true (leb c (w .due)) (leb (w .due) (dueAfter c queueWait)) (v .0) .0) (queue-due c (suc k) q r (v .1) e)
 
 pub due-all : (cfg : Config) (st : Station) → Sound cfg st → all (λ p. leb (st .clock) (p .at)) (table st) ≡ true
 unfolding table

@@ -68,7 +68,7 @@ stops-known c st e v =
 abbrev FourBytes : Charge → Type 0
 FourBytes h = (h .ship < 4294967296) × ((h .start .0 < 4294967296) × ((h .stop .0 < 4294967296) × (h .seconds .0 < 4294967296)))
 
-owed-fits : (t : ℕ) → t ≤ 4000000000 → (ss : List Stop) → Each FromShip ss → Each (λ h. (h .start .0 ≤ h .stop .0) × (h .stop .0 ≡ t)) (map owed ss) → Each FourBytes (map owed ss)
+owed-fits : (t : ℕ) → t ≤ limit → (ss : List Stop) → Each FromShip ss → Each (λ h. (h .start .0 ≤ h .stop .0) × (h .stop .0 ≡ t)) (map owed ss) → Each FourBytes (map owed ss)
 owed-fits t m [] f g = tt
 owed-fits t m (s ∷ ss) f g =
     let a = f .0 in

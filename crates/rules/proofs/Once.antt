@@ -9,7 +9,7 @@ use lib.ListN.{getD}
 use borrow.Author.Tests.{not-true}
 use Rattle.rules.specs.Places.{modAt, lowest, elem, distinct}
 use Rattle.rules.specs.Words.{Party, is, Request}
-use Rattle.rules.specs.Station.{dealing, firstRing, Stage, Slot, free, pending, shipOf, Waiting, Station, setSlot, setQueue, dueAfter}
+use Rattle.rules.specs.Station.{dealing, firstRing, Stage, Slot, free, pending, shipOf, Waiting, Station, setSlot, setQueue, dueAfter, kindWait}
 use Rattle.rules.specs.Sound.{listed, owners}
 use Rattle.rules.specs.Requests.{rungBack, freedFor, freed, coastEnd, isOf, owns, waitsFor}
 use Rattle.rules.proofs.PlaceLaws.{or-false, and-true, shift-none}
@@ -110,7 +110,7 @@ freedFor-gone i x st w h [] e = none-left (countS x (modAt (λ y. free) i (st .s
   where
     none-left : (n s k : ℕ) → n + 1 ≤ s + 0 → s + k ≤ 1 → n ≡ 0
     none-left n s k a b = omega arith
-freedFor-gone i x st w h (v ∷ q) e = none-left (countS x (modAt (λ y. pending firstRing (dealing (v .request)) (dueAfter (st .clock) 50)) i (st .slots))) (countS x (st .slots)) (bit (is x (v .request .who))) (countQ x q) (rw h at (count-set x i (pending firstRing (dealing (v .request)) (dueAfter (st .clock) 50)) (st .slots))) (rw e at (w x))
+freedFor-gone i x st w h (v ∷ q) e = none-left (countS x (modAt (λ y. pending firstRing (dealing (v .request)) (dueAfter (st .clock) (kindWait firstRing))) i (st .slots))) (countS x (st .slots)) (bit (is x (v .request .who))) (countQ x q) (rw h at (count-set x i (pending firstRing (dealing (v .request)) (dueAfter (st .clock) (kindWait firstRing))) (st .slots))) (rw e at (w x))
   where
     none-left : (n s b k : ℕ) → n + 1 ≤ s + b → s + (b + k) ≤ 1 → n ≡ 0
     none-left n s b k u v = omega arith

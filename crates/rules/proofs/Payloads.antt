@@ -19,7 +19,7 @@ use Rattle.rules.specs.Actions.{Ender, Action, does, over}
 use Rattle.rules.specs.Station.{Stage, dialling, answered}
 use Rattle.rules.specs.Sound.{numberKeeps, requestKeeps}
 use Rattle.rules.specs.Requests.{bill}
-use Rattle.rules.specs.Bytes.{padded, numberOf, answerTo, ableSaid, unableSaid, overSaid, block, channelAt, payloadOf, blockOf, blocks}
+use Rattle.rules.specs.Bytes.{padded, numberOf, answerTo, ableSaid, unableSaid, overSaid, block, channelAt, payloadOf, blockOf, blocks, blockSize}
 use Rattle.rules.proofs.PlaceLaws.{and-true}
 
 pub padded-length : {A : Type 0} (b : A) (n : ℕ) (l : List A) → length (padded b n l) ≡ n
@@ -52,12 +52,12 @@ sent-length m l e =
     let p = pairs-length (evened (m .number)) in
     simp length-append (omega arith)
 
--- a block is 40 bytes, whatever the action
-pub block-length : (cfg : Config) (a : Action) → length (blockOf cfg a) ≡ 40
+-- every block has one size, whatever the action
+pub block-length : (cfg : Config) (a : Action) → length (blockOf cfg a) ≡ blockSize
 unfolding blockOf block
 block-length cfg a = let h = padded-length 0 36 (payloadOf cfg a) in omega arith
 
-pub blocks-length : (cfg : Config) (l : List Action) → length (blocks cfg l) ≡ 40 * length l
+pub blocks-length : (cfg : Config) (l : List Action) → length (blocks cfg l) ≡ blockSize * length l
 blocks-length cfg [] = refl
 blocks-length cfg (a ∷ l) = simp (length-append, block-length, blocks-length cfg l) (omega arith)
 

@@ -10,13 +10,14 @@ use native.Mathlib.Omega.{arith}
 use Rattle.rules.specs.Places.{modAt, shift, lowest}
 use Rattle.rules.specs.Words.{Party, is, Request}
 use Rattle.rules.specs.Actions.{theCoast, Action}
-use Rattle.rules.specs.Station.{dealing, offered, firstRing, Stage, dialling, answered, Slot, free, taken, pending, busy, held, Waiting, Station, setSlot, setQueue, dueAfter, queueWait}
+use Rattle.rules.specs.Station.{dealing, offered, firstRing, Stage, dialling, answered, Slot, free, taken, pending, busy, held, Waiting, Station, setSlot, setQueue, dueAfter, queueWait, kindWait}
 use Rattle.rules.specs.Requests.{Out, done, ignored, also, rungBack, freedFor, freed, endActs, coastEnd, waitsFor, afresh, ruleD, offer, ruleF, ruleG, isFree, eToG, newcomer}
 use Rattle.rules.specs.Book.{Stop, Line, Place, Book, blank, atLine, stopOf}
 use Rattle.rules.specs.Reading.{tell, rungUp, letGo, hush, leave, join, reads}
 use Rattle.rules.specs.Statement.{deedsOf, chargesOf, owed}
 use Rattle.rules.proofs.PlaceLaws.{modAt-modAt, modAt-map, lowest-is, shift-some, shift-none}
 use Rattle.rules.proofs.Base.{callIn, view, place, seen, is-same, is-true, deeds-append, charges-append, reads-append, atLine², moves}
+use Rattle.rules.specs.Sound.{queueRoom}
 
 -- ── what is shown of a piece ─────────────────────────────────────────────────
 
@@ -68,7 +69,7 @@ freedFor-good : (i : ℕ) (st : Station) (p : Slot) → getD (st .slots) i free 
 unfolding freedFor rungBack reads seen setSlot setQueue
 freedFor-good i st p e [] eq f h = record { reading = moves i st p e f free h; charging = refl }
 freedFor-good i st p e (w ∷ q) eq f h = record {
-  reading = book-is refl (lines² i st p e f (rungUp (st .clock) (w .request)) (pending firstRing (dealing (w .request)) (dueAfter (st .clock) 50)) (ap (rungUp (st .clock) (w .request)) h)) (rw eq (leave-first (w .request .who) (place w) (map place q) refl));
+  reading = book-is refl (lines² i st p e f (rungUp (st .clock) (w .request)) (pending firstRing (dealing (w .request)) (dueAfter (st .clock) (kindWait firstRing))) (ap (rungUp (st .clock) (w .request)) h)) (rw eq (leave-first (w .request .who) (place w) (map place q) refl));
   charging = refl;
 }
 
@@ -121,8 +122,8 @@ join-new t r (w ∷ q) h = go (is (r .who) (w .request .who)) refl (λ e. join-n
 
 eToG-good : (st : Station) (r : Request) (o : Option ℕ) → lowest isFree (st .slots) ≡ o → lowest (waitsFor (r .who)) (st .queue) ≡ none → Good (st .clock) (seen st) [] (eToG st r o)
 unfolding eToG offer afresh ruleF ruleG reads seen setQueue setSlot
-eToG-good st r (some i) h w = record { reading = moves i st free (free-is _ (lowest-is free isFree (st .slots) i h)) (tell (st .clock) r) (pending offered (dealing r) (dueAfter (st .clock) 160)) refl; charging = refl }
-eToG-good st r none h w = good-if _ _ _ (ltb (length (st .queue)) 32) (ruleF st r) (ruleG st r) (λ e. record { reading = book-is refl refl (join-new (st .clock) r (st .queue) w); charging = refl }) (λ e. record { reading = refl; charging = refl })
+eToG-good st r (some i) h w = record { reading = moves i st free (free-is _ (lowest-is free isFree (st .slots) i h)) (tell (st .clock) r) (pending offered (dealing r) (dueAfter (st .clock) (kindWait offered))) refl; charging = refl }
+eToG-good st r none h w = good-if _ _ _ (ltb (length (st .queue)) queueRoom) (ruleF st r) (ruleG st r) (λ e. record { reading = book-is refl refl (join-new (st .clock) r (st .queue) w); charging = refl }) (λ e. record { reading = refl; charging = refl })
 
 pub newcomer-good : (st : Station) (r : Request) → lowest (waitsFor (r .who)) (st .queue) ≡ none → Good (st .clock) (seen st) [] (newcomer st r)
 unfolding newcomer

@@ -91,8 +91,8 @@ freedFor-whole : (i : ℕ) (st : Station) → Whole st → (q : List Waiting) �
 unfolding freedFor rungBack setSlot setQueue
 freedFor-whole i st w [] e = turn-whole i st (getD (st .slots) i free) refl w free refl (λ x. omega arith)
 freedFor-whole i st w (v ∷ q) e = record {
-  once = λ x. less (countS x (modAt (λ y. pending firstRing (dealing (v .request)) (dueAfter (st .clock) 50)) i (st .slots))) (bit (owns x (getD (st .slots) i free))) (countS x (st .slots)) (bit (is x (v .request .who))) (countQ x q) (count-set x i (pending firstRing (dealing (v .request)) (dueAfter (st .clock) 50)) (st .slots)) (rw e at (w .once x));
-  fit = all-set (slotFits (st .clock)) i (pending firstRing (dealing (v .request)) (dueAfter (st .clock) 50)) (st .slots) (w .fit) (new-wait (st .clock) 50);
+  once = λ x. less (countS x (modAt (λ y. pending firstRing (dealing (v .request)) (dueAfter (st .clock) (kindWait firstRing))) i (st .slots))) (bit (owns x (getD (st .slots) i free))) (countS x (st .slots)) (bit (is x (v .request .who))) (countQ x q) (count-set x i (pending firstRing (dealing (v .request)) (dueAfter (st .clock) (kindWait firstRing))) (st .slots)) (rw e at (w .once x));
+  fit = all-set (slotFits (st .clock)) i (pending firstRing (dealing (v .request)) (dueAfter (st .clock) (kindWait firstRing))) (st .slots) (w .fit) (new-wait (st .clock) (kindWait firstRing));
   placed = and-true (placeFits (st .clock) v) (all (placeFits (st .clock)) q) (rw e at (w .placed)) .1;
   room = shorter (length q) (rw e at (w .room));
 }

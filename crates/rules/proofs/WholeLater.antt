@@ -10,7 +10,7 @@ use borrow.Author.Tests.{leb-true, leb-false, le-leb}
 use Rattle.rules.specs.Places.{all}
 use Rattle.rules.specs.Words.{Mode}
 use Rattle.rules.specs.Waits.{Wait, loss, main, Due, running, sooner, earliest, ifDue, queueTable}
-use Rattle.rules.specs.Station.{Stage, dialling, answered, Slot, free, taken, pending, busy, held, Waiting, Station, setClock, kindWait, carrierWait, lossDue, stageDue, mainDue, slotTable, table}
+use Rattle.rules.specs.Station.{Stage, dialling, answered, Slot, free, taken, pending, busy, held, Waiting, Station, setClock, kindWait, carrierWait, lossDue, stageDue, mainDue, slotTable, table, replyWait, holdWait, queueWait}
 use Rattle.rules.specs.Sound.{fits, stageFits, lossFits, slotFits, placeFits}
 use Rattle.rules.specs.Book.{momentOf}
 use Rattle.rules.proofs.PlaceLaws.{and-true}
@@ -22,7 +22,7 @@ within-later : (c t w d : ℕ) → c ≤ t → t ≤ d → fits c w d ≡ true �
 within-later c t w d h k e = let a = leb-true d (c + (w + 1)) (and-true (leb c d) (leb d (c + (w + 1))) e .1) in rw (le-leb t d k, le-leb d (t + (w + 1)) (omega arith)) refl
 
 stage-later : (c t : ℕ) → c ≤ t → (g : Stage) → ((d : ℕ) → stageDue g ≡ some d → t ≤ d) → stageFits c g ≡ true → stageFits t g ≡ true
-stage-later c t h (dialling d) f e = within-later c t 600 d h (f d refl) e
+stage-later c t h (dialling d) f e = within-later c t replyWait d h (f d refl) e
 stage-later c t h (answered b) f e = let a = leb-true b c e in le-leb b t (omega arith)
 
 loss-later : (c t : ℕ) → c ≤ t → (m : Mode) (o : Option ℕ) → ((d : ℕ) → o ≡ some d → t ≤ d) → lossFits c m o ≡ true → lossFits t m o ≡ true
@@ -34,7 +34,7 @@ slot-later c t h free f g e = refl
 slot-later c t h taken f g e = refl
 slot-later c t h (pending k r d) f g e = within-later c t (kindWait k) d h (g d refl) e
 slot-later c t h (busy r a l) f g e = let w = and-true (stageFits c a) (lossFits c (r .request .mode) l) e in rw (stage-later c t h a g (w .0)) (loss-later c t h (r .request .mode) l f (w .1))
-slot-later c t h (held r n d) f g e = within-later c t 40 d h (g d refl) e
+slot-later c t h (held r n d) f g e = within-later c t holdWait d h (g d refl) e
 
 abbrev pub From : ℕ → Due → Bool
 From t p = leb t (p .at)
@@ -57,7 +57,7 @@ queue-later c t k h (v ∷ q) r a e =
     let b = and-true (leb t (v .due)) (all (From t) (queueTable (suc k) (map (λ z. z .due) q) r)) a in
     let w = and-true (placeFits c v) (all (placeFits c) q) e in
     let n = queue-later c t (suc k) h q r (b .1) (w .1) in
-    (rw (within-later c t 9000 (v .due) h (leb-true t (v .due) (b .0)) (w .0)) (n .0), n .1)
+    (rw (within-later c t queueWait (v .due) h (leb-true t (v .due) (b .0)) (w .0)) (n .0), n .1)
 
 pub later-whole : (st : Station) (t : ℕ) → Whole st → st .clock ≤ t → all (From t) (table st) ≡ true → Whole (setClock t st)
 unfolding setClock table

@@ -9,6 +9,7 @@ use Rattle.sequence.specs.declared.Field.{Field}
 use Rattle.sequence.specs.declared.Field.the-variants.{Blank, Channel, Duration}
 use Rattle.sequence.specs.declared.Number.{Number}
 use Rattle.sequence.specs.declared.Meaning.{Meaning}
+use Rattle.sequence.specs.Figures.{firstUnable, firstOver, untold, mostDigits, endRq, endBq, endLast}
 use Rattle.sequence.specs.Layout.{layout}
 use Rattle.rules.specs.Words.{Party, Request, modeNumber, Config, carrierOn, carrierOff, acknowledge, ringBack, unable, dial, releaseLine}
 use Rattle.rules.specs.Actions.{Ender, theShip, theCoast, Action, does, over, charge}
@@ -22,7 +23,7 @@ padded b (suc n) [] = b ∷ padded b n []
 padded b (suc n) (x ∷ l) = x ∷ padded b n l
 
 abbrev pub numberOf : List ℕ → Number
-numberOf l = record { count = length l; digits = padded 0 16 l }
+numberOf l = record { count = length l; digits = padded 0 mostDigits l }
 
 -- "with identities exchanged": to the ship, from the station that it called
 unfoldable pub answerTo : Party → ℕ → ℕ → Field → List ℕ → ℕ → Meaning
@@ -35,7 +36,7 @@ ableSaid channel end r = answerTo (r .who) (modeNumber (r .mode)) (r .second) (C
 
 -- "for 104 the field 126s"
 unfoldable pub unableSaid : ℕ → Party → List ℕ → Meaning
-unableSaid second x digits = answerTo x 104 second Blank digits 122
+unableSaid second x digits = answerTo x firstUnable second Blank digits endBq
 
 abbrev pub toldField : Told → Field
 toldField Nothing = Blank
@@ -43,18 +44,29 @@ toldField (Lasting d) = Duration d
 
 -- "with BQ" at the ship's end, "with 127" at the coast's
 abbrev pub endSymbol : Ender → ℕ
-endSymbol theShip = 122
-endSymbol theCoast = 127
+endSymbol theShip = endBq
+endSymbol theCoast = endLast
 
 -- "send 105/126 .. and the duration"; "the number sent is the stored request's"
 unfoldable pub overSaid : Ender → Party → List ℕ → Told → Meaning
-overSaid e x digits n = answerTo x 105 126 (toldField n) digits (endSymbol e)
+overSaid e x digits n = answerTo x firstOver untold (toldField n) digits (endSymbol e)
 
 -- ── the bytes ────────────────────────────────────────────────────────────────
 
--- "kind, slot, payload length, 0, payload, zeros": 40 bytes
+-- "At most 8 a step, 40 bytes each"
+abbrev pub mostActions : ℕ
+mostActions = 8
+
+abbrev pub blockSize : ℕ
+blockSize = 40
+
+-- behind the four bytes of "kind, slot .., payload length, 0"
+abbrev pub payloadRoom : ℕ
+payloadRoom = 36
+
+-- "kind, slot, payload length, 0, payload, zeros"
 unfoldable pub block : ℕ → ℕ → List ℕ → List ℕ
-block kind slot payload = kind ∷ slot ∷ length payload ∷ 0 ∷ padded 0 36 payload
+block kind slot payload = kind ∷ slot ∷ length payload ∷ 0 ∷ padded 0 payloadRoom payload
 
 -- "four bytes each, low first"
 abbrev pub four : ℕ → List ℕ → List ℕ
@@ -77,12 +89,15 @@ kindNumber (over i e x digits n) = 4
 kindNumber (charge h) = 7
 
 -- "slot (255 for the 104 answers)"
+abbrev pub unableSlot : ℕ
+unableSlot = 255
+
 abbrev pub slotNumber : Action → ℕ
 slotNumber (does (carrierOn i)) = i
 slotNumber (does (carrierOff i)) = i
 slotNumber (does (acknowledge i r)) = i
 slotNumber (does (ringBack i r)) = i
-slotNumber (does (unable n x digits)) = 255
+slotNumber (does (unable n x digits)) = unableSlot
 slotNumber (does (dial i digits)) = i
 slotNumber (does (releaseLine i)) = i
 slotNumber (over i e x digits n) = i
@@ -92,8 +107,8 @@ slotNumber (charge h) = h .slot
 unfoldable pub payloadOf : Config → Action → List ℕ
 payloadOf c (does (carrierOn i)) = []
 payloadOf c (does (carrierOff i)) = []
-payloadOf c (does (acknowledge i r)) = layout (ableSaid (channelAt c i) 122 r)
-payloadOf c (does (ringBack i r)) = layout (ableSaid (channelAt c i) 117 r)
+payloadOf c (does (acknowledge i r)) = layout (ableSaid (channelAt c i) endBq r)
+payloadOf c (does (ringBack i r)) = layout (ableSaid (channelAt c i) endRq r)
 payloadOf c (does (unable n x digits)) = layout (unableSaid n x digits)
 payloadOf c (does (dial i digits)) = digits
 payloadOf c (does (releaseLine i)) = []

@@ -10,6 +10,7 @@ use Rattle.sequence.specs.declared.Field.{Field}
 use Rattle.sequence.specs.declared.Field.the-variants.{Blank, Channel, Duration}
 use Rattle.sequence.specs.declared.Number.{Number}
 use Rattle.sequence.specs.declared.Meaning.{Meaning}
+use Rattle.sequence.specs.Figures.{firstSimplex, firstDuplex, firstData, firstOver, endRq, endBq, endLast}
 use Rattle.sequence.specs.Reading.{readingOf}
 use Rattle.rules.specs.Places.{lowest}
 use Rattle.rules.specs.Words.{Party, Mode, simplex, duplex, Request, Config}
@@ -57,19 +58,19 @@ bqOn x (some i) = bq i x
 
 -- BQ, with the telecommand of a mode
 abbrev pub agrees : Meaning → Bool
-agrees m = eqb (m .end) 122 && (eqb (m .first) 100 || eqb (m .first) 101)
+agrees m = eqb (m .end) endBq && (eqb (m .first) firstSimplex || eqb (m .first) firstDuplex)
 
 -- the kinds that 01 names; no sequence is of two
 unfoldable pub kindOf : Config → Meaning → Heard
 kindOf c m =
     -- "Call request (117; 100, 101 or 106; field 126s)"
-    cond (says 117 100 m) (callRequest (requestIn simplex m))
-    (cond (says 117 101 m) (callRequest (requestIn duplex m))
-    (cond (says 117 106 m) (dataRequest (sentBy m) (digitsIn (m .number)))
+    cond (says endRq firstSimplex m) (callRequest (requestIn simplex m))
+    (cond (says endRq firstDuplex m) (callRequest (requestIn duplex m))
+    (cond (says endRq firstData m) (dataRequest (sentBy m) (digitsIn (m .number)))
     -- "Working call (127; 100 or 101; field 126s)"
-    (cond (says 127 100 m || says 127 101 m) (workingCall (sentBy m))
+    (cond (says endLast firstSimplex m || says endLast firstDuplex m) (workingCall (sentBy m))
     -- "Ship's end of call (117, 105, field 126s)"
-    (cond (says 117 105 m) (endOfCall (sentBy m))
+    (cond (says endRq firstOver m) (endOfCall (sentBy m))
     -- "BQ .. telecommand 100 or 101, naming that channel"
     (cond (agrees m) (bqOn (sentBy m) (slotNamed c (m .field))) nothing)))))
 

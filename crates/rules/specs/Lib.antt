@@ -7,14 +7,14 @@ pub mod Waits
 pub mod Heard
 pub mod Kinds
 pub mod Actions
--- the rules: time and the slots, what each event does, answer numbers, actions handed out
+-- the rules: time and the slots, what each event does, actions handed out, answer numbers
 pub mod Station
 pub mod Slots
 pub mod Sound
 pub mod Requests
 pub mod Calls
-pub mod Verdict
 pub mod Bytes
+pub mod Verdict
 pub mod Printed
 -- the list alone, and what is claimed of every run
 pub mod Book

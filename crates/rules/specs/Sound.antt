@@ -8,6 +8,7 @@ use lib.ListN.{length}
 use Rattle.units.specs.declared.Channel.{Channel}
 use Rattle.units.specs.declared.Told.{Told}
 use Rattle.units.specs.declared.Told.the-variants.{Nothing, Lasting}
+use Rattle.sequence.specs.Figures.{leastSecond, lastSecond, mostDigits}
 use Rattle.sequence.specs.Identity.{isShip, isCoast}
 use Rattle.sequence.specs.Symbols.{within, allAtMost}
 use Rattle.sequence.specs.Field.{channelOk, durationOk}
@@ -20,9 +21,12 @@ use Rattle.rules.specs.Station.{Stage, dialling, answered, Slot, free, t
 unfoldable pub identityKeeps : Config → Bool
 identityKeeps c = isCoast (c .identity)
 
--- "1 to 16 distinct channels of the kind above"
+-- "1 to 16 distinct channels of the kind above", "one slot each"
+abbrev pub mostSlots : ℕ
+mostSlots = 16
+
 unfoldable pub channelsKeep : List Channel → Bool
-channelsKeep l = within 1 16 (length l) && (all channelOk l && distinct sameChannel l)
+channelsKeep l = within 1 mostSlots (length l) && (all channelOk l && distinct sameChannel l)
 
 -- what set-up asks, and every event after it
 unfoldable pub configKeeps : Config → Bool
@@ -34,11 +38,11 @@ oneSlotEach c st = eqb (length (st .slots)) (length (c .channels))
 
 -- "A number has 1 to 16 digits"
 unfoldable pub numberKeeps : List ℕ → Bool
-numberKeeps l = within 1 16 (length l) && allAtMost 9 l
+numberKeeps l = within 1 mostDigits (length l) && allAtMost 9 l
 
 -- "stored requests (simplex or duplex, to this station)": from a ship, the second telecommand 100 to 126
 unfoldable pub requestKeeps : Config → Request → Bool
-requestKeeps c r = isShip (r .who .ship) && (eqb (r .who .station) (c .identity) && (within 100 126 (r .second) && numberKeeps (r .number)))
+requestKeeps c r = isShip (r .who .ship) && (eqb (r .who .station) (c .identity) && (within leastSecond lastSecond (r .second) && numberKeeps (r .number)))
 
 -- "hold durations": none, or "hours 0 to 99, minutes and seconds 0 to 59"
 unfoldable pub durationKeeps : Told → Bool

@@ -2,7 +2,7 @@
 use mathlib.Core.List.{List, [], _∷_}
 use mathlib.Core.Bool.{Bool, true, false, not}
 use mathlib.Core.Option.{Option, none, some}
-use Prim.Native.Nat.{ℕ}
+use Prim.Native.Nat.{ℕ, _*_}
 use lib.Dec.{leb, ltb}
 use lib.ListN.{length, getD}
 use Rattle.sequence.specs.declared.Answer.{Answer}
@@ -13,6 +13,7 @@ use Rattle.sequence.specs.Reading.{readingOf}
 use Rattle.rules.specs.Places.{isSome}
 use Rattle.rules.specs.Words.{Config, Hand, handTakes, handGives, Happened, heard, signal, operator, What, tick, onChannel70, onSlot, Event}
 use Rattle.rules.specs.Actions.{Action}
+use Rattle.rules.specs.Bytes.{mostActions, blockSize}
 use Rattle.rules.specs.Station.{Slot, free, taken, pending, busy, held, Station, fires}
 use Rattle.rules.specs.Sound.{configKeeps, limit, sound}
 use Rattle.rules.specs.Requests.{Out, isFree}
@@ -24,7 +25,7 @@ unless test n = row test (some n)
 
 -- 30: "action room under 320 bytes"
 abbrev pub roomNeeded : ℕ
-roomNeeded = 320
+roomNeeded = mostActions * blockSize
 
 -- 33: "not a tick and a wait is due at or before its time"
 abbrev pub overtaken : Station → ℕ → What → Bool

@@ -4,6 +4,7 @@ use mathlib.Core.Bool.{Bool, _&&_}
 use Prim.Native.Nat.{ℕ}
 use lib.Dec.{eqb}
 use Rattle.units.specs.declared.Channel.{Channel}
+use Rattle.sequence.specs.Figures.{firstSimplex, firstDuplex}
 
 -- ── who asks for what ────────────────────────────────────────────────────────
 
@@ -21,8 +22,8 @@ pub data Mode : Type 0 where
 
 -- the first telecommand: "100 simplex, 101 duplex"
 abbrev pub modeNumber : Mode → ℕ
-modeNumber simplex = 100
-modeNumber duplex = 101
+modeNumber simplex = firstSimplex
+modeNumber duplex = firstDuplex
 
 -- a call request, as it is stored
 pub record Request : Type 0 where

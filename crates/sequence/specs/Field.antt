@@ -6,21 +6,22 @@ use Rattle.units.specs.declared.Channel.{Channel as ChannelNumber}
 use Rattle.units.specs.declared.Duration.{Duration as Lasting}
 use Rattle.sequence.specs.declared.Field.{Field}
 use Rattle.sequence.specs.declared.Field.the-variants.{Blank, Channel, Duration}
+use Rattle.sequence.specs.Figures.{firstSimplex, firstDuplex, firstData, firstUnable, firstOver, leastSecond, lastSecond, lastReason, untold, channelTold}
 use Rattle.sequence.specs.Symbols.{within}
 
 -- "100 simplex, 101 duplex or 106 data"
 unfoldable pub isCall : ℕ → Bool
-isCall first = eqb first 100 || (eqb first 101 || eqb first 106)
+isCall first = eqb first firstSimplex || (eqb first firstDuplex || eqb first firstData)
 
 -- "104 unable, second 100 to 109 or 126"
 unfoldable pub unableSecond : ℕ → Bool
-unableSecond second = within 100 109 second || eqb second 126
+unableSecond second = within leastSecond lastReason second || eqb second untold
 
 -- calls "second 100 to 126", 104 as above, "105 end of call, second 126"
 unfoldable pub telecommandsOk : ℕ → ℕ → Bool
 telecommandsOk first second =
-    cond (isCall first) (within 100 126 second)
-    (cond (eqb first 104) (unableSecond second) (eqb first 105 && eqb second 126))
+    cond (isCall first) (within leastSecond lastSecond second)
+    (cond (eqb first firstUnable) (unableSecond second) (eqb first firstOver && eqb second untold))
 
 -- "not 16 or 70", "1 to 28 or 60 to 88"
 unfoldable pub channelOk : ChannelNumber → Bool
@@ -34,20 +35,20 @@ durationOk d = leb (d .hours) 99 && (leb (d .minutes) 59 && leb (d .seconds) 59)
 unfoldable pub fieldOk : ℕ → Field → Bool
 fieldOk first Blank = true
 fieldOk first (Channel c) = isCall first && channelOk c
-fieldOk first (Duration d) = eqb first 105 && durationOk d
+fieldOk first (Duration d) = eqb first firstOver && durationOk d
 
 -- the three symbols of a field: 126 126 126, or 90, 0, channel, or hours, minutes, seconds
 abbrev pub fieldFirst : Field → ℕ
-fieldFirst Blank = 126
-fieldFirst (Channel c) = 90
+fieldFirst Blank = untold
+fieldFirst (Channel c) = channelTold
 fieldFirst (Duration d) = d .hours
 
 abbrev pub fieldSecond : Field → ℕ
-fieldSecond Blank = 126
+fieldSecond Blank = untold
 fieldSecond (Channel c) = 0
 fieldSecond (Duration d) = d .minutes
 
 abbrev pub fieldThird : Field → ℕ
-fieldThird Blank = 126
+fieldThird Blank = untold
 fieldThird (Channel c) = c .0
 fieldThird (Duration d) = d .seconds

@@ -3,6 +3,7 @@ use Prim.Native.Nat.{ℕ, _+_, _*_, _/_, _%_}
 use mathlib.Core.Bool.{Bool, cond, _&&_}
 use mathlib.Core.List.{List, _∷_}
 use lib.Dec.{leb, eqb}
+use Rattle.sequence.specs.Figures.{lastPair}
 use Rattle.sequence.specs.Symbols.{within}
 
 -- "Ships: 200000000 to 799999999."
@@ -23,7 +24,7 @@ identitySymbols n l = n / 10000000 ∷ n / 100000 % 100 ∷ n / 1000 % 100 ∷ n
 
 -- five symbols are pairs of digits, the last digit 0
 unfoldable pub identityPairs : ℕ → ℕ → ℕ → ℕ → ℕ → Bool
-identityPairs a b c d e = leb a 99 && (leb b 99 && (leb c 99 && (leb d 99 && (leb e 99 && eqb (e % 10) 0))))
+identityPairs a b c d e = leb a lastPair && (leb b lastPair && (leb c lastPair && (leb d lastPair && (leb e lastPair && eqb (e % 10) 0))))
 
 -- the nine digits of five pairs, as a number
 unfoldable pub identityOf : ℕ → ℕ → ℕ → ℕ → ℕ → ℕ

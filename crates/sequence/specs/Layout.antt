@@ -4,6 +4,7 @@ use mathlib.Core.Bool.{Bool, _&&_, _||_}
 use mathlib.Core.List.{List, [], _∷_, _++_}
 use lib.Dec.{eqb}
 use Rattle.sequence.specs.declared.Meaning.{Meaning}
+use Rattle.sequence.specs.Figures.{format, category, endRq, endBq, endLast}
 use Rattle.sequence.specs.Symbols.{exclusiveOr}
 use Rattle.sequence.specs.Identity.{identitiesOk, identitySymbols}
 use Rattle.sequence.specs.Field.{telecommandsOk, fieldOk, fieldFirst, fieldSecond, fieldThird}
@@ -11,7 +12,7 @@ use Rattle.sequence.specs.Number.{numberOk, parity, evened, pairsOf}
 
 -- "117 RQ, 122 BQ or 127"
 unfoldable pub endOk : ℕ → Bool
-endOk e = eqb e 117 || (eqb e 122 || eqb e 127)
+endOk e = eqb e endRq || (eqb e endBq || eqb e endLast)
 
 -- a meaning within every range of document 01
 unfoldable pub valid : Meaning → Bool
@@ -24,9 +25,9 @@ valid m =
 unfoldable pub front : Meaning → List ℕ
 front m =
     -- 0: format 123
-    123
+    format
     -- 1-5: address; 6: category 100
-    ∷ identitySymbols (m .address) (100
+    ∷ identitySymbols (m .address) (category
     -- 7-11: self-identification
     ∷ identitySymbols (m .sender)
     -- 12, 13: first and second telecommand

@@ -5,18 +5,19 @@ use mathlib.Core.List.{List, [], _∷_}
 use lib.Dec.{eqb}
 use lib.ListN.{length, take, drop}
 use Rattle.sequence.specs.declared.Number.{Number}
+use Rattle.sequence.specs.Figures.{oddCount, evenCount, mostDigits}
 use Rattle.sequence.specs.Symbols.{within, allAtMost}
 
 -- 1 to 16 digits in sixteen places, each 0 to 9, "and the writer wants [the unused] 0"
 unfoldable pub numberOk : Number → Bool
 numberOk n =
-    within 1 16 (n .count)
-    && (eqb (length (n .digits)) 16
+    within 1 mostDigits (n .count)
+    && (eqb (length (n .digits)) mostDigits
     && (allAtMost 9 (n .digits) && allAtMost 0 (drop (n .count) (n .digits))))
 
 -- "105 if the number has an odd count of digits, 106 if even"
 unfoldable pub parity : ℕ → ℕ
-parity count = cond (eqb (count % 2) 1) 105 106
+parity count = cond (eqb (count % 2) 1) oddCount evenCount
 
 -- the digits that are used, an odd count of them with a 0 before it
 unfoldable pub evened : Number → List ℕ

@@ -13,6 +13,7 @@ use Rattle.sequence.specs.declared.Meaning.{Meaning}
 use Rattle.sequence.specs.declared.Reading.{Reading}
 use Rattle.sequence.specs.Refusals.{Row, row, firstRefusal}
 use Rattle.sequence.specs.Answers.{isDone}
+use Rattle.sequence.specs.Figures.{shortest, longest, lastSymbol, format, category, firstOver, untold, channelTold, oddCount, evenCount, lastPair, mostDigits}
 use Rattle.sequence.specs.Symbols.{within, allAtMost, exclusiveOr}
 use Rattle.sequence.specs.Identity.{identityPairs, identityOf, identitiesOk}
 use Rattle.sequence.specs.Field.{isCall, telecommandsOk, channelOk, durationOk}
@@ -20,7 +21,7 @@ use Rattle.sequence.specs.Layout.{endOk}
 
 -- 11: length outside 21 to 28
 unfoldable pub lengthIn : List ℕ → Bool
-lengthIn s = within 21 28 (length s)
+lengthIn s = within shortest longest (length s)
 
 -- 13: the last symbol is the exclusive-or of those before it
 unfoldable pub checkIn : List ℕ → Bool
@@ -28,7 +29,7 @@ checkIn s = leb 1 (length s) && eqb (exclusiveOr 0 (take (length s - 1) s)) (get
 
 -- 14: format
 unfoldable pub formatIn : List ℕ → Bool
-formatIn s = eqb (getD s 0 0) 123
+formatIn s = eqb (getD s 0 0) format
 
 -- the identity whose five pairs begin at a place, and whether they are pairs
 unfoldable pub identityAt : List ℕ → ℕ → ℕ
@@ -43,7 +44,7 @@ identitiesIn s = identityPairsAt s 1 && (identityPairsAt s 7 && identitiesOk (id
 
 -- 16: category
 unfoldable pub categoryIn : List ℕ → Bool
-categoryIn s = eqb (getD s 6 0) 100
+categoryIn s = eqb (getD s 6 0) category
 
 -- 17: telecommands
 unfoldable pub telecommandsIn : List ℕ → Bool
@@ -51,17 +52,17 @@ telecommandsIn s = telecommandsOk (getD s 12 0) (getD s 13 0)
 
 -- 18: channel field. Three symbols are a field behind a first telecommand, and which
 unfoldable pub blankSymbols : ℕ → ℕ → ℕ → Bool
-blankSymbols x y z = eqb x 126 && (eqb y 126 && eqb z 126)
+blankSymbols x y z = eqb x untold && (eqb y untold && eqb z untold)
 
 unfoldable pub channelSymbols : ℕ → ℕ → ℕ → Bool
-channelSymbols x y z = eqb x 90 && (eqb y 0 && channelOk (record { 0 = z }))
+channelSymbols x y z = eqb x channelTold && (eqb y 0 && channelOk (record { 0 = z }))
 
 unfoldable pub durationSymbols : ℕ → ℕ → ℕ → Bool
 durationSymbols x y z = durationOk (record { hours = x; minutes = y; seconds = z })
 
 unfoldable pub fieldSymbols : ℕ → ℕ → ℕ → ℕ → Bool
 fieldSymbols first x y z =
-    cond (blankSymbols x y z) true (cond (isCall first) (channelSymbols x y z) (eqb first 105 && durationSymbols x y z))
+    cond (blankSymbols x y z) true (cond (isCall first) (channelSymbols x y z) (eqb first firstOver && durationSymbols x y z))
 
 unfoldable pub fieldOf : ℕ → ℕ → ℕ → ℕ → Field
 fieldOf first x y z =
@@ -77,10 +78,10 @@ pairsIn s = take (length s - 20) (drop 18 s)
 
 -- 105, and the 0 put before an odd count; or 106
 unfoldable pub parityOk : ℕ → ℕ → Bool
-parityOk p pair = cond (eqb p 105) (leb pair 9) (eqb p 106)
+parityOk p pair = cond (eqb p oddCount) (leb pair 9) (eqb p evenCount)
 
 unfoldable pub pairsOk : ℕ → List ℕ → Bool
-pairsOk p pairs = parityOk p (getD pairs 0 0) && allAtMost 99 pairs
+pairsOk p pairs = parityOk p (getD pairs 0 0) && allAtMost lastPair pairs
 
 unfoldable pub numberIn : List ℕ → Bool
 numberIn s = pairsOk (getD s 17 0) (pairsIn s)
@@ -91,10 +92,10 @@ digitsOf [] = []
 digitsOf (p ∷ ps) = p / 10 ∷ p % 10 ∷ digitsOf ps
 
 unfoldable pub zeroBefore : ℕ → ℕ
-zeroBefore p = cond (eqb p 105) 1 0
+zeroBefore p = cond (eqb p oddCount) 1 0
 
 unfoldable pub sixteen : List ℕ → List ℕ
-sixteen l = take 16 (l ++ replicate 16 0)
+sixteen l = take mostDigits (l ++ replicate mostDigits 0)
 
 unfoldable pub numberOf : ℕ → List ℕ → Number
 numberOf p pairs =
@@ -108,7 +109,7 @@ endIn s = endOk (getD s (length s - 2) 0)
 unfoldable pub refusals : List ℕ → List (Row Answer)
 refusals s =
     row (lengthIn s) BadLength
-    ∷ row (allAtMost 127 s) BadSymbol
+    ∷ row (allAtMost lastSymbol s) BadSymbol
     ∷ row (checkIn s) BadCheck
     ∷ row (formatIn s) BadFormat
     ∷ row (identitiesIn s) BadIdentities
@@ -144,7 +145,7 @@ blankMeaning =
       first = 0;
       second = 0;
       field = Blank;
-      number = record { count = 0; digits = replicate 16 0 };
+      number = record { count = 0; digits = replicate mostDigits 0 };
       end = 0;
     }
 

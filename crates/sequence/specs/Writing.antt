@@ -10,6 +10,7 @@ use Rattle.sequence.specs.declared.Meaning.{Meaning}
 use Rattle.sequence.specs.declared.Written.{Written}
 use Rattle.sequence.specs.Refusals.{Row, row, firstRefusal}
 use Rattle.sequence.specs.Answers.{isDone}
+use Rattle.sequence.specs.Figures.{longest}
 use Rattle.sequence.specs.Identity.{identitiesOk}
 use Rattle.sequence.specs.Field.{telecommandsOk, fieldOk}
 use Rattle.sequence.specs.Number.{numberOk}
@@ -26,7 +27,7 @@ meaningRefusals m =
     ∷ []
 
 unfoldable pub writingAnswer : Meaning → ℕ → Answer
-writingAnswer m room = firstRefusal (row (leb 28 room) ShortRoom ∷ meaningRefusals m) Done
+writingAnswer m room = firstRefusal (row (leb longest room) ShortRoom ∷ meaningRefusals m) Done
 
 -- the answer, with the count of bytes written
 unfoldable pub writtenOf : Meaning → ℕ → Written

@@ -8,6 +8,60 @@ pub mod symbols;
 use units::Channel;
 use units::Duration;
 
+// "One sequence, 21 to 28 symbols", each "0 to 127".
+pub const SHORTEST: usize = 21;
+
+pub const LONGEST: usize = 28;
+
+pub const LAST_SYMBOL: u8 = 127;
+
+// "format 123", "category 100".
+pub const FORMAT: u8 = 123;
+
+pub const CATEGORY: u8 = 100;
+
+// The first telecommand: "100 simplex, 101 duplex or 106 data", "104 unable", "105 end of call".
+pub const FIRST_SIMPLEX: u8 = 100;
+
+pub const FIRST_DUPLEX: u8 = 101;
+
+pub const FIRST_DATA: u8 = 106;
+
+pub const FIRST_UNABLE: u8 = 104;
+
+pub const FIRST_OVER: u8 = 105;
+
+// The second: behind a call "100 to 126", behind an unable "100 to 109 or 126".
+pub const LEAST_SECOND: u8 = 100;
+
+pub const LAST_SECOND: u8 = 126;
+
+pub const LAST_REASON: u8 = 109;
+
+// Nothing is told: "second 126", "the field 126s". A channel is: "90, 0, channel".
+pub const UNTOLD: u8 = 126;
+
+pub const CHANNEL_TOLD: u8 = 90;
+
+// "105 if the number has an odd count of digits, 106 if even"
+pub const ODD_COUNT: u8 = 105;
+
+pub const EVEN_COUNT: u8 = 106;
+
+// "digit pairs, each 0 to 99"; "A number has 1 to 16 digits".
+pub const LAST_PAIR: u8 = 99;
+
+pub const DIGITS: usize = 16;
+
+pub const MOST_DIGITS: u8 = DIGITS as u8;
+
+// "end of sequence: 117 RQ, 122 BQ or 127"
+pub const END_RQ: u8 = 117;
+
+pub const END_BQ: u8 = 122;
+
+pub const END_LAST: u8 = 127;
+
 // What is answered to symbols that are read, or to a meaning that is written.
 pub enum Answer {
     Done,
@@ -34,7 +88,7 @@ pub enum Field {
 // A number of 1 to 16 digits; the unused digits are 0.
 pub struct Number {
     pub count: u8,
-    pub digits: [u8; 16],
+    pub digits: [u8; DIGITS],
 }
 
 // What a sequence means. The sender is its self-identification.

@@ -4,7 +4,20 @@ ghost use Rattle.sequence.specs.Identity.{isShip, isCoast, identitiesOk}
 ghost use Rattle.sequence.specs.Field.{isCall, unableSecond, telecommandsOk, channelOk, durationOk};
 ghost use Rattle.sequence.specs.Number.{numberOk};
 ghost use Rattle.sequence.specs.Layout.{endOk};
+use crate::DIGITS;
+use crate::END_BQ;
+use crate::END_LAST;
+use crate::END_RQ;
+use crate::FIRST_DATA;
+use crate::FIRST_DUPLEX;
+use crate::FIRST_OVER;
+use crate::FIRST_SIMPLEX;
+use crate::FIRST_UNABLE;
+use crate::LAST_REASON;
+use crate::LAST_SECOND;
+use crate::LEAST_SECOND;
 use crate::Number;
+use crate::UNTOLD;
 use crate::symbols::all_at_most;
 use units::Channel;
 use units::Duration;
@@ -33,37 +46,37 @@ pub fn identities_ok(address: u32, sender: u32) -> bool
 pub fn is_call(first: u8) -> bool
     ensures { λ r. ⌜ r ≡ isCall first ⌝ }
 {
-    if first == 100 {
+    if first == FIRST_SIMPLEX {
         return true;
     }
-    if first == 101 {
+    if first == FIRST_DUPLEX {
         return true;
     }
-    first == 106
+    first == FIRST_DATA
 }
 
 fn unable_second(second: u8) -> bool
     ensures { λ r. ⌜ r ≡ unableSecond second ⌝ }
 {
-    if second < 100 {
+    if second < LEAST_SECOND {
         return false;
     }
-    if second <= 109 {
+    if second <= LAST_REASON {
         return true;
     }
-    second == 126
+    second == UNTOLD
 }
 
 pub fn telecommands_ok(first: u8, second: u8) -> bool
     ensures { λ r. ⌜ r ≡ telecommandsOk first second ⌝ }
 {
     if is_call(first) {
-        return 100 <= second && second <= 126;
+        return LEAST_SECOND <= second && second <= LAST_SECOND;
     }
-    if first == 104 {
+    if first == FIRST_UNABLE {
         return unable_second(second);
     }
-    first == 105 && second == 126
+    first == FIRST_OVER && second == UNTOLD
 }
 
 pub fn channel_ok(channel: Channel) -> bool
@@ -102,7 +115,7 @@ pub fn number_ok(number: Number) -> bool
     if count < 1 {
         return false;
     }
-    if 16 < count {
+    if DIGITS < count {
         return false;
     }
     if all_at_most(&digits, 9) {
@@ -114,11 +127,11 @@ pub fn number_ok(number: Number) -> bool
 pub fn end_ok(end: u8) -> bool
     ensures { λ r. ⌜ r ≡ endOk end ⌝ }
 {
-    if end == 117 {
+    if end == END_RQ {
         return true;
     }
-    if end == 122 {
+    if end == END_BQ {
         return true;
     }
-    end == 127
+    end == END_LAST
 }

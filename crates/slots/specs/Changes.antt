@@ -5,6 +5,7 @@ use mathlib.Core.List.{List, [], _∷_, _++_}
 use lib.Dec.{leb}
 use lib.ListN.{getD, set}
 use Rattle.rules.specs.Waits as T
+use Rattle.rules.specs.Sound.{queueRoom}
 use Rattle.requests.specs.declared.Request.{Request}
 use Rattle.slots.specs.declared.Phase.{Phase}
 use Rattle.slots.specs.declared.Slot.{Slot}
@@ -26,9 +27,9 @@ without b [] k = []
 without b (x ∷ xs) zero = xs ++ (b ∷ [])
 without b (x ∷ xs) (suc k) = x ∷ without b xs k
 
--- a line of n, of 32 at most, once its place k is gone: the count, and the array
+-- a line of n, of those there is room for, once its place k is gone: the count, and the array
 unfoldable pub cutLine : ℕ → ℕ → ℕ
-cutLine n k = cond (leb (min n 32) k) n (min n 32 - 1)
+cutLine n k = cond (leb (min n queueRoom) k) n (min n queueRoom - 1)
 
 unfoldable pub cutIn : List Waiting → ℕ → ℕ → List Waiting
-cutIn a n k = cond (leb (min n 32) k) a (without blankWaiting a k)
+cutIn a n k = cond (leb (min n queueRoom) k) a (without blankWaiting a k)

@@ -6,10 +6,12 @@ use mathlib.Core.Path.{_≡_}
 use lib.ListN.{length}
 use Rattle.units.specs.declared.Channel.{Channel}
 use Rattle.units.specs.declared.Tenths.{Tenths}
+use Rattle.sequence.specs.Figures.{mostDigits}
 use Rattle.rules.specs.Words.{Config, Request as Asked}
 use Rattle.rules.specs.Places.{Each}
 use Rattle.rules.specs.Station as R
 use Rattle.rules.specs.Station.{free, taken, pending, busy, held, offered, firstRing, secondRing, acknowledged, dialling, answered}
+use Rattle.rules.specs.Sound.{mostSlots, queueRoom}
 use Rattle.requests.specs.declared.Request.{Request}
 use Rattle.requests.specs.Images.{requestImage, blankRequest}
 use Rattle.slots.specs.declared.Carrier.{Carrier}
@@ -76,9 +78,9 @@ slotImages [] ss = []
 slotImages (c ∷ cs) [] = []
 slotImages (c ∷ cs) (s ∷ ss) = slotImage c s ∷ slotImages cs ss
 
--- what fits in the arrays: one slot for each channel, sixteen at most, 32 waiting ships, 16 digits a number
+-- what fits in the arrays: one slot for each channel, so many at most, the waiting ships, the digits of a number
 abbrev pub Short : Asked → Type 0
-Short r = length (r .number) ≤ 16
+Short r = length (r .number) ≤ mostDigits
 
 abbrev pub ShortSlot : R.Slot → Type 0
 ShortSlot free = Unit {0}
@@ -89,7 +91,7 @@ ShortSlot (held r n t) = Short (r .request)
 
 pub record Fits (c : Config) (m : R.Station) : Type 0 where
   pub beside : length (c .channels) ≡ length (m .slots)
-  pub few : length (m .slots) ≤ 16
-  pub line : length (m .queue) ≤ 32
+  pub few : length (m .slots) ≤ mostSlots
+  pub line : length (m .queue) ≤ queueRoom
   pub shortSlots : Each ShortSlot (m .slots)
   pub shortQueue : Each (λ w. Short (w .request)) (m .queue)

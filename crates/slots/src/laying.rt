@@ -1,27 +1,35 @@
 // Records with nothing left in their unused places.
 ghost use mathlib.Core.Path.{_≡_};
 ghost use Prim.Native.Nat.{_<_};
+ghost use Rattle.sequence.specs.Figures.{mostDigits};
 ghost use Rattle.rules.specs.Bytes.{padded};
+ghost use Rattle.rules.specs.Sound.{mostSlots, queueRoom};
 ghost use Rattle.requests.specs.Views.{viewed, itself};
 ghost use Rattle.requests.specs.Images.{tidyRequest};
 ghost use Rattle.slots.specs.Views.{stored};
 ghost use Rattle.slots.specs.Images.{blankSlot, blankWaiting, tidySlot, tidyWaiting};
+use crate::MOST_SLOTS;
+use crate::MOST_WAITING;
 use crate::Phase;
+use crate::QUEUE_ROOM;
+use crate::SLOTS;
 use crate::Slot;
 use crate::Waiting;
 use requests::Request;
 use requests::blank_request;
 use requests::least;
+use sequence::DIGITS;
+use sequence::MOST_DIGITS;
 use sequence::Number;
 use units::Channel;
 use units::Tenths;
 
 // The first n digits, and 0 behind them.
-fn cleared(d: [u8; 16], n: u8) -> [u8; 16]
-    ensures { λ r. ⌜ r ≡ padded 0 16 (viewed itself n d) ⌝ }
+fn cleared(d: [u8; DIGITS], n: u8) -> [u8; DIGITS]
+    ensures { λ r. ⌜ r ≡ padded 0 mostDigits (viewed itself n d) ⌝ }
 {
-    let mut a = [0u8; 16];
-    let m = least(n, 16);
+    let mut a = [0u8; DIGITS];
+    let m = least(n, MOST_DIGITS);
     let mut i: u8 = 0;
     while i < m {
         let x = d[i as usize];
@@ -36,7 +44,7 @@ fn tidy_request(q: Request) -> Request
 {
     let number = q.number;
     let k = number.count;
-    let n = least(k, 16);
+    let n = least(k, MOST_DIGITS);
     let d = number.digits;
     let e = cleared(d, k);
     let mode = q.mode;
@@ -122,12 +130,12 @@ pub fn blank_waiting() -> Waiting
 }
 
 // The first n slots tidied, the others blank.
-pub fn tidy_slots(a: [Slot; 16], n: u8) -> [Slot; 16]
-    ensures { λ r. ⌜ r ≡ padded blankSlot 16 (viewed tidySlot n a) ⌝ }
+pub fn tidy_slots(a: [Slot; SLOTS], n: u8) -> [Slot; SLOTS]
+    ensures { λ r. ⌜ r ≡ padded blankSlot mostSlots (viewed tidySlot n a) ⌝ }
 {
     let blank = blank_slot();
-    let mut b = [blank; 16];
-    let m = least(n, 16);
+    let mut b = [blank; SLOTS];
+    let m = least(n, MOST_SLOTS);
     let mut i: u8 = 0;
     while i < m {
         let s = a[i as usize];
@@ -139,12 +147,12 @@ pub fn tidy_slots(a: [Slot; 16], n: u8) -> [Slot; 16]
 }
 
 // The first n waiting ships tidied, the others blank.
-pub fn tidy_queue(a: [Waiting; 32], n: u8) -> [Waiting; 32]
-    ensures { λ r. ⌜ r ≡ padded blankWaiting 32 (viewed tidyWaiting n a) ⌝ }
+pub fn tidy_queue(a: [Waiting; QUEUE_ROOM], n: u8) -> [Waiting; QUEUE_ROOM]
+    ensures { λ r. ⌜ r ≡ padded blankWaiting queueRoom (viewed tidyWaiting n a) ⌝ }
 {
     let blank = blank_waiting();
-    let mut b = [blank; 32];
-    let m = least(n, 32);
+    let mut b = [blank; QUEUE_ROOM];
+    let m = least(n, MOST_WAITING);
     let mut i: u8 = 0;
     while i < m {
         let w = a[i as usize];

@@ -9,6 +9,16 @@ use units::SlotNumber;
 use units::Tenths;
 use units::Told;
 
+// "1 to 16 distinct channels .., one slot each"
+pub const SLOTS: usize = 16;
+
+pub const MOST_SLOTS: u8 = SLOTS as u8;
+
+// "a queue of 32 waiting ships"
+pub const QUEUE_ROOM: usize = 32;
+
+pub const MOST_WAITING: u8 = QUEUE_ROOM as u8;
+
 // The carrier of a call, and when its absence falls due.
 pub enum Carrier {
     Present,

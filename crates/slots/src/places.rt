@@ -7,8 +7,12 @@ ghost use Rattle.requests.specs.Views.{viewed, itself, requestOf};
 ghost use Rattle.slots.specs.Views.{slotView, phaseView, waitingView, channelOf};
 ghost use Rattle.slots.specs.Images.{blankSlot, blankWaiting};
 ghost use Rattle.slots.specs.Changes.{putIn};
+use crate::MOST_SLOTS;
+use crate::MOST_WAITING;
 use crate::Phase;
+use crate::QUEUE_ROOM;
 use crate::QueuePlace;
+use crate::SLOTS;
 use crate::Slot;
 use crate::Waiting;
 use crate::laying::blank_slot;
@@ -18,12 +22,14 @@ use requests::least;
 use units::Channel;
 use units::SlotNumber;
 
+const SLOT_COUNT: u32 = SLOTS as u32;
+
 // The slot i of n.
-pub fn slot_in(a: [Slot; 16], n: u8, i: SlotNumber) -> Slot
+pub fn slot_in(a: [Slot; SLOTS], n: u8, i: SlotNumber) -> Slot
     ensures { λ r. ⌜ r ≡ getD (viewed itself n a) (i .0) blankSlot ⌝ }
     ensures { λ r. ⌜ slotView r ≡ getD (viewed slotView n a) (i .0) free ⌝ }
 {
-    let m = least(n, 16) as u32;
+    let m = least(n, MOST_SLOTS) as u32;
     if m <= i.0 {
         return blank_slot();
     }
@@ -31,10 +37,10 @@ pub fn slot_in(a: [Slot; 16], n: u8, i: SlotNumber) -> Slot
 }
 
 // The channel of the slot i of n.
-pub fn channel_in(a: [Slot; 16], n: u8, i: SlotNumber) -> Channel
+pub fn channel_in(a: [Slot; SLOTS], n: u8, i: SlotNumber) -> Channel
     ensures { λ r. ⌜ r ≡ getD (viewed channelOf n a) (i .0) (record { 0 = 0 }) ⌝ }
 {
-    let m = least(n, 16) as u32;
+    let m = least(n, MOST_SLOTS) as u32;
     if m <= i.0 {
         return Channel(0);
     }
@@ -43,12 +49,12 @@ pub fn channel_in(a: [Slot; 16], n: u8, i: SlotNumber) -> Channel
 }
 
 // The slots with another phase and request at i, its channel kept.
-pub fn put_in(mut a: [Slot; 16], n: u8, i: SlotNumber, p: Phase, q: Request) -> [Slot; 16]
+pub fn put_in(mut a: [Slot; SLOTS], n: u8, i: SlotNumber, p: Phase, q: Request) -> [Slot; SLOTS]
     ensures { λ r. ⌜ r ≡ putIn a (i .0) p q ⌝ }
     ensures { λ r. ⌜ viewed slotView n r ≡ modAt (λ y. phaseView p (requestOf q)) (i .0) (viewed slotView n a) ⌝ }
     ensures { λ r. ⌜ viewed channelOf n r ≡ viewed channelOf n a ⌝ }
 {
-    if 16 <= i.0 {
+    if SLOT_COUNT <= i.0 {
         return a;
     }
     let s = a[i.0 as usize];
@@ -62,18 +68,18 @@ pub fn put_in(mut a: [Slot; 16], n: u8, i: SlotNumber, p: Phase, q: Request) -> 
 }
 
 // The count of slots.
-pub fn held(a: [Slot; 16], n: u8) -> u8
+pub fn held(a: [Slot; SLOTS], n: u8) -> u8
     ensures { λ r. ⌜ r ≡ length (viewed slotView n a) ⌝ }
 {
-    least(n, 16)
+    least(n, MOST_SLOTS)
 }
 
 // The waiting ship at k of n.
-fn waiting_in(a: [Waiting; 32], n: u8, k: QueuePlace) -> Waiting
+fn waiting_in(a: [Waiting; QUEUE_ROOM], n: u8, k: QueuePlace) -> Waiting
     ensures { λ r. ⌜ r ≡ getD (viewed itself n a) (k .0) blankWaiting ⌝ }
     ensures { λ r. ⌜ waitingView r ≡ getD (viewed waitingView n a) (k .0) (waitingView blankWaiting) ⌝ }
 {
-    let m = least(n, 32);
+    let m = least(n, MOST_WAITING);
     if m <= k.0 {
         return blank_waiting();
     }
@@ -81,7 +87,7 @@ fn waiting_in(a: [Waiting; 32], n: u8, k: QueuePlace) -> Waiting
 }
 
 // The ship that has waited longest: "oldest first".
-pub fn oldest(a: [Waiting; 32], n: u8) -> Waiting
+pub fn oldest(a: [Waiting; QUEUE_ROOM], n: u8) -> Waiting
     ensures { λ r. ⌜ r ≡ getD (viewed itself n a) 0 blankWaiting ⌝ }
     ensures { λ r. ⌜ waitingView r ≡ getD (viewed waitingView n a) 0 (waitingView blankWaiting) ⌝ }
 {
@@ -89,8 +95,8 @@ pub fn oldest(a: [Waiting; 32], n: u8) -> Waiting
 }
 
 // The count of waiting ships.
-pub fn in_line(a: [Waiting; 32], n: u8) -> u8
+pub fn in_line(a: [Waiting; QUEUE_ROOM], n: u8) -> u8
     ensures { λ r. ⌜ r ≡ length (viewed waitingView n a) ⌝ }
 {
-    least(n, 32)
+    least(n, MOST_WAITING)
 }

@@ -4,29 +4,34 @@ ghost use mathlib.Core.List.{[], _∷_, _++_};
 ghost use Prim.Native.Nat.{_+_, _-_, _<_};
 ghost use lib.ListN.{set};
 ghost use Rattle.rules.specs.Places.{modAt, dropAt};
+ghost use Rattle.rules.specs.Sound.{queueRoom};
 ghost use Rattle.requests.specs.Views.{viewed, requestOf};
 ghost use Rattle.slots.specs.Views.{waitingView};
 ghost use Rattle.slots.specs.Images.{blankWaiting};
 ghost use Rattle.slots.specs.Changes.{without, cutIn, cutLine, replaceIn};
+use crate::MOST_WAITING;
+use crate::QUEUE_ROOM;
 use crate::QueuePlace;
 use crate::Waiting;
 use crate::laying::blank_waiting;
 use requests::Request;
 use requests::least;
 
+const LAST: usize = QUEUE_ROOM - 1;
+
 // The array without its entry k, the later ones moved up, and a blank last.
-fn closed_up(mut a: [Waiting; 32], k: usize) -> [Waiting; 32]
-    requires { ⌜ k < 32 ⌝ }
+fn closed_up(mut a: [Waiting; QUEUE_ROOM], k: usize) -> [Waiting; QUEUE_ROOM]
+    requires { ⌜ k < queueRoom ⌝ }
     ensures { λ r. ⌜ r ≡ without blankWaiting a k ⌝ }
 {
     let mut i = k;
-    while i < 31 {
+    while i < LAST {
         let w = a[i + 1];
         a[i] = w;
         i += 1;
     }
     let b = blank_waiting();
-    a[31] = b;
+    a[LAST] = b;
     a
 }
 
@@ -34,7 +39,7 @@ fn closed_up(mut a: [Waiting; 32], k: usize) -> [Waiting; 32]
 pub fn cut_count(n: u8, k: QueuePlace) -> u8
     ensures { λ r. ⌜ r ≡ cutLine n (k .0) ⌝ }
 {
-    let m = least(n, 32);
+    let m = least(n, MOST_WAITING);
     if m <= k.0 {
         return n;
     }
@@ -42,11 +47,11 @@ pub fn cut_count(n: u8, k: QueuePlace) -> u8
 }
 
 // The waiting ships without that at k, where there is one.
-pub fn cut_in(a: [Waiting; 32], n: u8, k: QueuePlace) -> [Waiting; 32]
+pub fn cut_in(a: [Waiting; QUEUE_ROOM], n: u8, k: QueuePlace) -> [Waiting; QUEUE_ROOM]
     ensures { λ r. ⌜ r ≡ cutIn a n (k .0) ⌝ }
     ensures { λ r. ⌜ viewed waitingView (cutLine n (k .0)) r ≡ dropAt (k .0) (viewed waitingView n a) ⌝ }
 {
-    let m = least(n, 32);
+    let m = least(n, MOST_WAITING);
     if m <= k.0 {
         return a;
     }
@@ -54,11 +59,11 @@ pub fn cut_in(a: [Waiting; 32], n: u8, k: QueuePlace) -> [Waiting; 32]
 }
 
 // The n waiting ships with one more at the end, where there is room.
-pub fn join_in(mut a: [Waiting; 32], n: u8, w: Waiting) -> [Waiting; 32]
+pub fn join_in(mut a: [Waiting; QUEUE_ROOM], n: u8, w: Waiting) -> [Waiting; QUEUE_ROOM]
     ensures { λ r. ⌜ r ≡ set a n w ⌝ }
-    ensures { λ r. ⌜ (n < 32 → viewed waitingView (n + 1) r ≡ viewed waitingView n a ++ (waitingView w ∷ [])) ⌝ }
+    ensures { λ r. ⌜ (n < queueRoom → viewed waitingView (n + 1) r ≡ viewed waitingView n a ++ (waitingView w ∷ [])) ⌝ }
 {
-    if 32 <= n {
+    if MOST_WAITING <= n {
         return a;
     }
     a[n as usize] = w;
@@ -66,11 +71,16 @@ pub fn join_in(mut a: [Waiting; 32], n: u8, w: Waiting) -> [Waiting; 32]
 }
 
 // Rule d: the waiting ship at k asks for q, its place and due time kept.
-pub fn replace_in(mut a: [Waiting; 32], n: u8, k: QueuePlace, q: Request) -> [Waiting; 32]
+pub fn replace_in(
+    mut a: [Waiting; QUEUE_ROOM],
+    n: u8,
+    k: QueuePlace,
+    q: Request,
+) -> [Waiting; QUEUE_ROOM]
     ensures { λ r. ⌜ r ≡ replaceIn a (k .0) q ⌝ }
     ensures { λ r. ⌜ viewed waitingView n r ≡ modAt (λ w. record { request = requestOf q; due = w .due }) (k .0) (viewed waitingView n a) ⌝ }
 {
-    if 32 <= k.0 {
+    if MOST_WAITING <= k.0 {
         return a;
     }
     let w = a[k.0 as usize];

@@ -6,7 +6,7 @@ use lib.Dec.{leb}
 use Rattle.units.specs.declared.Tenths.{Tenths}
 use Rattle.rules.specs.Places.{all}
 use Rattle.rules.specs.Station as R
-use Rattle.rules.specs.Sound.{sound}
+use Rattle.rules.specs.Sound.{sound, mostSlots, queueRoom}
 use Rattle.requests.specs.Views.{viewed, itself}
 use Rattle.slots.specs.declared.Slot.{Slot}
 use Rattle.slots.specs.declared.Waiting.{Waiting}
@@ -19,7 +19,7 @@ modelFor clock n a m b = record { clock = clock .0; slots = viewed slotView n a;
 
 unfoldable pub soundly : ℕ → Tenths → ℕ → List Slot → ℕ → List Waiting → Bool
 soundly identity clock n a m b =
-    leb n 16
-    && (leb m 32
+    leb n mostSlots
+    && (leb m queueRoom
     && (sound (configFor identity n a) (modelFor clock n a m b)
     && (all slotExact (viewed itself n a) && all waitingExact (viewed itself m b))))

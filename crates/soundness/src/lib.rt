@@ -10,12 +10,17 @@ use keeping::exact::is_exact;
 use keeping::stored::stored_keep;
 use keeping::times::times_fit;
 use sequence::parts::is_coast;
+use slots::MOST_SLOTS;
+use slots::MOST_WAITING;
+use slots::QUEUE_ROOM;
+use slots::SLOTS;
 use slots::Slot;
 use slots::Waiting;
+use units::LIMIT;
 use units::Tenths;
 
 // The identity and the channels: what set-up asks, and every event after it.
-pub fn config_keeps(identity: u32, a: [Slot; 16], n: u8) -> bool
+pub fn config_keeps(identity: u32, a: [Slot; SLOTS], n: u8) -> bool
     ensures { λ r. ⌜ r ≡ configKeeps (configFor identity n a) ⌝ }
 {
     if !is_coast(identity) {
@@ -25,7 +30,14 @@ pub fn config_keeps(identity: u32, a: [Slot; 16], n: u8) -> bool
 }
 
 // What the arrays stand for is sound.
-fn keeps_rules(identity: u32, clock: Tenths, a: [Slot; 16], n: u8, b: [Waiting; 32], m: u8) -> bool
+fn keeps_rules(
+    identity: u32,
+    clock: Tenths,
+    a: [Slot; SLOTS],
+    n: u8,
+    b: [Waiting; QUEUE_ROOM],
+    m: u8,
+) -> bool
     ensures { λ r. ⌜ r ≡ sound (configFor identity n a) (modelFor clock n a m b) ⌝ }
 {
     if !config_keeps(identity, a, n) {
@@ -35,7 +47,7 @@ fn keeps_rules(identity: u32, clock: Tenths, a: [Slot; 16], n: u8, b: [Waiting; 
         return false;
     }
     let t = clock.0;
-    if 4000000000 < t {
+    if LIMIT < t {
         return false;
     }
     if !no_ship_twice(a, n, b, m) {
@@ -45,13 +57,20 @@ fn keeps_rules(identity: u32, clock: Tenths, a: [Slot; 16], n: u8, b: [Waiting; 
 }
 
 // The counts are within the arrays, what they stand for is sound, and the records are what a reader of sequences leaves.
-pub fn is_sound(identity: u32, clock: Tenths, a: [Slot; 16], n: u8, b: [Waiting; 32], m: u8) -> bool
+pub fn is_sound(
+    identity: u32,
+    clock: Tenths,
+    a: [Slot; SLOTS],
+    n: u8,
+    b: [Waiting; QUEUE_ROOM],
+    m: u8,
+) -> bool
     ensures { λ r. ⌜ r ≡ soundly identity clock n a m b ⌝ }
 {
-    if 16 < n {
+    if MOST_SLOTS < n {
         return false;
     }
-    if 32 < m {
+    if MOST_WAITING < m {
         return false;
     }
     if !keeps_rules(identity, clock, a, n, b, m) {

@@ -11,11 +11,11 @@ use Rattle.sequence.specs.Answers.{answerNumber, isDone}
 use Rattle.rules.specs.Places.{isSome, all}
 use Rattle.rules.specs.Words.{Happened, heard, offHook, onHook, carrierUp, carrierDown, tick, onChannel70, onSlot, Event}
 use Rattle.rules.specs.Station.{free, fires}
-use Rattle.rules.specs.Sound.{sound}
+use Rattle.rules.specs.Sound.{sound, limit}
 use Rattle.requests.specs.Views.{viewed, itself}
 use Rattle.keeping.specs.Kept.{slotExact, waitingExact}
 use Rattle.soundness.specs.Soundly.{soundly}
-use Rattle.rules.specs.Verdict.{readerSays, readOn, barredOn, refusals, verdict}
+use Rattle.rules.specs.Verdict.{readerSays, readOn, barredOn, refusals, verdict, roomNeeded}
 use Rattle.station.specs.declared.Station.{Station}
 use Rattle.station.specs.Model.{modelOf, configOf}
 use Rattle.station.specs.Step.{recordsKeep, refusal}
@@ -31,9 +31,9 @@ unbarred (some k) = refl
 
 module _ (s : Station) (n t : ℕ) where
   -- 29 to 32
-  pub tick-asked : andThen (andThen (andThen (andThen none (recordsKeep s && sound (configOf s) (modelOf s)) 29) (leb 320 n) 30) (leb t 4000000000) 31) (leb (s .clock .0) t) 32 ≡ refusal s (record { time = t; room = n; what = tick })
+  pub tick-asked : andThen (andThen (andThen (andThen none (recordsKeep s && sound (configOf s) (modelOf s)) 29) (leb roomNeeded n) 30) (leb t limit) 31) (leb (s .clock .0) t) 32 ≡ refusal s (record { time = t; room = n; what = tick })
   unfolding refusal refusals modelOf
-  tick-asked = go (recordsKeep s) (sound (configOf s) (modelOf s)) (leb 320 n) (leb t 4000000000) (leb (s .clock .0) t)
+  tick-asked = go (recordsKeep s) (sound (configOf s) (modelOf s)) (leb roomNeeded n) (leb t limit) (leb (s .clock .0) t)
     where
       go : (a b c d e : Bool) → andThen (andThen (andThen (andThen none (a && b) 29) c 30) d 31) e 32 ≡ cond a (cond b (cond c (cond d (cond e none (some 32)) (some 31)) (some 30)) (some 29)) (some 29)
       go false b c d e = refl
@@ -45,7 +45,7 @@ module _ (s : Station) (n t : ℕ) where
   -- and 33, 34
   pub slot-asked : (i : ℕ) → andThen (andThen (refusal s (record { time = t; room = n; what = tick })) (not (isSome (fires t (modelOf s)))) 33) (ltb i (length (modelOf s .slots))) 34 ≡ refusal s (record { time = t; room = n; what = onSlot i offHook })
   unfolding refusal refusals
-  slot-asked i = go (recordsKeep s) (sound (configOf s) (modelOf s)) (leb 320 n) (leb t 4000000000) (leb (modelOf s .clock) t) (not (isSome (fires t (modelOf s)))) (ltb i (length (modelOf s .slots)))
+  slot-asked i = go (recordsKeep s) (sound (configOf s) (modelOf s)) (leb roomNeeded n) (leb t limit) (leb (modelOf s .clock) t) (not (isSome (fires t (modelOf s)))) (ltb i (length (modelOf s .slots)))
     where
       go : (a b c d e f g : Bool) → andThen (andThen (cond a (cond b (cond c (cond d (cond e none (some 32)) (some 31)) (some 30)) (some 29)) (some 29)) f 33) g 34 ≡ cond a (cond b (cond c (cond d (cond e (cond f (cond g none (some 34)) (some 33)) (some 32)) (some 31)) (some 30)) (some 29)) (some 29)
       go false b c d e f g = refl
@@ -72,7 +72,7 @@ module _ (s : Station) (n t : ℕ) where
   -- and the event's own: 11 to 20, 35
   pub more-asked : (i : ℕ) (h : Happened) → andThen (andThen (refusal s (record { time = t; room = n; what = onSlot i offHook })) (isDone (readOn h)) (answerNumber (readOn h))) (not (barredOn (getD (modelOf s .slots) i free) h)) 35 ≡ refusal s (record { time = t; room = n; what = onSlot i h })
   unfolding refusal refusals
-  more-asked i h = go (recordsKeep s) (sound (configOf s) (modelOf s)) (leb 320 n) (leb t 4000000000) (leb (modelOf s .clock) t) (not (isSome (fires t (modelOf s)))) (ltb i (length (modelOf s .slots))) (isDone (readOn h)) (not (barredOn (getD (modelOf s .slots) i free) h)) (answerNumber (readOn h))
+  more-asked i h = go (recordsKeep s) (sound (configOf s) (modelOf s)) (leb roomNeeded n) (leb t limit) (leb (modelOf s .clock) t) (not (isSome (fires t (modelOf s)))) (ltb i (length (modelOf s .slots))) (isDone (readOn h)) (not (barredOn (getD (modelOf s .slots) i free) h)) (answerNumber (readOn h))
     where
       go : (a b c d e f g x y : Bool) (k : ℕ) → andThen (andThen (cond a (cond b (cond c (cond d (cond e (cond f (cond g none (some 34)) (some 33)) (some 32)) (some 31)) (some 30)) (some 29)) (some 29)) x k) y 35 ≡ cond a (cond b (cond c (cond d (cond e (cond f (cond g (cond x (cond y none (some 35)) (some k)) (some 34)) (some 33)) (some 32)) (some 31)) (some 30)) (some 29)) (some 29)
       go false b c d e f g x y k = refl
@@ -88,7 +88,7 @@ module _ (s : Station) (n t : ℕ) where
   -- on channel 70: 33, and 11 to 20
   pub channel-asked : (m : List ℕ) → andThen (andThen (refusal s (record { time = t; room = n; what = tick })) (not (isSome (fires t (modelOf s)))) 33) (isDone (readerSays m)) (answerNumber (readerSays m)) ≡ refusal s (record { time = t; room = n; what = onChannel70 m })
   unfolding refusal refusals
-  channel-asked m = go (recordsKeep s) (sound (configOf s) (modelOf s)) (leb 320 n) (leb t 4000000000) (leb (modelOf s .clock) t) (not (isSome (fires t (modelOf s)))) (isDone (readerSays m)) (answerNumber (readerSays m))
+  channel-asked m = go (recordsKeep s) (sound (configOf s) (modelOf s)) (leb roomNeeded n) (leb t limit) (leb (modelOf s .clock) t) (not (isSome (fires t (modelOf s)))) (isDone (readerSays m)) (answerNumber (readerSays m))
     where
       go : (a b c d e f x : Bool) (k : ℕ) → andThen (andThen (cond a (cond b (cond c (cond d (cond e none (some 32)) (some 31)) (some 30)) (some 29)) (some 29)) f 33) x k ≡ cond a (cond b (cond c (cond d (cond e (cond f (cond x none (some k)) (some 33)) (some 32)) (some 31)) (some 30)) (some 29)) (some 29)
       go false b c d e f x k = refl
@@ -106,8 +106,8 @@ module _ (s : Station) (n t : ℕ) where
 -- what an accepted event has passed
 pub record Passed (s : Station) (e : Event) : Type 0 where
   pub sounds : sound (configOf s) (modelOf s) ≡ true
-  pub room : 320 ≤ e .room
-  pub time : e .time ≤ 4000000000
+  pub room : roomNeeded ≤ e .room
+  pub time : e .time ≤ limit
   pub judged : verdict (configOf s) (modelOf s) e ≡ none
 
 one : (b : Bool) (n : ℕ) (x : Option ℕ) → none ≡ cond b x (some n) → (b ≡ true) × (none ≡ x)
@@ -119,9 +119,9 @@ unfolding refusal refusals verdict
 passed s e h =
     let a = one (recordsKeep s) 29 _ h in
     let b = one (sound (configOf s) (modelOf s)) 29 _ (a .1) in
-    let c = one (leb 320 (e .room)) 30 _ (b .1) in
-    let d = one (leb (e .time) 4000000000) 31 _ (c .1) in
-    record { sounds = b .0; room = leb-true 320 (e .room) (c .0); time = leb-true (e .time) 4000000000 (d .0); judged = sym (a .1) }
+    let c = one (leb roomNeeded (e .room)) 30 _ (b .1) in
+    let d = one (leb (e .time) limit) 31 _ (c .1) in
+    record { sounds = b .0; room = leb-true roomNeeded (e .room) (c .0); time = leb-true (e .time) limit (d .0); judged = sym (a .1) }
 
 -- the parts of soundness, in the order of the tests
 apart : (a b x y : Bool) → (a && (b && (x && y))) ≡ ((a && (b && y)) && x)

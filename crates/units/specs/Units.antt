@@ -1,11 +1,15 @@
 -- Tenths, charged seconds and durations: document 01, "so that no tenth is ever read as a charged second".
-use Prim.Native.Nat.{_/_, _%_}
+use Prim.Native.Nat.{ℕ, _/_, _%_}
 use mathlib.Core.Bool.{cond}
 use lib.Dec.{leb}
 use Rattle.units.specs.declared.Tenths.{Tenths}
 use Rattle.units.specs.declared.Seconds.{Seconds}
 use Rattle.units.specs.declared.Told.{Told}
 use Rattle.units.specs.declared.Told.the-variants.{Nothing, Lasting}
+
+-- the greatest number that a script or a host in C can hand in
+abbrev pub greatest : ℕ
+greatest = 4294967295
 
 -- "whole seconds, rounded down"
 abbrev pub wholeSeconds : Tenths → Seconds

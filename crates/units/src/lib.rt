@@ -3,6 +3,12 @@
 ghost use mathlib.Core.Path.{_≡_};
 ghost use Rattle.units.specs.Units.{wholeSeconds, durationOf};
 
+// "Times are tenths of a second from 0 to 4,000,000,000."
+pub const LIMIT: u32 = 4_000_000_000;
+
+// The greatest number that a script or a host in C can hand in.
+pub const GREATEST: u32 = 4_294_967_295;
+
 // A time, or a stretch of it, in tenths of a second.
 pub struct Tenths(pub u32);
 

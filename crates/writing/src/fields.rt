@@ -1,8 +1,12 @@
 // The channel field of a meaning: whether it may stand, and its three symbols.
 ghost use mathlib.Core.Path.{_≡_};
 ghost use Prim.Native.Nat.{_≤_};
+ghost use Rattle.sequence.specs.Figures.{lastSymbol};
 ghost use Rattle.sequence.specs.Field.{fieldOk, fieldFirst, fieldSecond, fieldThird};
+use sequence::CHANNEL_TOLD;
+use sequence::FIRST_OVER;
 use sequence::Field;
+use sequence::UNTOLD;
 use sequence::parts::channel_ok;
 use sequence::parts::duration_ok;
 use sequence::parts::is_call;
@@ -19,7 +23,7 @@ pub(crate) fn field_ok(first: u8, field: Field) -> bool
             false
         }
         Field::Duration(d) => {
-            if first == 105 {
+            if first == FIRST_OVER {
                 return duration_ok(d);
             }
             false
@@ -31,8 +35,8 @@ pub(crate) fn field_first(field: Field) -> u8
     ensures { λ r. ⌜ r ≡ fieldFirst field ⌝ }
 {
     match field {
-        Field::Blank => 126,
-        Field::Channel(_) => 90,
+        Field::Blank => UNTOLD,
+        Field::Channel(_) => CHANNEL_TOLD,
         Field::Duration(d) => d.hours,
     }
 }
@@ -41,18 +45,18 @@ pub(crate) fn field_second(field: Field) -> u8
     ensures { λ r. ⌜ r ≡ fieldSecond field ⌝ }
 {
     match field {
-        Field::Blank => 126,
+        Field::Blank => UNTOLD,
         Field::Channel(_) => 0,
         Field::Duration(d) => d.minutes,
     }
 }
 
 pub(crate) fn field_third(field: Field) -> u8
-    requires { ⌜ fieldThird field ≤ 127 ⌝ }
+    requires { ⌜ fieldThird field ≤ lastSymbol ⌝ }
     ensures { λ r. ⌜ r ≡ fieldThird field ⌝ }
 {
     match field {
-        Field::Blank => 126,
+        Field::Blank => UNTOLD,
         Field::Channel(c) => c.0 as u8,
         Field::Duration(d) => d.seconds,
     }

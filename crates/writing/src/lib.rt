@@ -4,6 +4,7 @@ ghost use mathlib.Core.Bool.{true};
 ghost use mathlib.Core.List.{_++_};
 ghost use Prim.Native.Nat.{_≤_};
 ghost use lib.ListN.{length, drop};
+ghost use Rattle.sequence.specs.Figures.{longest};
 ghost use Rattle.sequence.specs.declared.Answer.the-variants.{Done};
 ghost use Rattle.sequence.specs.Refusals.{firstRefusal};
 ghost use Rattle.sequence.specs.Layout.{valid, front, body, layout};
@@ -19,6 +20,9 @@ use crate::fields::field_third;
 use crate::pairs::lay_pairs;
 use crate::pairs::parity_of;
 use sequence::Answer;
+use sequence::CATEGORY;
+use sequence::FORMAT;
+use sequence::LONGEST;
 use sequence::Meaning;
 use sequence::Written;
 use sequence::parts::end_ok;
@@ -53,7 +57,7 @@ fn answer_to_meaning(m: Meaning) -> Answer
 fn answer_to(m: Meaning, room: usize) -> Answer
     ensures { λ r. ⌜ r ≡ writingAnswer m room ⌝ }
 {
-    if room < 28 {
+    if room < LONGEST {
         return Answer::ShortRoom;
     }
     answer_to_meaning(m)
@@ -69,13 +73,13 @@ fn front_of(m: Meaning) -> [u8; 18]
     let field = m.field;
     let number = m.number;
     [
-        123,
+        FORMAT,
         (address / 10000000) as u8,
         (address / 100000 % 100) as u8,
         (address / 1000 % 100) as u8,
         (address / 10 % 100) as u8,
         (address % 10 * 10) as u8,
-        100,
+        CATEGORY,
         (sender / 10000000) as u8,
         (sender / 100000 % 100) as u8,
         (sender / 1000 % 100) as u8,
@@ -91,7 +95,7 @@ fn front_of(m: Meaning) -> [u8; 18]
 }
 
 fn lay_front(m: Meaning, room: &mut [u8])
-    requires { ⌜ (valid m ≡ true) × (28 ≤ length (now room)) ⌝ }
+    requires { ⌜ (valid m ≡ true) × (longest ≤ length (now room)) ⌝ }
     ensures { λ _. ⌜ now (room .exit) ≡ front m ++ drop 18 (now (room .entry)) ⌝ }
 {
     let symbols = front_of(m);
@@ -104,7 +108,7 @@ fn lay_front(m: Meaning, room: &mut [u8])
 
 // Lays all but the check symbol at the front of the room, and returns its length.
 fn lay_body(m: Meaning, room: &mut [u8]) -> usize
-    requires { ⌜ (valid m ≡ true) × (28 ≤ length (now room)) ⌝ }
+    requires { ⌜ (valid m ≡ true) × (longest ≤ length (now room)) ⌝ }
     ensures { λ r. ⌜ r ≡ length (body m) ⌝ }
     ensures { λ _. ⌜ now (room .exit) ≡ body m ++ drop (length (body m)) (now (room .entry)) ⌝ }
 {
@@ -118,7 +122,7 @@ fn lay_body(m: Meaning, room: &mut [u8]) -> usize
 
 // Lays the sequence of a valid meaning at the front of the room, and returns its length.
 fn lay(m: Meaning, room: &mut [u8]) -> usize
-    requires { ⌜ (valid m ≡ true) × (28 ≤ length (now room)) ⌝ }
+    requires { ⌜ (valid m ≡ true) × (longest ≤ length (now room)) ⌝ }
     ensures { λ r. ⌜ r ≡ length (layout m) ⌝ }
     ensures { λ _. ⌜ now (room .exit) ≡ layout m ++ drop (length (layout m)) (now (room .entry)) ⌝ }
 {

@@ -4,14 +4,21 @@ ghost use mathlib.Core.Bool.{true};
 ghost use Prim.Native.Nat.{_≤_};
 ghost use lib.ListN.{getD, length, take};
 ghost use lib.Seq.{paste};
+ghost use Rattle.sequence.specs.Figures.{longest};
 ghost use Rattle.sequence.specs.Number.{numberOk, parity, evened, pairsOf};
+use sequence::EVEN_COUNT;
 use sequence::Number;
+use sequence::ODD_COUNT;
 use sequence::symbols::at;
 
 pub(crate) fn parity_of(count: u8) -> u8
     ensures { λ r. ⌜ r ≡ parity count ⌝ }
 {
-    if count % 2 == 1 { 105 } else { 106 }
+    if count % 2 == 1 {
+        ODD_COUNT
+    } else {
+        EVEN_COUNT
+    }
 }
 
 // A digit that is used, and 0 past them.
@@ -48,7 +55,7 @@ fn pair(number: Number, j: usize) -> u8
 
 // Lays the digit pairs from place 18 on.
 pub(crate) fn lay_pairs(number: Number, room: &mut [u8])
-    requires { ⌜ (numberOk number ≡ true) × (28 ≤ length (now room)) ⌝ }
+    requires { ⌜ (numberOk number ≡ true) × (longest ≤ length (now room)) ⌝ }
     ensures { λ _. ⌜ now (room .exit) ≡ paste (now (room .entry)) 18 (pairsOf (evened number)) (length (pairsOf (evened number))) ⌝ }
 {
     let n = (number.count as usize + 1) / 2;
