@@ -1,14 +1,16 @@
-/* Uses all of include/coast.h, twice included, in words that are C11 and C++17 alike: what tests/header compiles. */
+/* Uses all of include/coast.h, twice included, in words that are C11 and C++17 alike: what tests/header compiles. It writes
+ * computed.h, the sizes and places that the definitions come to. */
 #include "coast.h"
 #include "coast.h"
+#include "computed.h"
 
-#if COAST_SHORTEST_SEQUENCE != 21 || COAST_LONGEST_SEQUENCE != 28 || COAST_MEANING_SIZE != 32 || \
-    COAST_STATION_SIZE != 1722 || COAST_ACTIONS_SIZE != 320 || COAST_ACTION_SIZE != 40
+#if COAST_SHORTEST_SEQUENCE != 21 || COAST_LONGEST_SEQUENCE != 28 || COAST_MEANING_SIZE != MEANING_SIZE || \
+    COAST_STATION_SIZE != STATION_SIZE || COAST_ACTIONS_SIZE != 320 || COAST_ACTION_SIZE != 40
 #error "a size is wrong"
 #endif
-#if COAST_AT_ADDRESS != 0 || COAST_AT_SENDER != 4 || COAST_AT_FIRST != 8 || COAST_AT_SECOND != 9 || \
-    COAST_AT_FIELD_KIND != 10 || COAST_AT_FIELD != 11 || COAST_AT_DIGIT_COUNT != 14 || COAST_AT_END != 15 || \
-    COAST_AT_DIGITS != 16
+#if COAST_AT_ADDRESS != ADDRESS || COAST_AT_SENDER != SENDER || COAST_AT_FIRST != FIRST || COAST_AT_SECOND != SECOND || \
+    COAST_AT_FIELD_KIND != FIELD_KIND || COAST_AT_FIELD != FIELD || COAST_AT_DIGIT_COUNT != DIGIT_COUNT || \
+    COAST_AT_END != END || COAST_AT_DIGITS != DIGITS
 #error "a place in the meaning is wrong"
 #endif
 #if COAST_FIELD_BLANK != 0 || COAST_FIELD_CHANNEL != 1 || COAST_FIELD_DURATION != 2

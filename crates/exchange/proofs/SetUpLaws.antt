@@ -7,6 +7,7 @@ use lib.Dec.{eqb}
 use lib.ListN.{length}
 use borrow.Author.Tests.{ne-eqb}
 use Rattle.station.specs.declared.SetUp.{SetUp}
+use Rattle.lent.specs.Layout.{stationSize}
 use Rattle.lent.specs.Stations.{stationLaid}
 use Rattle.exchange.specs.Events.{setUpLeaves}
 
@@ -15,6 +16,6 @@ either-way true b = refl
 either-way false b = refl
 
 -- bytes of another size stay
-pub nowhere : (u : SetUp) (b : List ℕ) → (length b ≡ 1722 → ⊥) → b ≡ setUpLeaves u b
+pub nowhere : (u : SetUp) (b : List ℕ) → (length b ≡ stationSize → ⊥) → b ≡ setUpLeaves u b
 unfolding stationLaid
-nowhere u b h = rw (ne-eqb (length b) 1722 h) (either-way (eqb (u .answer) 0) b)
+nowhere u b h = rw (ne-eqb (length b) stationSize h) (either-way (eqb (u .answer) 0) b)

@@ -27,6 +27,7 @@ use Rattle.station.specs.declared.Station.{Station}
 use Rattle.station.specs.Model.{configOf, modelOf, imageOf}
 use Rattle.station.specs.Step.{given, recordsKeep, refusal, steppedBy, roomAfter, blankStation, setUpBy}
 use Rattle.station.proofs.GateLaws.{passed}
+use Rattle.lent.specs.Layout.{stationSize}
 use Rattle.lent.specs.Stations.{stationBytes, stationFrom, stationLaid}
 use Rattle.lent.specs.Statement.{FoundAgain}
 use Rattle.lent.proofs.FoundAgain.{handed-out-is-found-again, wrong-size-is-not-sound}
@@ -35,9 +36,9 @@ use Rattle.exchange.specs.Statement.{RefusalLeavesAll, AcceptedLeavesIts
 
 -- ── any call, on any bytes ───────────────────────────────────────────────────
 
-laid-whole : (s : Station) (b : List ℕ) → length b ≡ 1722 → stationLaid s b ≡ stationBytes s
+laid-whole : (s : Station) (b : List ℕ) → length b ≡ stationSize → stationLaid s b ≡ stationBytes s
 unfolding stationLaid
-laid-whole s b w = rw (eq-eqb (length b) 1722 w)
+laid-whole s b w = rw (eq-eqb (length b) stationSize w)
 
 -- a test that every number of a refusal passes
 pub refused-such : (p : ℕ → Bool) → all p otherNumbers ≡ true → p 29 ≡ true → (s : Station) (e : Event) (n : ℕ) → refusal s e ≡ some n → p n ≡ true
@@ -53,13 +54,13 @@ unfolding stationAfter kept steppedBy roomLeft roomAfter
 refusal-leaves-all b room e n h = (rw (h, lt-leb n 1 (ltb-true 1 n (refused-such (ltb 1) refl refl (stationFrom b) e n h))), rw h)
 
 -- an event is accepted on bytes of the right size alone
-right-size : (b : List ℕ) (e : Event) → refusal (stationFrom b) e ≡ none → length b ≡ 1722
-right-size b e h = go (which (eqb (length b) 1722))
+right-size : (b : List ℕ) (e : Event) → refusal (stationFrom b) e ≡ none → length b ≡ stationSize
+right-size b e h = go (which (eqb (length b) stationSize))
   where
-    go : Either (eqb (length b) 1722) → length b ≡ 1722
-    go (yes! p) = eqb-true (length b) 1722 p
+    go : Either (eqb (length b) stationSize) → length b ≡ stationSize
+    go (yes! p) = eqb-true (length b) stationSize p
     go (no! p) =
-        let v = wrong-size-is-not-sound b (eqb-false (length b) 1722 p) e in
+        let v = wrong-size-is-not-sound b (eqb-false (length b) stationSize p) e in
         let q : _≡_ {A = ℕ} 0 1 = cc in
         absurd (omega (arith, q))
 
@@ -75,7 +76,7 @@ accepted-leaves-its-station b e h = (accepted-laid b e h, handed-out-is-found-ag
 
 pub wrong-size-has-no-due : WrongSizeHasNoDue
 unfolding dueReturned stationFrom blankStation recordsKeep viewed imageOf modelOf configOf sound configKeeps identityKeeps isCoast fresh padded
-wrong-size-has-no-due b h = rw (ne-eqb (length b) 1722 h) refl
+wrong-size-has-no-due b h = rw (ne-eqb (length b) stationSize h) refl
 
 apart : (a n : ℕ) (d : NextDue) → a < 256 → n < 256
     → ((a + 256 * n + dueNumber d) % 256 ≡ a) × ((a + 256 * n + dueNumber d) / 256 % 256 ≡ n) × ((a + 256 * n + dueNumber d) / 65536 % 2 ≡ waits d) × ((a + 256 * n + dueNumber d) / 4294967296 ≡ dueTime d)
@@ -111,7 +112,7 @@ along s f (e ∷ es) =
     let more = along (steppedBy s e .station) (l .1) es in
     (rw (returned-is s f e, l .0, more .0), rw (l .0) (more .1), rw (l .0) (more .2))
 
-pub set-up : (identity : ℕ) (channels lent : List ℕ) → setUpVerdict (given identity channels) ≡ none → length lent ≡ 1722
+pub set-up : (identity : ℕ) (channels lent : List ℕ) → setUpVerdict (given identity channels) ≡ none → length lent ≡ stationSize
     → stationSetUp identity channels lent ≡ stationBytes (setUpBy identity channels .station)
 unfolding stationSetUp setUpBy
 set-up identity channels lent h w = rw h (laid-whole _ lent w)

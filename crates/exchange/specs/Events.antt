@@ -14,6 +14,7 @@ use Rattle.rules.specs.Station.{nextDue}
 use Rattle.station.specs.Model.{modelOf, configOf}
 use Rattle.slots.specs.Images.{tenths}
 use Rattle.station.specs.Step.{tickAt, channel70At, slotAt, recordsKeep, dueImage, steppedBy, roomAfter, setUpBy}
+use Rattle.lent.specs.Layout.{stationSize}
 use Rattle.lent.specs.Stations.{stationFrom, stationLaid}
 
 -- ── the events, from plain numbers ───────────────────────────────────────────
@@ -57,7 +58,7 @@ abbrev pub setUpLeaves : SetUp → List ℕ → List ℕ
 setUpLeaves u b = cond (eqb (u .answer) 0) (stationLaid (u .station) b) b
 
 unfoldable pub setUpReturned : ℕ → List ℕ → ℕ → ℕ
-setUpReturned identity channels size = cond (eqb size 1722) (setUpBy identity channels .answer) 23
+setUpReturned identity channels size = cond (eqb size stationSize) (setUpBy identity channels .answer) 23
 
 unfoldable pub stationSetUp : ℕ → List ℕ → List ℕ → List ℕ
 stationSetUp identity channels b = setUpLeaves (setUpBy identity channels) b

@@ -11,6 +11,7 @@ use Rattle.station.specs.declared.NextDue.the-variants.{Never, At}
 use Rattle.station.specs.declared.Station.{Station}
 use Rattle.station.specs.declared.Stepped.{Stepped}
 use Rattle.station.specs.Step.{given, refusal, steppedBy, roomAfter, setUpBy}
+use Rattle.lent.specs.Layout.{stationSize}
 use Rattle.lent.specs.Stations.{stationBytes, stationFrom}
 use Rattle.lent.specs.Statement.{FoundAgain}
 use Rattle.exchange.specs.Events.{told, returned, stationAfter, roomLeft, stationSetUp, dueReturned}
@@ -28,7 +29,7 @@ AcceptedLeavesItsStation = (b : List ℕ) (e : Event) → refusal (stationFrom b
 
 -- bytes of another size have no due time either
 abbrev pub WrongSizeHasNoDue : Type 0
-WrongSizeHasNoDue = (b : List ℕ) → (length b ≡ 1722 → ⊥) → dueReturned (stationFrom b) ≡ 29
+WrongSizeHasNoDue = (b : List ℕ) → (length b ≡ stationSize → ⊥) → dueReturned (stationFrom b) ≡ 29
 
 -- the four parts of the number that an event returns, as the header takes it apart
 abbrev pub waits : NextDue → ℕ
@@ -66,7 +67,7 @@ handedBy s (e ∷ es) = handedBy (steppedBy s e .station) es
 -- from every set-up that 36 does not refuse, along any list of events: the same answers, counts and due times, the same station, and
 -- in the room of one event more the same actions
 abbrev pub HostHandsOn : Type 0
-HostHandsOn = (identity : ℕ) (channels lent : List ℕ) → setUpVerdict (given identity channels) ≡ none → length lent ≡ 1722 → (es : List Event)
+HostHandsOn = (identity : ℕ) (channels lent : List ℕ) → setUpVerdict (given identity channels) ≡ none → length lent ≡ stationSize → (es : List Event)
     → (returnedBy (stationSetUp identity channels lent) es ≡ toldBy (setUpBy identity channels .station) es)
     × (leftBy (stationSetUp identity channels lent) es ≡ stationBytes (handedBy (setUpBy identity channels .station) es))
     × ((e : Event) (room : List ℕ) → roomLeft (leftBy (stationSetUp identity channels lent) es) room e ≡ roomAfter (handedBy (setUpBy identity channels .station) es) room e)

@@ -2,18 +2,20 @@
 ghost use mathlib.Core.Path.{_≡_};
 ghost use lib.ListN.{length};
 ghost use Rattle.exchange.specs.Sequences.{readAnswer, meaningAfter, writeAnswer, roomAfterWriting};
+use lent::said::MEANING_SIZE;
 use lent::said::lay_meaning;
 use lent::said::meaning_from;
 use reading::read;
+use sequence::LONGEST;
 use writing::write;
 
-// Reads a sequence into 32 lent bytes.
+// Reads a sequence into a meaning's lent bytes.
 #[no_mangle]
 pub extern "C" fn coast_read_sequence(symbols: &[u8], meaning: &mut [u8]) -> u32
     ensures { λ r. ⌜ r ≡ readAnswer (now (symbols .entry)) (length (now (meaning .entry))) ⌝ }
     ensures { λ _. ⌜ now (meaning .exit) ≡ meaningAfter (now (symbols .entry)) (now (meaning .entry)) ⌝ }
 {
-    if meaning.len() < 32 {
+    if meaning.len() < MEANING_SIZE {
         return 22;
     }
     let reading = read(symbols);
@@ -27,16 +29,16 @@ pub extern "C" fn coast_read_sequence(symbols: &[u8], meaning: &mut [u8]) -> u32
     number as u32
 }
 
-// Writes the sequence of a meaning in 32 bytes, and returns the answer and 256 times the count of bytes written.
+// Writes the sequence of a meaning in bytes, and returns the answer and 256 times the count of bytes written.
 #[no_mangle]
 pub extern "C" fn coast_write_sequence(meaning: &[u8], room: &mut [u8]) -> u32
     ensures { λ r. ⌜ r ≡ writeAnswer (now (meaning .entry)) (length (now (room .entry))) ⌝ }
     ensures { λ _. ⌜ now (room .exit) ≡ roomAfterWriting (now (meaning .entry)) (now (room .entry)) ⌝ }
 {
-    if room.len() < 28 {
+    if room.len() < LONGEST {
         return 21;
     }
-    if meaning.len() < 32 {
+    if meaning.len() < MEANING_SIZE {
         return 22;
     }
     let m = meaning_from(meaning);

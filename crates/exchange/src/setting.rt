@@ -2,20 +2,23 @@
 ghost use mathlib.Core.Path.{_≡_};
 ghost use Prim.Native.Nat.{_≤_};
 ghost use lib.ListN.{length};
+ghost use Rattle.rules.specs.Sound.{mostSlots};
 ghost use Rattle.station.specs.Step.{sixteenOf};
 ghost use Rattle.lent.specs.Stations.{stationFrom};
 ghost use Rattle.exchange.specs.Events.{setUpReturned, stationSetUp, dueReturned};
 use crate::events::due_number;
+use lent::STATION_SIZE;
 use lent::lay_station;
 use lent::station_from;
+use slots::SLOTS;
 use station::Station;
 use units::Channel;
 
-fn channels_in(bytes: &[u8]) -> [Channel; 16]
-    requires { ⌜ length (now bytes) ≤ 16 ⌝ }
+fn channels_in(bytes: &[u8]) -> [Channel; SLOTS]
+    requires { ⌜ length (now bytes) ≤ mostSlots ⌝ }
     ensures { λ r. ⌜ r ≡ sixteenOf (now (bytes .entry)) ⌝ }
 {
-    let mut channels = [Channel(0); 16];
+    let mut channels = [Channel(0); SLOTS];
     let n = bytes.len();
     let mut i = 0;
     while i < n {
@@ -26,17 +29,17 @@ fn channels_in(bytes: &[u8]) -> [Channel; 16]
     channels
 }
 
-// Sets a station up in 1722 lent bytes: a slot for each channel, one a byte, in the list's order.
+// Sets a station up in a station's lent bytes: a slot for each channel, one a byte, in the list's order.
 #[no_mangle]
 pub extern "C" fn coast_set_up(identity: u32, channels: &[u8], station: &mut [u8]) -> u64
     ensures { λ r. ⌜ r ≡ setUpReturned identity (now (channels .entry)) (length (now (station .entry))) ⌝ }
     ensures { λ _. ⌜ now (station .exit) ≡ stationSetUp identity (now (channels .entry)) (now (station .entry)) ⌝ }
 {
-    if station.len() != 1722 {
+    if station.len() != STATION_SIZE {
         return 23;
     }
     let n = channels.len();
-    if 16 < n {
+    if SLOTS < n {
         return 36;
     }
     let all = channels_in(channels);

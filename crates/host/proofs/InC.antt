@@ -44,5 +44,5 @@ pub accepted-is-in-c : AcceptedIsInC
 unfolding AcceptedIsInC
 accepted-is-in-c c st e v =
     let a = accepted c st e v in
-    let time : e .time ≤ 4000000000 = leb-true (e .time) limit (a .in-limit) in
+    let time : e .time ≤ limit = leb-true (e .time) limit (a .in-limit) in
     (omega arith, what-in-c (length (st .slots)) (sound-fits c st (a .is-sound) .few) (e .what) (a .there) (a .readable))

@@ -10,6 +10,7 @@ use lib.ListN.{length}
 use borrow.Author.Tests.{ne-eqb}
 use Rattle.sequence.proofs.Tests.{Either, yes!, no!, which}
 use Rattle.station.specs.Step.{refusal, steppedBy, setUpBy}
+use Rattle.lent.specs.Layout.{stationSize}
 use Rattle.lent.specs.Stations.{stationFrom, stationLaid}
 use Rattle.exchange.specs.Events.{setUpReturned, stationSetUp}
 use Rattle.exchange.proofs.Theorems.{refusal-leaves-all}
@@ -35,8 +36,8 @@ either-way false b = refl
 
 pub host-set-up-refusal-leaves-all : HostSetUpRefusalLeavesAll
 unfolding HostSetUpRefusalLeavesAll setUpReturned stationSetUp stationLaid
-host-set-up-refusal-leaves-all κs a r s p n = p .1 ∙ go (which (eqb (length (a .1 .1 .0 .now)) 1722))
+host-set-up-refusal-leaves-all κs a r s p n = p .1 ∙ go (which (eqb (length (a .1 .1 .0 .now)) stationSize))
   where
-    go : Either (eqb (length (a .1 .1 .0 .now)) 1722) → stationSetUp (a .0) (a .1 .0 .now) (a .1 .1 .0 .now) ≡ a .1 .1 .0 .now
+    go : Either (eqb (length (a .1 .1 .0 .now)) stationSize) → stationSetUp (a .0) (a .1 .0 .now) (a .1 .1 .0 .now) ≡ a .1 .1 .0 .now
     go (yes! q) = rw (ne-eqb (setUpBy (a .0) (a .1 .0 .now) .answer) 0 (λ z. n (p .0 ∙ (rw q z))))
     go (no! q) = rw q (either-way (eqb (setUpBy (a .0) (a .1 .0 .now) .answer) 0) (a .1 .1 .0 .now))

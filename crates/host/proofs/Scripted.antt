@@ -12,6 +12,7 @@ use Rattle.units.specs.declared.Channel.{Channel}
 use Rattle.rules.specs.Words.{Happened, heard, signal, operator, lineLifted, lineHung, carrierHeard, carrierLost, handTakes, handGives, What, tick, onChannel70, onSlot, Event}
 use Rattle.rules.specs.Verdict.{setUpVerdict}
 use Rattle.station.specs.Step.{channelNumber, given, setUpBy}
+use Rattle.lent.specs.Layout.{stationSize}
 use Rattle.exchange.specs.Events.{returned, stationAfter, roomLeft, setUpReturned, stationSetUp}
 use Rattle.rack.proofs.Scripted.{lives, lent}
 use Rattle.host.specs.Calls.{Call, callOf, Entered, by-tick, by-heard-on-channel-70, by-heard-on-slot, by-carrier-up, by-carrier-down, by-off-hook, by-on-hook, by-take-slot, by-give-back, SetUpIn, by-set-up, HandsOn}
@@ -78,23 +79,23 @@ numbers : (l : List Channel) → map channelNumber (map (λ n. n .0) l) ≡ l
 numbers [] = refl
 numbers (n ∷ l) = ap (λ r. n ∷ r) (numbers l)
 
-begun : (identity : ℕ) (l : List ℕ) → setUpVerdict (given identity l) ≡ none → (b : List ℕ) → length b ≡ 1722
+begun : (identity : ℕ) (l : List ℕ) → setUpVerdict (given identity l) ≡ none → (b : List ℕ) → length b ≡ stationSize
     → SetUpIn (given identity l) (stationSetUp identity l b)
 unfolding setUpReturned setUpBy
 begun identity l v b w =
-    by-set-up lives (identity, (lent l, (lent b, tt))) 0 (identity, (lent l, (lent _, tt))) (rw (eq-eqb (length b) 1722 w, v), refl) refl
+    by-set-up lives (identity, (lent l, (lent b, tt))) 0 (identity, (lent l, (lent _, tt))) (rw (eq-eqb (length b) stationSize w, v), refl) refl
 
 pub every-script-is-hosted : EveryScriptIsHosted
 unfolding EveryScriptIsHosted
 every-script-is-hosted c set es rooms h =
     let l = map (λ (n : Channel). n .0) (c .channels) in
     let e : given (c .identity) l ≡ c = ap (λ (r : List Channel). record { identity = c .identity; channels = r }) (numbers (c .channels)) in
-    let bytes = replicate {A = ℕ} 1722 0 in
+    let bytes = replicate {A = ℕ} stationSize 0 in
     let first = stationSetUp (c .identity) l bytes in
     let w = walk es rooms h first in
     record {
       calls = w .calls;
-      run = record { first = first; begun = rw e at (begun (c .identity) l (rw e set) bytes (length-replicate {A = ℕ} 1722 0)); calls = w .hands };
+      run = record { first = first; begun = rw e at (begun (c .identity) l (rw e set) bytes (length-replicate {A = ℕ} stationSize 0)); calls = w .hands };
       script = w .script;
       lent = w .lent-are;
     }

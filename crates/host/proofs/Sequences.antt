@@ -16,6 +16,7 @@ use Rattle.sequence.specs.declared.Answer.the-variants.{Done, BadLength, BadSym
 use Rattle.sequence.specs.declared.Meaning.{Meaning}
 use Rattle.sequence.specs.declared.Reading.{Reading}
 use Rattle.sequence.specs.declared.Written.{Written}
+use Rattle.sequence.specs.Figures.{longest}
 use Rattle.sequence.specs.Answers.{answerNumber}
 use Rattle.sequence.specs.Layout.{valid, layout}
 use Rattle.sequence.specs.Reading.{doneWith, readingOf}
@@ -24,11 +25,11 @@ use Rattle.sequence.proofs.Tests.{Either, yes!, no!, which}
 use Rattle.sequence.proofs.Paste.{paste-front}
 use Rattle.meanings.proofs.Theorems.{reads-exactly, one-meaning, reads-what-was-written, writes-what-was-read}
 use Rattle.layouts.specs.Fields.{laid}
-use Rattle.lent.specs.Meanings.{meaningBytes, meaningFrom, meaningLaid}
+use Rattle.lent.specs.Meanings.{meaningBytes, meaningFrom, meaningLaid, meaningSize}
 use Rattle.lent.proofs.MeaningBack.{meaning-is-found-again, meaning-is-laid-again}
 use Rattle.exchange.proofs.WriteLaws.{written-le}
 use Rattle.exchange.specs.Sequences.{readAnswer, meaningAfter, answerAndCount, writeAnswer, roomAfterWriting}
-use Rattle.host.specs.Sequences.{Passage, passage, ByReader, by-read, ByWriter, by-write, answerOf, written, thirtyTwo, InBytes, CReadsWhatWasWritten, CWritesWhatWasRead, COneMeaning, COneSequence, CTakesEveryMeaning, CAnswersEveryInput}
+use Rattle.host.specs.Sequences.{Passage, passage, ByReader, by-read, ByWriter, by-write, answerOf, written, telling, InBytes, CReadsWhatWasWritten, CWritesWhatWasRead, COneMeaning, COneSequence, CTakesEveryMeaning, CAnswersEveryInput}
 
 -- of all answers Done alone has the number 0
 done-is : (a : Answer) → answerNumber a % 256 ≡ 0 → a ≡ Done
@@ -45,36 +46,36 @@ done-is BadNumber e = absurd (omega (arith, e))
 done-is BadEnd e = absurd (omega (arith, e))
 done-is ShortRoom e = absurd (omega (arith, e))
 
-size : (m : Meaning) → length (meaningBytes m) ≡ 32
+size : (m : Meaning) → length (meaningBytes m) ≡ meaningSize
 size m = meaning-is-found-again m [] .0
 
 -- bytes whose first 32 are a valid meaning's
-found : (m : Meaning) → valid m ≡ true → (b : List ℕ) → thirtyTwo b ≡ meaningBytes m → (32 ≤ length b) × (meaningFrom b ≡ m)
+found : (m : Meaning) → valid m ≡ true → (b : List ℕ) → telling b ≡ meaningBytes m → (meaningSize ≤ length b) × (meaningFrom b ≡ m)
 found m v b e =
-    let whole : b ≡ meaningBytes m ++ drop 32 b = sym (take-append-drop 32 b) ∙ (rw e) in
-    let long : length (take 32 b) ≡ 32 = rw e (size m) in
-    (omega (arith, long, length-take 32 b), rw whole (meaning-is-found-again m (drop 32 b) .1 v))
+    let whole : b ≡ meaningBytes m ++ drop meaningSize b = sym (take-append-drop meaningSize b) ∙ (rw e) in
+    let long : length (take meaningSize b) ≡ meaningSize = rw e (size m) in
+    (omega (arith, long, length-take meaningSize b), rw whole (meaning-is-found-again m (drop meaningSize b) .1 v))
 
 -- ── the reader ───────────────────────────────────────────────────────────────
 
 module _ (s room : List ℕ) where
-  reads-as : (m : Meaning) → valid m ≡ true → s ≡ layout m → 32 ≤ length room
-      → (readAnswer s (length room) ≡ 0) × (meaningAfter s room ≡ meaningBytes m ++ drop 32 room)
+  reads-as : (m : Meaning) → valid m ≡ true → s ≡ layout m → meaningSize ≤ length room
+      → (readAnswer s (length room) ≡ 0) × (meaningAfter s room ≡ meaningBytes m ++ drop meaningSize room)
   unfolding readAnswer meaningAfter meaningLaid laid
   reads-as m v e h =
       let r : readingOf s ≡ doneWith m = reads-exactly s m .1 (v, e) in
-      (rw (le-leb 32 (length room) h, r) refl, rw (le-leb 32 (length room) h, r, size m) (paste-front room (meaningBytes m) 32 (size m)))
+      (rw (le-leb meaningSize (length room) h, r) refl, rw (le-leb meaningSize (length room) h, r, size m) (paste-front room (meaningBytes m) meaningSize (size m)))
 
-  answered : readAnswer s (length room) % 256 ≡ 0 → (32 ≤ length room) × (readingOf s .answer ≡ Done)
+  answered : readAnswer s (length room) % 256 ≡ 0 → (meaningSize ≤ length room) × (readingOf s .answer ≡ Done)
   unfolding readAnswer
-  answered e = go (which (leb 32 (length room))) e
+  answered e = go (which (leb meaningSize (length room))) e
     where
-      go : Either (leb 32 (length room)) → cond (leb 32 (length room)) (answerNumber (readingOf s .answer)) 22 % 256 ≡ 0 → (32 ≤ length room) × (readingOf s .answer ≡ Done)
-      go (yes! h) f = (leb-true 32 (length room) h, done-is (readingOf s .answer) (rw h at f))
+      go : Either (leb meaningSize (length room)) → cond (leb meaningSize (length room)) (answerNumber (readingOf s .answer)) 22 % 256 ≡ 0 → (meaningSize ≤ length room) × (readingOf s .answer ≡ Done)
+      go (yes! h) f = (leb-true meaningSize (length room) h, done-is (readingOf s .answer) (rw h at f))
       go (no! h) f = let q : 22 % 256 ≡ 0 = rw h at f in absurd (omega (arith, q))
 
-read-as : {r : Passage} → ByReader r → (m : Meaning) → valid m ≡ true → r .given ≡ layout m → 32 ≤ length (r .lent)
-    → (r .number ≡ 0) × (r .left ≡ meaningBytes m ++ drop 32 (r .lent))
+read-as : {r : Passage} → ByReader r → (m : Meaning) → valid m ≡ true → r .given ≡ layout m → meaningSize ≤ length (r .lent)
+    → (r .number ≡ 0) × (r .left ≡ meaningBytes m ++ drop meaningSize (r .lent))
 read-as (by-read κs a n s p) m v e h = let w = reads-as (a .0 .now) (a .1 .0 .now) m v e h in (p .0 ∙ w .0, p .1 ∙ w .1)
 
 -- what an answer of 0 says
@@ -82,11 +83,11 @@ record WasRead (r : Passage) : Type 0 where
   meaning : Meaning
   is-valid : valid meaning ≡ true
   symbols : r .given ≡ layout meaning
-  bytes : thirtyTwo (r .left) ≡ meaningBytes meaning
+  bytes : telling (r .left) ≡ meaningBytes meaning
 
 -- at the front of a room
-front : (m : Meaning) (left rest : List ℕ) → left ≡ meaningBytes m ++ rest → thirtyTwo left ≡ meaningBytes m
-front m left rest e = rw e (take-at (meaningBytes m) rest 32 (size m))
+front : (m : Meaning) (left rest : List ℕ) → left ≡ meaningBytes m ++ rest → telling left ≡ meaningBytes m
+front m left rest e = rw e (take-at (meaningBytes m) rest meaningSize (size m))
 
 was-read : {r : Passage} → ByReader r → answerOf r ≡ 0 → WasRead r
 was-read (by-read κs a n s p) e =
@@ -94,43 +95,43 @@ was-read (by-read κs a n s p) e =
     let m = readingOf (a .0 .now) .meaning in
     let x = reads-exactly (a .0 .now) m .0 (ap (λ (d : Answer). record { answer = d; meaning = m }) (done .1)) in
     let w = reads-as (a .0 .now) (a .1 .0 .now) m (x .0) (x .1) (done .0) in
-    record { meaning = m; is-valid = x .0; symbols = x .1; bytes = front m (s .1 .0 .now) (drop 32 (a .1 .0 .now)) (p .1 ∙ w .1) }
+    record { meaning = m; is-valid = x .0; symbols = x .1; bytes = front m (s .1 .0 .now) (drop meaningSize (a .1 .0 .now)) (p .1 ∙ w .1) }
 
 -- ── the writer ───────────────────────────────────────────────────────────────
 
-written-is : (m : Meaning) → valid m ≡ true → (room : List ℕ) → 28 ≤ length room → writtenOf m (length room) ≡ record { answer = Done; length = length (layout m) }
+written-is : (m : Meaning) → valid m ≡ true → (room : List ℕ) → longest ≤ length room → writtenOf m (length room) ≡ record { answer = Done; length = length (layout m) }
 written-is m v room h =
     let r : readingOf (layout m) ≡ doneWith m = reads-exactly (layout m) m .1 (v, refl) in
     rw r at (writes-what-was-read (layout m) room (ap (λ (x : Reading). x .answer) r) h .0)
 
-short : (m : Meaning) → valid m ≡ true → length (layout m) ≤ 28
-short m v = rw (written-is m v (replicate 28 0) (omega arith)) at (written-le m 28)
+short : (m : Meaning) → valid m ≡ true → length (layout m) ≤ longest
+short m v = rw (written-is m v (replicate longest 0) (omega arith)) at (written-le m longest)
 
 module _ (b room : List ℕ) where
-  writes-as : (m : Meaning) → valid m ≡ true → meaningFrom b ≡ m → 32 ≤ length b → 28 ≤ length room
+  writes-as : (m : Meaning) → valid m ≡ true → meaningFrom b ≡ m → meaningSize ≤ length b → longest ≤ length room
       → (writeAnswer b (length room) ≡ 256 * length (layout m)) × (roomAfterWriting b room ≡ layout m ++ drop (length (layout m)) room)
   unfolding writeAnswer answerAndCount roomAfterWriting roomAfter
   writes-as m v e h k =
       let w = written-is m v room k in
       let done : writingAnswer m (length room) ≡ Done = unfold writtenOf in ap (λ (x : Written). x .answer) w in
-      (rw (le-leb 28 (length room) k, le-leb 32 (length b) h, e, w) (zero-add (256 * length (layout m))), rw (le-leb 28 (length room) k, le-leb 32 (length b) h, e, done) refl)
+      (rw (le-leb longest (length room) k, le-leb meaningSize (length b) h, e, w) (zero-add (256 * length (layout m))), rw (le-leb longest (length room) k, le-leb meaningSize (length b) h, e, done) refl)
 
-  accepted : writeAnswer b (length room) % 256 ≡ 0 → (28 ≤ length room) × (32 ≤ length b) × (writtenOf (meaningFrom b) (length room) .answer ≡ Done)
+  accepted : writeAnswer b (length room) % 256 ≡ 0 → (longest ≤ length room) × (meaningSize ≤ length b) × (writtenOf (meaningFrom b) (length room) .answer ≡ Done)
   unfolding writeAnswer answerAndCount
-  accepted e = go (which (leb 28 (length room))) (which (leb 32 (length b))) e
+  accepted e = go (which (leb longest (length room))) (which (leb meaningSize (length b))) e
     where
       w : Written
       w = writtenOf (meaningFrom b) (length room)
 
-      go : Either (leb 28 (length room)) → Either (leb 32 (length b)) → writeAnswer b (length room) % 256 ≡ 0
-          → (28 ≤ length room) × (32 ≤ length b) × (writtenOf (meaningFrom b) (length room) .answer ≡ Done)
+      go : Either (leb longest (length room)) → Either (leb meaningSize (length b)) → writeAnswer b (length room) % 256 ≡ 0
+          → (longest ≤ length room) × (meaningSize ≤ length b) × (writtenOf (meaningFrom b) (length room) .answer ≡ Done)
       go (yes! h) (yes! k) f =
           let q : (answerNumber (w .answer) + 256 * w .length) % 256 ≡ 0 = rw (h, k) at f in
-          (leb-true 28 (length room) h, leb-true 32 (length b) k, done-is (w .answer) (omega (arith, q)))
+          (leb-true longest (length room) h, leb-true meaningSize (length b) k, done-is (w .answer) (omega (arith, q)))
       go (yes! h) (no! k) f = let q : 22 % 256 ≡ 0 = rw (h, k) at f in absurd (omega (arith, q))
       go (no! h) k f = let q : 21 % 256 ≡ 0 = rw h at f in absurd (omega (arith, q))
 
-write-as : {w : Passage} → ByWriter w → (m : Meaning) → valid m ≡ true → thirtyTwo (w .given) ≡ meaningBytes m → 28 ≤ length (w .lent)
+write-as : {w : Passage} → ByWriter w → (m : Meaning) → valid m ≡ true → telling (w .given) ≡ meaningBytes m → longest ≤ length (w .lent)
     → (w .number ≡ 256 * length (layout m)) × (w .left ≡ layout m ++ drop (length (layout m)) (w .lent))
 write-as (by-write κs a n s p) m v e h =
     let f = found m v (a .0 .now) e in
@@ -148,7 +149,7 @@ record WasWritten (w : Passage) : Type 0 where
   meaning : Meaning
   is-valid : valid meaning ≡ true
   symbols : written w ≡ layout meaning
-  bytes : InBytes (w .given) → thirtyTwo (w .given) ≡ meaningBytes meaning
+  bytes : InBytes (w .given) → telling (w .given) ≡ meaningBytes meaning
 
 was-written : {w : Passage} → ByWriter w → answerOf w ≡ 0 → WasWritten w
 was-written (by-write κs a n s p) e =
@@ -199,7 +200,7 @@ c-one-sequence r q reads reads-too e f same =
 pub c-takes-every-meaning : CTakesEveryMeaning
 unfolding CTakesEveryMeaning
 c-takes-every-meaning m v = (
-  λ r reads e h. let x = read-as reads m v e h in (x .0, front m (r .left) (drop 32 (r .lent)) (x .1)),
+  λ r reads e h. let x = read-as reads m v e h in (x .0, front m (r .left) (drop meaningSize (r .lent)) (x .1)),
   λ w wrote e h.
       let x = write-as wrote m v e h in
       (rw (x .0) (omega arith), counted w m (drop (length (layout m)) (w .lent)) v (x .0) (x .1)),

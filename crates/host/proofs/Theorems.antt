@@ -18,6 +18,7 @@ use Rattle.rules.specs.Verdict.{setUpVerdict, Entry}
 use Rattle.station.specs.declared.Station.{Station}
 use Rattle.station.specs.declared.Stepped.{Stepped}
 use Rattle.station.specs.Step.{given, refusal, steppedBy, roomAfter, setUpBy}
+use Rattle.lent.specs.Layout.{stationSize}
 use Rattle.lent.specs.Stations.{stationBytes, stationFrom}
 use Rattle.lent.specs.Statement.{FoundAgain}
 use Rattle.lent.proofs.FoundAgain.{handed-out-is-found-again}
@@ -76,16 +77,16 @@ walk s f (x ∷ xs) h =
 
 -- ── set-up ───────────────────────────────────────────────────────────────────
 
-begun-well : (identity : ℕ) (channels : List ℕ) (size : ℕ) → setUpReturned identity channels size ≡ 0 → (size ≡ 1722) × (setUpVerdict (given identity channels) ≡ none)
+begun-well : (identity : ℕ) (channels : List ℕ) (size : ℕ) → setUpReturned identity channels size ≡ 0 → (size ≡ stationSize) × (setUpVerdict (given identity channels) ≡ none)
 unfolding setUpReturned setUpBy setUpVerdict
-begun-well identity channels size h = go (which (eqb size 1722))
+begun-well identity channels size h = go (which (eqb size stationSize))
   where
     judged : (t : Bool) → configKeeps (given identity channels) ≡ t → setUpBy identity channels .answer ≡ 0 → setUpVerdict (given identity channels) ≡ none
     judged true e z = rw e
     judged false e z = let q : _≡_ {A = ℕ} 36 0 = rw e at z in absurd (omega (arith, q))
 
-    go : Either (eqb size 1722) → (size ≡ 1722) × (setUpVerdict (given identity channels) ≡ none)
-    go (yes! p) = (eqb-true size 1722 p, judged (configKeeps (given identity channels)) refl (rw p at h))
+    go : Either (eqb size stationSize) → (size ≡ stationSize) × (setUpVerdict (given identity channels) ≡ none)
+    go (yes! p) = (eqb-true size stationSize p, judged (configKeeps (given identity channels)) refl (rw p at h))
     go (no! p) = let q : _≡_ {A = ℕ} 23 0 = rw p at h in absurd (omega (arith, q))
 
 pub record Begun (c : Config) (b : List ℕ) : Type 0 where

@@ -7,9 +7,10 @@ use mathlib.Core.List.{List, _++_}
 use lib.ListN.{length, take, drop}
 use contract.Lifetimes.{Lfts}
 use Rattle.sequence.specs.declared.Meaning.{Meaning}
+use Rattle.sequence.specs.Figures.{longest}
 use Rattle.sequence.specs.Symbols.{allAtMost}
 use Rattle.sequence.specs.Layout.{valid, layout}
-use Rattle.lent.specs.Meanings.{meaningBytes}
+use Rattle.lent.specs.Meanings.{meaningBytes, meaningSize}
 use Rattle.exchange.proofs.sequences.coast_read_sequence.Reads as read-sequence
 use Rattle.exchange.proofs.sequences.coast_write_sequence.Reads as write-sequence
 
@@ -45,9 +46,9 @@ countOf x = x .number / 256 % 256
 abbrev pub written : Passage → List ℕ
 written w = take (countOf w) (w .left)
 
--- a meaning is the first 32 bytes, whatever stands behind them
-abbrev pub thirtyTwo : List ℕ → List ℕ
-thirtyTwo b = take 32 b
+-- the bytes that tell a meaning, whatever stands behind them
+abbrev pub telling : List ℕ → List ℕ
+telling b = take meaningSize b
 
 -- what memory holds
 abbrev pub InBytes : List ℕ → Type 0
@@ -55,36 +56,36 @@ InBytes b = allAtMost 255 b ≡ true
 
 -- ── what is claimed of them ──────────────────────────────────────────────────
 
--- what was written is read back to the same 32 bytes, every one of them, and those behind them stay
+-- what was written is read back to the same bytes, every one of them, and those behind them stay
 unfoldable pub CReadsWhatWasWritten : Type 0
 CReadsWhatWasWritten = (w r : Passage) → ByWriter w → ByReader r → InBytes (w .given)
-    → answerOf w ≡ 0 → r .given ≡ written w → 32 ≤ length (r .lent)
-    → (r .number ≡ 0) × (r .left ≡ thirtyTwo (w .given) ++ drop 32 (r .lent))
+    → answerOf w ≡ 0 → r .given ≡ written w → meaningSize ≤ length (r .lent)
+    → (r .number ≡ 0) × (r .left ≡ telling (w .given) ++ drop meaningSize (r .lent))
 
 -- what was read is written to the same symbols, and the bytes behind them stay
 unfoldable pub CWritesWhatWasRead : Type 0
 CWritesWhatWasRead = (r w : Passage) → ByReader r → ByWriter w
-    → answerOf r ≡ 0 → thirtyTwo (w .given) ≡ thirtyTwo (r .left) → 28 ≤ length (w .lent)
+    → answerOf r ≡ 0 → telling (w .given) ≡ telling (r .left) → longest ≤ length (w .lent)
     → (w .number ≡ 256 * length (r .given)) × (w .left ≡ r .given ++ drop (length (r .given)) (w .lent))
 
 -- two meanings that are written as one sequence are one
 unfoldable pub COneMeaning : Type 0
 COneMeaning = (w v : Passage) → ByWriter w → ByWriter v → InBytes (w .given) → InBytes (v .given)
     → answerOf w ≡ 0 → answerOf v ≡ 0 → written w ≡ written v
-    → thirtyTwo (w .given) ≡ thirtyTwo (v .given)
+    → telling (w .given) ≡ telling (v .given)
 
 -- two sequences that are read as one meaning are one
 unfoldable pub COneSequence : Type 0
 COneSequence = (r q : Passage) → ByReader r → ByReader q
-    → answerOf r ≡ 0 → answerOf q ≡ 0 → thirtyTwo (r .left) ≡ thirtyTwo (q .left)
+    → answerOf r ≡ 0 → answerOf q ≡ 0 → telling (r .left) ≡ telling (q .left)
     → r .given ≡ q .given
 
 -- and no valid meaning is refused: its sequence is read, its bytes are written
 unfoldable pub CTakesEveryMeaning : Type 0
 CTakesEveryMeaning = (m : Meaning) → valid m ≡ true
-    → ((r : Passage) → ByReader r → r .given ≡ layout m → 32 ≤ length (r .lent)
-    → (r .number ≡ 0) × (thirtyTwo (r .left) ≡ meaningBytes m))
-    × ((w : Passage) → ByWriter w → thirtyTwo (w .given) ≡ meaningBytes m → 28 ≤ length (w .lent)
+    → ((r : Passage) → ByReader r → r .given ≡ layout m → meaningSize ≤ length (r .lent)
+    → (r .number ≡ 0) × (telling (r .left) ≡ meaningBytes m))
+    × ((w : Passage) → ByWriter w → telling (w .given) ≡ meaningBytes m → longest ≤ length (w .lent)
     → (answerOf w ≡ 0) × (written w ≡ layout m))
 
 -- ── and they are of something ────────────────────────────────────────────────

@@ -1,17 +1,17 @@
 -- What was laid out by a list of fields is read back by it, and what was read is laid out again.
 use Prim.Native.Nat.{ℕ, zero, suc, _+_, _*_, _/_, _%_, _≤_}
 use mathlib.Core.Path.{_≡_, refl, sym, ap, _∙_}
-use mathlib.Core.Bool.{true, _&&_}
+use mathlib.Core.Bool.{true}
 use mathlib.Core.List.{List, [], _∷_, _++_, append-assoc, append-nil, flatten}
 use native.Mathlib.Omega.{arith}
-use lib.Dec.{leb, eqb}
+use lib.Dec.{leb}
 use lib.ListN.{length, getD, take, drop, length-append}
 use lib.Seq.{getD-at, append-snoc, take-add, take-length, drop-drop, take-paste, drop-paste}
-use borrow.Author.Tests.{eqb-true, leb-true}
+use borrow.Author.Tests.{leb-true}
 use Rattle.sequence.proofs.Tests.{both-true}
 use Rattle.sequence.proofs.Paste.{paste-whole}
 use Rattle.sequence.proofs.Rest.{rest}
-use Rattle.layouts.specs.Fields.{Field, lowFirst, numberAt, encode, decode, ordered, size, laid}
+use Rattle.layouts.specs.Fields.{Field, size, filled, lowFirst, numberAt, encode, decodeFrom, laid}
 
 -- ── one number ───────────────────────────────────────────────────────────────
 
@@ -34,20 +34,18 @@ number-back (suc (suc w)) n before rest i h e =
 
 -- ── a list of fields ─────────────────────────────────────────────────────────
 
-pub there-and-back : (fs : List Field) (ns before rest : List ℕ) (p o : ℕ) → length ns ≡ length fs → ordered o fs ≡ true → length before ≡ p + o
-    → decode fs (before ++ (encode fs ns ++ rest)) p ≡ ns
+pub there-and-back : (fs : List Field) (ns before rest : List ℕ) (p o : ℕ) → length ns ≡ length fs → filled fs ≡ true → length before ≡ p + o
+    → decodeFrom fs (before ++ (encode fs ns ++ rest)) p o ≡ ns
 there-and-back [] [] before rest p o l h e = refl
 there-and-back [] (n ∷ ns) before rest p o l h e = absurd (omega arith)
 there-and-back (f ∷ fs) [] before rest p o l h e = absurd (omega arith)
 there-and-back (f ∷ fs) (n ∷ ns) before rest p o l h e =
-    let a = both-true (eqb (f .place) o) (leb 1 (f .width) && ordered (o + f .width) fs) h in
-    let b = both-true (leb 1 (f .width)) (ordered (o + f .width) fs) (a .1) in
-    let place : f .place ≡ o = eqb-true (f .place) o (a .0) in
+    let a = both-true (leb 1 (f .width)) (filled fs) h in
     let bytes = lowFirst (f .width) n in
-    let first = number-back (f .width) n before (encode fs ns ++ rest) (p + o) (leb-true 1 (f .width) (b .0)) e in
+    let first = number-back (f .width) n before (encode fs ns ++ rest) (p + o) (leb-true 1 (f .width) (a .0)) e in
     let longer : length (before ++ bytes) ≡ p + (o + f .width) = length-append before bytes ∙ (rw (e, lowFirst-length (f .width) n) (omega arith)) in
-    let others = there-and-back fs ns (before ++ bytes) rest p (o + f .width) (omega arith) (b .1) longer in
-    rw (append-assoc bytes (encode fs ns) rest, place, first, ← append-assoc before bytes (encode fs ns ++ rest), others)
+    let others = there-and-back fs ns (before ++ bytes) rest p (o + f .width) (omega arith) (a .1) longer in
+    rw (append-assoc bytes (encode fs ns) rest, first, ← append-assoc before bytes (encode fs ns ++ rest), others)
 
 -- ── bytes that were read are laid out again ──────────────────────────────────
 
@@ -60,16 +58,13 @@ number-again (suc (suc w)) b i small h =
     let high : (getD b i 0 + 256 * more) / 256 ≡ more = omega (arith, small i) in
     rw (low, high, rest b i (omega arith), number-again (suc w) b (i + 1) small (omega arith))
 
-pub back-and-there : (fs : List Field) (b : List ℕ) (p o : ℕ) → ((j : ℕ) → getD b j 0 ≤ 255) → ordered o fs ≡ true → p + o + size fs ≤ length b
-    → encode fs (decode fs b p) ≡ take (size fs) (drop (p + o) b)
-back-and-there [] b p o small h l = refl
-back-and-there (f ∷ fs) b p o small h l =
-    let a = both-true (eqb (f .place) o) (leb 1 (f .width) && ordered (o + f .width) fs) h in
-    let c = both-true (leb 1 (f .width)) (ordered (o + f .width) fs) (a .1) in
-    let place : f .place ≡ o = eqb-true (f .place) o (a .0) in
+pub back-and-there : (fs : List Field) (b : List ℕ) (p o : ℕ) → ((j : ℕ) → getD b j 0 ≤ 255) → p + o + size fs ≤ length b
+    → encode fs (decodeFrom fs b p o) ≡ take (size fs) (drop (p + o) b)
+back-and-there [] b p o small l = refl
+back-and-there (f ∷ fs) b p o small l =
     let next : p + (o + f .width) ≡ p + o + f .width = omega arith in
-    let others = back-and-there fs b p (o + f .width) small (c .1) (omega arith) in
-    rw (place, number-again (f .width) b (p + o) small (omega arith), others, next, take-add (f .width) (size fs) (drop (p + o) b), drop-drop (f .width) (p + o) b)
+    let others = back-and-there fs b p (o + f .width) small (omega arith) in
+    rw (number-again (f .width) b (p + o) small (omega arith), others, next, take-add (f .width) (size fs) (drop (p + o) b), drop-drop (f .width) (p + o) b)
 
 -- ── lengths ──────────────────────────────────────────────────────────────────
 
@@ -79,9 +74,9 @@ encode-length (f ∷ fs) [] e = absurd (omega arith)
 encode-length (f ∷ fs) (n ∷ ns) e =
     length-append (lowFirst (f .width) n) (encode fs ns) ∙ (rw (lowFirst-length (f .width) n, encode-length fs ns (omega arith)))
 
-pub decode-length : (fs : List Field) (b : List ℕ) (p : ℕ) → length (decode fs b p) ≡ length fs
-decode-length [] b p = refl
-decode-length (f ∷ fs) b p = ap suc (decode-length fs b p)
+pub decode-length : (fs : List Field) (b : List ℕ) (p o : ℕ) → length (decodeFrom fs b p o) ≡ length fs
+decode-length [] b p o = refl
+decode-length (f ∷ fs) b p o = ap suc (decode-length fs b p (o + f .width))
 
 -- ── bytes laid behind others ─────────────────────────────────────────────────
 

@@ -3,31 +3,21 @@ use Prim.Native.Nat.{ℕ, zero, suc, _+_, _*_}
 use mathlib.Core.Path.{_≡_, refl, sym, ap, _∙_}
 use mathlib.Core.List.{List, [], _∷_, _++_, map, flatMap, append-assoc}
 use native.Mathlib.Omega.{arith}
-use native.Mathlib.Nat.{zero-add, mul-suc}
-use lib.ListN.{length, length-append, length-map}
+use native.Mathlib.Nat.{add-zero, mul-suc}
+use lib.ListN.{length, length-append}
 use lib.Seq.{take-at, drop-at}
-use Rattle.layouts.specs.Fields.{Field, lowFirst, numberAt, encode, decode}
-use Rattle.layouts.specs.Records.{shifted, repeated, recordsAt, recordsIn}
+use Rattle.layouts.specs.Fields.{Field, size, lowFirst, encode, decodeFrom, decode}
+use Rattle.layouts.specs.Records.{repeated, recordsAt, recordsIn}
 use Rattle.layouts.proofs.FieldLaws.{decode-length}
 
--- ── the fields of a record, further on ───────────────────────────────────────
+-- ── fields further on ────────────────────────────────────────────────────────
 
-pub shifted-length : (p : ℕ) (fs : List Field) → length (shifted p fs) ≡ length fs
-unfolding shifted
-shifted-length p fs = length-map fs _
-
-pub encode-shifted : (p : ℕ) (fs : List Field) (ns : List ℕ) → encode (shifted p fs) ns ≡ encode fs ns
-unfolding shifted
-encode-shifted p [] ns = refl
-encode-shifted p (f ∷ fs) [] = refl
-encode-shifted p (f ∷ fs) (n ∷ ns) = ap (λ r. lowFirst (f .width) n ++ r) (encode-shifted p fs ns)
-
-pub decode-shifted : (q : ℕ) (fs : List Field) (b : List ℕ) (p : ℕ) → decode (shifted q fs) b p ≡ decode fs b (p + q)
-unfolding shifted
-decode-shifted q [] b p = refl
-decode-shifted q (f ∷ fs) b p =
-    let e : p + (q + f .place) ≡ p + q + f .place = omega arith in
-    rw (e, decode-shifted q fs b p)
+pub decode-further : (fs : List Field) (b : List ℕ) (p q o : ℕ) → decodeFrom fs b p (q + o) ≡ decodeFrom fs b (p + q) o
+decode-further [] b p q o = refl
+decode-further (f ∷ fs) b p q o =
+    let here : p + (q + o) ≡ p + q + o = omega arith in
+    let next : q + o + f .width ≡ q + (o + f .width) = omega arith in
+    rw (here, next, decode-further fs b p q (o + f .width))
 
 -- ── one list of fields behind another ────────────────────────────────────────
 
@@ -38,19 +28,19 @@ encode-behind (f ∷ fs) gs [] ms e = absurd (omega arith)
 encode-behind (f ∷ fs) gs (n ∷ ns) ms e =
     rw (encode-behind fs gs ns ms (omega arith)) (sym (append-assoc (lowFirst (f .width) n) (encode fs ns) (encode gs ms)))
 
-pub decode-behind : (fs gs : List Field) (b : List ℕ) (p : ℕ) → decode (fs ++ gs) b p ≡ decode fs b p ++ decode gs b p
-decode-behind [] gs b p = refl
-decode-behind (f ∷ fs) gs b p = ap (λ r. numberAt b (p + f .place) (f .width) ∷ r) (decode-behind fs gs b p)
+pub decode-behind : (fs gs : List Field) (b : List ℕ) (p o : ℕ) → decodeFrom (fs ++ gs) b p o ≡ decodeFrom fs b p o ++ decodeFrom gs b p (o + size fs)
+decode-behind [] gs b p o = let e : o ≡ o + 0 = omega arith in ap (decodeFrom gs b p) e
+decode-behind (f ∷ fs) gs b p o =
+    let e : o + f .width + size fs ≡ o + (f .width + size fs) = omega arith in
+    rw (decode-behind fs gs b p (o + f .width), e)
 
 -- ── so many records ──────────────────────────────────────────────────────────
 
 module _ {A : Type 0} (numbers : A → List ℕ) (fs : List Field) (whole : (x : A) → length (numbers x) ≡ length fs) where
-  pub encode-repeated : (l : List A) (size p : ℕ) → encode (repeated (length l) size p fs) (flatMap numbers l) ≡ flatMap (λ x. encode fs (numbers x)) l
+  pub encode-repeated : (l : List A) → encode (repeated (length l) fs) (flatMap numbers l) ≡ flatMap (λ x. encode fs (numbers x)) l
   unfolding repeated flatMap
-  encode-repeated [] size p = refl
-  encode-repeated (x ∷ l) size p =
-      encode-behind (shifted p fs) (repeated (length l) size (p + size) fs) (numbers x) (flatMap numbers l) (whole x ∙ sym (shifted-length p fs))
-      ∙ (rw (encode-shifted p fs (numbers x), encode-repeated l size (p + size)))
+  encode-repeated [] = refl
+  encode-repeated (x ∷ l) = encode-behind fs (repeated (length l) fs) (numbers x) (flatMap numbers l) (whole x) ∙ (rw (encode-repeated l))
 
   -- what is made of each record's own numbers
   pub records-told : (f : List ℕ → A) (l : List A) (rest : List ℕ)
@@ -60,15 +50,30 @@ module _ {A : Type 0} (numbers : A → List ℕ) (fs : List Field) (whole : (x :
   records-told f (x ∷ l) rest =
       rw (append-assoc (numbers x) (flatMap numbers l) rest, take-at (numbers x) (flatMap numbers l ++ rest) (length fs) (whole x), drop-at (numbers x) (flatMap numbers l ++ rest) (length fs) (whole x), records-told f l rest)
 
-pub records-decoded : {A : Type 0} (f : List ℕ → A) (fs : List Field) (b : List ℕ) (k size p : ℕ) (rest : List ℕ)
-    → recordsIn f k (length fs) (decode (repeated k size p fs) b 0 ++ rest) ≡ recordsAt (λ q. f (decode fs b q)) k size p
+pub records-decoded : {A : Type 0} (f : List ℕ → A) (fs : List Field) (b : List ℕ) (k p o : ℕ) (rest : List ℕ)
+    → recordsIn f k (length fs) (decodeFrom (repeated k fs) b p o ++ rest) ≡ recordsAt (λ q. f (decode fs b q)) k (size fs) (p + o)
 unfolding recordsIn recordsAt repeated
-records-decoded f fs b zero size p rest = refl
-records-decoded f fs b (suc k) size p rest =
-    let more = decode (repeated k size (p + size) fs) b 0 in
-    let one : decode (shifted p fs) b 0 ≡ decode fs b p = decode-shifted p fs b 0 ∙ ap (decode fs b) (zero-add p) in
-    let l = decode-length fs b p in
-    rw (decode-behind (shifted p fs) (repeated k size (p + size) fs) b 0, one, append-assoc (decode fs b p) more rest, take-at (decode fs b p) (more ++ rest) (length fs) l, drop-at (decode fs b p) (more ++ rest) (length fs) l, records-decoded f fs b k size (p + size) rest)
+records-decoded f fs b zero p o rest = refl
+records-decoded f fs b (suc k) p o rest =
+    let more = decodeFrom (repeated k fs) b p (o + size fs) in
+    let one : decodeFrom fs b p o ≡ decode fs b (p + o) = ap (decodeFrom fs b p) (sym (add-zero o)) ∙ decode-further fs b p o 0 in
+    let next : p + (o + size fs) ≡ p + o + size fs = omega arith in
+    let l = decode-length fs b (p + o) 0 in
+    rw (decode-behind fs (repeated k fs) b p o, one, append-assoc (decode fs b (p + o)) more rest, take-at (decode fs b (p + o)) (more ++ rest) (length fs) l, drop-at (decode fs b (p + o)) (more ++ rest) (length fs) l, records-decoded f fs b k p (o + size fs) rest, next)
+
+pub repeated-length : (k : ℕ) (fs : List Field) → length (repeated k fs) ≡ length fs * k
+unfolding repeated
+repeated-length zero fs = omega arith
+repeated-length (suc k) fs = length-append fs (repeated k fs) ∙ (rw (repeated-length k fs, mul-suc (length fs) k) (omega arith))
+
+size-behind : (fs gs : List Field) → size (fs ++ gs) ≡ size fs + size gs
+size-behind [] gs = omega arith
+size-behind (f ∷ fs) gs = rw (size-behind fs gs) (omega arith)
+
+pub repeated-size : (k : ℕ) (fs : List Field) → size (repeated k fs) ≡ size fs * k
+unfolding repeated
+repeated-size zero fs = omega arith
+repeated-size (suc k) fs = size-behind fs (repeated k fs) ∙ (rw (repeated-size k fs, mul-suc (size fs) k) (omega arith))
 
 pub recordsAt-more : {A : Type 0} (f : ℕ → A) (k size p : ℕ) → recordsAt f (suc k) size p ≡ recordsAt f k size p ++ (f (p + size * k) ∷ [])
 unfolding recordsAt

@@ -1,20 +1,34 @@
--- A layout in bytes is one list of fields; the laws ask nothing of a new row but its place.
+-- A layout in bytes is one list of fields, each behind the one before it: a new row moves all that stand behind it.
 use Prim.Native.Nat.{ℕ, zero, suc, _+_, _*_, _/_, _%_}
 use Prim.Native.String.{String}
 use mathlib.Core.Bool.{Bool, true, _&&_}
 use mathlib.Core.List.{List, [], _∷_, _++_}
-use lib.Dec.{leb, eqb}
+use lib.Dec.{leb}
 use lib.ListN.{length, getD}
 use lib.Seq.{paste}
 
--- a number in so many bytes from a place on
+-- a number in so many bytes
 pub record Field : Type 0 where
   pub name : String
   pub width : ℕ
-  pub place : ℕ
 
-abbrev pub row : String → ℕ → ℕ → Field
-row name width place = record { name = name; width = width; place = place }
+abbrev pub row : String → ℕ → Field
+row name width = record { name = name; width = width }
+
+-- the bytes of all fields
+abbrev pub size : List Field → ℕ
+size [] = 0
+size (f ∷ fs) = f .width + size fs
+
+-- where each field stands, the first of them at a place
+abbrev pub places : ℕ → List Field → List ℕ
+places o [] = []
+places o (f ∷ fs) = o ∷ places (o + f .width) fs
+
+-- each field has a byte at least
+abbrev pub filled : List Field → Bool
+filled [] = true
+filled (f ∷ fs) = leb 1 (f .width) && filled fs
 
 -- low byte first; the last byte has what is left
 abbrev pub lowFirst : ℕ → ℕ → List ℕ
@@ -34,20 +48,14 @@ encode [] ns = []
 encode (f ∷ fs) [] = []
 encode (f ∷ fs) (n ∷ ns) = lowFirst (f .width) n ++ encode fs ns
 
+-- the numbers of fields, the first of them so many bytes behind a place
+abbrev pub decodeFrom : List Field → List ℕ → ℕ → ℕ → List ℕ
+decodeFrom [] b p o = []
+decodeFrom (f ∷ fs) b p o = numberAt b (p + o) (f .width) ∷ decodeFrom fs b p (o + f .width)
+
 -- the numbers of a layout that begins at a place
 abbrev pub decode : List Field → List ℕ → ℕ → List ℕ
-decode [] b p = []
-decode (f ∷ fs) b p = numberAt b (p + f .place) (f .width) ∷ decode fs b p
-
--- each field has a byte at least, and stands where the one before it ends
-abbrev pub ordered : ℕ → List Field → Bool
-ordered p [] = true
-ordered p (f ∷ fs) = eqb (f .place) p && (leb 1 (f .width) && ordered (p + f .width) fs)
-
--- the bytes of all fields
-abbrev pub size : List Field → ℕ
-size [] = 0
-size (f ∷ fs) = f .width + size fs
+decode fs b p = decodeFrom fs b p 0
 
 -- bytes laid over others from a place on
 unfoldable pub laid : List ℕ → ℕ → List ℕ → List ℕ

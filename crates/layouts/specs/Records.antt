@@ -1,17 +1,13 @@
--- Records within a layout: the same fields again, further on.
+-- Records within a layout: the same fields again and again.
 use Prim.Native.Nat.{ℕ, zero, suc, _+_}
-use mathlib.Core.List.{List, [], _∷_, _++_, map}
+use mathlib.Core.List.{List, [], _∷_, _++_}
 use lib.ListN.{take, drop}
-use Rattle.layouts.specs.Fields.{Field, row}
+use Rattle.layouts.specs.Fields.{Field}
 
--- the fields of a record that begins at a place
-unfoldable pub shifted : ℕ → List Field → List Field
-shifted p fs = map (λ (f : Field). row (f .name) (f .width) (p + f .place)) fs
-
--- so many records, each of so many bytes, from a place on
-unfoldable pub repeated : ℕ → ℕ → ℕ → List Field → List Field
-repeated zero size p fs = []
-repeated (suc k) size p fs = shifted p fs ++ repeated k size (p + size) fs
+-- so many records
+unfoldable pub repeated : ℕ → List Field → List Field
+repeated zero fs = []
+repeated (suc k) fs = fs ++ repeated k fs
 
 -- what is read from so many records, by the place of each
 unfoldable pub recordsAt : {A : Type 0} → (ℕ → A) → ℕ → ℕ → ℕ → List A

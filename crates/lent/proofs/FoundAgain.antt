@@ -1,5 +1,5 @@
 -- Whatever is handed out is found again in its bytes.
-use Prim.Native.Nat.{ℕ, zero, suc}
+use Prim.Native.Nat.{ℕ, zero, suc, _*_}
 use mathlib.Core.Path.{_≡_, refl, sym, ap, _∙_}
 use mathlib.Core.List.{List, [], _∷_, _++_, map, flatMap, append-nil}
 use mathlib.Core.Option.{Option, none, some}
@@ -39,12 +39,12 @@ use Rattle.layouts.specs.Fields.{encode, decode}
 use Rattle.layouts.specs.Records.{recordsIn}
 use Rattle.layouts.proofs.FieldLaws.{there-and-back}
 use Rattle.layouts.proofs.RecordLaws.{records-told}
-use Rattle.lent.specs.Layout.{slotFields, waitingFields, stationFields}
+use Rattle.lent.specs.Layout.{slotFields, waitingFields, headFields, stationFields, stationSize}
 use Rattle.lent.specs.Numbers.{requestNumbers, requestFrom, carrierFields, toldFields, carrierFrom, toldFrom, phaseFields, phaseFrom, slotNumbers, waitingNumbers, stationNumbers, slotFrom, waitingFrom, stationIn}
 use Rattle.lent.specs.Stations.{stationBytes, stationFrom}
 use Rattle.lent.specs.Statement.{FoundAgain, HandedOutIsFoundAgain, WrongSizeIsNotSound}
 use Rattle.lent.proofs.LayLaws.{sixteen}
-use Rattle.lent.proofs.StationLaws.{slot-fields, waiting-fields, slot-numbers, waiting-numbers, slots-numbers, fields-ordered, station-numbers, station-size}
+use Rattle.lent.proofs.StationLaws.{slot-numbers, waiting-numbers, slots-numbers, fields-filled, station-numbers, station-size}
 
 -- ── one record ───────────────────────────────────────────────────────────────
 
@@ -102,23 +102,23 @@ same f P h [] e = refl
 same f P h (x ∷ l) e = rw (h x (e .0), same f P h l (e .1))
 
 module _ (s : Station) (w : Whole s) where
-  slots-back : (rest : List ℕ) → recordsIn slotFrom 16 30 (flatMap slotNumbers (s .slots) ++ rest) ≡ s .slots
+  slots-back : (rest : List ℕ) → recordsIn slotFrom 16 (length slotFields) (flatMap slotNumbers (s .slots) ++ rest) ≡ s .slots
   slots-back rest =
-      (rw (w .slots16, slot-fields) at (records-told slotNumbers slotFields slot-numbers slotFrom (s .slots) rest))
+      (rw (w .slots16) at (records-told slotNumbers slotFields slot-numbers slotFrom (s .slots) rest))
       ∙ same (λ x. slotFrom (slotNumbers x)) (λ x. Wide (x .request)) slot-back (s .slots) (w .slotsWide)
 
-  queue-back : recordsIn waitingFrom 32 22 (flatMap waitingNumbers (s .queue)) ≡ s .queue
+  queue-back : recordsIn waitingFrom 32 (length waitingFields) (flatMap waitingNumbers (s .queue)) ≡ s .queue
   queue-back =
-      ap (recordsIn waitingFrom 32 22) (sym (append-nil (flatMap waitingNumbers (s .queue))))
-      ∙ (rw (w .queue32, waiting-fields) at (records-told waitingNumbers waitingFields waiting-numbers waitingFrom (s .queue) []))
+      ap (recordsIn waitingFrom 32 (length waitingFields)) (sym (append-nil (flatMap waitingNumbers (s .queue))))
+      ∙ (rw (w .queue32) at (records-told waitingNumbers waitingFields waiting-numbers waitingFrom (s .queue) []))
       ∙ same (λ x. waitingFrom (waitingNumbers x)) (λ x. Wide (x .request)) waiting-back (s .queue) (w .queueWide)
 
   numbers-back : stationIn (stationNumbers s) ≡ s
-  unfolding stationIn stationNumbers
+  unfolding stationIn stationNumbers headFields
   numbers-back =
       let first = flatMap slotNumbers (s .slots) in
       let second = flatMap waitingNumbers (s .queue) in
-      let behind : drop 480 (first ++ second) ≡ second = drop-at first second 480 (slots-numbers s (w .slots16) (w .queue32)) in
+      let behind : drop (length slotFields * 16) (first ++ second) ≡ second = drop-at first second (length slotFields * 16) (slots-numbers s (w .slots16) (w .queue32)) in
       rw (behind, slots-back second, queue-back)
 
   found-again : FoundAgain s
@@ -128,7 +128,7 @@ module _ (s : Station) (w : Whole s) where
       let decoded : decode stationFields (stationBytes s) 0 ≡ stationNumbers s =
       unfold stationBytes in
       ap (λ b. decode stationFields b 0) (sym (append-nil (encode stationFields (stationNumbers s))))
-      ∙ there-and-back stationFields (stationNumbers s) [] [] 0 0 (station-numbers s (w .slots16) (w .queue32)) fields-ordered refl in
+      ∙ there-and-back stationFields (stationNumbers s) [] [] 0 0 (station-numbers s (w .slots16) (w .queue32)) fields-filled refl in
       (long, rw (eq-eqb _ _ long, decoded) numbers-back)
 
 -- ── what is handed out ───────────────────────────────────────────────────────
@@ -196,4 +196,4 @@ blank-refused e = refl
 
 pub wrong-size-is-not-sound : WrongSizeIsNotSound
 unfolding stationFrom
-wrong-size-is-not-sound b h e = rw (ne-eqb (length b) 1722 h) (blank-refused e)
+wrong-size-is-not-sound b h e = rw (ne-eqb (length b) stationSize h) (blank-refused e)

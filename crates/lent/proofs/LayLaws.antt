@@ -12,13 +12,13 @@ use Rattle.sequence.specs.declared.Meaning.{Meaning}
 use Rattle.requests.specs.declared.Request.{Request}
 use Rattle.slots.specs.declared.Slot.{Slot}
 use Rattle.slots.specs.declared.Waiting.{Waiting}
-use Rattle.layouts.specs.Fields.{lowFirst, numberAt, encode, decode, laid}
-use Rattle.layouts.specs.Records.{shifted, recordsAt}
+use Rattle.layouts.specs.Fields.{size, lowFirst, numberAt, encode, decodeFrom, decode, laid}
+use Rattle.layouts.specs.Records.{recordsAt}
 use Rattle.layouts.proofs.FieldLaws.{laidAll, laid-all, laid-next}
-use Rattle.layouts.proofs.RecordLaws.{encode-shifted, recordsAt-more, flatMap-more, flatMap-length}
+use Rattle.layouts.proofs.RecordLaws.{recordsAt-more, flatMap-more, flatMap-length}
 use Rattle.lent.specs.declared.phases.PhaseFields.{PhaseFields}
 use Rattle.lent.specs.declared.said.FieldBytes.{FieldBytes}
-use Rattle.lent.specs.Layout.{run, requestFields, slotFields, waitingFields}
+use Rattle.lent.specs.Layout.{run, requestFields, slotFields, waitingFields, slotSize, waitingSize}
 use Rattle.lent.specs.Numbers.{numbersFrom, modeMark, requestNumbers, phaseFields, phaseNumbers, slotNumbers, waitingNumbers}
 use Rattle.lent.specs.Meanings.{fieldBytes, meaningFields, meaningNumbers, meaningBytes}
 use Rattle.lent.specs.Stations.{slotBytes, waitingBytes}
@@ -48,19 +48,18 @@ pub digit-taken : (d b : List ℕ) (i p : ℕ) → i + 1 ≤ length d → take i
 digit-taken d b i p h e =
     rw (add-one i) (take-suc-set d i (getD b (p + i) 0) (omega arith) ∙ (rw e (sym (numbers-more i p b))))
 
-digits-read : (name : String) (n k : ℕ) (b : List ℕ) (p : ℕ) → decode (run name n k) b p ≡ numbersFrom n (p + k) b
-digits-read name zero k b p = refl
-digits-read name (suc n) k b p =
-    let e : p + (k + 1) ≡ p + k + 1 = omega arith in
-    ap (λ r. getD b (p + k) 0 ∷ r) (digits-read name n (k + 1) b p ∙ (rw e))
+digits-read : (name : String) (n : ℕ) (b : List ℕ) (p o : ℕ) → decodeFrom (run name n) b p o ≡ numbersFrom n (p + o) b
+digits-read name zero b p o = refl
+digits-read name (suc n) b p o =
+    let e : p + (o + 1) ≡ p + o + 1 = omega arith in
+    ap (λ r. getD b (p + o) 0 ∷ r) (digits-read name n b p (o + 1) ∙ (rw e))
 
-pub request-digits : (b : List ℕ) (p : ℕ) → drop 5 (decode requestFields b p) ≡ numbersFrom 16 (p + 11) b
+pub request-digits : (b : List ℕ) (p : ℕ) → drop 5 (decode requestFields b p) ≡ numbersFrom 16 (p + size (take 5 requestFields)) b
 unfolding requestFields
-request-digits b p = digits-read "digit" 16 11 b p
+request-digits b p = digits-read "digit" 16 b p (size (take 5 requestFields))
 
-pub meaning-digits : (b : List ℕ) → drop 10 (decode meaningFields b 0) ≡ numbersFrom 16 16 b
-unfolding meaningFields
-meaning-digits b = digits-read "digit" 16 16 b 0
+pub meaning-digits : (b : List ℕ) → drop 10 (decode meaningFields b 0) ≡ numbersFrom 16 (size (take 10 meaningFields)) b
+meaning-digits b = digits-read "digit" 16 b 0 (size (take 10 meaningFields))
 
 -- the digits of a stored number
 pub sixteen : (d : List ℕ) → length d ≡ 16 → numbersFrom 16 0 d ≡ d
@@ -84,7 +83,7 @@ pub meaning-laid : (m : Meaning) (f : FieldBytes) (room : List ℕ) → length (
     ∷ m .number .digits
     ∷ [])
     ≡ laid room 0 (meaningBytes m)
-unfolding flatten meaningBytes meaningFields meaningNumbers
+unfolding flatten meaningBytes meaningNumbers
 meaning-laid m f room w e =
     laid-all room 0 (lowFirst 4 (m .address))
     (lowFirst 4 (m .sender) ∷ (m .first ∷ m .second ∷ f .kind ∷ f .first ∷ f .second ∷ f .third ∷ m .number .count ∷ m .end ∷ []) ∷ m .number .digits ∷ [])
@@ -101,27 +100,27 @@ phase-laid f room p h =
     (lowFirst 4 (f .time) ∷ (f .carrier .mark ∷ []) ∷ lowFirst 4 (f .carrier .due) ∷ (f .told .mark ∷ f .told .hours ∷ f .told .minutes ∷ f .told .seconds ∷ []) ∷ []) h
 
 pub slot-laid : (s : Slot) (f : PhaseFields) (room : List ℕ) (p : ℕ) → f ≡ phaseFields (s .phase) → p ≤ length room
-    → laidAll (laid room p (encode (take 8 slotFields) (phaseNumbers f []))) p 14
+    → laidAll (laid room p (encode (take 8 slotFields) (phaseNumbers f []))) p (size (take 8 slotFields))
     (lowFirst 4 (s .channel .0) ∷ encode requestFields (requestNumbers (s .request)) ∷ [])
     ≡ laid room p (slotBytes s)
 unfolding flatten slotBytes slotFields slotNumbers
 slot-laid s f room p e h =
     laid-all room p (encode (take 8 slotFields) (phaseNumbers f [])) (lowFirst 4 (s .channel .0) ∷ encode requestFields (requestNumbers (s .request)) ∷ []) h
-    ∙ (rw (append-nil (encode requestFields (requestNumbers (s .request))), e, encode-shifted 18 requestFields (requestNumbers (s .request))))
+    ∙ (rw (append-nil (encode requestFields (requestNumbers (s .request))), e))
 
 pub waiting-laid : (w : Waiting) (room : List ℕ) (p : ℕ) → p ≤ length room
     → laidAll (laid room p (lowFirst 4 (w .due .0))) p 4 (encode requestFields (requestNumbers (w .request)) ∷ []) ≡ laid room p (waitingBytes w)
 unfolding flatten waitingBytes waitingFields waitingNumbers
 waiting-laid w room p h =
     laid-all room p (lowFirst 4 (w .due .0)) (encode requestFields (requestNumbers (w .request)) ∷ []) h
-    ∙ (rw (append-nil (encode requestFields (requestNumbers (w .request))), encode-shifted 4 requestFields (requestNumbers (w .request))))
+    ∙ (rw (append-nil (encode requestFields (requestNumbers (w .request)))))
 
-pub slot-size : (s : Slot) → length (slotBytes s) ≡ 45
-unfolding slotBytes slotFields slotNumbers requestFields requestNumbers shifted
+pub slot-size : (s : Slot) → length (slotBytes s) ≡ slotSize
+unfolding slotBytes slotFields slotNumbers requestFields requestNumbers
 slot-size s = refl
 
-pub waiting-size : (w : Waiting) → length (waitingBytes w) ≡ 31
-unfolding waitingBytes waitingFields waitingNumbers requestFields requestNumbers shifted
+pub waiting-size : (w : Waiting) → length (waitingBytes w) ≡ waitingSize
+unfolding waitingBytes waitingFields waitingNumbers requestFields requestNumbers
 waiting-size w = refl
 
 -- ── one record more ──────────────────────────────────────────────────────────

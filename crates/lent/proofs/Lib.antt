@@ -1,3 +1,4 @@
+pub mod Computed
 pub mod LayLaws
 pub mod StationLaws
 pub mod FoundAgain

@@ -1,5 +1,5 @@
--- The 32 bytes of a valid meaning stand for that meaning again, so what was read can be handed to the writer as it stands; and no
--- other 32 bytes stand for it.
+-- The bytes of a valid meaning stand for that meaning again, so what was read can be handed to the writer as it stands; and no
+-- other bytes stand for it.
 use Prim.Native.Nat.{ℕ, _+_, _%_, _≤_}
 use mathlib.Core.Path.{_≡_, refl, ap, _∙_}
 use mathlib.Core.Bool.{true, false}
@@ -22,7 +22,7 @@ use Rattle.writing.proofs.Valid.{parts}
 use Rattle.layouts.specs.Fields.{encode, decode}
 use Rattle.layouts.proofs.FieldLaws.{there-and-back, back-and-there}
 use Rattle.lent.specs.declared.said.FieldBytes.{FieldBytes}
-use Rattle.lent.specs.Meanings.{meaningFields, fieldBytes, meaningNumbers, meaningBytes, noField, fieldFrom, meaningIn, meaningFrom}
+use Rattle.lent.specs.Meanings.{meaningFields, meaningSize, fieldBytes, meaningNumbers, meaningBytes, noField, fieldFrom, meaningIn, meaningFrom}
 use Rattle.lent.specs.Statement.{MeaningIsFoundAgain, MeaningIsLaidAgain}
 use Rattle.lent.proofs.LayLaws.{sixteen}
 
@@ -40,18 +40,18 @@ unfolding meaningIn meaningNumbers
 numbers-back m v = rw (field-back (m .first) (m .field) (parts m v .field), sixteen (m .number .digits) (fit (m .number) (parts m v .number) .wide))
 
 decoded : (m : Meaning) (rest : List ℕ) → decode meaningFields (meaningBytes m ++ rest) 0 ≡ meaningNumbers m
-unfolding meaningBytes meaningFields meaningNumbers
+unfolding meaningBytes meaningNumbers
 decoded m rest = there-and-back meaningFields (meaningNumbers m) [] rest 0 0 refl refl refl
 
-size : (m : Meaning) → length (meaningBytes m) ≡ 32
-unfolding meaningBytes meaningFields meaningNumbers
-size m = refl
+meaning-size : (m : Meaning) → length (meaningBytes m) ≡ meaningSize
+unfolding meaningBytes meaningNumbers
+meaning-size m = refl
 
 pub meaning-is-found-again : MeaningIsFoundAgain
 unfolding meaningFrom
 meaning-is-found-again m rest =
-    let long : 32 ≤ length (meaningBytes m ++ rest) = rw (length-append (meaningBytes m) rest, size m) (omega arith) in
-    (size m, λ v. rw (le-leb _ _ long, decoded m rest) (numbers-back m v))
+    let long : meaningSize ≤ length (meaningBytes m ++ rest) = rw (length-append (meaningBytes m) rest, meaning-size m) (omega arith) in
+    (meaning-size m, λ v. rw (le-leb _ _ long, decoded m rest) (numbers-back m v))
 
 -- ── bytes that tell a valid meaning ──────────────────────────────────────────
 
@@ -82,15 +82,15 @@ field-again first f h = go (which (eqb (f .kind) 2)) (which (eqb (f .second) 0))
 
 numbers-again : (b : List ℕ) → ((j : ℕ) → getD b j 0 ≤ 255) → valid (meaningIn (decode meaningFields b 0)) ≡ true
     → meaningNumbers (meaningIn (decode meaningFields b 0)) ≡ decode meaningFields b 0
-unfolding meaningIn meaningNumbers meaningFields
+unfolding meaningIn meaningNumbers
 numbers-again b small v =
     rw (field-again (getD b 8 0) (record { kind = getD b 10 0; first = getD b 11 0; second = getD b 12 0; third = getD b 13 0 }) (small 11) (parts (meaningIn (decode meaningFields b 0)) v .field))
 
-laid-again : (b : List ℕ) → 32 ≤ length b → ((j : ℕ) → getD b j 0 ≤ 255) → valid (meaningIn (decode meaningFields b 0)) ≡ true
-    → meaningBytes (meaningIn (decode meaningFields b 0)) ≡ take 32 b
+laid-again : (b : List ℕ) → meaningSize ≤ length b → ((j : ℕ) → getD b j 0 ≤ 255) → valid (meaningIn (decode meaningFields b 0)) ≡ true
+    → meaningBytes (meaningIn (decode meaningFields b 0)) ≡ take meaningSize b
 unfolding meaningBytes
 laid-again b long small v =
-    ap (encode meaningFields) (numbers-again b small v) ∙ (unfold meaningFields in back-and-there meaningFields b 0 0 small refl (omega arith))
+    ap (encode meaningFields) (numbers-again b small v) ∙ back-and-there meaningFields b 0 0 small long
 
 blank-is-none : valid blankMeaning ≡ false
 unfolding valid blankMeaning identitiesOk isShip isCoast
@@ -98,11 +98,11 @@ blank-is-none = refl
 
 pub meaning-is-laid-again : MeaningIsLaidAgain
 unfolding meaningFrom
-meaning-is-laid-again b bytes = go (which (leb 32 (length b)))
+meaning-is-laid-again b bytes = go (which (leb meaningSize (length b)))
   where
-    go : Either (leb 32 (length b)) → valid (meaningFrom b) ≡ true → (32 ≤ length b) × (meaningBytes (meaningFrom b) ≡ take 32 b)
+    go : Either (leb meaningSize (length b)) → valid (meaningFrom b) ≡ true → (meaningSize ≤ length b) × (meaningBytes (meaningFrom b) ≡ take meaningSize b)
     go (yes! h) v =
-        let long = leb-true 32 (length b) h in
+        let long = leb-true meaningSize (length b) h in
         (long, rw h (laid-again b long (λ j. all-at 255 b j bytes) (rw h at v)))
     go (no! h) v =
         let f : valid blankMeaning ≡ true = rw h at v in

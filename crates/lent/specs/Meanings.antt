@@ -1,4 +1,4 @@
--- A meaning in 32 bytes, as a host in C lends them.
+-- A meaning in bytes, as a host in C lends them.
 use Prim.Native.Nat.{ℕ, _%_}
 use mathlib.Core.Bool.{cond}
 use mathlib.Core.List.{List, _∷_}
@@ -7,25 +7,29 @@ use lib.ListN.{length, getD, drop}
 use Rattle.sequence.specs.declared.Field.{Field as ChannelField}
 use Rattle.sequence.specs.declared.Field.the-variants.{Blank, Channel, Duration}
 use Rattle.sequence.specs.declared.Meaning.{Meaning}
+use Rattle.sequence.specs.Figures.{mostDigits}
 use Rattle.sequence.specs.Reading.{blankMeaning}
-use Rattle.layouts.specs.Fields.{Field, row, encode, decode, laid}
+use Rattle.layouts.specs.Fields.{Field, row, size, encode, decode, laid}
 use Rattle.lent.specs.declared.said.FieldBytes.{FieldBytes}
 use Rattle.lent.specs.Layout.{run}
 use Rattle.lent.specs.Numbers.{numbersFrom}
 
-unfoldable pub meaningFields : List Field
+abbrev pub meaningFields : List Field
 meaningFields =
-    row "address" 4 0
-    ∷ row "sender" 4 4
-    ∷ row "first telecommand" 1 8
-    ∷ row "second telecommand" 1 9
-    ∷ row "kind of the channel field" 1 10
-    ∷ row "its first byte" 1 11
-    ∷ row "its second byte" 1 12
-    ∷ row "its third byte" 1 13
-    ∷ row "count of digits" 1 14
-    ∷ row "end of sequence" 1 15
-    ∷ run "digit" 16 16
+    row "address" 4
+    ∷ row "sender" 4
+    ∷ row "first telecommand" 1
+    ∷ row "second telecommand" 1
+    ∷ row "kind of the channel field" 1
+    ∷ row "its first byte" 1
+    ∷ row "its second byte" 1
+    ∷ row "its third byte" 1
+    ∷ row "count of digits" 1
+    ∷ row "end of sequence" 1
+    ∷ run "digit" mostDigits
+
+abbrev pub meaningSize : ℕ
+meaningSize = size meaningFields
 
 -- the kind of a field (0 blank, 1 channel, 2 duration), and what it holds
 abbrev pub fieldBytes : ChannelField → FieldBytes
@@ -45,7 +49,7 @@ meaningNumbers m =
     ∷ fieldBytes (m .field) .third
     ∷ m .number .count
     ∷ m .end
-    ∷ numbersFrom 16 0 (m .number .digits)
+    ∷ numbersFrom mostDigits 0 (m .number .digits)
 
 unfoldable pub meaningBytes : Meaning → List ℕ
 meaningBytes m = encode meaningFields (meaningNumbers m)
@@ -75,10 +79,10 @@ meaningIn ns =
       end = getD ns 9 0;
     }
 
--- fewer than 32 bytes tell no meaning
+-- fewer bytes tell no meaning
 unfoldable pub meaningFrom : List ℕ → Meaning
-meaningFrom b = cond (leb 32 (length b)) (meaningIn (decode meaningFields b 0)) blankMeaning
+meaningFrom b = cond (leb meaningSize (length b)) (meaningIn (decode meaningFields b 0)) blankMeaning
 
--- at the front of lent bytes; fewer than 32 stay as they are
+-- at the front of lent bytes; fewer stay as they are
 unfoldable pub meaningLaid : Meaning → List ℕ → List ℕ
-meaningLaid m room = cond (leb 32 (length room)) (laid room 0 (meaningBytes m)) room
+meaningLaid m room = cond (leb meaningSize (length room)) (laid room 0 (meaningBytes m)) room

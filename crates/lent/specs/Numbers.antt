@@ -1,11 +1,14 @@
 -- The numbers of a slot, a waiting ship and a station, one for each field, and what so many numbers stand for.
-use Prim.Native.Nat.{ℕ, zero, suc, _+_}
+use Prim.Native.Nat.{ℕ, zero, suc, _+_, _*_}
 use mathlib.Core.Bool.{cond}
 use mathlib.Core.List.{List, [], _∷_, _++_, flatMap}
 use lib.Dec.{leb, eqb}
-use lib.ListN.{getD, drop}
+use lib.ListN.{length, getD, drop}
 use Rattle.units.specs.declared.Told.{Told}
 use Rattle.units.specs.declared.Told.the-variants.{Nothing, Lasting}
+use Rattle.units.specs.Units.{greatest}
+use Rattle.sequence.specs.Figures.{mostDigits}
+use Rattle.rules.specs.Sound.{mostSlots, queueRoom}
 use Rattle.requests.specs.declared.Mode.{Mode}
 use Rattle.requests.specs.declared.Mode.the-variants.{Simplex, Duplex}
 use Rattle.requests.specs.declared.Request.{Request}
@@ -19,6 +22,7 @@ use Rattle.slots.specs.declared.Waiting.{Waiting}
 use Rattle.slots.specs.Images.{tenths}
 use Rattle.station.specs.declared.Station.{Station}
 use Rattle.layouts.specs.Records.{recordsIn}
+use Rattle.lent.specs.Layout.{slotFields, waitingFields, headFields}
 use Rattle.lent.specs.declared.phases.CarrierFields.{CarrierFields}
 use Rattle.lent.specs.declared.phases.ToldFields.{ToldFields}
 use Rattle.lent.specs.declared.phases.PhaseFields.{PhaseFields}
@@ -37,7 +41,7 @@ modeMark Duplex = 1
 
 unfoldable pub requestNumbers : Request → List ℕ
 requestNumbers q =
-    q .ship ∷ q .station ∷ modeMark (q .mode) ∷ q .second ∷ q .number .count ∷ numbersFrom 16 0 (q .number .digits)
+    q .ship ∷ q .station ∷ modeMark (q .mode) ∷ q .second ∷ q .number .count ∷ numbersFrom mostDigits 0 (q .number .digits)
 
 abbrev pub modeFrom : ℕ → Mode
 modeFrom mark = cond (eqb mark 0) Simplex Duplex
@@ -82,7 +86,7 @@ phaseFields Taken = fieldsOf 8 0 Present Nothing
 
 -- marks that are none give a time and a duration that no station may have: 29
 unfoldable pub carrierFrom : CarrierFields → Carrier
-carrierFrom f = cond (eqb (f .mark) 0) Present (cond (eqb (f .mark) 1) (Lost (tenths (f .due))) (Lost (tenths 4294967295)))
+carrierFrom f = cond (eqb (f .mark) 0) Present (cond (eqb (f .mark) 1) (Lost (tenths (f .due))) (Lost (tenths greatest)))
 
 unfoldable pub toldFrom : ToldFields → Told
 toldFrom f =
@@ -100,7 +104,7 @@ phaseFrom f =
     (cond (eqb (f .kind) 5) (Dialling (tenths (f .time)) (carrierFrom (f .carrier)))
     (cond (eqb (f .kind) 6) (Answered (tenths (f .time)) (carrierFrom (f .carrier)))
     (cond (eqb (f .kind) 7) (Hold (tenths (f .time)) (toldFrom (f .told)))
-    (cond (eqb (f .kind) 8) Taken (Offered (tenths 4294967295))))))))))
+    (cond (eqb (f .kind) 8) Taken (Offered (tenths greatest))))))))))
 
 -- ── a slot, a waiting ship, a station ────────────────────────────────────────
 
@@ -148,6 +152,6 @@ stationIn ns =
       identity = getD ns 1 0;
       count = getD ns 2 0;
       waiting = getD ns 3 0;
-      slots = recordsIn slotFrom 16 30 (drop 4 ns);
-      queue = recordsIn waitingFrom 32 22 (drop 484 ns);
+      slots = recordsIn slotFrom mostSlots (length slotFields) (drop (length headFields) ns);
+      queue = recordsIn waitingFrom queueRoom (length waitingFields) (drop (length slotFields * mostSlots) (drop (length headFields) ns));
     }

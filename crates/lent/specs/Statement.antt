@@ -11,21 +11,22 @@ use Rattle.sequence.specs.Layout.{valid}
 use Rattle.rules.specs.Words.{Config, Event}
 use Rattle.station.specs.declared.Station.{Station}
 use Rattle.station.specs.Step.{refusal, steppedBy, setUpOf}
-use Rattle.lent.specs.Meanings.{meaningBytes, meaningFrom}
+use Rattle.lent.specs.Layout.{stationSize}
+use Rattle.lent.specs.Meanings.{meaningSize, meaningBytes, meaningFrom}
 use Rattle.lent.specs.Stations.{stationBytes, stationFrom}
 
--- the 32 bytes of a valid meaning, whatever stands behind them
+-- the bytes of a valid meaning, whatever stands behind them
 abbrev pub MeaningIsFoundAgain : Type 0
-MeaningIsFoundAgain = (m : Meaning) (rest : List ℕ) → (length (meaningBytes m) ≡ 32) × (valid m ≡ true → meaningFrom (meaningBytes m ++ rest) ≡ m)
+MeaningIsFoundAgain = (m : Meaning) (rest : List ℕ) → (length (meaningBytes m) ≡ meaningSize) × (valid m ≡ true → meaningFrom (meaningBytes m ++ rest) ≡ m)
 
--- and bytes that tell a valid meaning are that meaning's, all 32 of them
+-- and bytes that tell a valid meaning are that meaning's, all of them
 abbrev pub MeaningIsLaidAgain : Type 0
 MeaningIsLaidAgain = (b : List ℕ) → allAtMost 255 b ≡ true → valid (meaningFrom b) ≡ true
-    → (32 ≤ length b) × (meaningBytes (meaningFrom b) ≡ take 32 b)
+    → (meaningSize ≤ length b) × (meaningBytes (meaningFrom b) ≡ take meaningSize b)
 
--- decoding what was encoded gives the station back, and it takes 1722 bytes
+-- decoding what was encoded gives the station back, and it takes a station's bytes
 abbrev pub FoundAgain : Station → Type 0
-FoundAgain s = (length (stationBytes s) ≡ 1722) × (stationFrom (stationBytes s) ≡ s)
+FoundAgain s = (length (stationBytes s) ≡ stationSize) × (stationFrom (stationBytes s) ≡ s)
 
 -- every station that set-up hands out, and every station that an accepted event does
 abbrev pub HandedOutIsFoundAgain : Type 0
@@ -35,4 +36,4 @@ HandedOutIsFoundAgain =
 
 -- bytes of another size stand for a station that every event refuses with 29
 abbrev pub WrongSizeIsNotSound : Type 0
-WrongSizeIsNotSound = (b : List ℕ) → (length b ≡ 1722 → ⊥) → (e : Event) → refusal (stationFrom b) e ≡ some 29
+WrongSizeIsNotSound = (b : List ℕ) → (length b ≡ stationSize → ⊥) → (e : Event) → refusal (stationFrom b) e ≡ some 29

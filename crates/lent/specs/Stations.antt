@@ -9,7 +9,7 @@ use Rattle.slots.specs.declared.Waiting.{Waiting}
 use Rattle.station.specs.declared.Station.{Station}
 use Rattle.station.specs.Step.{blankStation}
 use Rattle.layouts.specs.Fields.{encode, decode}
-use Rattle.lent.specs.Layout.{slotFields, waitingFields, stationFields}
+use Rattle.lent.specs.Layout.{slotFields, waitingFields, stationFields, stationSize}
 use Rattle.lent.specs.Numbers.{slotNumbers, waitingNumbers, stationNumbers, stationIn}
 
 unfoldable pub stationBytes : Station → List ℕ
@@ -17,11 +17,11 @@ stationBytes s = encode stationFields (stationNumbers s)
 
 -- bytes of another size stand for the blank station, which is not sound: 29
 unfoldable pub stationFrom : List ℕ → Station
-stationFrom b = cond (eqb (length b) 1722) (stationIn (decode stationFields b 0)) blankStation
+stationFrom b = cond (eqb (length b) stationSize) (stationIn (decode stationFields b 0)) blankStation
 
 -- lent bytes of another size stay as they are
 unfoldable pub stationLaid : Station → List ℕ → List ℕ
-stationLaid s b = cond (eqb (length b) 1722) (stationBytes s) b
+stationLaid s b = cond (eqb (length b) stationSize) (stationBytes s) b
 
 -- one slot's, and one waiting ship's
 unfoldable pub slotBytes : Slot → List ℕ

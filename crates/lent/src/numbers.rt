@@ -2,8 +2,10 @@
 ghost use mathlib.Core.Path.{_≡_};
 ghost use Prim.Native.Nat.{_+_, _≤_};
 ghost use lib.ListN.{length};
+ghost use Rattle.sequence.specs.Figures.{mostDigits};
 ghost use Rattle.layouts.specs.Fields.{lowFirst, numberAt, laid};
 ghost use Rattle.lent.specs.Numbers.{numbersFrom};
+use sequence::DIGITS;
 
 pub(crate) fn four_at(bytes: &[u8], i: usize) -> u32
     requires { ⌜ i + 4 ≤ length (now bytes) ⌝ }
@@ -16,13 +18,13 @@ pub(crate) fn four_at(bytes: &[u8], i: usize) -> u32
 }
 
 // Sixteen digits, one a byte.
-pub(crate) fn digits_at(bytes: &[u8], place: usize) -> [u8; 16]
-    requires { ⌜ place + 16 ≤ length (now bytes) ⌝ }
-    ensures { λ r. ⌜ r ≡ numbersFrom 16 place (now (bytes .entry)) ⌝ }
+pub(crate) fn digits_at(bytes: &[u8], place: usize) -> [u8; DIGITS]
+    requires { ⌜ place + mostDigits ≤ length (now bytes) ⌝ }
+    ensures { λ r. ⌜ r ≡ numbersFrom mostDigits place (now (bytes .entry)) ⌝ }
 {
-    let mut digits = [0u8; 16];
+    let mut digits = [0u8; DIGITS];
     let mut i = 0;
-    while i < 16 {
+    while i < DIGITS {
         digits[i] = bytes[place + i];
         i += 1;
     }

@@ -6,6 +6,7 @@ ghost use Rattle.lent.specs.Numbers.{carrierFields, toldFields, fieldsOf
 use slots::Carrier;
 use slots::Phase;
 use units::Duration;
+use units::GREATEST;
 use units::Tenths;
 use units::Told;
 
@@ -101,7 +102,7 @@ fn carrier_from(f: CarrierFields) -> Carrier
     if f.mark == 1 {
         return Carrier::Lost(Tenths(f.due));
     }
-    Carrier::Lost(Tenths(4294967295))
+    Carrier::Lost(Tenths(GREATEST))
 }
 
 fn told_from(f: ToldFields) -> Told
@@ -160,5 +161,5 @@ pub(crate) fn phase_from(f: PhaseFields) -> Phase
     if kind == 8 {
         return Phase::Taken;
     }
-    Phase::Offered(Tenths(4294967295))
+    Phase::Offered(Tenths(GREATEST))
 }

@@ -1,4 +1,4 @@
-// A meaning in 32 bytes: laid into a lent room, and taken out of one.
+// A meaning in bytes: laid into a lent room, and taken out of one.
 ghost use mathlib.Core.Path.{_≡_};
 ghost use Rattle.lent.specs.Meanings.{fieldBytes, noField, fieldFrom, meaningFrom, meaningLaid};
 use crate::numbers::digits_at;
@@ -6,11 +6,35 @@ use crate::numbers::four_at;
 use crate::numbers::lay;
 use crate::numbers::low_first;
 use reading::blank_meaning;
+use sequence::DIGITS;
 use sequence::Field;
 use sequence::Meaning;
 use sequence::Number;
 use units::Channel;
 use units::Duration;
+
+// Where each field stands: behind the one before it, from the address on.
+const SENDER: usize = 4;
+
+const FIRST: usize = SENDER + 4;
+
+const SECOND: usize = FIRST + 1;
+
+const KIND: usize = SECOND + 1;
+
+const FIELD_FIRST: usize = KIND + 1;
+
+const FIELD_SECOND: usize = FIELD_FIRST + 1;
+
+const FIELD_THIRD: usize = FIELD_SECOND + 1;
+
+const COUNT: usize = FIELD_THIRD + 1;
+
+const END: usize = COUNT + 1;
+
+const DIGITS_PLACE: usize = END + 1;
+
+pub const MEANING_SIZE: usize = DIGITS_PLACE + DIGITS;
 
 // The kind of a channel field, and what it holds.
 struct FieldBytes {
@@ -48,7 +72,7 @@ fn field_bytes(field: Field) -> FieldBytes
 pub fn lay_meaning(m: Meaning, room: &mut [u8])
     ensures { λ _. ⌜ now (room .exit) ≡ meaningLaid m (now (room .entry)) ⌝ }
 {
-    if room.len() < 32 {
+    if room.len() < MEANING_SIZE {
         return;
     }
     let number = m.number;
@@ -68,9 +92,9 @@ pub fn lay_meaning(m: Meaning, room: &mut [u8])
         m.end,
     ];
     lay(&address, 0, room);
-    lay(&sender, 4, room);
-    lay(&marks, 8, room);
-    lay(&digits, 16, room);
+    lay(&sender, SENDER, room);
+    lay(&marks, FIRST, room);
+    lay(&digits, DIGITS_PLACE, room);
 }
 
 fn no_field() -> Field
@@ -111,30 +135,30 @@ fn field_from(f: FieldBytes) -> Field
     Field::Blank
 }
 
-// Fewer than 32 bytes tell no meaning.
+// Fewer bytes tell no meaning.
 pub fn meaning_from(bytes: &[u8]) -> Meaning
     ensures { λ r. ⌜ r ≡ meaningFrom (now (bytes .entry)) ⌝ }
 {
-    if bytes.len() < 32 {
+    if bytes.len() < MEANING_SIZE {
         return blank_meaning();
     }
     let field = field_from(FieldBytes {
-        kind: bytes[10],
-        first: bytes[11],
-        second: bytes[12],
-        third: bytes[13],
+        kind: bytes[KIND],
+        first: bytes[FIELD_FIRST],
+        second: bytes[FIELD_SECOND],
+        third: bytes[FIELD_THIRD],
     });
-    let digits = digits_at(bytes, 16);
+    let digits = digits_at(bytes, DIGITS_PLACE);
     Meaning {
         address: four_at(bytes, 0),
-        sender: four_at(bytes, 4),
-        first: bytes[8],
-        second: bytes[9],
+        sender: four_at(bytes, SENDER),
+        first: bytes[FIRST],
+        second: bytes[SECOND],
         field: field,
         number: Number {
-            count: bytes[14],
+            count: bytes[COUNT],
             digits: digits,
         },
-        end: bytes[15],
+        end: bytes[END],
     }
 }

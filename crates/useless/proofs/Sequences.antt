@@ -13,6 +13,7 @@ use Rattle.sequence.specs.declared.Field.the-variants.{Blank}
 use Rattle.sequence.specs.declared.Meaning.{Meaning}
 use Rattle.sequence.specs.declared.Reading.{Reading}
 use Rattle.sequence.specs.declared.Written.{Written}
+use Rattle.sequence.specs.Figures.{longest}
 use Rattle.sequence.specs.Symbols.{allAtMost}
 use Rattle.sequence.specs.Identity.{isShip, isCoast, identitiesOk}
 use Rattle.sequence.specs.Field.{isCall, unableSecond, telecommandsOk, fieldOk}
@@ -29,7 +30,7 @@ use Rattle.meanings.proofs.RoundTrip.{reads-back}
 use Rattle.rules.specs.Bytes.{padded, numberOf}
 use Rattle.rules.specs.Runs.{usual}
 use Rattle.layouts.specs.Fields.{laid}
-use Rattle.lent.specs.Meanings.{meaningFields, meaningNumbers, meaningBytes, meaningFrom, meaningLaid}
+use Rattle.lent.specs.Meanings.{meaningNumbers, meaningBytes, meaningFrom, meaningLaid, meaningSize}
 use Rattle.lent.proofs.MeaningBack.{meaning-is-found-again}
 use Rattle.exchange.specs.Sequences.{readAnswer, meaningAfter, answerAndCount, writeAnswer, roomAfterWriting}
 use Rattle.useless.specs.Versions.{Anything}
@@ -84,11 +85,11 @@ no-useless-reader =
 written-is : (x : ToWrite) (y : Wrote) → WrittenBy x y → (y .written ≡ writtenOf (x .meaning) (length (x .room))) × (y .left ≡ roomAfter (x .meaning) (x .room))
 written-is _ _ (by-write κs a r s p) = (p .0, p .1)
 
-write-done : (n : ℕ) → 28 ≤ n → writingAnswer asked n ≡ Done
+write-done : (n : ℕ) → longest ≤ n → writingAnswer asked n ≡ Done
 unfolding writingAnswer
-write-done n h = rw (le-leb 28 n h) (valid-done asked asked-valid)
+write-done n h = rw (le-leb longest n h) (valid-done asked asked-valid)
 
-first-written : (room : List ℕ) → 28 ≤ length room → getD (roomAfter asked room) 0 0 ≡ 123
+first-written : (room : List ℕ) → longest ≤ length room → getD (roomAfter asked room) 0 0 ≡ 123
 unfolding roomAfter layout body front
 first-written room h = rw (write-done (length room) h) refl
 
@@ -116,15 +117,15 @@ write-counted m room size e = go (which (isDone (writingAnswer m (length room)))
         rw (d, rest) (sym (symbols-laid (layout m) (more .0) (small m (written m (length room) d .0))))
     go (no! d) = rw d (sym (ap symbolsIn e ∙ no-symbols size))
 
-long : 28 ≤ length (replicate {A = ℕ} 28 0)
-long = rw (length-replicate {A = ℕ} 28 0) (omega arith)
+long : longest ≤ length (replicate {A = ℕ} longest 0)
+long = rw (length-replicate {A = ℕ} longest 0) (omega arith)
 
 short : (m : Meaning) → writingAnswer m 0 ≡ ShortRoom
 unfolding writingAnswer
 short m = refl
 
 -- the first byte of a room of zeros is not a sequence's
-not-zeros : (left : List ℕ) → getD left 0 0 ≡ 123 → left ≡ replicate 28 0 → ⊥
+not-zeros : (left : List ℕ) → getD left 0 0 ≡ 123 → left ≡ replicate longest 0 → ⊥
 not-zeros left f e = let q : _≡_ {A = ℕ} 123 0 = sym f ∙ ap (λ (l : List ℕ). getD l 0 0) e in omega (arith, q)
 
 pub no-useless-writer : NoUselessWriter
@@ -132,13 +133,13 @@ unfolding NoUselessWriter writtenOf
 no-useless-writer =
     let ask : List ℕ → ToWrite = λ room. record { meaning = asked; room = room } in
     shut-out Anything writerSigns WrittenBy (record {
-      past = ask (replicate 28 0) ∷ [];
+      past = ask (replicate longest 0) ∷ [];
       begun = one;
-      doable = ask (replicate 28 0);
+      doable = ask (replicate longest 0);
       doable-comes = tt;
       done = λ y m. ap (λ (w : Written). answerNumber (w .answer)) (written-is _ y m .0) ∙ ap answerNumber (write-done _ long);
-      busy = λ y m i. not-zeros (y .left) (ap (λ (l : List ℕ). getD l 0 0) (written-is _ y m .1) ∙ first-written (replicate 28 0) long) i;
-      later = ask (replicate 28 0) ∷ [];
+      busy = λ y m i. not-zeros (y .left) (ap (λ (l : List ℕ). getD l 0 0) (written-is _ y m .1) ∙ first-written (replicate longest 0) long) i;
+      later = ask (replicate longest 0) ∷ [];
       begun-later = one;
       bad = ask [];
       bad-comes = tt;
@@ -151,21 +152,21 @@ no-useless-writer =
 c-read-is : (x : Lent) (y : Left) → ReadInC x y → (y .number ≡ readAnswer (x .given) (length (x .room))) × (y .left ≡ meaningAfter (x .given) (x .room))
 c-read-is _ _ (by-coast-read-sequence κs a r s p) = (p .0, p .1)
 
-c-read-done : (n : ℕ) → 32 ≤ n → readAnswer (layout asked) n ≡ 0
+c-read-done : (n : ℕ) → meaningSize ≤ n → readAnswer (layout asked) n ≡ 0
 unfolding readAnswer
-c-read-done n h = rw (le-leb 32 n h, read-asked)
+c-read-done n h = rw (le-leb meaningSize n h, read-asked)
 
-enough : 32 ≤ length (replicate {A = ℕ} 32 0)
-enough = rw (length-replicate {A = ℕ} 32 0) (omega arith)
+enough : meaningSize ≤ length (replicate {A = ℕ} meaningSize 0)
+enough = rw (length-replicate {A = ℕ} meaningSize 0) (omega arith)
 
 -- the lowest byte of the address
-first-laid : getD (meaningLaid asked (replicate 32 0)) 0 0 ≡ 82
-unfolding meaningLaid laid meaningBytes meaningFields meaningNumbers padded
+first-laid : getD (meaningLaid asked (replicate meaningSize 0)) 0 0 ≡ 82
+unfolding meaningLaid laid meaningBytes meaningNumbers padded
 first-laid = refl
 
-c-first-read : getD (meaningAfter (layout asked) (replicate 32 0)) 0 0 ≡ 82
+c-first-read : getD (meaningAfter (layout asked) (replicate meaningSize 0)) 0 0 ≡ 82
 unfolding meaningAfter
-c-first-read = rw (c-read-done (length (replicate {A = ℕ} 32 0)) enough, read-asked) first-laid
+c-first-read = rw (c-read-done (length (replicate {A = ℕ} meaningSize 0)) enough, read-asked) first-laid
 
 c-read-short : (s : List ℕ) → readAnswer s 0 ≡ 22
 unfolding readAnswer
@@ -176,13 +177,13 @@ unfolding NoUselessReadInC
 no-useless-read-in-c =
     let lend : List ℕ → Lent = λ room. record { given = layout asked; room = room } in
     shut-out Anything readSigns ReadInC (record {
-      past = lend (replicate 32 0) ∷ [];
+      past = lend (replicate meaningSize 0) ∷ [];
       begun = one;
-      doable = lend (replicate 32 0);
+      doable = lend (replicate meaningSize 0);
       doable-comes = tt;
       done = λ y m. c-read-is _ y m .0 ∙ c-read-done _ enough;
       busy = λ y m i. let q : _≡_ {A = ℕ} 0 82 = ap (λ (l : List ℕ). getD l 0 0) (sym i ∙ c-read-is _ y m .1) ∙ c-first-read in omega (arith, q);
-      later = lend (replicate 32 0) ∷ [];
+      later = lend (replicate meaningSize 0) ∷ [];
       begun-later = one;
       bad = lend [];
       bad-comes = tt;
@@ -198,16 +199,16 @@ c-written-is _ _ (by-coast-write-sequence κs a r s p) = (p .0, p .1)
 asked-found : meaningFrom (meaningBytes asked) ≡ asked
 asked-found = rw (append-nil (meaningBytes asked)) at (meaning-is-found-again asked [] .1 asked-valid)
 
-whole : 32 ≤ length (meaningBytes asked)
+whole : meaningSize ≤ length (meaningBytes asked)
 whole = rw (meaning-is-found-again asked [] .0) (omega arith)
 
-c-write-done : (n : ℕ) → 28 ≤ n → writeAnswer (meaningBytes asked) n % 256 ≡ 0
+c-write-done : (n : ℕ) → longest ≤ n → writeAnswer (meaningBytes asked) n % 256 ≡ 0
 unfolding writeAnswer answerAndCount writtenOf
-c-write-done n h = rw (le-leb 28 n h, le-leb 32 _ whole, asked-found, write-done n h) (omega arith)
+c-write-done n h = rw (le-leb longest n h, le-leb meaningSize _ whole, asked-found, write-done n h) (omega arith)
 
-c-first-written : (room : List ℕ) → 28 ≤ length room → getD (roomAfterWriting (meaningBytes asked) room) 0 0 ≡ 123
+c-first-written : (room : List ℕ) → longest ≤ length room → getD (roomAfterWriting (meaningBytes asked) room) 0 0 ≡ 123
 unfolding roomAfterWriting
-c-first-written room h = rw (le-leb 28 _ h, le-leb 32 _ whole, asked-found) (first-written room h)
+c-first-written room h = rw (le-leb longest _ h, le-leb meaningSize _ whole, asked-found) (first-written room h)
 
 answer-in-byte : (a : Answer) → answerNumber a < 256
 answer-in-byte Done = omega arith
@@ -229,9 +230,9 @@ count-of w = omega (arith, answer-in-byte (w .answer))
 
 c-write-counted : (b room : List ℕ) (size : ℕ) → room ≡ replicate size 255 → writeAnswer b (length room) / 256 ≡ symbolsIn (roomAfterWriting b room)
 unfolding writeAnswer roomAfterWriting
-c-write-counted b room size e = go (which (leb 28 (length room))) (which (leb 32 (length b)))
+c-write-counted b room size e = go (which (leb longest (length room))) (which (leb meaningSize (length b)))
   where
-    go : Either (leb 28 (length room)) → Either (leb 32 (length b)) → writeAnswer b (length room) / 256 ≡ symbolsIn (roomAfterWriting b room)
+    go : Either (leb longest (length room)) → Either (leb meaningSize (length b)) → writeAnswer b (length room) / 256 ≡ symbolsIn (roomAfterWriting b room)
     go (yes! p) (yes! q) = rw (p, q) (count-of (writtenOf (meaningFrom b) (length room)) ∙ write-counted (meaningFrom b) room size e)
     go (yes! p) (no! q) = rw (p, q) (sym (ap symbolsIn e ∙ no-symbols size))
     go (no! p) q = rw p (sym (ap symbolsIn e ∙ no-symbols size))
@@ -245,13 +246,13 @@ unfolding NoUselessWriteInC
 no-useless-write-in-c =
     let lend : List ℕ → Lent = λ room. record { given = meaningBytes asked; room = room } in
     shut-out Anything writeSigns WrittenInC (record {
-      past = lend (replicate 28 0) ∷ [];
+      past = lend (replicate longest 0) ∷ [];
       begun = one;
-      doable = lend (replicate 28 0);
+      doable = lend (replicate longest 0);
       doable-comes = tt;
       done = λ y m. ap (λ n. n % 256) (c-written-is _ y m .0) ∙ c-write-done _ long;
-      busy = λ y m i. not-zeros (y .left) (ap (λ (l : List ℕ). getD l 0 0) (c-written-is _ y m .1) ∙ c-first-written (replicate 28 0) long) i;
-      later = lend (replicate 28 0) ∷ [];
+      busy = λ y m i. not-zeros (y .left) (ap (λ (l : List ℕ). getD l 0 0) (c-written-is _ y m .1) ∙ c-first-written (replicate longest 0) long) i;
+      later = lend (replicate longest 0) ∷ [];
       begun-later = one;
       bad = lend [];
       bad-comes = tt;

@@ -5,6 +5,7 @@ use mathlib.Core.List.{List, [], _∷_}
 use mathlib.Core.Option.{none, some}
 use native.Mathlib.Omega.{arith}
 use lib.ListN.{length, replicate}
+use borrow.Author.Tests.{eq-eqb}
 use Rattle.sequence.specs.Identity.{isCoast}
 use Rattle.sequence.specs.Field.{channelOk}
 use Rattle.rules.specs.Station.{fresh}
@@ -14,6 +15,7 @@ use Rattle.station.specs.declared.SetUp.{SetUp}
 use Rattle.station.specs.declared.Station.{Station}
 use Rattle.station.specs.Model.{imageOf}
 use Rattle.station.specs.Step.{channelNumber, given, chosen, blankStation, setUpOf, setUpBy}
+use Rattle.lent.specs.Layout.{stationSize}
 use Rattle.lent.specs.Stations.{stationBytes, stationFrom}
 use Rattle.lent.proofs.FoundAgain.{handed-out-is-found-again}
 use Rattle.exchange.specs.Events.{setUpReturned, stationSetUp}
@@ -93,17 +95,17 @@ c-set-up-is _ _ (by-coast-set-up κs a r s p) = (p .0, p .1)
 abbrev another : List ℕ
 another = stationBytes (setUpBy 2001235 (26 ∷ []) .station)
 
-sized : length another ≡ 1722
+sized : length another ≡ stationSize
 unfolding setUpBy
 sized = handed-out-is-found-again .0 (given 2001235 (26 ∷ [])) .0
 
 c-answers-0 : setUpReturned 2001234 (26 ∷ []) (length another) ≡ 0
 unfolding setUpReturned
-c-answers-0 = rw (sized, answers-0)
+c-answers-0 = rw (sized, eq-eqb stationSize stationSize refl, answers-0)
 
 c-answers-36 : setUpReturned 0 [] (length another) ≡ 36
 unfolding setUpReturned
-c-answers-36 = rw (sized, answers-36)
+c-answers-36 = rw (sized, eq-eqb stationSize stationSize refl, answers-36)
 
 other-set-up : setUpVerdict (given 2001235 (26 ∷ [])) ≡ none
 unfolding setUpVerdict configKeeps identityKeeps channelsKeep isCoast channelOk

@@ -6,6 +6,7 @@ use mathlib.Core.List.{List, map}
 use lib.Dec.{eqb}
 use lib.ListN.{length, take, drop, replicate}
 use Rattle.rules.specs.Words.{Config, Happened, heard, signal, operator, lineLifted, lineHung, carrierHeard, carrierLost, handTakes, handGives, What, tick, onChannel70, onSlot, Event}
+use Rattle.rules.specs.Bytes.{blockSize}
 use Rattle.station.specs.declared.Station.{Station}
 use Rattle.station.specs.declared.Stepped.{Stepped}
 use Rattle.rack.specs.Rooms.{kindIn}
@@ -70,7 +71,7 @@ pub record Comes (k : Method) (past : List Call) (x : Call) : Type 0 where
 -- the blocks at the front of a room that have a kind, of n at most
 unfoldable pub laidIn : ℕ → List ℕ → ℕ
 laidIn zero room = 0
-laidIn (suc n) room = cond (eqb (kindIn (take 40 room)) 0) 0 (suc (laidIn n (drop 40 room)))
+laidIn (suc n) room = cond (eqb (kindIn (take blockSize room)) 0) 0 (suc (laidIn n (drop blockSize room)))
 
 -- lent a room of zeros, the method tells another count than that of the blocks it laid
 pub record Miscounted (k : Method) (x : Call) (y : Back) : Type 0 where

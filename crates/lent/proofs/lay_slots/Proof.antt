@@ -6,21 +6,23 @@ use lib.ListN.{length, take}
 use lib.Seq.{take-all, paste-zero}
 use Rattle.layouts.specs.Fields.{laid}
 use Rattle.slots.specs.Views.{noSlot}
+use Rattle.lent.specs.Layout.{slotSize, slotsPlace, stationSize}
 use Rattle.lent.specs.Stations.{slotBytes}
+use Rattle.lent.proofs.Computed.{slot-size-computed, slots-place-computed, station-size-computed}
 use Rattle.lent.proofs.LayLaws.{record-laid, slot-size}
 use borrow.Author.Needs.{needs}
 use Rattle.lent.proofs.lay_slots.Statement.{statement}
 use Rattle.lent.proofs.lay_slots.Tie as tie
 
 abbrev Inv-loop : tie.InvT-loop
-Inv-loop room₀ a i₀ room i = (length a ≡ 16) × (length room ≡ 1722) × (i ≤ 16) × (room ≡ laid room₀ 10 (flatMap slotBytes (take i a)))
+Inv-loop room₀ a i₀ room i = (length a ≡ 16) × (length room ≡ stationSize) × (i ≤ 16) × (room ≡ laid room₀ slotsPlace (flatMap slotBytes (take i a)))
 
 abbrev μ-loop : tie.MeasureT-loop
 μ-loop room₀ a i₀ room i = 16 - i
 
 loop-holds : tie.Need-loop-holds Inv-loop μ-loop
 unfolding laid flatMap
-loop-holds c = (search needs, search needs, omega arith, paste-zero (c .before .args .room .now) 10 [])
+loop-holds c = (search needs, search needs, omega arith, paste-zero (c .before .args .room .now) slotsPlace [])
 
 array-copy-out-s : tie.Need-array-copy-out-s Inv-loop μ-loop
 array-copy-out-s c = omega arith
@@ -32,7 +34,7 @@ add-lay-slot : tie.Need-add-lay-slot Inv-loop μ-loop
 add-lay-slot c = omega arith
 
 lay-slot-requires : tie.Need-lay-slot-requires Inv-loop μ-loop
-lay-slot-requires c κs = omega arith
+lay-slot-requires c κs = omega (arith, slot-size-computed, station-size-computed)
 
 add-i : tie.Need-add-i Inv-loop μ-loop
 add-i c = omega arith
@@ -42,7 +44,7 @@ loop-less c = omega arith
 
 loop-again : tie.Need-loop-again Inv-loop μ-loop
 loop-again c = let l = c .before .before .before .before .before .before .loop in
-    (search needs, search needs, omega arith, c .before .before .lay-slot .ensures ∙ (rw (l .inv .3) (record-laid slotBytes 45 slot-size (c .before .before .before .before .before .before .before .before .args .room .now) 10 (l .i) (c .before .before .before .before .before .before .before .before .args .t1) noSlot (omega arith) (omega arith))))
+    (search needs, search needs, omega arith, c .before .before .lay-slot .ensures ∙ (rw (l .inv .3, slots-place-computed) (rw (slot-size-computed, slots-place-computed) at (record-laid slotBytes slotSize slot-size (c .before .before .before .before .before .before .before .before .args .room .now) slotsPlace (l .i) (c .before .before .before .before .before .before .before .before .args .t1) noSlot (omega arith) (omega (arith, slots-place-computed, station-size-computed))))))
 
 same-length : tie.Need-same-length Inv-loop μ-loop
 same-length c = search needs

@@ -5,15 +5,16 @@ use lib.ListN.{length, take, length-set}
 use lib.Seq.{take-all}
 use Rattle.layouts.specs.Fields.{decode}
 use Rattle.layouts.specs.Records.{recordsAt}
-use Rattle.lent.specs.Layout.{slotFields}
+use Rattle.lent.specs.Layout.{slotFields, slotSize, slotsPlace}
 use Rattle.lent.specs.Numbers.{slotFrom}
+use Rattle.lent.proofs.Computed.{slot-size-computed, slots-place-computed, station-size-computed}
 use Rattle.lent.proofs.LayLaws.{record-read}
 use borrow.Author.Needs.{needs}
 use Rattle.lent.proofs.slots_from.Statement.{statement}
 use Rattle.lent.proofs.slots_from.Tie as tie
 
 abbrev Inv-loop : tie.InvT-loop
-Inv-loop bytes a₀ i₀ a i = (take i a ≡ recordsAt (λ p. slotFrom (decode slotFields (bytes) p)) i 45 10) × (i ≤ 16) × (length a ≡ 16)
+Inv-loop bytes a₀ i₀ a i = (take i a ≡ recordsAt (λ p. slotFrom (decode slotFields (bytes) p)) i slotSize slotsPlace) × (i ≤ 16) × (length a ≡ 16)
 
 abbrev μ-loop : tie.MeasureT-loop
 μ-loop bytes a₀ i₀ a i = 16 - i
@@ -29,7 +30,7 @@ add-slot-at : tie.Need-add-slot-at Inv-loop μ-loop
 add-slot-at c = omega arith
 
 slot-at-requires : tie.Need-slot-at-requires Inv-loop μ-loop
-slot-at-requires c κs = omega arith
+slot-at-requires c κs = omega (arith, slot-size-computed, station-size-computed)
 
 array-set-from-a : tie.Need-array-set-from-a Inv-loop μ-loop
 array-set-from-a c = omega arith
@@ -41,7 +42,7 @@ loop-less : tie.Need-loop-less Inv-loop μ-loop
 loop-less c = omega arith
 
 loop-again : tie.Need-loop-again Inv-loop μ-loop
-loop-again c = (rw (c .slot-at .ensures) (record-read (λ p. slotFrom (decode slotFields (c .before .before .before .before .before .args .bytes .now) p)) (c .before .before .loop .a) (c .before .before .loop .i) 45 10 (omega arith) (c .before .before .loop .inv .0)), omega arith, simp length-set (c .before .before .loop .inv .2))
+loop-again c = (rw (slot-size-computed, slots-place-computed, c .slot-at .ensures) (rw (slot-size-computed, slots-place-computed) at (record-read (λ p. slotFrom (decode slotFields (c .before .before .before .before .before .args .bytes .now) p)) (c .before .before .loop .a) (c .before .before .loop .i) slotSize slotsPlace (omega arith) (c .before .before .loop .inv .0))), omega arith, simp length-set (c .before .before .loop .inv .2))
 
 returns : tie.Need-returns Inv-loop μ-loop
 returns c = let e : c .before .loop .i ≡ 16 = omega arith in sym (take-all 16 (c .before .loop .a) (omega arith)) ∙ (rw e at (c .before .loop .inv .0))

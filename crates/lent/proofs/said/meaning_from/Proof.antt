@@ -1,7 +1,7 @@
 use mathlib.Core.Path.{sym, _∙_}
 use native.Mathlib.Omega.{arith}
 use borrow.Author.Tests.{lt-leb, le-leb}
-use Rattle.lent.specs.Meanings.{meaningFields, meaningIn, meaningFrom}
+use Rattle.lent.specs.Meanings.{meaningIn, meaningFrom}
 use Rattle.lent.proofs.LayLaws.{meaning-digits}
 use borrow.Author.Needs.{needs}
 use Rattle.lent.proofs.said.meaning_from.Statement.{statement}
@@ -21,7 +21,7 @@ four-at-requires-2 : tie.Need-four-at-requires-2
 four-at-requires-2 c κs = omega arith
 
 returns-2 : tie.Need-returns-2
-unfolding meaningFrom meaningIn meaningFields
+unfolding meaningFrom meaningIn
 returns-2 c = rw (le-leb _ _ (c .before .before .before .before .before .before .before .before .before .before .before .before .if1 .left), c .before .before .before .before .four-at2 .ensures, c .before .before .before .before .before .four-at .ensures, c .before .before .before .before .before .before .before .field-from .ensures, c .before .before .before .before .before .before .digits-at .ensures ∙ sym (meaning-digits (c .before .before .before .before .before .before .before .before .before .before .before .before .before .before .args .bytes .now)))
 
 pub meaning-from-spec : {M : Type 1} → statement M
