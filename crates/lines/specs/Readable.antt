@@ -102,8 +102,11 @@ lineSays [] = none
 lineSays (b ∷ t) = saysOf (kindOf b) (scan between t)
 
 -- "one over 200 characters .. : 40"
+abbrev pub longestLine : ℕ
+longestLine = 200
+
 unfoldable pub readsAs : List ℕ → Option Said
-readsAs text = cond (leb (length text) 200) (lineSays text) none
+readsAs text = cond (leb (length text) longestLine) (lineSays text) none
 
 -- ── as records ───────────────────────────────────────────────────────────────
 

@@ -7,10 +7,10 @@ use mathlib.Core.Path.{_≡_}
 use Prim.Native.Nat.{ℕ, _≤_}
 use lib.ListN.{length}
 use Rattle.lines.specs.Lines.{Said, LineOf, inRange}
-use Rattle.lines.specs.Readable.{readsAs}
+use Rattle.lines.specs.Readable.{longestLine, readsAs}
 
 abbrev pub Readable : Said → List ℕ → Type 0
-Readable said text = LineOf said text × (length text ≤ 200) × (inRange said ≡ true)
+Readable said text = LineOf said text × (length text ≤ longestLine) × (inRange said ≡ true)
 
 abbrev pub ReadsExactly : Type 0
 ReadsExactly = (text : List ℕ) (said : Said) → (readsAs text ≡ some said → Readable said text) × (Readable said text → readsAs text ≡ some said)

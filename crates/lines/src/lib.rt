@@ -11,6 +11,9 @@ use crate::fields::numbers_in;
 use crate::kinds::fits;
 use crate::kinds::kind_of;
 
+// "one over 200 characters .. : 40"
+pub const LONGEST_LINE: usize = 200;
+
 // By its letter; a line that is no event's is unreadable.
 pub enum Kind {
     Unreadable,
@@ -61,7 +64,7 @@ pub fn read(text: &[u8]) -> Line
     ensures { λ r. ⌜ r ≡ lineImage (readsAs (now (text .entry))) ⌝ }
     ensures { λ r. ⌜ r .count ≤ 99 ⌝ }
 {
-    if 200 < text.len() {
+    if LONGEST_LINE < text.len() {
         return unreadable();
     }
     if text.len() == 0 {

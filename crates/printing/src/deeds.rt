@@ -2,12 +2,16 @@
 ghost use mathlib.Core.Path.{_≡_};
 ghost use Prim.Native.Nat.{_+_, _*_, _≤_};
 ghost use lib.ListN.{length};
+ghost use Rattle.rules.specs.Bytes.{mostActions, blockSize};
+ghost use Rattle.rules.specs.Verdict.{roomNeeded};
 ghost use Rattle.printing.specs.Texts.{Put};
 ghost use Rattle.printing.specs.Replies.{dueText, headText, actionText, actionTexts};
 use crate::texts::put_byte;
 use crate::texts::put_field;
 use crate::texts::put_fields;
 use crate::texts::put_number;
+use actions::BLOCK;
+use actions::PAYLOAD;
 use requests::least;
 use station::NextDue;
 use units::Tenths;
@@ -38,12 +42,14 @@ pub(crate) fn put_head(answer: u8, clock: Tenths, count: u8, due: NextDue, out: 
     put_byte(10, out, d)
 }
 
+const MOST_BYTES: u8 = PAYLOAD as u8;
+
 // "kind, slot, payload bytes in decimal"
 fn put_action(block: &[u8], out: &mut [u8], at: usize) -> usize
-    requires { ⌜ (length (now block) ≡ 40) × (at + 418 ≤ length (now out)) ⌝ }
+    requires { ⌜ (length (now block) ≡ blockSize) × (at + 418 ≤ length (now out)) ⌝ }
     ensures { λ r. ⌜ Put (now (out .entry)) (now (out .exit)) at r (actionText (now (block .entry))) ⌝ }
 {
-    let n = least(block[2], 36) as usize;
+    let n = least(block[2], MOST_BYTES) as usize;
     let a = put_number(block[0] as u32, out, at);
     let b = put_field(block[1] as u32, out, a);
     let c = put_fields(&block[4..4 + n], out, b);
@@ -51,14 +57,14 @@ fn put_action(block: &[u8], out: &mut [u8], at: usize) -> usize
 }
 
 pub(crate) fn put_actions(blocks: &[u8], count: usize, out: &mut [u8], at: usize) -> usize
-    requires { ⌜ (length (now blocks) ≡ 320) × (count ≤ 8) × (at + 3344 ≤ length (now out)) ⌝ }
+    requires { ⌜ (length (now blocks) ≡ roomNeeded) × (count ≤ mostActions) × (at + 3344 ≤ length (now out)) ⌝ }
     ensures { λ r. ⌜ Put (now (out .entry)) (now (out .exit)) at r (actionTexts count (now (blocks .entry))) ⌝ }
 {
     let mut next = at;
     let mut i: usize = 0;
     while i < count {
-        let start = 40 * i;
-        next = put_action(&blocks[start..start + 40], out, next);
+        let start = BLOCK * i;
+        next = put_action(&blocks[start..start + BLOCK], out, next);
         i += 1;
     }
     next

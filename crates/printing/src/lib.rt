@@ -7,26 +7,33 @@ mod texts;
 
 use crate::deeds::put_actions;
 use crate::deeds::put_head;
+use actions::ACTIONS;
+use actions::ROOM;
 use requests::least;
 use station::NextDue;
 use units::Tenths;
 
-// The reply to a line at the front of a room of 4,096 bytes, and its length; a shorter room is left as it is.
+const MOST_ACTIONS: u8 = ACTIONS as u8;
+
+// The longest answer fits in it.
+pub const ANSWER_ROOM: usize = 4096;
+
+// The reply to a line at the front of a room for answers, and its length; a shorter room is left as it is.
 pub fn put_reply(
     answer: u8,
     clock: Tenths,
     count: u8,
     due: NextDue,
-    blocks: [u8; 320],
+    blocks: [u8; ROOM],
     out: &mut [u8],
 ) -> usize
     ensures { λ r. ⌜ r ≡ putLength (now (out .entry)) (replyText answer (clock .0) count due blocks) ⌝ }
     ensures { λ _. ⌜ now (out .exit) ≡ putText (now (out .entry)) (replyText answer (clock .0) count due blocks) ⌝ }
 {
-    if out.len() < 4096 {
+    if out.len() < ANSWER_ROOM {
         return 0;
     }
-    let k = least(count, 8);
+    let k = least(count, MOST_ACTIONS);
     let n = put_head(answer, clock, count, due, out);
     put_actions(&blocks, k as usize, out, n)
 }

@@ -7,6 +7,7 @@ use lib.Dec.{eqb}
 use lib.ListN.{length, replicate}
 use Rattle.rules.specs.Words.{What, Event}
 use Rattle.rules.specs.Station.{nextDue}
+use Rattle.rules.specs.Verdict.{roomNeeded}
 use Rattle.slots.specs.Images.{tenths}
 use Rattle.units.specs.declared.Tenths.{Tenths}
 use Rattle.lines.specs.Lines.{Said, setsUp, happens}
@@ -62,9 +63,9 @@ dueOf d = cond (d .stands) (dueImage (nextDue (modelOf (d .station)))) Never
 abbrev pub shownFor : Handled → List ℕ → List ℕ
 shownFor h blocks = replyText (h .answer) (clockOf (h .desk) .0) (h .count) (dueOf (h .desk)) blocks
 
--- a room of 320 bytes, all zero, is lent to each event
+-- the room that is needed, all zero, is lent to each event
 abbrev pub noBlocks : List ℕ
-noBlocks = replicate 320 0
+noBlocks = replicate roomNeeded 0
 
 unfoldable pub deskAfter : Desk → Option Said → Desk
 deskAfter d said = handledFor d noBlocks said .desk

@@ -6,8 +6,8 @@ use Prim.Native.Nat.{ℕ, suc, _+_}
 use lib.Dec.{leb, ltb, eqb}
 use lib.ListN.{length, set, take, replicate}
 use Rattle.lines.specs.Lines.{Said}
-use Rattle.lines.specs.Readable.{readsAs}
-use Rattle.printing.specs.Replies.{putText, putLength}
+use Rattle.lines.specs.Readable.{readsAs, longestLine}
+use Rattle.printing.specs.Replies.{putText, putLength, answerRoom}
 use Rattle.station.specs.declared.Station.{Station}
 use Rattle.station.specs.Step.{blankStation}
 use Rattle.script.specs.declared.Text.{Text}
@@ -18,13 +18,13 @@ use Rattle.script.specs.Answering.{desk, deskAfter, replyTo}
 -- ── the line so far ──────────────────────────────────────────────────────────
 
 abbrev pub noText : Text
-noText = record { length = 0; bytes = replicate 200 0 }
+noText = record { length = 0; bytes = replicate longestLine 0 }
 
 -- "one over 200 characters": a longer line keeps no further byte
 unfoldable pub addByte : Text → ℕ → Text
 addByte t b =
-    cond (leb 200 (t .length))
-    (record { length = 201; bytes = t .bytes })
+    cond (leb longestLine (t .length))
+    (record { length = longestLine + 1; bytes = t .bytes })
     (record { length = t .length + 1; bytes = set (t .bytes) (t .length) b })
 
 abbrev pub addBytes : Text → List ℕ → Text
@@ -32,7 +32,7 @@ addBytes t [] = t
 addBytes t (b ∷ l) = addBytes (addByte t b) l
 
 unfoldable pub saysText : Text → Option Said
-saysText t = cond (leb (t .length) 200) (readsAs (take (t .length) (t .bytes))) none
+saysText t = cond (leb (t .length) longestLine) (readsAs (take (t .length) (t .bytes))) none
 
 -- how many bytes stand before the first line feed
 abbrev pub beforeFeed : List ℕ → ℕ
@@ -71,17 +71,17 @@ roomFor s bytes room = cond (ltb (beforeFeed bytes) (length bytes)) (putText roo
 
 -- nothing is taken where the room for an answer is short
 unfoldable pub fedWith : Session → List ℕ → List ℕ → Fed
-fedWith s bytes room = cond (leb 4096 (length room)) (fedFor s bytes room) (untaken s)
+fedWith s bytes room = cond (leb answerRoom (length room)) (fedFor s bytes room) (untaken s)
 
 unfoldable pub roomWith : Session → List ℕ → List ℕ → List ℕ
-roomWith s bytes room = cond (leb 4096 (length room)) (roomFor s bytes room) room
+roomWith s bytes room = cond (leb answerRoom (length room)) (roomFor s bytes room) room
 
 -- at the end of the input
 abbrev pub endFor : Session → List ℕ → Fed
 endFor s room = cond (eqb (s .text .length) 0) (untaken s) (answered 0 (s .desk .stands) (s .desk .station) (s .text) room)
 
 unfoldable pub ended : Session → List ℕ → Fed
-ended s room = cond (leb 4096 (length room)) (endFor s room) (untaken s)
+ended s room = cond (leb answerRoom (length room)) (endFor s room) (untaken s)
 
 unfoldable pub roomEnded : Session → List ℕ → List ℕ
-roomEnded s room = cond (leb 4096 (length room)) (cond (eqb (s .text .length) 0) room (putText room (replyTo (s .desk) (saysText (s .text))))) room
+roomEnded s room = cond (leb answerRoom (length room)) (cond (eqb (s .text .length) 0) room (putText room (replyTo (s .desk) (saysText (s .text))))) room

@@ -6,6 +6,7 @@ use Prim.Native.Nat.{ℕ, _≤_}
 use lib.Dec.{eqb, ltb}
 use lib.ListN.{length, take, drop}
 use Rattle.lines.specs.Readable.{readsAs}
+use Rattle.printing.specs.Replies.{answerRoom}
 use Rattle.script.specs.declared.Desk.{Desk}
 use Rattle.script.specs.Answering.{deskAfter, replyTo}
 use Rattle.script.specs.declared.Session.{Session}
@@ -39,7 +40,7 @@ lineAfter line bytes = cond (ltb (beforeFeed bytes) (length bytes)) [] (line ++ 
 -- what is answered to some bytes, and then what is said to the rest
 abbrev pub Feeds : Type 0
 Feeds =
-    (d : Desk) (line bytes more room : List ℕ) → 4096 ≤ length room
+    (d : Desk) (line bytes more room : List ℕ) → answerRoom ≤ length room
     → (talk d line (bytes ++ more)
     ≡ take (fedWith (sessionOf d line) bytes room .count) (roomWith (sessionOf d line) bytes room)
     ++ talk (fedWith (sessionOf d line) bytes room .session .desk) (lineAfter line bytes) (drop (fedWith (sessionOf d line) bytes room .used) bytes ++ more))
@@ -47,7 +48,7 @@ Feeds =
 
 -- at the end of the input
 abbrev pub Ends : Type 0
-Ends = (d : Desk) (line room : List ℕ) → 4096 ≤ length room → talk d line [] ≡ take (ended (sessionOf d line) room .count) (roomEnded (sessionOf d line) room)
+Ends = (d : Desk) (line room : List ℕ) → answerRoom ≤ length room → talk d line [] ≡ take (ended (sessionOf d line) room .count) (roomEnded (sessionOf d line) room)
 
 -- and a session begins with no line
 abbrev pub Begins : Type 0
@@ -55,9 +56,9 @@ Begins = (script : List ℕ) → (transcript script ≡ talk (begun .desk) [] sc
 
 -- what a session prints of an input that comes in pieces, each fed into a room of its own
 pub data Prints : Session → List ℕ → List ℕ → Type 0 where
-  fed : (s : Session) (bytes more room rest : List ℕ) → 4096 ≤ length room → Prints (fedWith s bytes room .session) (drop (fedWith s bytes room .used) bytes ++ more) rest
+  fed : (s : Session) (bytes more room rest : List ℕ) → answerRoom ≤ length room → Prints (fedWith s bytes room .session) (drop (fedWith s bytes room .used) bytes ++ more) rest
       → Prints s (bytes ++ more) (take (fedWith s bytes room .count) (roomWith s bytes room) ++ rest)
-  over : (s : Session) (room : List ℕ) → 4096 ≤ length room → Prints s [] (take (ended s room .count) (roomEnded s room))
+  over : (s : Session) (room : List ℕ) → answerRoom ≤ length room → Prints s [] (take (ended s room .count) (roomEnded s room))
 
 -- however the input is cut, that is its transcript
 abbrev pub PrintsTranscript : Type 0

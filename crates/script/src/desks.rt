@@ -12,6 +12,7 @@ use crate::Desk;
 use crate::Handled;
 use lines::Kind;
 use lines::Line;
+use slots::SLOTS;
 use station::NextDue;
 use station::SetUp;
 use station::Station;
@@ -106,11 +107,11 @@ fn kept(stands: bool, station: Station, answer: u8) -> Handled
 }
 
 // The first sixteen of them.
-fn channels_of(numbers: &[u32]) -> [Channel; 16]
+fn channels_of(numbers: &[u32]) -> [Channel; SLOTS]
     ensures { λ r. ⌜ r ≡ sixteenOf (now (numbers .entry)) ⌝ }
 {
-    let mut channels = [Channel(0); 16];
-    let n = least_of(16, numbers.len());
+    let mut channels = [Channel(0); SLOTS];
+    let n = least_of(SLOTS, numbers.len());
     let mut i = 0;
     while i < n {
         channels[i] = Channel(numbers[i]);

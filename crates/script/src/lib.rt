@@ -3,6 +3,7 @@ mod desks;
 mod sessions;
 mod texts;
 
+use lines::LONGEST_LINE;
 use station::Station;
 
 // No station, or one.
@@ -11,10 +12,10 @@ pub struct Desk {
     pub station: Station,
 }
 
-// The line so far; a line over 200 characters has length 201.
+// The line so far; a longer line than any that is read has one character more.
 pub struct Text {
     pub length: usize,
-    pub bytes: [u8; 200],
+    pub bytes: [u8; LONGEST_LINE],
 }
 
 pub struct Session {

@@ -14,6 +14,8 @@ use crate::texts::before_feed;
 use crate::texts::line_of;
 use crate::texts::no_text;
 use crate::texts::with_bytes;
+use actions::ROOM;
+use printing::ANSWER_ROOM;
 use printing::put_reply;
 use station::Station;
 
@@ -22,7 +24,7 @@ fn answer(used: usize, stands: bool, station: Station, text: Text, out: &mut [u8
     ensures { λ r. ⌜ r ≡ answered used stands station text (now (out .entry)) ⌝ }
     ensures { λ _. ⌜ now (out .exit) ≡ putText (now (out .entry)) (replyTo (desk stands station) (saysText text)) ⌝ }
 {
-    let mut blocks = [0u8; 320];
+    let mut blocks = [0u8; ROOM];
     let line = line_of(text);
     let h = handle(stands, station, line, &mut blocks);
     let d = h.desk;
@@ -58,7 +60,7 @@ impl Session {
         ensures { λ r. ⌜ r ≡ fedWith self (now (bytes .entry)) (now (out .entry)) ⌝ }
         ensures { λ _. ⌜ now (out .exit) ≡ roomWith self (now (bytes .entry)) (now (out .entry)) ⌝ }
     {
-        if out.len() < 4096 {
+        if out.len() < ANSWER_ROOM {
             return Fed {
                 used: 0,
                 count: 0,
@@ -90,7 +92,7 @@ impl Session {
         ensures { λ r. ⌜ r ≡ ended self (now (out .entry)) ⌝ }
         ensures { λ _. ⌜ now (out .exit) ≡ roomEnded self (now (out .entry)) ⌝ }
     {
-        if out.len() < 4096 {
+        if out.len() < ANSWER_ROOM {
             return Fed {
                 used: 0,
                 count: 0,

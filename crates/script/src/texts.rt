@@ -5,15 +5,18 @@ ghost use lib.ListN.{length};
 ghost use Rattle.lines.specs.Readable.{lineImage};
 ghost use Rattle.script.specs.Session.{noText, addByte, addBytes, saysText, beforeFeed};
 use crate::Text;
+use lines::LONGEST_LINE;
 use lines::Line;
 use lines::read;
+
+const TOO_LONG: usize = LONGEST_LINE + 1;
 
 pub(crate) fn no_text() -> Text
     ensures { λ r. ⌜ r ≡ noText ⌝ }
 {
     Text {
         length: 0,
-        bytes: [0u8; 200],
+        bytes: [0u8; LONGEST_LINE],
     }
 }
 
@@ -22,9 +25,9 @@ fn with_byte(t: Text, b: u8) -> Text
 {
     let n = t.length;
     let mut bytes = t.bytes;
-    if 200 <= n {
+    if LONGEST_LINE <= n {
         return Text {
-            length: 201,
+            length: TOO_LONG,
             bytes: bytes,
         };
     }
@@ -68,7 +71,7 @@ pub(crate) fn line_of(t: Text) -> Line
 {
     let n = t.length;
     let bytes = t.bytes;
-    if 200 < n {
+    if LONGEST_LINE < n {
         return read(&bytes[..0]);
     }
     read(&bytes[..n])
