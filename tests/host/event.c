@@ -1,14 +1,9 @@
 /* Script lines as document 01 lays them out, each with the entry that it stands for. */
-#include "../../include/coast.h"
 #include "event.h"
 
 extern int getchar(void);
 
 #define NO_CHANNEL 255u /* what a channel becomes that no byte holds: as bad a one */
-
-const struct entries library = {
-    "library", coast_set_up, coast_next_due, coast_tick, coast_heard_on_channel_70, coast_heard_on_slot,
-    coast_carrier_up, coast_carrier_down, coast_off_hook, coast_on_hook, coast_take, coast_give_back};
 
 bool read_line(struct line *line) {
     int c = getchar();
@@ -21,12 +16,6 @@ bool read_line(struct line *line) {
             line->text[line->length++] = (uint8_t)c;
     }
     return any;
-}
-
-static bool is_one_of(char letter, const char *letters) {
-    while (*letters != '\0' && *letters != letter)
-        letters++;
-    return *letters != '\0';
 }
 
 /* A space and a decimal number from this place on, which moves behind it. */
@@ -48,7 +37,7 @@ static bool read_number(const struct line *line, size_t *at, uint32_t *number) {
 static bool read_list(const struct line *line, size_t *at, struct event *event, uint8_t *list) {
     uint32_t number = 0;
     while (*at < line->length) {
-        if (!read_number(line, at, &number) || (number > UINT8_MAX && event->letter != 'S'))
+        if (!read_number(line, at, &number) || (number > UINT8_MAX && event->letter != SET_UP_LETTER))
             return false;
         list[event->count++] = (uint8_t)(number > UINT8_MAX ? NO_CHANNEL : number);
     }
@@ -56,40 +45,21 @@ static bool read_list(const struct line *line, size_t *at, struct event *event, 
 }
 
 bool read_event(const struct line *line, struct event *event, uint8_t *list) {
+    char letter = line->length == 0u ? '\0' : (char)line->text[0];
+    bool set_up = letter == SET_UP_LETTER;
     size_t at = 1;
-    *event = (struct event){.list = list};
-    if (line->too_long || line->length == 0u)
+    *event = (struct event){.letter = letter, .list = list};
+    if (line->too_long || !(set_up || is_event(letter)) || !read_number(line, &at, &event->number))
         return false;
-    event->letter = (char)line->text[0];
-    if (!is_one_of(event->letter, "SQWUDOHMFT") || !read_number(line, &at, &event->number))
+    if (takes_slot(letter) && !read_number(line, &at, &event->slot))
         return false;
-    if (is_one_of(event->letter, "WUDOHMF") && !read_number(line, &at, &event->slot))
-        return false;
-    if (is_one_of(event->letter, "SQW") && !read_list(line, &at, event, list))
+    if ((set_up || takes_symbols(letter)) && !read_list(line, &at, event, list))
         return false;
     return at == line->length;
 }
 
-static on_slot_entry *on_slot_entry_of(const struct entries *to, char letter) {
-    switch (letter) {
-    case 'U': return to->carrier_up;
-    case 'D': return to->carrier_down;
-    case 'O': return to->off_hook;
-    case 'H': return to->on_hook;
-    case 'M': return to->take;
-    default: return to->give_back;
-    }
-}
-
 uint64_t hand_in(const struct entries *to, const struct event *event, const struct lent_bytes *lent) {
-    uint8_t *station = lent->station, *room = lent->room;
-    size_t size = lent->size, room_size = lent->room_size;
-    uint32_t time = event->number;
-    switch (event->letter) {
-    case 'S': return to->set_up(event->number, event->list, event->count, station, size);
-    case 'Q': return to->heard_on_channel_70(station, size, time, event->list, event->count, room, room_size);
-    case 'W': return to->heard_on_slot(station, size, time, event->slot, event->list, event->count, room, room_size);
-    case 'T': return to->tick(station, size, time, room, room_size);
-    default: return on_slot_entry_of(to, event->letter)(station, size, time, event->slot, room, room_size);
-    }
+    uint32_t slot = event->letter == SET_UP_LETTER ? event->number : event->slot;
+    struct handed handed = {event->number, slot, event->list, event->count};
+    return call_entry(to, event->letter, &handed, lent);
 }

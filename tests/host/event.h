@@ -6,7 +6,7 @@
 #include <stddef.h>
 #include <stdint.h>
 
-#include "../stations/entries.h"
+#include "../c/entries.h"
 
 #define LINE_MOST 200u
 #define LIST_MOST (LINE_MOST / 2u)
@@ -30,17 +30,6 @@ bool read_line(struct line *line);
 
 /* Reads a line, its list into a room of LIST_MOST bytes; false where document 01 has 40 for it. */
 bool read_event(const struct line *line, struct event *event, uint8_t *list);
-
-/* What is lent with an event. */
-struct lent_bytes {
-    uint8_t *station;
-    size_t size;
-    uint8_t *room;
-    size_t room_size;
-};
-
-/* The library's entries, through its header. */
-extern const struct entries library;
 
 /* Gives what the entry returned. */
 uint64_t hand_in(const struct entries *to, const struct event *event, const struct lent_bytes *lent);

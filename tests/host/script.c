@@ -72,7 +72,7 @@ static bool do_line(const struct line *line) {
     struct event event;
     if (!read_event(line, &event, list))
         print_answer(UNREADABLE, 0, NULL);
-    else if ((event.letter == 'S') == stands)
+    else if ((event.letter == SET_UP_LETTER) == stands)
         print_answer(STATION_WRONG, 0, NULL);
     else
         return do_event(&event, list);

@@ -143,13 +143,20 @@ static filler *const fillers[MOVES] = {[CALL] = call, [AGAIN] = call_again, [ANS
 
 /* Time, slot and sequence, one of them or several at once, so that the refusals' order shows. */
 static void spoil(struct event *event) {
-    bool sequence = event->letter == 'Q' || event->letter == 'W';
     if (one_in(3))
         event->time = wrong_time();
-    if (event->letter != 'Q' && one_in(3))
+    if (takes_slot(event->letter) && one_in(3))
         event->slot = stage.station.channel_count + (one_in(2) ? 0u : chance(4294967295u - MOST_SLOTS));
-    if (sequence && !one_in(4))
+    if (takes_symbols(event->letter) && !one_in(4))
         spoil_sequence(event);
+}
+
+static char without_symbols(void) {
+    static const char letters[] = {EVENTS(EVENT_LETTER)};
+    uint32_t first = 0;
+    while (takes_symbols(letters[first]))
+        first++;
+    return letters[first + chance((uint32_t)sizeof letters - first)];
 }
 
 static enum move choose(const struct mood *mood) {
@@ -191,7 +198,7 @@ void make_move(const struct mood *mood) {
         fillers[one_in(2) ? CARRIER : one_in(2) ? LINE : END](&event);
         event.time = time;
     } else if (move == NOISE) {
-        event.letter = "UDOHMFT"[chance(7)];
+        event.letter = without_symbols();
         event.time = soon(OFFER_WAIT, 0);
         if (one_in(4))
             play_odd();

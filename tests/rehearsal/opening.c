@@ -18,7 +18,7 @@ static void put_channels(struct event *event, uint32_t count) {
 
 static struct event good_set_up(uint32_t most_channels) {
     static const uint32_t edges[] = {2000000u, 7999999u, 2001234u};
-    struct event event = {.letter = 'S'};
+    struct event event = {.letter = SET_UP_LETTER};
     event.slot = one_in(2) ? edges[chance(3)] : 2000000u + chance(6000000u);
     put_channels(&event, one_in(4) ? most_channels : 1u + chance(most_channels));
     return event;
@@ -55,11 +55,11 @@ static void choose_ships(const struct mood *mood) {
 
 /* An event that meets no station. */
 static void play_too_early(void) {
-    static const char letters[] = "QWUDOHMFT";
-    struct event event = {.letter = letters[chance(9)]};
+    static const char letters[] = {EVENTS(EVENT_LETTER)};
+    struct event event = {.letter = letters[chance(sizeof letters)]};
     event.time = chance(1000);
     event.slot = chance(2);
-    if (event.letter == 'Q' || event.letter == 'W')
+    if (takes_symbols(event.letter))
         event.count = draw_sequence(event.symbols);
     if (one_in(4))
         play_odd();

@@ -26,11 +26,11 @@ void end_script(void) {
 size_t put_text(char *text, const struct event *event) {
     size_t length = 1;
     text[0] = event->letter;
-    if (event->letter == 'S')
+    if (event->letter == SET_UP_LETTER)
         length += (size_t)sprintf(text + length, " %09u", event->slot);
     else
         length += (size_t)sprintf(text + length, " %u", event->time);
-    if (event->letter != 'S' && event->letter != 'Q' && event->letter != 'T')
+    if (takes_slot(event->letter))
         length += (size_t)sprintf(text + length, " %u", event->slot);
     for (size_t i = 0; i < event->count; i++)
         length += (size_t)sprintf(text + length, " %u", event->symbols[i]);
@@ -48,21 +48,20 @@ static size_t put_zeros(char *text, size_t length) {
     return length + zeros;
 }
 
+#define GIVES_alone
+#define GIVES_on_slot event->slot,
+#define GIVES_with_symbols heard,
+#define GIVES_on_slot_with_symbols event->slot, heard,
+
 static struct step follow(const struct event *event) {
     static uint8_t bytes[ACTION_ROOM];
     struct lent room = {bytes, ACTION_ROOM};
     struct heard heard = {event->symbols, event->count};
     struct station station = stage.station;
     switch (event->letter) {
-    case 'Q': return second_on_calling_channel(station, event->time, heard, room);
-    case 'W': return second_on_working_channel(station, event->time, event->slot, heard, room);
-    case 'U': return second_carrier_up(station, event->time, event->slot, room);
-    case 'D': return second_carrier_down(station, event->time, event->slot, room);
-    case 'O': return second_off_hook(station, event->time, event->slot, room);
-    case 'H': return second_on_hook(station, event->time, event->slot, room);
-    case 'M': return second_operator_takes(station, event->time, event->slot, room);
-    case 'F': return second_operator_gives_back(station, event->time, event->slot, room);
-    default: return second_tick(station, event->time, room);
+#define AS_STEP(letter, entry, takes) case letter: return second_##entry(station, event->time, GIVES_##takes room);
+        EVENTS(AS_STEP)
+    default: return (struct step){.station = station}; /* no event has another letter */
     }
 }
 
@@ -79,9 +78,9 @@ void play(const struct event *event) {
     struct step step;
     size_t length = put_text(text, event);
     write_text(text, one_in(64) ? put_zeros(text, length) : length);
-    if ((event->letter == 'S') == stage.stands)
+    if ((event->letter == SET_UP_LETTER) == stage.stands)
         return; /* 41 */
-    step = event->letter == 'S' ? set_up(event) : follow(event);
+    step = event->letter == SET_UP_LETTER ? set_up(event) : follow(event);
     if (step.answer == SET_UP_BAD)
         return;
     stage.stands = true;

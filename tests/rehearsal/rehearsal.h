@@ -3,6 +3,7 @@
 #ifndef REHEARSAL_H
 #define REHEARSAL_H
 
+#include "../c/entries.h"
 #include "../compare/compare.h"
 #include "../second/station.h"
 

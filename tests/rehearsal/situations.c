@@ -236,7 +236,7 @@ static void note_changes(const struct station *before, const struct station *aft
 
 void note_step(const struct station *before, const struct event *event, const struct step *step) {
     uint32_t due = 0;
-    if (step->answer > IGNORED || event->letter == 'S')
+    if (step->answer > IGNORED || event->letter == SET_UP_LETTER)
         return;
     switch (event->letter) {
     case 'Q': note_calling(before, event, step); break;

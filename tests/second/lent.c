@@ -208,73 +208,25 @@ uint64_t second_next_due_bytes(const uint8_t *station, size_t size) {
     return get_whole(station, size, &before) && second_is_sound(&before) ? due_bits(&before) : NOT_SOUND;
 }
 
-/* ---- events ---- */
+/* ---- events: the station is read from its bytes, the event happens to it, and it is laid down again ---- */
 
-uint64_t second_tick_bytes(uint8_t *station, size_t size, uint32_t time, uint8_t *room, size_t room_size) {
-    struct station before;
-    if (!get_whole(station, size, &before))
-        return NOT_SOUND;
-    struct step step = second_tick(before, time, (struct lent){room, room_size});
-    return handed_back(&step, station);
-}
+#define TAKES_alone
+#define TAKES_on_slot uint32_t slot,
+#define TAKES_with_symbols const uint8_t *symbols, size_t count,
+#define TAKES_on_slot_with_symbols uint32_t slot, const uint8_t *symbols, size_t count,
 
-uint64_t second_heard_on_channel_70_bytes(uint8_t *station, size_t size, uint32_t time, const uint8_t *symbols,
-                                          size_t count, uint8_t *room, size_t room_size) {
-    struct station before;
-    if (!get_whole(station, size, &before))
-        return NOT_SOUND;
-    struct heard heard = {symbols, count};
-    struct step step = second_on_calling_channel(before, time, heard, (struct lent){room, room_size});
-    return handed_back(&step, station);
-}
+#define GIVES_alone
+#define GIVES_on_slot slot,
+#define GIVES_with_symbols (struct heard){symbols, count},
+#define GIVES_on_slot_with_symbols slot, (struct heard){symbols, count},
 
-uint64_t second_heard_on_slot_bytes(uint8_t *station, size_t size, uint32_t time, uint32_t slot, const uint8_t *symbols,
-                                    size_t count, uint8_t *room, size_t room_size) {
-    struct station before;
-    if (!get_whole(station, size, &before))
-        return NOT_SOUND;
-    struct heard heard = {symbols, count};
-    struct step step = second_on_working_channel(before, time, slot, heard, (struct lent){room, room_size});
-    return handed_back(&step, station);
-}
-
-typedef struct step slot_event(struct station station, uint32_t time, uint32_t slot, struct lent room);
-
-static uint64_t on_slot(slot_event *event, uint8_t *station, size_t size, uint32_t time, uint32_t slot,
-                        struct lent room) {
-    struct station before;
-    if (!get_whole(station, size, &before))
-        return NOT_SOUND;
-    struct step step = event(before, time, slot, room);
-    return handed_back(&step, station);
-}
-
-uint64_t second_carrier_up_bytes(uint8_t *station, size_t size, uint32_t time, uint32_t slot, uint8_t *room,
-                                 size_t room_size) {
-    return on_slot(second_carrier_up, station, size, time, slot, (struct lent){room, room_size});
-}
-
-uint64_t second_carrier_down_bytes(uint8_t *station, size_t size, uint32_t time, uint32_t slot, uint8_t *room,
-                                   size_t room_size) {
-    return on_slot(second_carrier_down, station, size, time, slot, (struct lent){room, room_size});
-}
-
-uint64_t second_off_hook_bytes(uint8_t *station, size_t size, uint32_t time, uint32_t slot, uint8_t *room,
-                               size_t room_size) {
-    return on_slot(second_off_hook, station, size, time, slot, (struct lent){room, room_size});
-}
-
-uint64_t second_on_hook_bytes(uint8_t *station, size_t size, uint32_t time, uint32_t slot, uint8_t *room,
-                              size_t room_size) {
-    return on_slot(second_on_hook, station, size, time, slot, (struct lent){room, room_size});
-}
-
-uint64_t second_take_bytes(uint8_t *station, size_t size, uint32_t time, uint32_t slot, uint8_t *room,
-                           size_t room_size) {
-    return on_slot(second_operator_takes, station, size, time, slot, (struct lent){room, room_size});
-}
-
-uint64_t second_give_back_bytes(uint8_t *station, size_t size, uint32_t time, uint32_t slot, uint8_t *room,
-                                size_t room_size) {
-    return on_slot(second_operator_gives_back, station, size, time, slot, (struct lent){room, room_size});
-}
+#define ON_BYTES(letter, entry, takes)                                                                                  \
+    uint64_t second_##entry##_bytes(uint8_t *station, size_t size, uint32_t time, TAKES_##takes uint8_t *room,          \
+                                    size_t room_size) {                                                                 \
+        struct station before;                                                                                          \
+        if (!get_whole(station, size, &before))                                                                         \
+            return NOT_SOUND;                                                                                           \
+        struct step step = second_##entry(before, time, GIVES_##takes (struct lent){room, room_size});                  \
+        return handed_back(&step, station);                                                                             \
+    }
+EVENTS(ON_BYTES)

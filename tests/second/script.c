@@ -139,10 +139,10 @@ static struct step sequence_event(struct desk *desk,
     for (size_t i = 0; i < heard.count; i++)
         symbols[i] = (uint8_t)command->numbers[from + i];
     if (calling)
-        return second_on_calling_channel(desk->station, command->numbers[0],
-                                         heard, room);
-    return second_on_working_channel(desk->station, command->numbers[0],
-                                     command->numbers[1], heard, room);
+        return second_heard_on_channel_70(desk->station, command->numbers[0],
+                                          heard, room);
+    return second_heard_on_slot(desk->station, command->numbers[0],
+                                command->numbers[1], heard, room);
 }
 
 static struct step timed_event(struct desk *desk,
@@ -156,9 +156,8 @@ static struct step timed_event(struct desk *desk,
     case 'D': return second_carrier_down(desk->station, time, slot, room);
     case 'O': return second_off_hook(desk->station, time, slot, room);
     case 'H': return second_on_hook(desk->station, time, slot, room);
-    case 'M': return second_operator_takes(desk->station, time, slot, room);
-    case 'F': return second_operator_gives_back(desk->station, time, slot,
-                                                room);
+    case 'M': return second_take(desk->station, time, slot, room);
+    case 'F': return second_give_back(desk->station, time, slot, room);
     default: return second_tick(desk->station, time, room);
     }
 }

@@ -99,8 +99,8 @@ static struct work begin(struct station *station, uint32_t time,
 
 /* ---- sequences ---- */
 
-struct step second_on_calling_channel(struct station station, uint32_t time,
-                                      struct heard heard, struct lent room)
+struct step second_heard_on_channel_70(struct station station, uint32_t time,
+                                       struct heard heard, struct lent room)
 {
     struct meaning m = {0};
     struct work work;
@@ -113,9 +113,9 @@ struct step second_on_calling_channel(struct station station, uint32_t time,
     return changed(heard_on_calling(&work, &m), &work);
 }
 
-struct step second_on_working_channel(struct station station, uint32_t time,
-                                      uint32_t slot, struct heard heard,
-                                      struct lent room)
+struct step second_heard_on_slot(struct station station, uint32_t time,
+                                 uint32_t slot, struct heard heard,
+                                 struct lent room)
 {
     struct meaning m = {0};
     struct work work;
@@ -250,15 +250,15 @@ struct step second_on_hook(struct station station, uint32_t time,
 }
 
 /* "operator takes a slot not free": 35 */
-struct step second_operator_takes(struct station station, uint32_t time,
-                                  uint32_t slot, struct lent room)
+struct step second_take(struct station station, uint32_t time, uint32_t slot,
+                        struct lent room)
 {
     return operator_event(&station, time, slot, room, PHASE_FREE);
 }
 
 /* "or gives back one not taken": 35 */
-struct step second_operator_gives_back(struct station station, uint32_t time,
-                                       uint32_t slot, struct lent room)
+struct step second_give_back(struct station station, uint32_t time,
+                             uint32_t slot, struct lent room)
 {
     return operator_event(&station, time, slot, room, PHASE_TAKEN);
 }

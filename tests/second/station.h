@@ -94,11 +94,11 @@ bool second_is_sound(const struct station *station);
 /* The earliest due time, if any wait runs. */
 bool second_next_due(const struct station *station, uint32_t *due);
 
-struct step second_on_calling_channel(struct station station, uint32_t time,
-                                      struct heard heard, struct lent room);
-struct step second_on_working_channel(struct station station, uint32_t time,
-                                      uint32_t slot, struct heard heard,
-                                      struct lent room);
+struct step second_heard_on_channel_70(struct station station, uint32_t time,
+                                       struct heard heard, struct lent room);
+struct step second_heard_on_slot(struct station station, uint32_t time,
+                                 uint32_t slot, struct heard heard,
+                                 struct lent room);
 struct step second_carrier_up(struct station station, uint32_t time,
                               uint32_t slot, struct lent room);
 struct step second_carrier_down(struct station station, uint32_t time,
@@ -107,10 +107,10 @@ struct step second_off_hook(struct station station, uint32_t time,
                             uint32_t slot, struct lent room);
 struct step second_on_hook(struct station station, uint32_t time,
                            uint32_t slot, struct lent room);
-struct step second_operator_takes(struct station station, uint32_t time,
-                                  uint32_t slot, struct lent room);
-struct step second_operator_gives_back(struct station station, uint32_t time,
-                                       uint32_t slot, struct lent room);
+struct step second_take(struct station station, uint32_t time, uint32_t slot,
+                        struct lent room);
+struct step second_give_back(struct station station, uint32_t time,
+                             uint32_t slot, struct lent room);
 struct step second_tick(struct station station, uint32_t time,
                         struct lent room);
 

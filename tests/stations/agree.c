@@ -22,7 +22,7 @@ const uint8_t *noise(size_t length) {
 
 /* Lent bytes with a margin before and behind them, which shows a call that strays. */
 #define MARGIN 16u
-struct lent_bytes {
+struct lent_whole {
     uint8_t station[MARGIN + MOST_STATION_SIZE + MARGIN];
     uint8_t room[MARGIN + MOST_ROOM_SIZE + MARGIN];
     uint8_t symbols[MARGIN + MOST_SYMBOLS + MARGIN];
@@ -30,7 +30,7 @@ struct lent_bytes {
 
 /* One side of a call; its station begins at a place that the other side's does not. */
 struct side {
-    struct lent_bytes now, before;
+    struct lent_whole now, before;
     size_t shift;
     uint64_t returned;
 };
@@ -53,36 +53,20 @@ static void lend(struct side *side, const struct call *call, const uint8_t *room
     side->before = side->now;
 }
 
-static uint64_t handed_to(const struct entries *to, const struct event *event, uint8_t *station, size_t size,
-                          const uint8_t *symbols, uint8_t *room, size_t room_size) {
-    uint32_t time = event->time, slot = event->slot;
-    switch (event->letter) {
-    case 'S': return to->set_up(slot, symbols, event->count, station, size);
-    case 'Q': return to->heard_on_channel_70(station, size, time, symbols, event->count, room, room_size);
-    case 'W': return to->heard_on_slot(station, size, time, slot, symbols, event->count, room, room_size);
-    case 'U': return to->carrier_up(station, size, time, slot, room, room_size);
-    case 'D': return to->carrier_down(station, size, time, slot, room, room_size);
-    case 'O': return to->off_hook(station, size, time, slot, room, room_size);
-    case 'H': return to->on_hook(station, size, time, slot, room, room_size);
-    case 'M': return to->take(station, size, time, slot, room, room_size);
-    case 'F': return to->give_back(station, size, time, slot, room, room_size);
-    case 'T': return to->tick(station, size, time, room, room_size);
-    default: return to->next_due(station, size);
-    }
-}
-
 /* Of no bytes, where a null pointer will do, that is what is handed in. */
 static void make_call(struct side *side, const struct entries *to, const struct call *call, bool null) {
     const struct event *event = call->event;
     uint8_t *station = call->size == 0u && null ? NULL : station_of(side);
     uint8_t *room = call->room_size == 0u && null ? NULL : room_of(side);
     const uint8_t *symbols = event->count == 0u && null ? NULL : side->now.symbols + MARGIN;
-    side->returned = handed_to(to, event, station, call->size, symbols, room, call->room_size);
+    struct handed handed = {event->time, event->slot, symbols, event->count};
+    struct lent_bytes lent = {station, call->size, room, call->room_size};
+    side->returned = call_entry(to, event->letter, &handed, &lent);
 }
 
 /* Whether a side left all that it was not lent to write in. */
 static bool kept_to_its_bytes(struct side *side, const struct call *call) {
-    struct lent_bytes *before = &side->before;
+    struct lent_whole *before = &side->before;
     memcpy(before->station + (station_of(side) - side->now.station), station_of(side), call->size);
     memcpy(before->room + MARGIN, room_of(side), call->room_size);
     return memcmp(before, &side->now, sizeof *before) == 0;

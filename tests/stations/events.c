@@ -48,7 +48,7 @@ static void put_distinct(struct event *event, uint32_t count) {
 
 struct event draw_set_up(void) {
     static const uint8_t edges[] = {0, 1, 15, 16, 17, 28, 29, 59, 60, 69, 70, 71, 88, 89, 127, 255};
-    struct event event = {.letter = 'S', .slot = any_coast()};
+    struct event event = {.letter = SET_UP_LETTER, .slot = any_coast()};
     put_distinct(&event, one_in(4) ? MOST_SLOTS : 1u + chance(MOST_SLOTS));
     uint8_t *one = event.symbols + chance((uint32_t)event.count);
     switch (chance(8)) {

@@ -4,7 +4,7 @@
 #define STATIONS_H
 
 #include "../rehearsal/rehearsal.h"
-#include "entries.h"
+#include "../c/entries.h"
 
 /* ---- the layout of include/coast.h ---- */
 #define STATION_SIZE 1722u
@@ -43,8 +43,6 @@ void note_moved(bool sound);            /* what it turned out to be */
 bool each_field_moved(uint32_t enough); /* whether each field was both inside and outside so often */
 
 /* ---- events.c ---- */
-#define NEXT_DUE_LETTER 'N'
-#define LETTERS "QWUDOHMFTSN"
 struct event draw_event(void); /* one that fits the stage, or nearly */
 struct event draw_set_up(void);
 size_t any_room_size(void);

@@ -4,13 +4,15 @@
 extern int printf(const char *, ...);
 
 #define MOST_ANSWERS 37u
-#define KINDS 11u       /* of events */
 #define ACTION_KINDS 8u /* from 1 on */
 
 /* Fewer than these would say that the run no longer tries what it is for. */
 #define ENOUGH_ANSWERS 30u
 #define ENOUGH_ACTIONS 1000u /* and stations with a free slot beside waiting ships */
 #define ENOUGH_MOVES 20u
+
+static const char letters[] = {EVENTS(EVENT_LETTER) SET_UP_LETTER, NEXT_DUE_LETTER};
+#define KINDS (sizeof letters) /* of calls */
 
 static struct counts {
     uint32_t calls, answers[KINDS][MOST_ANSWERS], actions[ACTION_KINDS];
@@ -24,7 +26,7 @@ void begin_tally(void) {
 
 static size_t kind_of(char letter) {
     size_t kind = 0;
-    while (kind < KINDS - 1u && LETTERS[kind] != letter)
+    while (kind < KINDS - 1u && letters[kind] != letter)
         kind++;
     return kind;
 }
@@ -54,18 +56,17 @@ void note_sound(uint64_t returned) {
 
 /* By include/coast.h; 11 to 20 behind a sequence only. */
 static bool may_answer(char letter, uint32_t answer) {
-    bool hears = letter == 'Q' || letter == 'W', hand = letter == 'M' || letter == 'F';
-    bool plain = letter == 'T' || letter == 'S' || letter == NEXT_DUE_LETTER;
+    bool hand = letter == 'M' || letter == 'F', no_tick = takes_slot(letter) || takes_symbols(letter);
     switch (answer) {
     case 0: return true;
-    case 29: return letter != 'S';
-    case 1: return !plain && !hand;
-    case 30: case 31: case 32: return letter == 'T' || !plain;
-    case 33: return !plain;
-    case 34: return !plain && letter != 'Q';
+    case 29: return letter != SET_UP_LETTER;
+    case 1: return no_tick && !hand;
+    case 30: case 31: case 32: return is_event(letter);
+    case 33: return no_tick;
+    case 34: return takes_slot(letter);
     case 35: return hand;
-    case 23: case 36: return letter == 'S';
-    default: return hears && answer >= 11u && answer <= 20u;
+    case 23: case 36: return letter == SET_UP_LETTER;
+    default: return takes_symbols(letter) && answer >= 11u && answer <= 20u;
     }
 }
 
@@ -73,8 +74,8 @@ static bool enough_answers(void) {
     bool all = true;
     for (size_t kind = 0; kind < KINDS; kind++)
         for (uint32_t answer = 0; answer < MOST_ANSWERS; answer++)
-            if (may_answer(LETTERS[kind], answer) && tally.answers[kind][answer] < ENOUGH_ANSWERS) {
-                printf("stations: hardly tried: %c answered %u, %u times\n", LETTERS[kind], (unsigned)answer,
+            if (may_answer(letters[kind], answer) && tally.answers[kind][answer] < ENOUGH_ANSWERS) {
+                printf("stations: hardly tried: %c answered %u, %u times\n", letters[kind], (unsigned)answer,
                        (unsigned)tally.answers[kind][answer]);
                 all = false;
             }

@@ -63,11 +63,10 @@ static void tell_station(const uint8_t *bytes) {
 
 /* As the script writes it, N for the next due time. */
 static void tell_event(const struct event *event) {
-    bool slot = event->letter != 'Q' && event->letter != 'T' && event->letter != NEXT_DUE_LETTER;
     printf("stations: the two differ at %c", event->letter);
-    if (event->letter != 'S' && event->letter != NEXT_DUE_LETTER)
+    if (is_event(event->letter))
         printf(" %u", (unsigned)event->time);
-    if (slot)
+    if (takes_slot(event->letter) || event->letter == SET_UP_LETTER)
         printf(" %u", (unsigned)event->slot);
     for (size_t i = 0; i < event->count; i++)
         printf(" %u", (unsigned)event->symbols[i]);

@@ -227,7 +227,7 @@ static void try_eight(void)
     struct heard heard = {P1, 24};
     struct step step;
     memset(room, 0xA5, sizeof room);
-    step = second_on_calling_channel(busy(), 1010, heard, lent);
+    step = second_heard_on_channel_70(busy(), 1010, heard, lent);
     want("rule c", step.answer, 0);
     want("eight actions", step.actions, 8);
     want("byte after", room[ACTION_ROOM], 0xA5);
@@ -243,13 +243,13 @@ static void try_eight(void)
     want("charged seconds", room[4 + 12], 11);
     memset(room, 0xA5, sizeof room);
     heard.count = 20;
-    step = second_on_calling_channel(busy(), 1010, heard, lent);
+    step = second_heard_on_channel_70(busy(), 1010, heard, lent);
     want("11", step.answer, 11);
     want("clock", step.station.clock, 1000);
     for (size_t i = 0; i < sizeof room; i++)
         want("room untouched", room[i], 0xA5);
     heard.count = 24;
-    step = second_on_calling_channel(two_channels(), 1, heard, lent);
+    step = second_heard_on_channel_70(two_channels(), 1, heard, lent);
     want("two actions", step.actions, 2);
     for (size_t i = 80; i < sizeof room; i++)
         want("bytes after the last action stay", room[i], 0xA5);

@@ -1,0 +1,41 @@
+/* Which entry a letter stands for, what it takes, and its call. */
+#include "entries.h"
+
+enum kind { alone, on_slot, with_symbols, on_slot_with_symbols, no_event };
+
+static enum kind kind_of(char letter) {
+    switch (letter) {
+#define AS_KIND(letter, entry, takes) case letter: return takes;
+        EVENTS(AS_KIND)
+    default: return no_event;
+    }
+}
+
+bool is_event(char letter) {
+    return kind_of(letter) != no_event;
+}
+
+bool takes_slot(char letter) {
+    return kind_of(letter) == on_slot || kind_of(letter) == on_slot_with_symbols;
+}
+
+bool takes_symbols(char letter) {
+    return kind_of(letter) == with_symbols || kind_of(letter) == on_slot_with_symbols;
+}
+
+#define STATION lent->station, lent->size
+#define SYMBOLS handed->symbols, handed->count
+#define ROOM lent->room, lent->room_size
+#define CALL_alone(entry) entry(STATION, handed->time, ROOM)
+#define CALL_on_slot(entry) entry(STATION, handed->time, handed->slot, ROOM)
+#define CALL_with_symbols(entry) entry(STATION, handed->time, SYMBOLS, ROOM)
+#define CALL_on_slot_with_symbols(entry) entry(STATION, handed->time, handed->slot, SYMBOLS, ROOM)
+
+uint64_t call_entry(const struct entries *to, char letter, const struct handed *handed, const struct lent_bytes *lent) {
+    switch (letter) {
+    case SET_UP_LETTER: return to->set_up(handed->slot, SYMBOLS, STATION);
+#define AS_CALL(letter, entry, takes) case letter: return CALL_##takes(to->entry);
+        EVENTS(AS_CALL)
+    default: return to->next_due(STATION);
+    }
+}

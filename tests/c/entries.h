@@ -1,0 +1,75 @@
+/* The station's entries of include/coast.h: the library's, the second implementation's, or ones that are wrong on purpose. */
+#ifndef ENTRIES_H
+#define ENTRIES_H
+
+#include <stdbool.h>
+#include <stddef.h>
+#include <stdint.h>
+
+/* The one list of the events: the letter of the script, the entry, and what it takes beside the station, the time and the
+ * room. Those that take symbols come first. */
+#define EVENTS(X)                               \
+    X('Q', heard_on_channel_70, with_symbols)   \
+    X('W', heard_on_slot, on_slot_with_symbols) \
+    X('U', carrier_up, on_slot)                 \
+    X('D', carrier_down, on_slot)               \
+    X('O', off_hook, on_slot)                   \
+    X('H', on_hook, on_slot)                    \
+    X('M', take, on_slot)                       \
+    X('F', give_back, on_slot)                  \
+    X('T', tick, alone)
+
+#define EVENT_LETTER(letter, entry, takes) letter,
+
+/* The two entries that are no events; the script has a letter for the first. */
+#define SET_UP_LETTER 'S'
+#define NEXT_DUE_LETTER 'N'
+
+typedef uint64_t alone_entry(uint8_t *station, size_t size, uint32_t time, uint8_t *room, size_t room_size);
+typedef uint64_t on_slot_entry(uint8_t *station, size_t size, uint32_t time, uint32_t slot, uint8_t *room, size_t room_size);
+typedef uint64_t with_symbols_entry(uint8_t *station, size_t size, uint32_t time, const uint8_t *symbols, size_t count,
+                                    uint8_t *room, size_t room_size);
+typedef uint64_t on_slot_with_symbols_entry(uint8_t *station, size_t size, uint32_t time, uint32_t slot,
+                                            const uint8_t *symbols, size_t count, uint8_t *room, size_t room_size);
+typedef uint64_t set_up_entry(uint32_t identity, const uint8_t *channels, size_t count, uint8_t *station, size_t size);
+typedef uint64_t next_due_entry(const uint8_t *station, size_t size);
+
+struct entries {
+    const char *name;
+    set_up_entry *set_up;
+    next_due_entry *next_due;
+#define AS_MEMBER(letter, entry, takes) takes##_entry *entry;
+    EVENTS(AS_MEMBER)
+#undef AS_MEMBER
+};
+
+/* ---- library.c: the library's entries, through its header ---- */
+extern const struct entries library;
+
+/* What tests/stations holds against the second implementation: the library, or what is defined in place of library.c. */
+extern const struct entries *const tried[];
+extern const size_t tried_count;
+
+/* ---- entries.c ---- */
+bool is_event(char letter);
+bool takes_slot(char letter);
+bool takes_symbols(char letter);
+
+/* What an entry may be handed. For a set-up the slot is the identity, and the symbols are the channels. */
+struct handed {
+    uint32_t time, slot;
+    const uint8_t *symbols;
+    size_t count;
+};
+
+struct lent_bytes {
+    uint8_t *station;
+    size_t size;
+    uint8_t *room;
+    size_t room_size;
+};
+
+/* Calls the entry of a letter with what it takes; gives what it returned. */
+uint64_t call_entry(const struct entries *to, char letter, const struct handed *handed, const struct lent_bytes *lent);
+
+#endif
