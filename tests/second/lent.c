@@ -1,16 +1,7 @@
-/* The second implementation's station on lent bytes: lays a station out in 1722 bytes as include/coast.h says. */
+/* The second implementation's station on lent bytes, laid out as include/coast.h says. */
 #include "lent.h"
 #include "inside.h"
-
-#define STATION_BYTES 1722u
-#define SLOT_BYTES 45u
-#define WAITING_BYTES 31u
-
-enum station_at { CLOCK_AT = 0, IDENTITY_AT = 4, SLOT_COUNT_AT = 8, WAITING_COUNT_AT = 9, SLOTS_AT = 10, QUEUE_AT = 730 };
-enum slot_at { PHASE_AT = 0, TIME_AT = 1, CARRIER_AT = 5, CARRIER_DUE_AT = 6, TOLD_AT = 10, HOURS_AT = 11, MINUTES_AT = 12,
-               SECONDS_AT = 13, CHANNEL_AT = 14, SLOT_REQUEST_AT = 18 };
-enum waiting_at { WAITING_DUE_AT = 0, WAITING_REQUEST_AT = 4 };
-enum request_at { SHIP_AT = 0, CALLED_AT = 4, MODE_AT = 8, SECOND_AT = 9, COUNT_AT = 10, DIGITS_AT = 11 };
+#include "layout.h"
 
 #define NOTHING_TOLD 0u
 #define DURATION_TOLD 1u
@@ -117,7 +108,7 @@ static bool get_whole(const uint8_t *bytes, size_t size, struct station *station
     return size == STATION_BYTES && get_station(bytes, station);
 }
 
-/* ---- to bytes, which are all 0 before ---- */
+/* ---- to bytes ---- */
 
 static void put_request(uint8_t *bytes, const struct meaning *request) {
     put_four(bytes + SHIP_AT, request->self);
@@ -125,29 +116,35 @@ static void put_request(uint8_t *bytes, const struct meaning *request) {
     bytes[MODE_AT] = (uint8_t)(request->first == SIMPLEX ? 0u : 1u);
     bytes[SECOND_AT] = request->second;
     bytes[COUNT_AT] = request->count;
-    for (size_t i = 0; i < request->count; i++)
+    for (size_t i = 0; i < MOST_DIGITS; i++)
         bytes[DIGITS_AT + i] = request->digits[i];
 }
 
 static void put_carrier(uint8_t *bytes, const struct slot *slot) {
-    if (slot->carrier == CARRIER_PRESENT)
-        return;
-    bytes[CARRIER_AT] = 1;
-    put_four(bytes + CARRIER_DUE_AT, slot->carrier_due);
+    bool lost = slot->carrier == CARRIER_ABSENT;
+    bytes[CARRIER_AT] = (uint8_t)(lost ? 1u : 0u);
+    if (lost)
+        put_four(bytes + CARRIER_DUE_AT, slot->carrier_due);
 }
 
 static void put_duration(uint8_t *bytes, const struct duration *duration) {
+    bytes[TOLD_AT] = (uint8_t)(duration->kind == FIELD_NONE ? NOTHING_TOLD : DURATION_TOLD);
     if (duration->kind == FIELD_NONE)
         return;
-    bytes[TOLD_AT] = DURATION_TOLD;
     bytes[HOURS_AT] = duration->hours;
     bytes[MINUTES_AT] = duration->minutes;
     bytes[SECONDS_AT] = duration->seconds;
 }
 
+static uint8_t number_of(enum phase phase) {
+    uint8_t number = 0;
+    while (phases[number] != phase)
+        number++;
+    return number;
+}
+
 static void put_slot(uint8_t *bytes, const struct slot *slot, uint8_t channel) {
-    while (phases[bytes[PHASE_AT]] != slot->phase)
-        bytes[PHASE_AT]++;
+    bytes[PHASE_AT] = number_of(slot->phase);
     put_four(bytes + CHANNEL_AT, channel);
     if (has_slot_wait(slot->phase))
         put_four(bytes + TIME_AT, slot->due);
@@ -161,9 +158,7 @@ static void put_slot(uint8_t *bytes, const struct slot *slot, uint8_t channel) {
         put_request(bytes + SLOT_REQUEST_AT, &slot->request);
 }
 
-static void put_station(uint8_t *bytes, const struct station *station) {
-    static const struct whole { uint8_t bytes[STATION_BYTES]; } zeros = {{0}};
-    *(struct whole *)bytes = zeros;
+void second_lay(uint8_t *bytes, const struct station *station) {
     put_four(bytes + CLOCK_AT, station->clock);
     put_four(bytes + IDENTITY_AT, station->identity);
     bytes[SLOT_COUNT_AT] = (uint8_t)station->channel_count;
@@ -175,6 +170,12 @@ static void put_station(uint8_t *bytes, const struct station *station) {
         put_four(waiting + WAITING_DUE_AT, station->queue[i].due);
         put_request(waiting + WAITING_REQUEST_AT, &station->queue[i].request);
     }
+}
+
+static void put_station(uint8_t *bytes, const struct station *station) {
+    static const struct whole { uint8_t bytes[STATION_BYTES]; } zeros = {{0}};
+    *(struct whole *)bytes = zeros;
+    second_lay(bytes, station);
 }
 
 /* ---- what is returned ---- */

@@ -64,10 +64,10 @@ struct event draw_set_up(void) {
 
 size_t any_room_size(void) {
     switch (chance(16)) {
-    case 0: return chance(ROOM_SIZE);
-    case 1: return ROOM_SIZE - 1u;
+    case 0: return chance(ACTION_ROOM);
+    case 1: return ACTION_ROOM - 1u;
     case 2: return 0;
-    case 3: case 4: return ROOM_SIZE + chance(MOST_ROOM_SIZE - ROOM_SIZE + 1u);
-    default: return ROOM_SIZE;
+    case 3: case 4: return ACTION_ROOM + chance(MOST_ROOM_SIZE - ACTION_ROOM + 1u);
+    default: return ACTION_ROOM;
     }
 }

@@ -46,16 +46,16 @@ static bool try_sound(void) {
     uint64_t returned;
     draw_any_station();
     note_drawn();
-    lay_stage(bytes);
-    return events_agree(3, STATION_SIZE, true) && (!one_in(4) || next_dues_agree(STATION_SIZE, &returned));
+    second_lay(bytes, &stage.station);
+    return events_agree(3, STATION_BYTES, true) && (!one_in(4) || next_dues_agree(STATION_BYTES, &returned));
 }
 
 static bool moved_agree(void) {
     uint64_t returned;
-    if (!next_dues_agree(STATION_SIZE, &returned))
+    if (!next_dues_agree(STATION_BYTES, &returned))
         return false;
     note_moved((returned & 255u) == DONE);
-    return !one_in(2) || events_agree(1, STATION_SIZE, false);
+    return !one_in(2) || events_agree(1, STATION_BYTES, false);
 }
 
 static bool try_moved(void) {
@@ -68,12 +68,12 @@ static bool try_moved(void) {
 
 /* Other bytes in a part of a sound station, or all over. */
 static void spoil_bytes(void) {
-    size_t length = one_in(2) ? 1u : one_in(8) ? STATION_SIZE : 1u + chance(64);
-    size_t used = SLOTS + SLOT_LENGTH * stage.station.channel_count;
-    size_t at = one_in(2) ? chance((uint32_t)used) : chance(STATION_SIZE);
-    length = length > STATION_SIZE - at ? STATION_SIZE - at : length;
+    size_t length = one_in(2) ? 1u : one_in(8) ? STATION_BYTES : 1u + chance(64);
+    size_t used = SLOTS_AT + SLOT_BYTES * stage.station.channel_count;
+    size_t at = one_in(2) ? chance((uint32_t)used) : chance(STATION_BYTES);
+    length = length > STATION_BYTES - at ? STATION_BYTES - at : length;
     if (one_in(8))
-        memcpy(bytes, noise(STATION_SIZE), STATION_SIZE);
+        memcpy(bytes, noise(STATION_BYTES), STATION_BYTES);
     else
         memcpy(bytes + at, noise(length), length);
 }
@@ -85,10 +85,10 @@ static size_t wrong_size(void) {
 
 static bool try_garbage(void) {
     uint64_t returned;
-    size_t size = one_in(3) ? wrong_size() : STATION_SIZE;
+    size_t size = one_in(3) ? wrong_size() : STATION_BYTES;
     draw_any_station();
-    lay_stage(bytes);
-    if (size == STATION_SIZE)
+    second_lay(bytes, &stage.station);
+    if (size == STATION_BYTES)
         spoil_bytes();
     return next_dues_agree(size, &returned) && events_agree(1, size, false);
 }
@@ -96,7 +96,7 @@ static bool try_garbage(void) {
 static bool try_set_up(void) {
     uint64_t returned;
     struct event event = draw_set_up();
-    return agree_on(&event, one_in(8) ? wrong_size() : STATION_SIZE, &returned);
+    return agree_on(&event, one_in(8) ? wrong_size() : STATION_BYTES, &returned);
 }
 
 static bool try_station(uint32_t number) {

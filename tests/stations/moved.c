@@ -29,18 +29,18 @@ struct field {
 };
 
 /* The fields of a request, in a slot and in a waiting ship. */
-#define OF_REQUEST(where, part, phases, begins)                                                                             \
-    {where "ship", part, AS_DRAWN, phases, begins + SHIP, 4, PLAINLY, 6,                                                    \
-     {199999999, 200000000, 799999999, 800000000, 2000000, 4294967295}},                                                    \
-    {where "station called", part, AS_DRAWN, phases, begins + CALLED, 4, FROM_IDENTITY, 3, {-1, 0, 1}},                     \
-    {where "mode", part, AS_DRAWN, phases, begins + MODE, 1, PLAINLY, 4, {0, 1, 2, 255}},                                   \
-    {where "second telecommand", part, AS_DRAWN, phases, begins + SECOND, 1, PLAINLY, 6, {0, 99, 100, 126, 127, 255}},      \
-    {where "count of one digit", part, ONE_DIGIT, phases, begins + DIGIT_COUNT, 1, PLAINLY, 4, {0, 1, 2, 16}},              \
-    {where "count of fifteen digits", part, FIFTEEN_DIGITS, phases, begins + DIGIT_COUNT, 1, PLAINLY, 3, {14, 15, 16}},     \
-    {where "count of sixteen digits", part, SIXTEEN_DIGITS, phases, begins + DIGIT_COUNT, 1, PLAINLY, 4, {15, 16, 17, 255}}, \
-    {where "first digit", part, AS_DRAWN, phases, begins + DIGITS, 1, PLAINLY, 4, {0, 9, 10, 255}},                         \
-    {where "last digit", part, SIXTEEN_DIGITS, phases, begins + DIGITS + 15, 1, PLAINLY, 4, {0, 9, 10, 255}},               \
-    {where "unused digit", part, FIFTEEN_DIGITS, phases, begins + DIGITS + 15, 1, PLAINLY, 4, {0, 0, 1, 9}}
+#define OF_REQUEST(where, part, phases, begins)                                                                                \
+    {where "ship", part, AS_DRAWN, phases, begins + SHIP_AT, 4, PLAINLY, 6,                                                    \
+     {199999999, 200000000, 799999999, 800000000, 2000000, 4294967295}},                                                       \
+    {where "station called", part, AS_DRAWN, phases, begins + CALLED_AT, 4, FROM_IDENTITY, 3, {-1, 0, 1}},                     \
+    {where "mode", part, AS_DRAWN, phases, begins + MODE_AT, 1, PLAINLY, 4, {0, 1, 2, 255}},                                   \
+    {where "second telecommand", part, AS_DRAWN, phases, begins + SECOND_AT, 1, PLAINLY, 6, {0, 99, 100, 126, 127, 255}},      \
+    {where "count of one digit", part, ONE_DIGIT, phases, begins + COUNT_AT, 1, PLAINLY, 4, {0, 1, 2, 16}},                    \
+    {where "count of fifteen digits", part, FIFTEEN_DIGITS, phases, begins + COUNT_AT, 1, PLAINLY, 3, {14, 15, 16}},           \
+    {where "count of sixteen digits", part, SIXTEEN_DIGITS, phases, begins + COUNT_AT, 1, PLAINLY, 4, {15, 16, 17, 255}},      \
+    {where "first digit", part, AS_DRAWN, phases, begins + DIGITS_AT, 1, PLAINLY, 4, {0, 9, 10, 255}},                         \
+    {where "last digit", part, SIXTEEN_DIGITS, phases, begins + DIGITS_AT + 15, 1, PLAINLY, 4, {0, 9, 10, 255}},               \
+    {where "unused digit", part, FIFTEEN_DIGITS, phases, begins + DIGITS_AT + 15, 1, PLAINLY, 4, {0, 0, 1, 9}}
 
 static const struct field fields[] = {
     {"clock, all due times with it", WHOLE_AT_CLOCK, AS_DRAWN, ANY_PHASE, 0, 0, PLAINLY, 3,
@@ -49,30 +49,30 @@ static const struct field fields[] = {
      {1999999, 2000000, 7999999, 8000000, 200000000}},
     {"identity of an idle station", WHOLE_OF_IDENTITY, IDLE, ANY_PHASE, 0, 0, PLAINLY, 5,
      {1999999, 2000000, 7999999, 8000000, 200000000}},
-    {"clock", STATION, AS_DRAWN, ANY_PHASE, CLOCK, 4, FROM_CLOCK, 2, {-1, 1}},
-    {"identity", STATION, AS_DRAWN, ANY_PHASE, IDENTITY, 4, FROM_IDENTITY, 3, {-1, 0, 1}},
-    {"count of slots", STATION, FULL, ANY_PHASE, SLOT_COUNT, 1, PLAINLY, 7, {0, 1, 15, 16, 17, 18, 255}},
-    {"count of waiting ships", STATION, FULL, ANY_PHASE, WAITING_COUNT, 1, PLAINLY, 7, {0, 1, 31, 32, 33, 34, 255}},
-    {"channel", SLOT, AS_DRAWN, ANY_PHASE, CHANNEL, 4, PLAINLY, 20,
+    {"clock", STATION, AS_DRAWN, ANY_PHASE, CLOCK_AT, 4, FROM_CLOCK, 2, {-1, 1}},
+    {"identity", STATION, AS_DRAWN, ANY_PHASE, IDENTITY_AT, 4, FROM_IDENTITY, 3, {-1, 0, 1}},
+    {"count of slots", STATION, FULL, ANY_PHASE, SLOT_COUNT_AT, 1, PLAINLY, 7, {0, 1, 15, 16, 17, 18, 255}},
+    {"count of waiting ships", STATION, FULL, ANY_PHASE, WAITING_COUNT_AT, 1, PLAINLY, 7, {0, 1, 31, 32, 33, 34, 255}},
+    {"channel", SLOT, AS_DRAWN, ANY_PHASE, CHANNEL_AT, 4, PLAINLY, 20,
      {0, 1, 15, 16, 17, 28, 29, 59, 60, 69, 70, 71, 88, 89, 255, 256 + 26, 26 << 8, (1 << 16) + 26, (1 << 24) + 26,
       26 << 24}},
-    {"phase", SLOT, AS_DRAWN, ANY_PHASE, PHASE, 1, PLAINLY, 12, {0, 1, 2, 3, 4, 5, 6, 7, 8, 9, 10, 255}},
-    {"offer's due time", SLOT, AS_DRAWN, OFFERS, TIME, 4, FROM_CLOCK, 4, {-1, 0, 161, 162}},
-    {"ring-back's due time", SLOT, AS_DRAWN, RINGS, TIME, 4, FROM_CLOCK, 4, {-1, 0, 51, 52}},
-    {"reply's due time", SLOT, AS_DRAWN, OF(PHASE_DIALLING), TIME, 4, FROM_CLOCK, 4, {-1, 0, 601, 602}},
-    {"hold's due time", SLOT, AS_DRAWN, OF(PHASE_HOLD), TIME, 4, FROM_CLOCK, 4, {-1, 0, 41, 42}},
-    {"since", SLOT, AS_DRAWN, OF(PHASE_ANSWERED), TIME, 4, FROM_CLOCK, 2, {0, 1}},
-    {"carrier", SLOT, LOST_DUPLEX, CALLS, SHIPS_CARRIER, 1, PLAINLY, 4, {0, 1, 2, 255}},
-    {"simplex carrier's due time", SLOT, LOST_SIMPLEX, CALLS, CARRIER_DUE, 4, FROM_CLOCK, 4, {-1, 0, 451, 452}},
-    {"duplex carrier's due time", SLOT, LOST_DUPLEX, CALLS, CARRIER_DUE, 4, FROM_CLOCK, 4, {-1, 0, 51, 52}},
-    {"lost carrier's mode", SLOT, LOST_SIMPLEX, CALLS, SLOT_REQUEST + MODE, 1, PLAINLY, 2, {0, 1}},
-    {"told", SLOT, WITH_DURATION, OF(PHASE_HOLD), TOLD, 1, PLAINLY, 4, {0, 1, 2, 255}},
-    {"hours", SLOT, WITH_DURATION, OF(PHASE_HOLD), HOURS, 1, PLAINLY, 3, {99, 100, 255}},
-    {"minutes", SLOT, WITH_DURATION, OF(PHASE_HOLD), MINUTES, 1, PLAINLY, 3, {59, 60, 255}},
-    {"seconds", SLOT, WITH_DURATION, OF(PHASE_HOLD), SECONDS, 1, PLAINLY, 3, {59, 60, 255}},
-    OF_REQUEST("slot's ", SLOT, STORES, SLOT_REQUEST),
-    {"waiting ship's due time", WAITING, AS_DRAWN, ANY_PHASE, WAITING_DUE, 4, FROM_CLOCK, 4, {-1, 0, 9001, 9002}},
-    OF_REQUEST("waiting ship's ", WAITING, ANY_PHASE, WAITING_REQUEST),
+    {"phase", SLOT, AS_DRAWN, ANY_PHASE, PHASE_AT, 1, PLAINLY, 12, {0, 1, 2, 3, 4, 5, 6, 7, 8, 9, 10, 255}},
+    {"offer's due time", SLOT, AS_DRAWN, OFFERS, TIME_AT, 4, FROM_CLOCK, 4, {-1, 0, 161, 162}},
+    {"ring-back's due time", SLOT, AS_DRAWN, RINGS, TIME_AT, 4, FROM_CLOCK, 4, {-1, 0, 51, 52}},
+    {"reply's due time", SLOT, AS_DRAWN, OF(PHASE_DIALLING), TIME_AT, 4, FROM_CLOCK, 4, {-1, 0, 601, 602}},
+    {"hold's due time", SLOT, AS_DRAWN, OF(PHASE_HOLD), TIME_AT, 4, FROM_CLOCK, 4, {-1, 0, 41, 42}},
+    {"since", SLOT, AS_DRAWN, OF(PHASE_ANSWERED), TIME_AT, 4, FROM_CLOCK, 2, {0, 1}},
+    {"carrier", SLOT, LOST_DUPLEX, CALLS, CARRIER_AT, 1, PLAINLY, 4, {0, 1, 2, 255}},
+    {"simplex carrier's due time", SLOT, LOST_SIMPLEX, CALLS, CARRIER_DUE_AT, 4, FROM_CLOCK, 4, {-1, 0, 451, 452}},
+    {"duplex carrier's due time", SLOT, LOST_DUPLEX, CALLS, CARRIER_DUE_AT, 4, FROM_CLOCK, 4, {-1, 0, 51, 52}},
+    {"lost carrier's mode", SLOT, LOST_SIMPLEX, CALLS, SLOT_REQUEST_AT + MODE_AT, 1, PLAINLY, 2, {0, 1}},
+    {"told", SLOT, WITH_DURATION, OF(PHASE_HOLD), TOLD_AT, 1, PLAINLY, 4, {0, 1, 2, 255}},
+    {"hours", SLOT, WITH_DURATION, OF(PHASE_HOLD), HOURS_AT, 1, PLAINLY, 3, {99, 100, 255}},
+    {"minutes", SLOT, WITH_DURATION, OF(PHASE_HOLD), MINUTES_AT, 1, PLAINLY, 3, {59, 60, 255}},
+    {"seconds", SLOT, WITH_DURATION, OF(PHASE_HOLD), SECONDS_AT, 1, PLAINLY, 3, {59, 60, 255}},
+    OF_REQUEST("slot's ", SLOT, STORES, SLOT_REQUEST_AT),
+    {"waiting ship's due time", WAITING, AS_DRAWN, ANY_PHASE, WAITING_DUE_AT, 4, FROM_CLOCK, 4, {-1, 0, 9001, 9002}},
+    OF_REQUEST("waiting ship's ", WAITING, ANY_PHASE, WAITING_REQUEST_AT),
     {"a ship twice", SHIP_TWICE, AS_DRAWN, ANY_PHASE, 0, 0, PLAINLY, 1, {0}},
     {"a channel twice", CHANNEL_TWICE, AS_DRAWN, ANY_PHASE, 0, 0, PLAINLY, 1, {0}},
 };
@@ -151,15 +151,15 @@ static void put_ship_twice(uint8_t *bytes) {
     const struct station *station = &stage.station;
     uint32_t places = station->channel_count + station->waiting_count, from = chance(places), to = chance(places);
     uint32_t slots = station->channel_count;
-    size_t source = from < slots ? slot_begins(from) + SLOT_REQUEST : waiting_begins(from - slots) + WAITING_REQUEST;
-    size_t target = to < slots ? slot_begins(to) + SLOT_REQUEST : waiting_begins(to - slots) + WAITING_REQUEST;
-    put_number(bytes + target + SHIP, number_at(bytes + source + SHIP, 4), 4);
+    size_t source = from < slots ? slot_begins(from) + SLOT_REQUEST_AT : waiting_begins(from - slots) + WAITING_REQUEST_AT;
+    size_t target = to < slots ? slot_begins(to) + SLOT_REQUEST_AT : waiting_begins(to - slots) + WAITING_REQUEST_AT;
+    put_number(bytes + target + SHIP_AT, number_at(bytes + source + SHIP_AT, 4), 4);
 }
 
 static void put_channel_twice(uint8_t *bytes) {
     uint32_t count = stage.station.channel_count;
     size_t source = slot_begins(chance(count)), target = slot_begins(chance(count));
-    put_number(bytes + target + CHANNEL, number_at(bytes + source + CHANNEL, 4), 4);
+    put_number(bytes + target + CHANNEL_AT, number_at(bytes + source + CHANNEL_AT, 4), 4);
 }
 
 void draw_moved(uint8_t *bytes) {
@@ -170,7 +170,7 @@ void draw_moved(uint8_t *bytes) {
     draw_station(field->part == WHOLE_AT_CLOCK ? value : clock, field->part == WHOLE_OF_IDENTITY ? value : identity);
     size_t begins = draw_part(field);
     value += field->from == FROM_CLOCK ? stage.station.clock : field->from == FROM_IDENTITY ? stage.station.identity : 0u;
-    lay_stage(bytes);
+    second_lay(bytes, &stage.station);
     if (field->part == SHIP_TWICE)
         put_ship_twice(bytes);
     else if (field->part == CHANNEL_TWICE)

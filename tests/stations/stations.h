@@ -4,28 +4,14 @@
 #define STATIONS_H
 
 #include "../rehearsal/rehearsal.h"
+#include "../second/layout.h"
 #include "../c/entries.h"
-
-/* ---- the layout of include/coast.h ---- */
-#define STATION_SIZE 1722u
-#define ROOM_SIZE 320u
-enum layout {
-    CLOCK = 0, IDENTITY = 4, SLOT_COUNT = 8, WAITING_COUNT = 9, SLOTS = 10, WAITING_SHIPS = 730,
-    /* in a slot */
-    PHASE = 0, TIME = 1, SHIPS_CARRIER = 5, CARRIER_DUE = 6, TOLD = 10, HOURS = 11, MINUTES = 12, SECONDS = 13, CHANNEL = 14,
-    SLOT_REQUEST = 18, SLOT_LENGTH = 45,
-    /* in a waiting ship */
-    WAITING_DUE = 0, WAITING_REQUEST = 4, WAITING_LENGTH = 31,
-    /* in a stored request */
-    SHIP = 0, CALLED = 4, MODE = 8, SECOND = 9, DIGIT_COUNT = 10, DIGITS = 11
-};
 
 /* ---- laid.c ---- */
 size_t slot_begins(uint32_t slot);
 size_t waiting_begins(uint32_t place);
 void put_number(uint8_t *bytes, uint32_t number, size_t width);
 uint32_t number_at(const uint8_t *bytes, size_t width);
-void lay_stage(uint8_t *bytes); /* the parts in use of the stage's station; the others stay */
 
 /* ---- drawn.c: sound stations that no run need reach, on the stage ---- */
 uint32_t any_clock(void);

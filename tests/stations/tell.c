@@ -8,56 +8,56 @@ extern int printf(const char *, ...);
 /* The digits in use, and those past the count where one is not 0. */
 static void tell_request(const uint8_t *bytes) {
     size_t told = MOST_DIGITS;
-    while (told > bytes[DIGIT_COUNT] && bytes[DIGITS + told - 1u] == 0u)
+    while (told > bytes[COUNT_AT] && bytes[DIGITS_AT + told - 1u] == 0u)
         told--;
-    printf(" ship %u calls %u, mode %u, second %u, %u digits:", (unsigned)number_at(bytes + SHIP, 4),
-           (unsigned)number_at(bytes + CALLED, 4), (unsigned)bytes[MODE], (unsigned)bytes[SECOND],
-           (unsigned)bytes[DIGIT_COUNT]);
+    printf(" ship %u calls %u, mode %u, second %u, %u digits:", (unsigned)number_at(bytes + SHIP_AT, 4),
+           (unsigned)number_at(bytes + CALLED_AT, 4), (unsigned)bytes[MODE_AT], (unsigned)bytes[SECOND_AT],
+           (unsigned)bytes[COUNT_AT]);
     for (size_t i = 0; i < told; i++)
-        printf(" %u", (unsigned)bytes[DIGITS + i]);
+        printf(" %u", (unsigned)bytes[DIGITS_AT + i]);
     printf("\n");
 }
 
 static void tell_carrier(const uint8_t *bytes) {
-    printf(", carrier %u", (unsigned)bytes[SHIPS_CARRIER]);
-    if (bytes[SHIPS_CARRIER] != 0u)
-        printf(" due %u", (unsigned)number_at(bytes + CARRIER_DUE, 4));
+    printf(", carrier %u", (unsigned)bytes[CARRIER_AT]);
+    if (bytes[CARRIER_AT] != 0u)
+        printf(" due %u", (unsigned)number_at(bytes + CARRIER_DUE_AT, 4));
 }
 
 static void tell_told(const uint8_t *bytes) {
-    printf(", told %u", (unsigned)bytes[TOLD]);
-    if (bytes[TOLD] != 0u)
-        printf(": %u %u %u", (unsigned)bytes[HOURS], (unsigned)bytes[MINUTES], (unsigned)bytes[SECONDS]);
+    printf(", told %u", (unsigned)bytes[TOLD_AT]);
+    if (bytes[TOLD_AT] != 0u)
+        printf(": %u %u %u", (unsigned)bytes[HOURS_AT], (unsigned)bytes[MINUTES_AT], (unsigned)bytes[SECONDS_AT]);
 }
 
 /* What its phase uses. */
 static void tell_slot(uint32_t slot, const uint8_t *bytes) {
     static const char *const names[] = {"free", "offered", "ring-back", "ring-back repeated", "acknowledged", "dialling",
         "answered", "hold", "taken"};
-    uint8_t phase = bytes[PHASE];
+    uint8_t phase = bytes[PHASE_AT];
     printf("  slot %u: phase %u (%s), channel %u", (unsigned)slot, (unsigned)phase, phase <= 8u ? names[phase] : "none",
-           (unsigned)number_at(bytes + CHANNEL, 4));
+           (unsigned)number_at(bytes + CHANNEL_AT, 4));
     if (phase == 0u || phase >= 8u) {
         printf("\n");
         return;
     }
-    printf(", %s %u", phase == 6u ? "since" : "due", (unsigned)number_at(bytes + TIME, 4));
+    printf(", %s %u", phase == 6u ? "since" : "due", (unsigned)number_at(bytes + TIME_AT, 4));
     if (phase == 5u || phase == 6u)
         tell_carrier(bytes);
     if (phase == 7u)
         tell_told(bytes);
     printf(",");
-    tell_request(bytes + SLOT_REQUEST);
+    tell_request(bytes + SLOT_REQUEST_AT);
 }
 
 static void tell_station(const uint8_t *bytes) {
-    printf("  clock %u, identity %u, %u slots, %u waiting\n", (unsigned)number_at(bytes + CLOCK, 4),
-           (unsigned)number_at(bytes + IDENTITY, 4), (unsigned)bytes[SLOT_COUNT], (unsigned)bytes[WAITING_COUNT]);
-    for (uint32_t i = 0; i < bytes[SLOT_COUNT] && i < MOST_SLOTS; i++)
+    printf("  clock %u, identity %u, %u slots, %u waiting\n", (unsigned)number_at(bytes + CLOCK_AT, 4),
+           (unsigned)number_at(bytes + IDENTITY_AT, 4), (unsigned)bytes[SLOT_COUNT_AT], (unsigned)bytes[WAITING_COUNT_AT]);
+    for (uint32_t i = 0; i < bytes[SLOT_COUNT_AT] && i < MOST_SLOTS; i++)
         tell_slot(i, bytes + slot_begins(i));
-    for (uint32_t i = 0; i < bytes[WAITING_COUNT] && i < MOST_WAITING; i++) {
-        printf("  waiting %u: due %u,", (unsigned)i, (unsigned)number_at(bytes + waiting_begins(i) + WAITING_DUE, 4));
-        tell_request(bytes + waiting_begins(i) + WAITING_REQUEST);
+    for (uint32_t i = 0; i < bytes[WAITING_COUNT_AT] && i < MOST_WAITING; i++) {
+        printf("  waiting %u: due %u,", (unsigned)i, (unsigned)number_at(bytes + waiting_begins(i) + WAITING_DUE_AT, 4));
+        tell_request(bytes + waiting_begins(i) + WAITING_REQUEST_AT);
     }
 }
 
@@ -75,18 +75,18 @@ static void tell_event(const struct event *event) {
 void tell_call(const struct call *call) {
     tell_event(call->event);
     printf("\n  a station of %u bytes, a room of %u\n", (unsigned)call->size, (unsigned)call->room_size);
-    if (call->size >= STATION_SIZE)
+    if (call->size >= STATION_BYTES)
         tell_station(call->station);
 }
 
 static void tell_place(size_t at) {
-    if (at < SLOTS || at >= STATION_SIZE)
+    if (at < SLOTS_AT || at >= STATION_BYTES)
         printf("  station's byte %u", (unsigned)at);
-    else if (at < WAITING_SHIPS)
-        printf("  byte %u of slot %u", (unsigned)((at - SLOTS) % SLOT_LENGTH), (unsigned)((at - SLOTS) / SLOT_LENGTH));
+    else if (at < QUEUE_AT)
+        printf("  byte %u of slot %u", (unsigned)((at - SLOTS_AT) % SLOT_BYTES), (unsigned)((at - SLOTS_AT) / SLOT_BYTES));
     else
-        printf("  byte %u of waiting %u", (unsigned)((at - WAITING_SHIPS) % WAITING_LENGTH),
-               (unsigned)((at - WAITING_SHIPS) / WAITING_LENGTH));
+        printf("  byte %u of waiting %u", (unsigned)((at - QUEUE_AT) % WAITING_BYTES),
+               (unsigned)((at - QUEUE_AT) / WAITING_BYTES));
 }
 
 static void tell_returned(const struct outcome *outcome) {
