@@ -1,27 +1,15 @@
 /* What the next line is: a ship, the person ashore, the operator or the host does something that fits, or nearly fits. */
+#include "../second/inside.h"
 #include "rehearsal.h"
 
 #define NONE MOST_SLOTS
 
 static bool expects_ship(enum phase phase) {
-    return phase == PHASE_OFFERED || phase == PHASE_RING_BACK || phase == PHASE_RING_BACK_REPEATED ||
-           phase == PHASE_ACKNOWLEDGED;
-}
-
-static bool rings(enum phase phase) {
-    return phase == PHASE_RING_BACK || phase == PHASE_RING_BACK_REPEATED;
-}
-
-static bool talks(enum phase phase) {
-    return phase == PHASE_DIALLING || phase == PHASE_ANSWERED;
+    return holds_ship(phase) && !has_call(phase);
 }
 
 static bool ends(enum phase phase) {
-    return talks(phase) || phase == PHASE_HOLD;
-}
-
-static bool stores(enum phase phase) {
-    return phase != PHASE_FREE && phase != PHASE_TAKEN;
+    return has_call(phase) || phase == PHASE_HOLD;
 }
 
 static bool is_free(enum phase phase) {
@@ -54,7 +42,7 @@ static uint32_t call(struct event *event) {
 
 /* A ship that stands somewhere calls once more. */
 static uint32_t call_again(struct event *event) {
-    uint32_t slot = any_slot(stores), waiting = stage.station.waiting_count;
+    uint32_t slot = any_slot(stores_request), waiting = stage.station.waiting_count;
     bool queued = waiting > 0u && (slot == NONE || one_in(3));
     struct meaning m;
     if (!queued && slot == NONE)
@@ -69,14 +57,14 @@ static uint32_t call_again(struct event *event) {
 
 /* The ship does what it was offered. */
 static uint32_t answer(struct event *event) {
-    uint32_t slot = any_slot(one_in(3) ? rings : expects_ship), named;
+    uint32_t slot = any_slot(one_in(3) ? is_rung : expects_ship), named;
     const struct slot *held;
     struct meaning m;
     bool ring;
     if (slot == NONE)
         return call(event);
     held = &stage.station.slots[slot];
-    ring = rings(held->phase) ? !one_in(8) : one_in(12);
+    ring = is_rung(held->phase) ? !one_in(8) : one_in(12);
     named = one_in(12) ? chance(stage.station.channel_count) : slot;
     m = ring ? as_ring_back_answer(held->request, stage.station.channels[named]) : as_working_call(held->request);
     if (one_in(12))
@@ -89,7 +77,7 @@ static uint32_t answer(struct event *event) {
 
 /* The handset ashore. */
 static uint32_t handset(struct event *event) {
-    uint32_t slot = any_slot(talks);
+    uint32_t slot = any_slot(has_call);
     bool dialling = slot != NONE && stage.station.slots[slot].phase == PHASE_DIALLING;
     event->slot = slot == NONE || one_in(20) ? chance(stage.station.channel_count) : slot;
     event->letter = one_in(dialling ? 6u : 2u) ? 'H' : 'O';
@@ -98,14 +86,14 @@ static uint32_t handset(struct event *event) {
 
 /* The ship's carrier. */
 static uint32_t carrier(struct event *event) {
-    uint32_t slot = any_slot(talks);
+    uint32_t slot = any_slot(has_call);
     bool duplex = slot != NONE && stage.station.slots[slot].request.first == DUPLEX;
     event->slot = slot == NONE || one_in(20) ? chance(stage.station.channel_count) : slot;
     event->letter = one_in(3) ? 'U' : 'D';
     return duplex ? DUPLEX_CARRIER_WAIT : SIMPLEX_CARRIER_WAIT;
 }
 
-static uint32_t ships_end(struct event *event) {
+static uint32_t end_call(struct event *event) {
     uint32_t slot = any_slot(ends);
     struct meaning m;
     if (slot == NONE)
@@ -137,7 +125,7 @@ static uint32_t stray(struct event *event) {
 
 typedef uint32_t filler(struct event *event);
 static filler *const fillers[MOVES] = {[CALL] = call, [AGAIN] = call_again, [ANSWER] = answer, [LINE] = handset,
-    [CARRIER] = carrier, [END] = ships_end, [HAND] = hand, [STRAY] = stray};
+    [CARRIER] = carrier, [END] = end_call, [HAND] = hand, [STRAY] = stray};
 
 /* ---- the whole line ---- */
 

@@ -1,4 +1,5 @@
 /* When things happen: at once, soon, in the last tenth, together with another wait, a tenth late, far off. */
+#include "../second/inside.h"
 #include "rehearsal.h"
 
 #define MOST_WAITS (MOST_WAITING + 2u * MOST_SLOTS)
@@ -6,10 +7,6 @@
 
 bool next_due(uint32_t *due) {
     return second_next_due(&stage.station, due);
-}
-
-static bool holds_call(const struct slot *slot) {
-    return slot->phase == PHASE_DIALLING || slot->phase == PHASE_ANSWERED;
 }
 
 /* Every due time that runs. */
@@ -20,9 +17,9 @@ static uint32_t all_due(uint32_t *due) {
         due[count++] = station->queue[i].due;
     for (uint32_t i = 0; i < station->channel_count; i++) {
         const struct slot *slot = &station->slots[i];
-        if (holds_call(slot) && slot->carrier == CARRIER_ABSENT)
+        if (has_call(slot->phase) && slot->carrier == CARRIER_ABSENT)
             due[count++] = slot->carrier_due;
-        if (slot->phase != PHASE_FREE && slot->phase != PHASE_TAKEN && slot->phase != PHASE_ANSWERED)
+        if (has_slot_wait(slot->phase))
             due[count++] = slot->due;
     }
     return count;

@@ -20,12 +20,22 @@ bool has_call(enum phase phase)
     return phase == PHASE_DIALLING || phase == PHASE_ANSWERED;
 }
 
+/* Sent once, or once more. */
+bool is_rung(enum phase phase)
+{
+    return phase == PHASE_RING_BACK || phase == PHASE_RING_BACK_REPEATED;
+}
+
 /* "the offered, ring-back, acknowledged, dialling and answered slots" */
 bool holds_ship(enum phase phase)
 {
-    return phase == PHASE_OFFERED || phase == PHASE_RING_BACK ||
-           phase == PHASE_RING_BACK_REPEATED || phase == PHASE_ACKNOWLEDGED ||
-           has_call(phase);
+    return phase == PHASE_OFFERED || is_rung(phase) ||
+           phase == PHASE_ACKNOWLEDGED || has_call(phase);
+}
+
+bool stores_request(enum phase phase)
+{
+    return holds_ship(phase) || phase == PHASE_HOLD;
 }
 
 static struct slot *slot_at(struct work *work, uint32_t slot)

@@ -48,7 +48,9 @@ void queue_join(struct station *station, const struct meaning *request);
 /* ---- calls.c: what happens to a slot and its call ---- */
 uint32_t charged_seconds(uint32_t tenths);
 bool has_call(enum phase phase);
+bool is_rung(enum phase phase);
 bool holds_ship(enum phase phase);
+bool stores_request(enum phase phase);
 void send_able(struct work *work, uint32_t slot, uint8_t end);
 void offer(struct work *work, uint32_t slot, const struct meaning *request);
 void free_slot(struct work *work, uint32_t slot);

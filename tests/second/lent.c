@@ -22,10 +22,6 @@ static uint32_t get_four(const uint8_t *bytes) {
     return number;
 }
 
-static bool stores_request(enum phase phase) {
-    return holds_ship(phase) || phase == PHASE_HOLD;
-}
-
 /* ---- from bytes: false where a mark is none that the layout names ---- */
 
 static bool get_request(const uint8_t *bytes, struct meaning *request) {

@@ -117,8 +117,7 @@ static int ring_back_answer(struct work *work, const struct meaning *m)
     if (slot == NO_SLOT || m->channel != station->channels[slot])
         return IGNORED;
     held = &station->slots[slot];
-    if (held->phase != PHASE_RING_BACK &&
-        held->phase != PHASE_RING_BACK_REPEATED)
+    if (!is_rung(held->phase))
         return IGNORED;
     held->phase = PHASE_ACKNOWLEDGED;
     held->due = due_after(station->clock, slot_wait(PHASE_ACKNOWLEDGED));
@@ -150,11 +149,10 @@ int heard_on_working(struct work *work, uint32_t slot,
 {
     const struct slot *held = &work->station->slots[slot];
     enum phase phase = held->phase;
-    bool ours = holds_ship(phase) || phase == PHASE_HOLD;
     bool working_call = m->end == OTHER_END && is_voice(m);
     bool ends = m->end == RQ && m->first == END_OF_CALL;
     if (m->address != work->station->identity || m->kind != FIELD_NONE ||
-        !ours || m->self != held->request.self)
+        !stores_request(phase) || m->self != held->request.self)
         return IGNORED;
     if (working_call &&
         (phase == PHASE_OFFERED || phase == PHASE_ACKNOWLEDGED))

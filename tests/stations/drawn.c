@@ -66,27 +66,17 @@ static struct duration any_duration(void) {
     return duration;
 }
 
-static uint32_t wait_of(enum phase phase) {
-    switch (phase) {
-    case PHASE_RING_BACK: case PHASE_RING_BACK_REPEATED: return RING_BACK_WAIT;
-    case PHASE_DIALLING: return REPLY_WAIT;
-    case PHASE_HOLD: return HOLD_WAIT;
-    default: return OFFER_WAIT;
-    }
-}
-
 /* Slots and waiting ships have ships of their own, so none stands twice; the ship of a hold may be any. */
 void draw_slot(uint32_t slot, enum phase phase) {
     struct slot next = {0};
-    bool call = phase == PHASE_DIALLING || phase == PHASE_ANSWERED;
     next.phase = phase;
-    if (phase != PHASE_FREE && phase != PHASE_TAKEN)
+    if (stores_request(phase))
         next.request = any_stored(stage.ships[phase == PHASE_HOLD ? chance(MOST_SHIPS) : slot]);
     if (phase == PHASE_ANSWERED)
         next.start = any_start();
-    else if (phase != PHASE_FREE && phase != PHASE_TAKEN)
-        next.due = any_due(wait_of(phase));
-    if (call && one_in(2)) {
+    else if (has_slot_wait(phase))
+        next.due = any_due(slot_wait(phase));
+    if (has_call(phase) && one_in(2)) {
         next.carrier = CARRIER_ABSENT;
         next.carrier_due = any_due(next.request.first == DUPLEX ? DUPLEX_CARRIER_WAIT : SIMPLEX_CARRIER_WAIT);
     }

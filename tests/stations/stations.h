@@ -4,6 +4,7 @@
 #define STATIONS_H
 
 #include "../rehearsal/rehearsal.h"
+#include "../second/inside.h"
 #include "../second/layout.h"
 #include "../c/entries.h"
 
