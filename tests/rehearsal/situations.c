@@ -119,8 +119,8 @@ static void note_calling(const struct station *before, const struct event *event
     enum phase phase;
     if (second_read(event->symbols, event->count, &m) != 0)
         return;
-    note_if(m.address != before->identity, SEEN_NOT_OURS);
-    if (m.address != before->identity || m.first == END_OF_CALL || m.first == UNABLE)
+    note_if(!is_ours(before, &m), SEEN_NOT_OURS);
+    if (!is_ours(before, &m) || m.first == END_OF_CALL || m.first == UNABLE)
         return;
     if (m.end == RQ && m.kind == FIELD_NONE)
         note_request(before, &m, step);
@@ -139,7 +139,7 @@ static void note_working(const struct station *before, const struct event *event
     enum phase phase = held->phase;
     bool done = step->answer == DONE, call;
     struct meaning m;
-    if (second_read(event->symbols, event->count, &m) != 0 || m.address != before->identity)
+    if (second_read(event->symbols, event->count, &m) != 0 || !is_ours(before, &m))
         return;
     call = m.end == OTHER_END && m.first != END_OF_CALL;
     note_if(done && phase == PHASE_OFFERED, SEEN_DIAL);

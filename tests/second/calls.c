@@ -43,13 +43,20 @@ static struct slot *slot_at(struct work *work, uint32_t slot)
     return &work->station->slots[slot];
 }
 
-/* The acknowledgement (BQ) or the ring-back's "able" answer (RQ): "Answers
- * repeat the request with identities exchanged", "with the channel". */
+/* "Answers repeat the request with identities exchanged". */
+struct meaning exchanged(const struct meaning *request)
+{
+    struct meaning m = *request;
+    m.address = request->self;
+    m.self = request->address;
+    return m;
+}
+
+/* The acknowledgement (BQ) or the ring-back's "able" answer (RQ): "with the
+ * channel". */
 void send_able(struct work *work, uint32_t slot, uint8_t end)
 {
-    struct meaning m = slot_at(work, slot)->request;
-    m.address = slot_at(work, slot)->request.self;
-    m.self = work->station->identity;
+    struct meaning m = exchanged(&slot_at(work, slot)->request);
     m.kind = FIELD_CHANNEL;
     m.channel = work->station->channels[slot];
     m.end = end;
@@ -144,9 +151,7 @@ static struct duration call_duration(const struct slot *call, uint32_t stop)
 static void send_end(struct work *work, uint32_t slot,
                      struct duration duration, uint8_t end)
 {
-    struct meaning m = slot_at(work, slot)->request;
-    m.address = slot_at(work, slot)->request.self;
-    m.self = work->station->identity;
+    struct meaning m = exchanged(&slot_at(work, slot)->request);
     m.first = END_OF_CALL;
     m.second = NO_INFORMATION;
     m.kind = duration.kind;

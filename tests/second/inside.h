@@ -51,6 +51,7 @@ bool has_call(enum phase phase);
 bool is_rung(enum phase phase);
 bool holds_ship(enum phase phase);
 bool stores_request(enum phase phase);
+struct meaning exchanged(const struct meaning *request);
 void send_able(struct work *work, uint32_t slot, uint8_t end);
 void offer(struct work *work, uint32_t slot, const struct meaning *request);
 void free_slot(struct work *work, uint32_t slot);
@@ -62,6 +63,7 @@ void repeat_ships_end(struct work *work, uint32_t slot);
 void dial(struct work *work, uint32_t slot);
 
 /* ---- request.c: sequences heard, addressed to this station ---- */
+bool is_ours(const struct station *station, const struct meaning *m);
 int heard_on_calling(struct work *work, const struct meaning *m);
 int heard_on_working(struct work *work, uint32_t slot,
                      const struct meaning *m);

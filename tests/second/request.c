@@ -8,6 +8,12 @@
 #define QUEUED 103u
 #define MODE_NOT_USABLE 109u
 
+/* "to this station" */
+bool is_ours(const struct station *station, const struct meaning *m)
+{
+    return m->address == station->identity;
+}
+
 static bool same_number(const struct meaning *a, const struct meaning *b)
 {
     bool same = a->count == b->count;
@@ -27,9 +33,7 @@ static bool same_request(const struct meaning *a, const struct meaning *b)
 static void answer_unable(struct work *work, const struct meaning *request,
                           uint8_t reason)
 {
-    struct meaning m = *request;
-    m.address = request->self;
-    m.self = work->station->identity;
+    struct meaning m = exchanged(request);
     m.first = UNABLE;
     m.second = reason;
     m.end = BQ;
@@ -132,7 +136,7 @@ static bool is_voice(const struct meaning *m)
 int heard_on_calling(struct work *work, const struct meaning *m)
 {
     bool asks = is_voice(m) || m->first == DATA;
-    if (m->address != work->station->identity)
+    if (!is_ours(work->station, m))
         return IGNORED;
     if (m->end == RQ && asks && m->kind == FIELD_NONE)
         return call_request(work, m);
@@ -151,7 +155,7 @@ int heard_on_working(struct work *work, uint32_t slot,
     enum phase phase = held->phase;
     bool working_call = m->end == OTHER_END && is_voice(m);
     bool ends = m->end == RQ && m->first == END_OF_CALL;
-    if (m->address != work->station->identity || m->kind != FIELD_NONE ||
+    if (!is_ours(work->station, m) || m->kind != FIELD_NONE ||
         !stores_request(phase) || m->self != held->request.self)
         return IGNORED;
     if (working_call &&

@@ -19,7 +19,7 @@ static bool channels_fit(const struct station *station)
 static bool request_fits(const struct station *station,
                          const struct meaning *m)
 {
-    return m->address == station->identity &&
+    return is_ours(station, m) &&
            (m->first == SIMPLEX || m->first == DUPLEX) &&
            m->kind == FIELD_NONE && m->end == RQ && second_judge(m) == 0;
 }
