@@ -15,7 +15,7 @@ use Rattle.rules.specs.Slots.{pending, busy, held}
 use Rattle.rules.specs.Verdict.{step}
 use Rattle.rules.specs.Bytes.{numberOf, ableSaid, unableSaid, overSaid, blocks}
 use Rattle.rules.specs.Printed.{lines}
-use Rattle.rules.specs.Runs.{channel, station, seven, eight, nine, sends, at, usual, callsFor, calls, accepts, on, works, ends, ticks}
+use Rattle.rules.specs.Runs.{channel, station, seven, eight, nine, sends, at, usual, callsFor, calls, accepts, on, works, ends, ticks, paid}
 use Rattle.rules.specs.Cases.{Row}
 use Rattle.rules.specs.Scripts.{gives, waits, waitingShips, charges, ackEight26, ackSeven26, ackSeven26Again, ackSeven26Simplex, ackSeven27, overSeven, overSevenByCoast, ringEight26, ringNine26, ringSeven26, unable102Nine, unable103Eight, unable103Seven}
 use Rattle.rules.specs.SoundCases.{asking, from, lasting, holding, asked, with, queued, setUp, Judged, sounds, unsound, refused36}
@@ -748,7 +748,7 @@ order29 = record {
 abbrev pub blocksShown : Row
 blocksShown = record {
   computed = blocks (station 1) (does (carrierOn 0) ∷ over 1 theShip (from seven duplex .who) usual Nothing ∷
-      charge record { slot = 2; ship = 67305985; start = record { 0 = 1 }; stop = record { 0 = 2 }; seconds = record { 0 = 3 } } ∷
+      charge (paid 0 2 67305985 1 2 3 .it) ∷
       does (carrierOn 3) ∷ []) ∷ [];
   expected = ((1 ∷ 0 ∷ 0 ∷ 0 ∷ replicate 36 0) ++ (4 ∷ 1 ∷ 24 ∷ 0 ∷ (overSeven ++ replicate 12 0)) ++ (7 ∷ 2 ∷ 16 ∷ 0 ∷ 1 ∷ 2 ∷ 3 ∷
       4 ∷ 1 ∷ 0 ∷ 0 ∷ 0 ∷ 2 ∷ 0 ∷ 0 ∷ 0 ∷ 3 ∷ replicate 23 0) ++ (1 ∷ 3 ∷ 0 ∷ 0 ∷ replicate 36 0)) ∷ [];

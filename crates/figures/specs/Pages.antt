@@ -640,7 +640,7 @@ lastAskedNever = record {
 abbrev pub given : List Action
 given = does (carrierOn 0) ∷ does (carrierOff 0) ∷ does (acknowledge 0 (from seven duplex)) ∷ does (ringBack 0 (from seven duplex)) ∷
     does (unable 103 party usual) ∷ does (dial 0 usual) ∷ does (releaseLine 0) ∷ over 0 theShip party usual Nothing ∷
-    charge record { slot = 0; ship = seven; start = record { 0 = 1 }; stop = record { 0 = 2 }; seconds = record { 0 = 3 } } ∷
+    charge (paid 0 0 seven 1 2 3 .it) ∷
     does (dial 1 usual) ∷ []
 
 -- one charge, eight deeds
