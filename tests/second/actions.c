@@ -87,10 +87,12 @@ void act_release(struct work *work, uint32_t slot)
     new_block(work, KIND_RELEASE, (uint8_t)slot, 0);
 }
 
-/* "7 charge (ship, start, stop, seconds; four bytes each, low first)" */
-void act_charge(struct work *work, uint32_t slot, uint32_t stop)
+/* "7 charge (ship, start, stop, seconds; four bytes each, low first)": the
+ * call stops at the clock. */
+void act_charge(struct work *work, uint32_t slot)
 {
     const struct slot *call = &work->station->slots[slot];
+    uint32_t stop = work->station->clock;
     uint8_t *payload =
         new_block(work, KIND_CHARGE, (uint8_t)slot, CHARGE_BYTES);
     put_four(payload, call->request.self);

@@ -129,13 +129,13 @@ void dial(struct work *work, uint32_t slot)
 
 /* "Duration: whole seconds, rounded down; unanswered, or 100 hours and over:
  * 126s." */
-static struct duration call_duration(const struct slot *call, uint32_t stop)
+static struct duration call_duration(const struct slot *call, uint32_t clock)
 {
     struct duration result = {FIELD_NONE, 0, 0, 0};
     uint32_t seconds, hours;
     if (call->phase != PHASE_ANSWERED)
         return result;
-    seconds = charged_seconds(stop - call->start);
+    seconds = charged_seconds(clock - call->start);
     hours = seconds / SECONDS_AN_HOUR;
     if (hours >= HOURS_TOO_MANY)
         return result;
@@ -166,10 +166,10 @@ static void send_end(struct work *work, uint32_t slot,
  * carrier off". The call stops at the clock. */
 static struct duration end_call(struct work *work, uint32_t slot, uint8_t end)
 {
-    uint32_t stop = work->station->clock;
-    struct duration duration = call_duration(slot_at(work, slot), stop);
+    struct duration duration =
+        call_duration(slot_at(work, slot), work->station->clock);
     if (slot_at(work, slot)->phase == PHASE_ANSWERED)
-        act_charge(work, slot, stop);
+        act_charge(work, slot);
     act_release(work, slot);
     send_end(work, slot, duration, end);
     act_carrier_off(work, slot);

@@ -21,7 +21,7 @@ void act_send_working(struct work *work, uint32_t slot,
                       const struct meaning *m);
 void act_dial(struct work *work, uint32_t slot);
 void act_release(struct work *work, uint32_t slot);
-void act_charge(struct work *work, uint32_t slot, uint32_t stop);
+void act_charge(struct work *work, uint32_t slot);
 
 /* ---- waits.c ---- */
 enum wait_kind { WAIT_NONE, WAIT_QUEUE, WAIT_CARRIER, WAIT_SLOT };
