@@ -1,29 +1,27 @@
 // The digits of a number, out of its pairs.
 ghost use mathlib.Core.Path.{_≡_};
 ghost use Prim.Native.Nat.{_≤_};
-ghost use lib.ListN.{getD, length, drop};
+ghost use lib.ListN.{length, drop};
 ghost use Rattle.sequence.specs.Reading.{digitsOf, sixteen, numberOf};
 use sequence::DIGITS;
 use sequence::Number;
 use sequence::ODD_COUNT;
-use sequence::symbols::at;
 
-fn digit(pairs: &[u8], j: usize) -> u8
-    ensures { λ r. ⌜ r ≡ getD (digitsOf (now (pairs .entry))) j 0 ⌝ }
-{
-    let p = at(pairs, j / 2);
-    if j % 2 == 0 { p / 10 } else { p % 10 }
-}
-
-// Sixteen digits, from the second on where the first is the 0 put before an odd count.
+// Sixteen digits of one pair or more, from the second on where the first is the 0 put before an odd count: the first pair's
+// last digit is then laid over it.
 fn sixteen_digits(pairs: &[u8], start: usize) -> [u8; DIGITS]
-    requires { ⌜ start ≤ 1 ⌝ }
+    requires { ⌜ (start ≤ 1) × (1 ≤ length (now pairs)) × (length (now pairs) ≤ 8) ⌝ }
     ensures { λ r. ⌜ r ≡ sixteen (drop start (digitsOf (now (pairs .entry)))) ⌝ }
 {
+    let first = pairs[0];
     let mut digits = [0u8; DIGITS];
-    let mut i = 0;
-    while i < DIGITS {
-        digits[i] = digit(pairs, start + i);
+    digits[0] = first / 10;
+    digits[1 - start] = first % 10;
+    let mut i = 1;
+    while i < pairs.len() {
+        let pair = pairs[i];
+        digits[2 * i - start] = pair / 10;
+        digits[2 * i + 1 - start] = pair % 10;
         i += 1;
     }
     digits

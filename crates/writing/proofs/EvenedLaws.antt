@@ -1,28 +1,29 @@
 -- The digits with a 0 before an odd count of them, and their pairs.
-use Prim.Native.Nat.{ℕ, zero, suc, _+_, _-_, _*_, _/_, _%_, _≤_}
-use mathlib.Core.Path.{_≡_, refl, sym, ap}
+use Prim.Native.Nat.{ℕ, zero, suc, _+_, _-_, _*_, _/_, _%_, _<_, _≤_}
+use mathlib.Core.Path.{_≡_, refl, sym, ap, _∙_}
 use mathlib.Core.Bool.{Bool, true, false, cond}
 use mathlib.Core.List.{List, [], _∷_}
 use native.Mathlib.Omega.{arith}
 use lib.Dec.{leb, eqb}
 use lib.ListN.{length, take, drop, getD, length-take}
+use lib.Seq.{getD-take}
 use borrow.Author.Tests.{eq-eqb, ne-eqb, eqb-true, eqb-false, leb-true}
 use Rattle.sequence.specs.declared.Number.{Number}
 use Rattle.sequence.specs.Symbols.{within, allAtMost}
 use Rattle.sequence.specs.Number.{evened, pairsOf, numberOk}
-use Rattle.sequence.proofs.Tests.{both-true}
+use Rattle.sequence.proofs.Tests.{both-true, Either, yes!, no!, which}
 
 pub evened-0 : (n : Number) (i : ℕ) → n .count % 2 ≡ 1 → i ≡ 0 → 0 ≡ getD (evened n) i 0
 unfolding evened
 evened-0 n i e f = rw (eq-eqb _ _ e, f)
 
-pub evened-odd : (n : Number) (i : ℕ) → n .count % 2 ≡ 1 → (i ≡ 0 → ⊥) → getD (take (n .count) (n .digits)) (i - 1) 0 ≡ getD (evened n) i 0
+evened-odd : (n : Number) (i : ℕ) → n .count % 2 ≡ 1 → (i ≡ 0 → ⊥) → getD (take (n .count) (n .digits)) (i - 1) 0 ≡ getD (evened n) i 0
 unfolding evened
 evened-odd n i e f =
     let k : i ≡ suc (i - 1) = omega arith in
     rw (eq-eqb _ _ e) (ap (λ (m : ℕ). getD (0 ∷ take (n .count) (n .digits)) m 0) (sym k))
 
-pub evened-even : (n : Number) (i : ℕ) → (n .count % 2 ≡ 1 → ⊥) → getD (take (n .count) (n .digits)) i 0 ≡ getD (evened n) i 0
+evened-even : (n : Number) (i : ℕ) → (n .count % 2 ≡ 1 → ⊥) → getD (take (n .count) (n .digits)) i 0 ≡ getD (evened n) i 0
 unfolding evened
 evened-even n i e = rw (ne-eqb _ _ e)
 
@@ -99,3 +100,38 @@ pairs-count n e =
     let h = evened-length n e in
     let g = pairs-length (evened n) in
     omega arith
+
+-- the digits behind the 0 put before an odd count, two by two
+evened-at : (n : Number) (i : ℕ) → n .count % 2 ≤ i → i < n .count + n .count % 2 → getD (n .digits) (i - n .count % 2) 0 ≡ getD (evened n) i 0
+evened-at n i low high = go (which (eqb (n .count % 2) 1))
+  where
+    go : Either (eqb (n .count % 2) 1) → getD (n .digits) (i - n .count % 2) 0 ≡ getD (evened n) i 0
+    go (yes! p) =
+        let o = eqb-true (n .count % 2) 1 p in
+        let k : i - n .count % 2 ≡ i - 1 = omega arith in
+        rw k (sym (getD-take (n .count) (n .digits) (i - 1) 0 (omega arith)) ∙ evened-odd n i o (λ z. omega arith))
+    go (no! p) =
+        let o = eqb-false (n .count % 2) 1 p in
+        let k : i - n .count % 2 ≡ i = omega arith in
+        rw k (sym (getD-take (n .count) (n .digits) i 0 (omega arith)) ∙ evened-even n i o)
+
+module _ (n : Number) (ok : numberOk n ≡ true) where
+  pub digit-le : (i : ℕ) → getD (n .digits) i 0 ≤ 9
+  digit-le i = all-at 9 (n .digits) i (fit n ok .each)
+
+  pub pair-behind : (j : ℕ) → n .count % 2 ≤ j → j < (n .count + 1) / 2
+      → getD (n .digits) (2 * j - n .count % 2) 0 * 10 + getD (n .digits) (2 * j + 1 - n .count % 2) 0 ≡ getD (pairsOf (evened n)) j 0
+  pair-behind j low high =
+      let l = evened-length n ok in
+      rw (evened-at n (2 * j) (omega arith) (omega arith), evened-at n (2 * j + 1) (omega arith) (omega arith))
+      (pair-at (evened n) j (omega arith))
+
+  -- the first pair of an odd count
+  pub pair-first : n .count % 2 ≡ 1 → getD (n .digits) 0 0 ≡ getD (pairsOf (evened n)) 0 0
+  pair-first o =
+      let l = evened-length n ok in
+      let some = fit n ok .some in
+      let z : 0 ≡ getD (evened n) 0 0 = evened-0 n 0 o refl in
+      let d : getD (n .digits) 0 0 ≡ getD (evened n) 1 0 = sym (getD-take (n .count) (n .digits) 0 0 (omega arith)) ∙ evened-odd n 1 o (λ e. omega arith) in
+      let p : getD (evened n) 0 0 * 10 + getD (evened n) 1 0 ≡ getD (pairsOf (evened n)) 0 0 = pair-at (evened n) 0 (omega arith) in
+      omega arith

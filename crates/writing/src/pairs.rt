@@ -2,14 +2,13 @@
 ghost use mathlib.Core.Path.{_≡_};
 ghost use mathlib.Core.Bool.{true};
 ghost use Prim.Native.Nat.{_≤_};
-ghost use lib.ListN.{getD, length, take};
+ghost use lib.ListN.{length};
 ghost use lib.Seq.{paste};
 ghost use Rattle.sequence.specs.Figures.{longest};
 ghost use Rattle.sequence.specs.Number.{numberOk, parity, evened, pairsOf};
 use sequence::EVEN_COUNT;
 use sequence::Number;
 use sequence::ODD_COUNT;
-use sequence::symbols::at;
 
 pub(crate) fn parity_of(count: u8) -> u8
     ensures { λ r. ⌜ r ≡ parity count ⌝ }
@@ -21,47 +20,21 @@ pub(crate) fn parity_of(count: u8) -> u8
     }
 }
 
-// A digit that is used, and 0 past them.
-fn used_digit(number: Number, i: usize) -> u8
-    ensures { λ r. ⌜ r ≡ getD (take (number .count) (number .digits)) i 0 ⌝ }
-{
-    let count = number.count as usize;
-    let digits = number.digits;
-    if i < count {
-        return at(&digits, i);
-    }
-    0
-}
-
-// A digit of those that are used, a 0 put before an odd count of them.
-fn evened_digit(number: Number, i: usize) -> u8
-    ensures { λ r. ⌜ r ≡ getD (evened number) i 0 ⌝ }
-{
-    if number.count % 2 == 1 {
-        if i == 0 {
-            return 0;
-        }
-        return used_digit(number, i - 1);
-    }
-    used_digit(number, i)
-}
-
-fn pair(number: Number, j: usize) -> u8
-    requires { ⌜ (numberOk number ≡ true) × (j ≤ 64) ⌝ }
-    ensures { λ r. ⌜ r ≡ getD (pairsOf (evened number)) j 0 ⌝ }
-{
-    evened_digit(number, 2 * j) * 10 + evened_digit(number, 2 * j + 1)
-}
-
-// Lays the digit pairs from place 18 on.
+// Lays the digit pairs from place 18 on. With a 0 put before an odd count of digits, the first pair is the first digit.
 pub(crate) fn lay_pairs(number: Number, room: &mut [u8])
     requires { ⌜ (numberOk number ≡ true) × (longest ≤ length (now room)) ⌝ }
     ensures { λ _. ⌜ now (room .exit) ≡ paste (now (room .entry)) 18 (pairsOf (evened number)) (length (pairsOf (evened number))) ⌝ }
 {
-    let n = (number.count as usize + 1) / 2;
-    let mut j = 0;
+    let count = number.count as usize;
+    let odd = count % 2;
+    let n = (count + 1) / 2;
+    let digits = number.digits;
+    if odd == 1 {
+        room[18] = digits[0];
+    }
+    let mut j = odd;
     while j < n {
-        room[18 + j] = pair(number, j);
+        room[18 + j] = digits[2 * j - odd] * 10 + digits[2 * j + 1 - odd];
         j += 1;
     }
 }
