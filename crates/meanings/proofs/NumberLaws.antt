@@ -13,7 +13,7 @@ use Rattle.sequence.specs.Symbols.{allAtMost}
 use Rattle.sequence.specs.Number.{numberOk, parity, evened, pairsOf}
 use Rattle.sequence.specs.Reading.{parityOk, pairsOk, digitsOf, zeroBefore, sixteen, numberOf}
 use Rattle.sequence.proofs.Tests.{both-true, Either, yes!, no!, which}
-use Rattle.reading.proofs.DigitLaws.{sixteen-at, sixteen-length, zero-before-le}
+use Rattle.reading.proofs.DigitLaws.{digits-length, sixteen-at, sixteen-length, zero-before-le}
 use Rattle.writing.proofs.EvenedLaws.{fit, all-at, evened-0, evened-le, evened-all, evened-length, pair-at, pairs-length}
 
 -- digits of pairs, and pairs of digits
@@ -34,10 +34,6 @@ digits-pairs (x ∷ y ∷ l) e a =
     let ex : (x * 10 + y) / 10 ≡ x = omega arith in
     let ey : (x * 10 + y) % 10 ≡ y = omega arith in
     rw (ex, ey, digits-pairs l (omega arith) (k .1))
-
-pub digits-length : (ps : List ℕ) → length (digitsOf ps) ≡ 2 * length ps
-digits-length [] = refl
-digits-length (p ∷ ps) = let h = digits-length ps in omega arith
 
 pub digits-all : (ps : List ℕ) → allAtMost 99 ps ≡ true → allAtMost 9 (digitsOf ps) ≡ true
 digits-all [] e = refl

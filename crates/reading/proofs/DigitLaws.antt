@@ -10,7 +10,7 @@ use lib.Seq.{getD-take, take-suc, drop-append-le, take-append-add, set-at}
 use lib.Dec.{eqb}
 use Rattle.sequence.specs.Reading.{digitsOf, sixteen, zeroBefore}
 
-digits-length : (l : List ℕ) → length (digitsOf l) ≡ 2 * length l
+pub digits-length : (l : List ℕ) → length (digitsOf l) ≡ 2 * length l
 digits-length [] = refl
 digits-length (p ∷ ps) = let h = digits-length ps in omega arith
 
