@@ -1,46 +1,17 @@
 /* Times the library and the second implementation, in one run and on the same bytes, through the same calls. */
 #include "bench.h"
-#include "../include/coast.h"
-#include "../tests/compare/compare.h"
-#include "../tests/second/bytes.h"
 
-#define DRAWN 16384u /* valid sequences, and meanings: too many for a processor to learn which way each branch goes */
-
-static uint8_t sequences[DRAWN][LONGEST], meanings[DRAWN][MEANING_BYTES];
-static size_t lengths[DRAWN];
-
-static const struct trial sides[SIDES] = {
-    [LIBRARY] = {"library", coast_read_sequence, coast_write_sequence},
-    [SECOND] = {"second implementation", second_read_bytes, second_write_bytes},
-};
-
-static uint64_t read_all(enum side side) {
-    uint64_t sum = 0;
-    uint8_t meaning[MEANING_BYTES] = {0};
-    for (size_t i = 0; i < DRAWN; i++) {
-        sum += sides[side].read(sequences[i], lengths[i], meaning, sizeof meaning);
-        sum = sum * 3u + meaning[i % MEANING_BYTES];
-    }
-    return sum;
-}
-
-static uint64_t write_all(enum side side) {
-    uint64_t sum = 0;
-    uint8_t room[LONGEST] = {0};
-    for (size_t i = 0; i < DRAWN; i++) {
-        sum += sides[side].write(meanings[i], MEANING_BYTES, room, sizeof room);
-        sum = sum * 3u + room[i % LONGEST];
-    }
-    return sum;
-}
+extern int printf(const char *, ...);
 
 int main(void) {
-    begin_chance(689);
-    for (size_t i = 0; i < DRAWN; i++) {
-        lengths[i] = draw_sequence(sequences[i]);
-        draw_meaning(meanings[i]);
+    draw_sequences();
+    bool same = time_both("a read", read_all, drawn);
+    same = time_both("a write", write_all, drawn) && same;
+    if (!record_events()) {
+        printf("bench: no events\n");
+        return 1;
     }
-    bool same = time_both("a read", read_all, DRAWN);
-    same = time_both("a write", write_all, DRAWN) && same;
-    return time_events() && same ? 0 : 1;
+    (void)hand_in_all(LIBRARY); /* so that both find the room as the last pass leaves it */
+    same = time_both("an event", hand_in_all, event_count()) && same;
+    return time_growth() && same ? 0 : 1;
 }

@@ -12,11 +12,32 @@ enum side { LIBRARY, SECOND, SIDES };
  * same. */
 typedef uint64_t work(enum side side);
 
-/* Times both sides and prints, for each of so many pieces of the work, tenths of nanoseconds and the ratio; false where the
- * two differ. */
+/* ---- timing.c ---- */
+/* Times both sides and prints nanoseconds for each of so many pieces of the work, the median ratio of seven runs and the
+ * lowest and highest; false where the two differ. */
 bool time_both(const char *what, work *all, uint32_t pieces);
 
-/* ---- events.c ---- */
-bool time_events(void); /* the script lines of standard input */
+/* ---- sequences.c: valid sequences and meanings by chance ---- */
+void draw_sequences(void);
+extern const uint32_t drawn;
+uint64_t read_all(enum side side);
+uint64_t write_all(enum side side);
+
+/* ---- events.c: the script lines of standard input ---- */
+extern const char event_letters[];
+bool record_events(void); /* false where there are none */
+uint32_t event_count(void);
+uint64_t hand_in_all(enum side side);
+uint64_t hand_in_one(enum side side, uint32_t event);
+char letter_of(uint32_t event);
+
+/* ---- growth.c: a tick with nothing due, by slots taken and ships waiting ---- */
+bool time_growth(void);
+
+/* ---- copies.c: takes the place of the C library's memcpy and memmove ---- */
+struct copies {
+    uint64_t calls, bytes;
+};
+extern struct copies copies;
 
 #endif

@@ -3,41 +3,43 @@
 #include "../include/coast.h"
 #include "../tests/host/event.h"
 
-extern int printf(const char *, ...);
-
 #define MOST_EVENTS 16384u
 
+const char event_letters[] = "SQWUDOHMFT";
 static struct event events[MOST_EVENTS];
 static uint8_t lists[MOST_EVENTS][LIST_MOST];
 static uint32_t count;
 
 extern const struct entries second; /* of tests/stations/second.c */
 
-static void record(void) {
+static uint8_t station[COAST_STATION_SIZE], room[COAST_ACTIONS_SIZE];
+
+bool record_events(void) {
     struct line line;
     while (count < MOST_EVENTS && read_line(&line))
         if (read_event(&line, &events[count], lists[count]))
             count++;
+    return count > 0u;
 }
 
-static uint64_t hand_in_all(enum side side) {
-    static uint8_t station[COAST_STATION_SIZE], room[COAST_ACTIONS_SIZE];
-    const struct entries *entries = side == LIBRARY ? &library : &second;
+uint32_t event_count(void) {
+    return count;
+}
+
+char letter_of(uint32_t event) {
+    return events[event].letter;
+}
+
+uint64_t hand_in_one(enum side side, uint32_t event) {
     struct lent_bytes lent = {station, sizeof station, room, sizeof room};
+    return hand_in(side == LIBRARY ? &library : &second, &events[event], &lent);
+}
+
+uint64_t hand_in_all(enum side side) {
     uint64_t sum = 0;
     for (uint32_t i = 0; i < count; i++) {
-        sum += hand_in(entries, &events[i], &lent);
+        sum += hand_in_one(side, i);
         sum = sum * 3u + room[i % COAST_ACTIONS_SIZE] + station[i % COAST_STATION_SIZE];
     }
     return sum;
-}
-
-bool time_events(void) {
-    record();
-    if (count == 0u) {
-        printf("bench: no events\n");
-        return false;
-    }
-    (void)hand_in_all(LIBRARY); /* so that both find the room as the last pass leaves it */
-    return time_both("an event", hand_in_all, count);
 }

@@ -6,47 +6,57 @@ struct moment {
     long seconds, nanoseconds;
 };
 extern int clock_gettime(int clock, struct moment *moment);
-#define STEADY_CLOCK 1 /* of Linux */
+#define OWN_CLOCK 2 /* of Linux: the time that this process has had a processor */
 
-#define PASSES 3u  /* over all the work, for one measurement */
-#define ROUNDS 25u /* of measurements, the quickest of which counts */
-
-static const char *const names[SIDES] = {[LIBRARY] = "library", [SECOND] = "second implementation"};
+#define RUNS 7u   /* the median of which is told */
+#define ROUNDS 5u /* of each run, the quickest of which counts */
 
 static uint64_t now(void) {
     struct moment moment = {0, 0};
-    clock_gettime(STEADY_CLOCK, &moment);
+    clock_gettime(OWN_CLOCK, &moment);
     return (uint64_t)moment.seconds * 1000000000u + (uint64_t)moment.nanoseconds;
-}
-
-static uint64_t measure(work *all, enum side side) {
-    uint64_t begun = now();
-    for (uint32_t i = 0; i < PASSES; i++)
-        (void)all(side);
-    return now() - begun;
 }
 
 /* Measures both sides in turn, the order changing from round to round. */
 static void measure_both(work *all, uint64_t *quickest) {
     for (uint32_t i = 0; i < SIDES * ROUNDS; i++) {
         enum side side = (i + i / 2u) % 2u == 0u ? LIBRARY : SECOND;
-        uint64_t took = measure(all, side);
+        uint64_t begun = now();
+        (void)all(side);
+        uint64_t took = now() - begun;
         quickest[side] = took < quickest[side] ? took : quickest[side];
     }
 }
 
+/* Puts a number among so many that stand in order. */
+static void insert(unsigned *sorted, uint32_t count, unsigned number) {
+    for (; count > 0u && sorted[count - 1u] > number; count--)
+        sorted[count] = sorted[count - 1u];
+    sorted[count] = number;
+}
+
+static void print_hundredths(const char *before, unsigned number) {
+    printf("%s%u.%02u", before, number / 100u, number % 100u);
+}
+
 bool time_both(const char *what, work *all, uint32_t pieces) {
     uint64_t quickest[SIDES] = {UINT64_MAX, UINT64_MAX};
+    unsigned ratios[RUNS];
     if (all(LIBRARY) != all(SECOND)) {
         printf("bench: %s: the two differ\n", what);
         return false;
     }
-    measure_both(all, quickest);
-    for (uint32_t i = 0; i < SIDES; i++) {
-        unsigned tenths = (unsigned)(quickest[i] * 10u / ((uint64_t)PASSES * pieces));
-        printf("%s by the %s: %u.%u ns\n", what, names[i], tenths / 10u, tenths % 10u);
+    for (uint32_t i = 0; i < RUNS; i++) {
+        uint64_t run[SIDES] = {UINT64_MAX, UINT64_MAX};
+        measure_both(all, run);
+        insert(ratios, i, (unsigned)(run[LIBRARY] * 100u / run[SECOND]));
+        for (uint32_t side = 0; side < SIDES; side++)
+            quickest[side] = run[side] < quickest[side] ? run[side] : quickest[side];
     }
-    unsigned hundredths = (unsigned)(quickest[LIBRARY] * 100u / quickest[SECOND]);
-    printf("%s, library to second implementation: %u.%02u\n", what, hundredths / 100u, hundredths % 100u);
+    print_hundredths("", ratios[RUNS / 2u]);
+    print_hundredths(" (", ratios[0]);
+    print_hundredths(" to ", ratios[RUNS - 1u]);
+    printf(")  %s: library %u ns, second implementation %u ns\n", what, (unsigned)(quickest[LIBRARY] / pieces),
+           (unsigned)(quickest[SECOND] / pieces));
     return true;
 }
