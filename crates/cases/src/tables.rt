@@ -1,7 +1,11 @@
 // A table: `#` begins a case, `>` hands a line to its session, `<` names a line of the answer; empty lines say nothing.
+ghost use Prim.Native.Nat.{_+_, _≤_};
+ghost use lib.ListN.{length};
 use crate::Tally;
 use crate::Trial;
+use crate::saying::say_title;
 use crate::tallies::one_more;
+use script::Session;
 
 struct Reading {
     number: u64,
@@ -10,30 +14,30 @@ struct Reading {
 }
 
 struct Turn {
+    session: Session,
     reading: Reading,
-    used: usize,
 }
 
-// A line's length, with its line feed.
-fn line_length(s: &[u8]) -> usize {
-    let mut i = 0;
-    while i < s.len() {
-        if s[i] == b'\n' {
+struct Handed {
+    session: Session,
+    answer: [u8; 4096],
+    count: usize,
+}
+
+// Where the line that begins at start ends, behind its line feed.
+fn line_end(table: &[u8], start: usize) -> usize
+    requires { ⌜ start + 1 ≤ length (now table) ⌝ }
+    ensures { λ r. ⌜ start + 1 ≤ r ⌝ }
+    ensures { λ r. ⌜ r ≤ length (now (table .entry)) ⌝ }
+{
+    let mut i = start;
+    while i < table.len() {
+        if table[i] == b'\n' {
             return i + 1;
         }
         i += 1;
     }
     i
-}
-
-fn ahead(start: usize, used: usize, end: usize) -> usize {
-    if end <= start {
-        return end;
-    }
-    if end - start < used {
-        return end;
-    }
-    start + used
 }
 
 fn mark_of(line: &[u8]) -> u8 {
@@ -56,23 +60,21 @@ impl Reading {
     fn title(self, line: &[u8]) -> Reading {
         let trial = self.trial;
         let tally = trial.close(self.number, self.tally);
-        let next = Trial::begin(line);
+        say_title(line);
         Reading {
             number: one_more(self.number),
-            trial: next,
+            trial: Trial::fresh(true),
             tally: tally,
         }
     }
 
-    fn take(self, line: &[u8], rest: &[u8]) -> Reading {
-        let mark = mark_of(line);
+    fn answered(self, answer: [u8; 4096], count: usize) -> Reading {
         let trial = self.trial;
-        if mark == b'#' {
-            return self.title(line);
-        }
-        if mark == b'>' {
-            return self.with(trial.settled(self.number).hand_in(rest));
-        }
+        self.with(trial.settled(self.number).answered(answer, count))
+    }
+
+    fn take(self, mark: u8, line: &[u8]) -> Reading {
+        let trial = self.trial;
         if mark == b'<' {
             return self.with(trial.name(self.number, line));
         }
@@ -81,48 +83,71 @@ impl Reading {
         }
         self.with(trial.fault(self.number))
     }
+}
 
-    fn take_first(self, rest: &[u8], used: usize) -> Reading {
-        if rest.len() < used {
-            return self;
-        }
-        self.take(&rest[0..used], rest)
+// What stands behind the mark of a line is handed to the session.
+fn hand_in(session: Session, line: &[u8]) -> Handed {
+    let mut answer = io::buffer();
+    if line.len() < 2 {
+        return Handed {
+            session: session,
+            answer: answer,
+            count: 0,
+        };
+    }
+    let f = session.feed(&line[2..], &mut answer);
+    let next = f.session;
+    Handed {
+        session: next,
+        answer: answer,
+        count: f.count,
     }
 }
 
-fn one_line(reading: Reading, rest: &[u8]) -> Turn {
-    let used = line_length(rest);
-    let next = reading.take_first(rest, used);
+fn one_line(session: Session, reading: Reading, line: &[u8]) -> Turn {
+    let mark = mark_of(line);
+    if mark == b'#' {
+        let fresh = Session::begin();
+        return Turn {
+            session: fresh,
+            reading: reading.title(line),
+        };
+    }
+    if mark == b'>' {
+        let h = hand_in(session, line);
+        let next = h.session;
+        let answer = h.answer;
+        return Turn {
+            session: next,
+            reading: reading.answered(answer, h.count),
+        };
+    }
     Turn {
-        reading: next,
-        used: used,
+        session: session,
+        reading: reading.take(mark, line),
     }
 }
 
-// Each turn uses a byte at least, so as many turns as bytes are enough.
 fn read_all(reading: Reading, table: &[u8]) -> Reading {
-    let end = table.len();
+    let mut session = Session::begin();
     let mut at = reading;
     let mut start = 0;
-    let mut left = end;
-    while 0 < left {
-        if end <= start {
-            return at;
-        }
-        let t = one_line(at, &table[start..]);
+    while start < table.len() {
+        let end = line_end(table, start);
+        let t = one_line(session, at, &table[start..end]);
+        let then = t.session;
         let next = t.reading;
+        session = then;
         at = next;
-        start = ahead(start, t.used, end);
-        left -= 1;
+        start = end;
     }
     at
 }
 
 pub(crate) fn run_table(tally: Tally, table: &[u8]) -> Tally {
-    let none = Trial::none();
     let first = Reading {
         number: 1,
-        trial: none,
+        trial: Trial::fresh(false),
         tally: tally,
     };
     let last = read_all(first, table);

@@ -11,10 +11,6 @@ pub(crate) fn one_more(n: u64) -> u64 {
 }
 
 impl Tally {
-    pub(crate) fn begin() -> Tally {
-        Tally { cases: 0, wrong: 0 }
-    }
-
     pub(crate) fn right(self) -> Tally {
         say(b"ok\n");
         Tally {
@@ -34,19 +30,6 @@ impl Tally {
     pub(crate) fn missing(self, path: &[u8]) -> Tally {
         say(path);
         say(b": WRONG, it cannot be read whole\n");
-        self.wrong()
-    }
-
-    // A case that is one answer: its title, and the number given beside the number wanted.
-    pub(crate) fn answered(self, title: &[u8], given: u8, wanted: u8) -> Tally {
-        say(title);
-        if given == wanted {
-            say(b": ");
-            return self.right();
-        }
-        say(b": WRONG, the answer was ");
-        say_number(given as u64);
-        say(b"\n");
         self.wrong()
     }
 

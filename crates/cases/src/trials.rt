@@ -1,12 +1,10 @@
-// One case: lines are handed to its session, and each answer is held to the lines that name it.
+// One case: each answer is held to the lines that name it.
 use crate::Tally;
 use crate::Trial;
 use crate::saying::say;
 use crate::saying::say_first;
 use crate::saying::say_number;
-use crate::saying::say_title;
 use check::same;
-use script::Session;
 
 // Whether the answer goes on with what stands behind the mark of a line.
 fn goes_on(answer: &[u8], named: usize, line: &[u8]) -> bool {
@@ -35,30 +33,18 @@ fn behind(named: usize, line: &[u8]) -> usize {
 }
 
 impl Trial {
-    fn fresh(stands: bool) -> Trial {
-        let session = Session::begin();
+    pub(crate) fn fresh(stands: bool) -> Trial {
         Trial {
             stands: stands,
             right: true,
-            session: session,
             answer: io::buffer(),
             count: 0,
             named: 0,
         }
     }
 
-    pub(crate) fn none() -> Trial {
-        Trial::fresh(false)
-    }
-
-    pub(crate) fn begin(title: &[u8]) -> Trial {
-        say_title(title);
-        Trial::fresh(true)
-    }
-
     // The first fault of a case is told, with the whole answer that was given.
     pub(crate) fn fault(self, number: u64) -> Trial {
-        let session = self.session;
         let answer = self.answer;
         let count = self.count;
         if self.right {
@@ -70,7 +56,6 @@ impl Trial {
         Trial {
             stands: true,
             right: false,
-            session: session,
             answer: answer,
             count: count,
             named: count,
@@ -85,26 +70,17 @@ impl Trial {
         self.fault(number)
     }
 
-    pub(crate) fn hand_in(self, rest: &[u8]) -> Trial {
-        let session = self.session;
-        let mut answer = io::buffer();
-        if rest.len() < 2 {
-            return self;
-        }
-        let f = session.feed(&rest[2..], &mut answer);
-        let next = f.session;
+    pub(crate) fn answered(self, answer: [u8; 4096], count: usize) -> Trial {
         Trial {
             stands: true,
             right: self.right,
-            session: next,
             answer: answer,
-            count: f.count,
+            count: count,
             named: 0,
         }
     }
 
     pub(crate) fn name(self, number: u64, line: &[u8]) -> Trial {
-        let session = self.session;
         let answer = self.answer;
         if !goes_on(&answer, self.named, line) {
             return self.fault(number);
@@ -112,7 +88,6 @@ impl Trial {
         Trial {
             stands: self.stands,
             right: self.right,
-            session: session,
             answer: answer,
             count: self.count,
             named: behind(self.named, line),

@@ -1,4 +1,4 @@
-use mathlib.Core.Path.{_≡_, refl}
+use Prim.Native.Nat.{_≤_, _-_}
 use native.Mathlib.Omega.{arith}
 use lib.ListN.{length}
 use borrow.Author.Needs.{needs}
@@ -6,31 +6,28 @@ use Rattle.cases.proofs.tables.read_all.Statement.{statement}
 use Rattle.cases.proofs.tables.read_all.Tie as tie
 
 abbrev Inv-loop : tie.InvT-loop
-Inv-loop table end at₀ start₀ left₀ at start left = end ≡ length table
+Inv-loop table session₀ at₀ start₀ session at start = start ≤ length table
 
 abbrev μ-loop : tie.MeasureT-loop
-μ-loop table end at₀ start₀ left₀ at start left = left
+μ-loop table session₀ at₀ start₀ session at start = length table - start
 
 loop-holds : tie.Need-loop-holds Inv-loop μ-loop
-loop-holds c = refl
+loop-holds c = omega arith
 
-returns : tie.Need-returns Inv-loop μ-loop
-returns c = tt
+line-end-requires : tie.Need-line-end-requires Inv-loop μ-loop
+line-end-requires c κs = omega arith
 
 sub-one-line : tie.Need-sub-one-line Inv-loop μ-loop
-sub-one-line c = omega (arith, c .before .before .loop .inv)
+sub-one-line c = omega (arith, c .line-end .ensures .0)
 
-sub-left : tie.Need-sub-left Inv-loop μ-loop
-sub-left c = omega arith
+part-one-line-end : tie.Need-part-one-line-end Inv-loop μ-loop
+part-one-line-end c = omega (arith, c .line-end .ensures .1)
 
 loop-less : tie.Need-loop-less Inv-loop μ-loop
-loop-less c = omega arith
+loop-less c = let e = c .before .before .before .before .line-end .ensures in omega (arith, e .0, e .1)
 
 loop-again : tie.Need-loop-again Inv-loop μ-loop
-loop-again c = c .before .before .before .before .before .before .loop .inv
-
-returns-2 : tie.Need-returns-2 Inv-loop μ-loop
-returns-2 c = tt
+loop-again c = c .before .before .before .before .line-end .ensures .1
 
 pub read-all-spec : {M : Type 1} → statement M
 read-all-spec =
@@ -38,14 +35,13 @@ read-all-spec =
     (tie.spec
     Inv-loop
     μ-loop
+    (λ c κs. search needs)
     loop-holds
-    returns
+    line-end-requires
     sub-one-line
     (λ c. search needs)
-    (λ c. search needs)
+    part-one-line-end
     (λ c κs. search needs)
-    (λ c κs. search needs)
-    sub-left
     loop-less
     loop-again
-    returns-2)
+    (λ c. search needs))

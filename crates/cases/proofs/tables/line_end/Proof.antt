@@ -1,17 +1,17 @@
 use Prim.Native.Nat.{_≤_, _-_}
 use native.Mathlib.Omega.{arith}
 use lib.ListN.{length}
-use Rattle.cases.proofs.tables.line_length.Statement.{statement}
-use Rattle.cases.proofs.tables.line_length.Tie as tie
+use Rattle.cases.proofs.tables.line_end.Statement.{statement}
+use Rattle.cases.proofs.tables.line_end.Tie as tie
 
 abbrev Inv-loop : tie.InvT-loop
-Inv-loop s i₀ i = i ≤ length s
+Inv-loop table start i₀ i = (start ≤ i) × (i ≤ length table)
 
 abbrev μ-loop : tie.MeasureT-loop
-μ-loop s i₀ i = length s - i
+μ-loop table start i₀ i = length table - i
 
 loop-holds : tie.Need-loop-holds Inv-loop μ-loop
-loop-holds c = omega arith
+loop-holds c = (omega arith, omega arith)
 
 shared-slice-read-if1 : tie.Need-shared-slice-read-if1 Inv-loop μ-loop
 shared-slice-read-if1 c = omega arith
@@ -20,7 +20,7 @@ add-result : tie.Need-add-result Inv-loop μ-loop
 add-result c = omega arith
 
 returns : tie.Need-returns Inv-loop μ-loop
-returns c = tt
+returns c = (omega arith, omega arith)
 
 add-i : tie.Need-add-i Inv-loop μ-loop
 add-i c = omega arith
@@ -29,13 +29,13 @@ loop-less : tie.Need-loop-less Inv-loop μ-loop
 loop-less c = omega arith
 
 loop-again : tie.Need-loop-again Inv-loop μ-loop
-loop-again c = omega arith
+loop-again c = (omega arith, omega arith)
 
 returns-2 : tie.Need-returns-2 Inv-loop μ-loop
-returns-2 c = tt
+returns-2 c = (omega arith, omega arith)
 
-pub line-length-spec : {M : Type 1} → statement M
-line-length-spec =
+pub line-end-spec : {M : Type 1} → statement M
+line-end-spec =
     tie.close
     (tie.spec
     Inv-loop

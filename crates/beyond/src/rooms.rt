@@ -1,5 +1,5 @@
 // 30: a room under 320 bytes; and which bytes of a room stay as they were.
-use crate::Tally;
+use crate::answered;
 use crate::stations::busy;
 use crate::stations::named;
 use check::same;
@@ -41,6 +41,10 @@ pub(crate) fn ticked(station: Station) -> u8 {
     ticked_in(station, clock, 320)
 }
 
+fn busy_in(time: Tenths, n: usize) -> u8 {
+    ticked_in(busy(), time, n)
+}
+
 // How many actions rule c gives where a slot is free and a ship waits, which no run leads to.
 fn most_actions() -> u8 {
     let symbols = [
@@ -74,21 +78,23 @@ fn most_actions() -> u8 {
     stepped.count
 }
 
-pub(crate) fn try_rooms(tally: Tally) -> Tally {
-    let enough = ticked_in(busy(), Tenths(1000), 320);
-    let six = ticked_in(busy(), Tenths(1451), 320);
+pub(crate) fn try_rooms() {
     let unsound = ticked_in(named(200056789), Tenths(1000), 319);
-    let late = ticked_in(busy(), Tenths(4000000001), 319);
-    let t = tally.answered(
-        b"30 a room of 319 bytes",
-        ticked_in(busy(), Tenths(1000), 319),
-        30,
+    let late = busy_in(Tenths(4000000001), 319);
+    answered(b"30 a room of 319 bytes", busy_in(Tenths(1000), 319), 30);
+    answered(b"30 no room at all", busy_in(Tenths(1000), 0), 30);
+    answered(
+        b"a room of 320 bytes is enough",
+        busy_in(Tenths(1000), 320),
+        0,
     );
-    let t = t.answered(b"30 no room at all", ticked_in(busy(), Tenths(1000), 0), 30);
-    let t = t.answered(b"a room of 320 bytes is enough", enough, 0);
-    let t = t.answered(b"six actions, and the bytes after them stay", six, 0);
-    let t = t.answered(b"eight actions are the most: rule c", most_actions(), 8);
-    let t = t.answered(b"29 before 30", unsound, 29);
-    let t = t.answered(b"30 before 31", late, 30);
-    t.answered(b"30 before 32", ticked_in(busy(), Tenths(999), 319), 30)
+    answered(
+        b"six actions, and the bytes after them stay",
+        busy_in(Tenths(1451), 320),
+        0,
+    );
+    answered(b"eight actions are the most: rule c", most_actions(), 8);
+    answered(b"29 before 30", unsound, 29);
+    answered(b"30 before 31", late, 30);
+    answered(b"30 before 32", busy_in(Tenths(999), 319), 30);
 }

@@ -1,4 +1,5 @@
 // Stations made by hand: one that is sound, and those that differ from it in one thing.
+use crate::rooms::ticked;
 use requests::Mode;
 use requests::Request;
 use sequence::Number;
@@ -8,9 +9,7 @@ use slots::Slot;
 use slots::Waiting;
 use station::Station;
 use units::Channel;
-use units::Duration;
 use units::Tenths;
-use units::Told;
 
 // A number that begins with 5551234, and the digit behind it.
 pub(crate) fn number_of(count: u8, eighth: u8) -> Number {
@@ -27,21 +26,13 @@ pub(crate) fn no_number() -> Number {
     }
 }
 
-pub(crate) fn request_of(ship: u32, station: u32, number: Number) -> Request {
+fn request_of(ship: u32, station: u32, number: Number) -> Request {
     Request {
         ship: ship,
         station: station,
         mode: Mode::Simplex,
         second: 126,
         number: number,
-    }
-}
-
-fn slot_of(channel: Channel, phase: Phase, request: Request) -> Slot {
-    Slot {
-        phase: phase,
-        channel: channel,
-        request: request,
     }
 }
 
@@ -55,14 +46,17 @@ fn usual_phase() -> Phase {
 }
 
 fn usual_slot() -> Slot {
-    slot_of(Channel(26), usual_phase(), usual_request())
+    Slot {
+        phase: usual_phase(),
+        channel: Channel(26),
+        request: usual_request(),
+    }
 }
 
 fn waiting(ship: u32, due: Tenths) -> Waiting {
-    let request = request_of(ship, 2001234, number_of(7, 0));
     Waiting {
         due: due,
-        request: request,
+        request: request_of(ship, 2001234, number_of(7, 0)),
     }
 }
 
@@ -83,19 +77,14 @@ fn made(
     channels[0] = Channel(26);
     channels[1] = Channel(27);
     let u = Station::set_up(2001234, channels, 2);
-    let fresh = u.station;
-    let mut slots = fresh.slots;
-    let mut queue = fresh.queue;
-    slots[0] = slot;
-    queue[0] = first;
-    Station {
-        clock: clock,
-        identity: identity,
-        count: count,
-        waiting: waiting,
-        slots: slots,
-        queue: queue,
-    }
+    let mut station = u.station;
+    station.clock = clock;
+    station.identity = identity;
+    station.count = count;
+    station.waiting = waiting;
+    station.slots[0] = slot;
+    station.queue[0] = first;
+    station
 }
 
 pub(crate) fn busy() -> Station {
@@ -104,61 +93,57 @@ pub(crate) fn busy() -> Station {
 
 // With nobody in a slot or waiting.
 fn idle(clock: Tenths, identity: u32) -> Station {
-    let slot = slot_of(Channel(26), Phase::Free, usual_request());
+    let slot = Slot {
+        phase: Phase::Free,
+        channel: Channel(26),
+        request: usual_request(),
+    };
     made(clock, identity, 2, 0, slot, usual_waiting())
-}
-
-pub(crate) fn at_clock(clock: Tenths) -> Station {
-    idle(clock, 2001234)
 }
 
 pub(crate) fn named(identity: u32) -> Station {
     idle(Tenths(1000), identity)
 }
 
-pub(crate) fn with_counts(count: u8, waiting: u8) -> Station {
-    made(
+// From here on: how a station answers that has another clock, other counts, another slot or another waiting ship.
+pub(crate) fn at_clock(clock: Tenths) -> u8 {
+    ticked(idle(clock, 2001234))
+}
+
+pub(crate) fn with_counts(count: u8, waiting: u8) -> u8 {
+    ticked(made(
         Tenths(1000),
         2001234,
         count,
         waiting,
         usual_slot(),
         usual_waiting(),
-    )
+    ))
 }
 
-fn with_slot(slot: Slot) -> Station {
-    made(Tenths(1000), 2001234, 2, 1, slot, usual_waiting())
-}
-
-pub(crate) fn in_phase(phase: Phase) -> Station {
-    with_slot(slot_of(Channel(26), phase, usual_request()))
-}
-
-pub(crate) fn storing(request: Request) -> Station {
-    with_slot(slot_of(Channel(26), usual_phase(), request))
-}
-
-pub(crate) fn on_channel(channel: Channel) -> Station {
-    with_slot(slot_of(channel, usual_phase(), usual_request()))
-}
-
-pub(crate) fn with_waiting(ship: u32, due: Tenths) -> Station {
-    made(
-        Tenths(1000),
-        2001234,
-        2,
-        1,
-        usual_slot(),
-        waiting(ship, due),
-    )
-}
-
-pub(crate) fn hold_of_sixty_minutes() -> Phase {
-    let d = Duration {
-        hours: 0,
-        minutes: 60,
-        seconds: 0,
+fn with_slot(phase: Phase, channel: Channel, request: Request) -> u8 {
+    let slot = Slot {
+        phase: phase,
+        channel: channel,
+        request: request,
     };
-    Phase::Hold(Tenths(1041), Told::Lasting(d))
+    ticked(made(Tenths(1000), 2001234, 2, 1, slot, usual_waiting()))
+}
+
+pub(crate) fn in_phase(phase: Phase) -> u8 {
+    with_slot(phase, Channel(26), usual_request())
+}
+
+pub(crate) fn storing(station: u32, number: Number) -> u8 {
+    let request = request_of(200056789, station, number);
+    with_slot(usual_phase(), Channel(26), request)
+}
+
+pub(crate) fn on_channel(channel: Channel) -> u8 {
+    with_slot(usual_phase(), channel, usual_request())
+}
+
+pub(crate) fn with_waiting(ship: u32, due: Tenths) -> u8 {
+    let first = waiting(ship, due);
+    ticked(made(Tenths(1000), 2001234, 2, 1, usual_slot(), first))
 }
