@@ -15,7 +15,8 @@ use Rattle.requests.specs.Views.{left, requestOf}
 use Rattle.requests.proofs.ArrayLaws.{left-more}
 use Rattle.slots.specs.declared.Slot.{Slot}
 use Rattle.slots.specs.declared.Waiting.{Waiting}
-use Rattle.slots.specs.Views.{slotView, waitingView, owned, noSlot, noWaiting}
+use Rattle.slots.specs.Phases.{owned}
+use Rattle.slots.specs.Views.{slotView, waitingView, noSlot, noWaiting}
 use Rattle.finding.specs.Searches.{lowestFrom}
 use Rattle.slots.proofs.ViewLaws.{owner-view}
 use Rattle.apart.specs.Ships.{whoOf}

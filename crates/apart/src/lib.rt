@@ -9,10 +9,10 @@ ghost use Rattle.rules.specs.Places.{all, elem, distinct, isSome};
 ghost use Rattle.rules.specs.Heard.{sameChannel};
 ghost use Rattle.rules.specs.Sound.{channelsKeep, owners};
 ghost use Rattle.requests.specs.Views.{viewed, left, requestOf, partyOf};
-ghost use Rattle.slots.specs.Views.{slotView, waitingView, channelOf, foundView, placeView, owned};
+ghost use Rattle.slots.specs.Views.{slotView, waitingView, channelOf, foundView, placeView};
+ghost use Rattle.slots.specs.Phases.{owned};
 ghost use Rattle.apart.specs.Ships.{whoOf};
 use finding::channel_from;
-use finding::has_ship;
 use finding::place_from;
 use finding::slot_from;
 use requests::least;
@@ -26,6 +26,7 @@ use slots::QueuePlace;
 use slots::SLOTS;
 use slots::Slot;
 use slots::Waiting;
+use slots::phases::has_ship;
 use units::SlotNumber;
 
 fn is_found(f: Found) -> bool

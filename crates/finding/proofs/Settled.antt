@@ -2,18 +2,13 @@
 use mathlib.Core.Path.{_≡_, sym, _∙_}
 use contract.Lifetimes.{Lfts}
 use Rattle.slots.proofs.ViewLaws.{found-one, place-one, standing-one}
-use Rattle.finding.proofs.is_free.Reads as is-free
 use Rattle.finding.proofs.first_free.Reads as first-free
 use Rattle.finding.proofs.channel_from.Reads as channel-from
 use Rattle.finding.proofs.slot_named.Reads as slot-named
-use Rattle.finding.proofs.has_ship.Reads as has-ship
 use Rattle.finding.proofs.slot_from.Reads as slot-from
 use Rattle.finding.proofs.place_from.Reads as place-from
 use Rattle.finding.proofs.place_of.Reads as place-of
 use Rattle.finding.proofs.standing.Reads as standing
-
-pub is-free-settled : (κs : Lfts 0) (a : _) (r r' : _) (s s' : _) → is-free.Post κs a r s → is-free.Post κs a r' s' → r ≡ r'
-is-free-settled κs a r r' s s' p q = p ∙ sym q
 
 pub first-free-settled : (κs : Lfts 0) (a : _) (r r' : _) (s s' : _) → first-free.Post κs a r s → first-free.Post κs a r' s' → r ≡ r'
 first-free-settled κs a r r' s s' p q = found-one _ _ (p ∙ sym q)
@@ -23,9 +18,6 @@ channel-from-settled κs a r r' s s' p q = found-one _ _ (p ∙ sym q)
 
 pub slot-named-settled : (κs : Lfts 0) (a : _) (r r' : _) (s s' : _) → slot-named.Post κs a r s → slot-named.Post κs a r' s' → r ≡ r'
 slot-named-settled κs a r r' s s' p q = found-one _ _ (p ∙ sym q)
-
-pub has-ship-settled : (κs : Lfts 0) (a : _) (r r' : _) (s s' : _) → has-ship.Post κs a r s → has-ship.Post κs a r' s' → r ≡ r'
-has-ship-settled κs a r r' s s' p q = p ∙ sym q
 
 pub slot-from-settled : (κs : Lfts 0) (a : _) (r r' : _) (s s' : _) → slot-from.Post κs a r s → slot-from.Post κs a r' s' → r ≡ r'
 slot-from-settled κs a r r' s s' p q = found-one _ _ (p ∙ sym q)

@@ -6,14 +6,13 @@ ghost use Rattle.rules.specs.Places.{lowest};
 ghost use Rattle.rules.specs.Heard.{sameChannel};
 ghost use Rattle.rules.specs.Requests.{owns, waitsFor, isFree, standsAt};
 ghost use Rattle.requests.specs.Views.{viewed, left, partyOf};
-ghost use Rattle.slots.specs.Views.{slotView, waitingView, channelOf, foundView, placeView, standingView, owned};
+ghost use Rattle.slots.specs.Views.{slotView, waitingView, channelOf, foundView, placeView, standingView};
 ghost use Rattle.finding.specs.Searches.{lowestFrom};
 use requests::least;
 use requests::sameness::is_by;
 use slots::Found;
 use slots::MOST_SLOTS;
 use slots::MOST_WAITING;
-use slots::Phase;
 use slots::Place;
 use slots::QUEUE_ROOM;
 use slots::QueuePlace;
@@ -21,25 +20,10 @@ use slots::SLOTS;
 use slots::Slot;
 use slots::Standing;
 use slots::Waiting;
+use slots::phases::has_ship;
+use slots::phases::is_free;
 use units::Channel;
 use units::SlotNumber;
-
-pub fn is_free(s: Slot) -> bool
-    ensures { λ r. ⌜ r ≡ isFree (slotView s) ⌝ }
-{
-    let p = s.phase;
-    match p {
-        Phase::Free => true,
-        Phase::Offered(_) => false,
-        Phase::RingBack(_) => false,
-        Phase::RingAgain(_) => false,
-        Phase::Acknowledged(_) => false,
-        Phase::Dialling(_, _) => false,
-        Phase::Answered(_, _) => false,
-        Phase::Hold(_, _) => false,
-        Phase::Taken => false,
-    }
-}
 
 // The lowest free slot of n.
 pub fn first_free(a: [Slot; SLOTS], n: u8) -> Found
@@ -79,23 +63,6 @@ pub fn slot_named(a: [Slot; SLOTS], n: u8, c: Channel) -> Found
     ensures { λ r. ⌜ foundView r ≡ lowest (sameChannel c) (viewed channelOf n a) ⌝ }
 {
     channel_from(a, n, SlotNumber(0), c)
-}
-
-// A phase in which a slot is its ship's: in a hold it is nobody's.
-pub fn has_ship(p: Phase) -> bool
-    ensures { λ r. ⌜ r ≡ owned p ⌝ }
-{
-    match p {
-        Phase::Free => false,
-        Phase::Offered(_) => true,
-        Phase::RingBack(_) => true,
-        Phase::RingAgain(_) => true,
-        Phase::Acknowledged(_) => true,
-        Phase::Dialling(_, _) => true,
-        Phase::Answered(_, _) => true,
-        Phase::Hold(_, _) => false,
-        Phase::Taken => false,
-    }
 }
 
 fn is_of(s: Slot, ship: u32, station: u32) -> bool

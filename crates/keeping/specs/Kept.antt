@@ -8,14 +8,9 @@ use Rattle.sequence.specs.declared.Number.{Number}
 use Rattle.sequence.specs.Figures.{mostDigits}
 use Rattle.sequence.specs.Symbols.{allAtMost}
 use Rattle.rules.specs.Words.{Config}
-use Rattle.requests.specs.Views.{viewed}
 use Rattle.slots.specs.declared.Slot.{Slot}
 use Rattle.slots.specs.declared.Waiting.{Waiting}
-use Rattle.slots.specs.Views.{channelOf, stored}
-
--- the configuration that the first n slots stand for
-abbrev pub configFor : ℕ → ℕ → List Slot → Config
-configFor identity n a = record { identity = identity; channels = viewed channelOf n a }
+use Rattle.slots.specs.Phases.{stored}
 
 -- a station of which only the identity is asked
 abbrev pub named : ℕ → Config

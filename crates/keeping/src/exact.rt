@@ -15,7 +15,7 @@ use slots::QUEUE_ROOM;
 use slots::SLOTS;
 use slots::Slot;
 use slots::Waiting;
-use slots::laying::stores;
+use slots::phases::stores;
 
 fn number_exact(number: Number) -> bool
     ensures { λ r. ⌜ r ≡ numberExact number ⌝ }

@@ -1,11 +1,18 @@
 -- Any two results that meet a contract are equal.
 use mathlib.Core.Path.{_≡_, sym, _∙_}
 use contract.Lifetimes.{Lfts}
-use Rattle.slots.proofs.laying.stores.Reads as stores
+use Rattle.slots.proofs.ViewLaws.{call-one}
 use Rattle.slots.proofs.laying.blank_slot.Reads as blank-slot
 use Rattle.slots.proofs.laying.blank_waiting.Reads as blank-waiting
 use Rattle.slots.proofs.laying.tidy_slots.Reads as tidy-slots
 use Rattle.slots.proofs.laying.tidy_queue.Reads as tidy-queue
+use Rattle.slots.proofs.phases.stores.Reads as stores
+use Rattle.slots.proofs.phases.has_ship.Reads as has-ship
+use Rattle.slots.proofs.phases.is_free.Reads as is-free
+use Rattle.slots.proofs.phases.is_taken.Reads as is-taken
+use Rattle.slots.proofs.phases.awaits_call.Reads as awaits-call
+use Rattle.slots.proofs.phases.is_rung.Reads as is-rung
+use Rattle.slots.proofs.phases.call_of.Reads as call-of
 use Rattle.slots.proofs.places.slot_in.Reads as slot-in
 use Rattle.slots.proofs.places.channel_in.Reads as channel-in
 use Rattle.slots.proofs.places.put_in.Reads as put-in
@@ -16,9 +23,6 @@ use Rattle.slots.proofs.queue.cut_count.Reads as cut-count
 use Rattle.slots.proofs.queue.cut_in.Reads as cut-in
 use Rattle.slots.proofs.queue.join_in.Reads as join-in
 use Rattle.slots.proofs.queue.replace_in.Reads as replace-in
-
-pub stores-settled : (κs : Lfts 0) (a : _) (r r' : _) (s s' : _) → stores.Post κs a r s → stores.Post κs a r' s' → r ≡ r'
-stores-settled κs a r r' s s' p q = p ∙ sym q
 
 pub blank-slot-settled : (κs : Lfts 0) (a : _) (r r' : _) (s s' : _) → blank-slot.Post κs a r s → blank-slot.Post κs a r' s' → r ≡ r'
 blank-slot-settled κs a r r' s s' p q = p ∙ sym q
@@ -31,6 +35,27 @@ tidy-slots-settled κs a r r' s s' p q = p ∙ sym q
 
 pub tidy-queue-settled : (κs : Lfts 0) (a : _) (r r' : _) (s s' : _) → tidy-queue.Post κs a r s → tidy-queue.Post κs a r' s' → r ≡ r'
 tidy-queue-settled κs a r r' s s' p q = p ∙ sym q
+
+pub stores-settled : (κs : Lfts 0) (a : _) (r r' : _) (s s' : _) → stores.Post κs a r s → stores.Post κs a r' s' → r ≡ r'
+stores-settled κs a r r' s s' p q = p ∙ sym q
+
+pub has-ship-settled : (κs : Lfts 0) (a : _) (r r' : _) (s s' : _) → has-ship.Post κs a r s → has-ship.Post κs a r' s' → r ≡ r'
+has-ship-settled κs a r r' s s' p q = p ∙ sym q
+
+pub is-free-settled : (κs : Lfts 0) (a : _) (r r' : _) (s s' : _) → is-free.Post κs a r s → is-free.Post κs a r' s' → r ≡ r'
+is-free-settled κs a r r' s s' p q = p ∙ sym q
+
+pub is-taken-settled : (κs : Lfts 0) (a : _) (r r' : _) (s s' : _) → is-taken.Post κs a r s → is-taken.Post κs a r' s' → r ≡ r'
+is-taken-settled κs a r r' s s' p q = p ∙ sym q
+
+pub awaits-call-settled : (κs : Lfts 0) (a : _) (r r' : _) (s s' : _) → awaits-call.Post κs a r s → awaits-call.Post κs a r' s' → r ≡ r'
+awaits-call-settled κs a r r' s s' p q = p ∙ sym q
+
+pub is-rung-settled : (κs : Lfts 0) (a : _) (r r' : _) (s s' : _) → is-rung.Post κs a r s → is-rung.Post κs a r' s' → r ≡ r'
+is-rung-settled κs a r r' s s' p q = p ∙ sym q
+
+pub call-of-settled : (κs : Lfts 0) (a : _) (r r' : _) (s s' : _) → call-of.Post κs a r s → call-of.Post κs a r' s' → r ≡ r'
+call-of-settled κs a r r' s s' p q = call-one _ _ _ (p ∙ sym q)
 
 pub slot-in-settled : (κs : Lfts 0) (a : _) (r r' : _) (s s' : _) → slot-in.Post κs a r s → slot-in.Post κs a r' s' → r ≡ r'
 slot-in-settled κs a r r' s s' p q = p .0 ∙ sym (q .0)

@@ -1,3 +1,4 @@
 pub mod Views
+pub mod Phases
 pub mod Images
 pub mod Changes

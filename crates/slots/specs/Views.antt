@@ -1,7 +1,6 @@
 -- What the records of slots and queue stand for.
 use Prim.Native.Nat.{ℕ}
-use mathlib.Core.Bool.{Bool, true, false}
-use mathlib.Core.List.{[]}
+use mathlib.Core.List.{List, []}
 use mathlib.Core.Option.{Option, none, some}
 use Rattle.units.specs.declared.Channel.{Channel}
 use Rattle.rules.specs.Words as W
@@ -14,7 +13,7 @@ use Rattle.rules.specs.Requests as Q
 use Rattle.rules.specs.Requests.{nowhere, holds, waits}
 use Rattle.requests.specs.declared.Mode.the-variants.{Simplex}
 use Rattle.requests.specs.declared.Request.{Request}
-use Rattle.requests.specs.Views.{requestOf}
+use Rattle.requests.specs.Views.{viewed, requestOf}
 use Rattle.slots.specs.declared.Carrier.{Carrier}
 use Rattle.slots.specs.declared.Carrier.the-variants.{Present, Lost}
 use Rattle.slots.specs.declared.Phase.{Phase}
@@ -53,6 +52,10 @@ slotView s = phaseView (s .phase) (requestOf (s .request))
 abbrev pub channelOf : Slot → Channel
 channelOf s = s .channel
 
+-- the configuration that the first n slots stand for
+abbrev pub configFor : ℕ → ℕ → List Slot → W.Config
+configFor identity n a = record { identity = identity; channels = viewed channelOf n a }
+
 abbrev pub waitingView : Waiting → R.Waiting
 waitingView w = record { request = requestOf (w .request); due = w .due .0 }
 
@@ -80,30 +83,6 @@ abbrev pub standingView : Standing → Q.Standing
 standingView Nowhere = nowhere
 standingView (Holds i) = holds (i .0)
 standingView (Waits k) = waits (k .0)
-
--- a phase that stores a request
-abbrev pub stored : Phase → Bool
-stored Free = false
-stored (Offered t) = true
-stored (RingBack t) = true
-stored (RingAgain t) = true
-stored (Acknowledged t) = true
-stored (Dialling t c) = true
-stored (Answered t c) = true
-stored (Hold t n) = true
-stored Taken = false
-
--- a phase in which the slot is its ship's
-abbrev pub owned : Phase → Bool
-owned Free = false
-owned (Offered t) = true
-owned (RingBack t) = true
-owned (RingAgain t) = true
-owned (Acknowledged t) = true
-owned (Dialling t c) = true
-owned (Answered t c) = true
-owned (Hold t n) = false
-owned Taken = false
 
 -- what stands past the end of an array
 abbrev pub noRequest : Request

@@ -6,7 +6,6 @@ ghost use Rattle.rules.specs.Bytes.{padded};
 ghost use Rattle.rules.specs.Sound.{mostSlots, queueRoom};
 ghost use Rattle.requests.specs.Views.{viewed, itself};
 ghost use Rattle.requests.specs.Images.{tidyRequest};
-ghost use Rattle.slots.specs.Views.{stored};
 ghost use Rattle.slots.specs.Images.{blankSlot, blankWaiting, tidySlot, tidyWaiting};
 use crate::MOST_SLOTS;
 use crate::MOST_WAITING;
@@ -15,6 +14,7 @@ use crate::QUEUE_ROOM;
 use crate::SLOTS;
 use crate::Slot;
 use crate::Waiting;
+use crate::phases::stores;
 use requests::Request;
 use requests::blank_request;
 use requests::least;
@@ -57,23 +57,6 @@ fn tidy_request(q: Request) -> Request
             count: n,
             digits: e,
         },
-    }
-}
-
-// A phase that stores a request.
-pub fn stores(p: Phase) -> bool
-    ensures { λ r. ⌜ r ≡ stored p ⌝ }
-{
-    match p {
-        Phase::Free => false,
-        Phase::Offered(_) => true,
-        Phase::RingBack(_) => true,
-        Phase::RingAgain(_) => true,
-        Phase::Acknowledged(_) => true,
-        Phase::Dialling(_, _) => true,
-        Phase::Answered(_, _) => true,
-        Phase::Hold(_, _) => true,
-        Phase::Taken => false,
     }
 }
 

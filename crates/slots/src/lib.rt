@@ -1,5 +1,6 @@
 // The slots and the waiting ships of a station, and what is done with one of them or with an array of them.
 pub mod laying;
+pub mod phases;
 pub mod places;
 pub mod queue;
 
@@ -36,6 +37,13 @@ pub enum Phase {
     Answered(Tenths, Carrier),
     Hold(Tenths, Told),
     Taken,
+}
+
+// The call of a slot.
+pub enum Call {
+    NoCall,
+    Dialling(Tenths, Carrier),
+    Answered(Tenths, Carrier),
 }
 
 pub struct Slot {

@@ -10,8 +10,8 @@ use Rattle.rules.specs.Sound.{sound, mostSlots, queueRoom}
 use Rattle.requests.specs.Views.{viewed, itself}
 use Rattle.slots.specs.declared.Slot.{Slot}
 use Rattle.slots.specs.declared.Waiting.{Waiting}
-use Rattle.slots.specs.Views.{slotView, waitingView}
-use Rattle.keeping.specs.Kept.{configFor, slotExact, waitingExact}
+use Rattle.slots.specs.Views.{slotView, waitingView, configFor}
+use Rattle.keeping.specs.Kept.{slotExact, waitingExact}
 
 -- the station that the first n slots and the first m waiting ships stand for
 abbrev pub modelFor : Tenths → ℕ → List Slot → ℕ → List Waiting → R.Station

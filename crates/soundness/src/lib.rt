@@ -2,7 +2,7 @@
 ghost use mathlib.Core.Path.{_≡_};
 ghost use Prim.Native.Nat.{_<_};
 ghost use Rattle.rules.specs.Sound.{configKeeps, sound};
-ghost use Rattle.keeping.specs.Kept.{configFor};
+ghost use Rattle.slots.specs.Views.{configFor};
 ghost use Rattle.soundness.specs.Soundly.{modelFor, soundly};
 use apart::channels_keep;
 use apart::no_ship_twice;

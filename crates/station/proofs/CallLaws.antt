@@ -10,7 +10,7 @@ use Rattle.rules.specs.Station.{free, taken, pending, busy, held, setSlot, carr
 use Rattle.rules.specs.Requests.{done, ignored, freed, isFree}
 use Rattle.rules.specs.Calls.{offHookOn, upOn, downOn, endOn, takeOn, giveOn}
 use Rattle.rules.specs.Verdict.{isTaken}
-use Rattle.station.specs.Draft.{Busy, busyIn}
+use Rattle.slots.specs.Phases.{Busy, busyIn}
 
 pub call-is : (p : R.Slot) (b : Busy) → some b ≡ busyIn p → busy (R.dealing (b .request)) (b .stage) (b .loss) ≡ p
 call-is free b h = cc

@@ -18,9 +18,9 @@ use Rattle.rules.specs.Bytes.{block, four, overSaid, payloadOf}
 use Rattle.slots.specs.declared.Phase.{Phase}
 use Rattle.slots.specs.declared.Phase.the-variants.{Free, Offered, RingBack, RingAgain, Acknowledged, Dialling, Answered, Hold, Taken}
 use Rattle.slots.specs.Views.{phaseView}
+use Rattle.slots.specs.Phases.{awaitsCall, rings}
 use Rattle.actions.specs.Sent.{sent, sentPayload, sentBlock}
 use Rattle.station.specs.Draft.{Draft, answering, handing, placing, doing, holding}
-use Rattle.station.specs.Hearing.{awaitsCall, rings}
 use Rattle.station.proofs.DraftLaws.{clip-on, clip-clip}
 
 module _ (i : ℕ) (d : Draft) where

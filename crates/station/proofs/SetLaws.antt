@@ -19,9 +19,8 @@ use Rattle.rules.specs.Bytes.{padded}
 use Rattle.requests.specs.Views.{viewed}
 use Rattle.requests.proofs.ArrayLaws.{padded-front, viewed-min}
 use Rattle.slots.specs.declared.Slot.{Slot}
-use Rattle.slots.specs.Views.{channelOf}
+use Rattle.slots.specs.Views.{channelOf, configFor}
 use Rattle.slots.specs.Images.{slotImage, blankSlot, blankWaiting, tenths, slotImages}
-use Rattle.keeping.specs.Kept.{configFor}
 use Rattle.station.specs.declared.SetUp.{SetUp}
 use Rattle.station.specs.Model.{imageOf}
 use Rattle.station.specs.Step.{channelNumber, given, chosen, sixteenOf, blankStation, setUpOf, setUpBy}

@@ -9,9 +9,8 @@ use Rattle.units.specs.declared.Told.{Told}
 use Rattle.rules.specs.Actions.{does, over, theCoast, theShip}
 use Rattle.rules.specs.Words.{carrierOff, releaseLine, Config, Request}
 use Rattle.rules.specs.Station as R
-use Rattle.rules.specs.Station.{dealing, free, taken, pending, busy, held, setSlot, setClock, setQueue, nextDue, dueAfter, holdWait}
+use Rattle.rules.specs.Station.{dealing, free, held, setSlot, setClock, setQueue, nextDue, dueAfter, holdWait}
 use Rattle.rules.specs.Requests.{Out, also, freed}
-use Rattle.slots.specs.Views.{carrierOf}
 use Rattle.rules.specs.Waits.{Wait}
 use Rattle.rules.specs.Calls.{fire}
 use Rattle.slots.specs.declared.Slot.{Slot}
@@ -22,8 +21,6 @@ use Rattle.station.specs.declared.Plan.{Plan}
 use Rattle.station.specs.declared.Stepped.{Stepped}
 use Rattle.station.specs.declared.Verdict.{Verdict}
 use Rattle.station.specs.declared.Verdict.the-variants.{Accepted, Refused}
-use Rattle.station.specs.declared.Call.{Call}
-use Rattle.station.specs.declared.Call.the-variants.{NoCall, Dialling, Answered}
 use Rattle.station.specs.Model.{modelOf, configOf, imageOf}
 use Rattle.station.specs.Step.{dueImage}
 
@@ -37,25 +34,6 @@ verdictOf (Refused n) = some n
 abbrev pub andThen : Option ℕ → Bool → ℕ → Option ℕ
 andThen none b n = cond b none (some n)
 andThen (some k) b n = some k
-
--- ── a call ───────────────────────────────────────────────────────────────────
-
-pub record Busy : Type 0 where
-  pub request : Request
-  pub stage : R.Stage
-  pub loss : Option ℕ
-
-abbrev pub busyIn : R.Slot → Option Busy
-busyIn free = none
-busyIn taken = none
-busyIn (pending k r d) = none
-busyIn (busy r g c) = some (record { request = r .request; stage = g; loss = c })
-busyIn (held r n d) = none
-
-abbrev pub busyOf : Call → Request → Option Busy
-busyOf NoCall r = none
-busyOf (Dialling t c) r = some (record { request = r; stage = R.dialling (t .0); loss = carrierOf c })
-busyOf (Answered t c) r = some (record { request = r; stage = R.answered (t .0); loss = carrierOf c })
 
 -- ── a draft ──────────────────────────────────────────────────────────────────
 

@@ -1,6 +1,5 @@
 -- What was heard, and what of a slot decides what it does; only the proofs need them.
 use Prim.Native.Nat.{ℕ}
-use mathlib.Core.Bool.{Bool, true, false}
 use mathlib.Core.Option.{Option, none, some}
 use Rattle.rules.specs.Words as W
 use Rattle.rules.specs.Words.{simplex, duplex}
@@ -10,8 +9,6 @@ use Rattle.rules.specs.Heard.{callRequest, dataRequest, bq, workingCall, endOfC
 use Rattle.rules.specs.Requests.{Out, ignored, also, placeOf, dToG}
 use Rattle.rules.specs.Calls.{endOn}
 use Rattle.requests.specs.Views.{requestOf}
-use Rattle.slots.specs.declared.Phase.{Phase}
-use Rattle.slots.specs.declared.Phase.the-variants.{Free, Offered, RingBack, RingAgain, Acknowledged, Dialling, Answered, Hold, Taken}
 use Rattle.station.specs.declared.Kind.{Kind}
 use Rattle.station.specs.declared.Kind.the-variants.{CallRequest, DataRequest, Bq, WorkingCall, EndOfCall, Nothing}
 use Rattle.station.specs.declared.Heard.{Heard}
@@ -28,30 +25,6 @@ heardAs Nothing r = nothing
 
 abbrev pub heardOf : Heard → H.Heard
 heardOf h = heardAs (h .kind) (requestOf (h .request))
-
--- "on an offered or acknowledged slot"
-abbrev pub awaitsCall : Phase → Bool
-awaitsCall Free = false
-awaitsCall (Offered t) = true
-awaitsCall (RingBack t) = false
-awaitsCall (RingAgain t) = false
-awaitsCall (Acknowledged t) = true
-awaitsCall (Dialling t c) = false
-awaitsCall (Answered t c) = false
-awaitsCall (Hold t n) = false
-awaitsCall Taken = false
-
--- a ship is rung back
-abbrev pub rings : Phase → Bool
-rings Free = false
-rings (Offered t) = false
-rings (RingBack t) = true
-rings (RingAgain t) = true
-rings (Acknowledged t) = false
-rings (Dialling t c) = false
-rings (Answered t c) = false
-rings (Hold t n) = false
-rings Taken = false
 
 -- one rule, and another behind it
 unfoldable pub behind : (R.Station → Out) → (R.Station → Out) → R.Station → Out

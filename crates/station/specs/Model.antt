@@ -5,7 +5,7 @@ use Rattle.rules.specs.Words.{Config}
 use Rattle.rules.specs.Station as R
 use Rattle.rules.specs.Bytes.{padded}
 use Rattle.requests.specs.Views.{viewed}
-use Rattle.slots.specs.Views.{slotView, waitingView, channelOf}
+use Rattle.slots.specs.Views.{slotView, waitingView, configFor}
 use Rattle.slots.specs.Images.{slotImages, waitingImage, blankSlot, blankWaiting, tenths}
 use Rattle.station.specs.declared.Station.{Station}
 
@@ -20,7 +20,7 @@ modelOf s =
 
 -- what never changes
 unfoldable pub configOf : Station → Config
-configOf s = record { identity = s .identity; channels = viewed channelOf (s .count) (s .slots) }
+configOf s = configFor (s .identity) (s .count) (s .slots)
 
 -- every unused place blank
 unfoldable pub imageOf : Config → R.Station → Station

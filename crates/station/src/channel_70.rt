@@ -7,7 +7,8 @@ ghost use Rattle.rules.specs.Calls.{bqFor, heardOn70};
 ghost use Rattle.requests.specs.Views.{requestOf};
 ghost use Rattle.station.specs.Step.{channel70At, steppedBy, roomAfter};
 ghost use Rattle.station.specs.Draft.{draftOf, doing, onSlotBy};
-ghost use Rattle.station.specs.Hearing.{heardOf, rings};
+ghost use Rattle.slots.specs.Phases.{rings};
+ghost use Rattle.station.specs.Hearing.{heardOf};
 use crate::Heard;
 use crate::Kind;
 use crate::Plan;
@@ -20,24 +21,9 @@ use requests::Request;
 use requests::sameness::is_by;
 use slots::Phase;
 use slots::Slot;
+use slots::phases::is_rung;
 use units::SlotNumber;
 use units::Tenths;
-
-fn is_rung(p: Phase) -> bool
-    ensures { λ r. ⌜ r ≡ rings p ⌝ }
-{
-    match p {
-        Phase::Free => false,
-        Phase::Offered(_) => false,
-        Phase::RingBack(_) => true,
-        Phase::RingAgain(_) => true,
-        Phase::Acknowledged(_) => false,
-        Phase::Dialling(_, _) => false,
-        Phase::Answered(_, _) => false,
-        Phase::Hold(_, _) => false,
-        Phase::Taken => false,
-    }
-}
 
 // The ship is rung back on the slot.
 fn rung(s: Slot, x: Request) -> bool

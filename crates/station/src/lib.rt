@@ -14,7 +14,6 @@ mod working;
 
 use actions::Action;
 use requests::Request;
-use slots::Carrier;
 use slots::Slot;
 use slots::Waiting;
 use units::SlotNumber;
@@ -60,13 +59,6 @@ struct Plan {
 enum Verdict {
     Accepted,
     Refused(u8),
-}
-
-// The call of a slot.
-enum Call {
-    NoCall,
-    Dialling(Tenths, Carrier),
-    Answered(Tenths, Carrier),
 }
 
 // Document 01's kinds of sequences; a BQ names the channel of a slot.

@@ -9,10 +9,10 @@ use crate::Plan;
 use crate::Station;
 use crate::Stepped;
 use crate::Verdict;
-use crate::pieces::is_taken;
-use finding::is_free;
 use requests::blank_request;
 use slots::Phase;
+use slots::phases::is_free;
+use slots::phases::is_taken;
 use units::SlotNumber;
 use units::Tenths;
 

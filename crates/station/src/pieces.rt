@@ -3,13 +3,11 @@ ghost use mathlib.Core.Path.{_≡_};
 ghost use Prim.Native.Nat.{_≤_};
 ghost use lib.ListN.{getD};
 ghost use Rattle.rules.specs.Station.{free, dueAfter};
-ghost use Rattle.rules.specs.Verdict.{isTaken};
 ghost use Rattle.requests.specs.Views.{viewed, requestOf};
 ghost use Rattle.slots.specs.Views.{phaseView, slotView, waitingView};
 ghost use Rattle.actions.specs.Blocks.{actionBlock};
 ghost use Rattle.station.specs.Model.{modelOf, configOf, imageOf};
-ghost use Rattle.station.specs.Draft.{draftOf, answering, handing, placing, lining, opening, busyIn, busyOf};
-use crate::Call;
+ghost use Rattle.station.specs.Draft.{draftOf, answering, handing, placing, lining, opening};
 use crate::Plan;
 use crate::Station;
 use actions::Action;
@@ -29,41 +27,6 @@ use slots::places::put_in;
 use slots::places::slot_in;
 use units::SlotNumber;
 use units::Tenths;
-
-// The call of a slot, where there is one.
-pub(crate) fn call_of(s: Slot) -> Call
-    ensures { λ r. ⌜ busyOf r (requestOf (s .request)) ≡ busyIn (slotView s) ⌝ }
-{
-    let p = s.phase;
-    match p {
-        Phase::Free => Call::NoCall,
-        Phase::Offered(_) => Call::NoCall,
-        Phase::RingBack(_) => Call::NoCall,
-        Phase::RingAgain(_) => Call::NoCall,
-        Phase::Acknowledged(_) => Call::NoCall,
-        Phase::Dialling(t, c) => Call::Dialling(t, c),
-        Phase::Answered(t, c) => Call::Answered(t, c),
-        Phase::Hold(_, _) => Call::NoCall,
-        Phase::Taken => Call::NoCall,
-    }
-}
-
-pub(crate) fn is_taken(s: Slot) -> bool
-    ensures { λ r. ⌜ r ≡ isTaken (slotView s) ⌝ }
-{
-    let p = s.phase;
-    match p {
-        Phase::Free => false,
-        Phase::Offered(_) => false,
-        Phase::RingBack(_) => false,
-        Phase::RingAgain(_) => false,
-        Phase::Acknowledged(_) => false,
-        Phase::Dialling(_, _) => false,
-        Phase::Answered(_, _) => false,
-        Phase::Hold(_, _) => false,
-        Phase::Taken => true,
-    }
-}
 
 // A wait of p begun at t.
 pub(crate) fn wait_from(t: Tenths, p: Tenths) -> Tenths

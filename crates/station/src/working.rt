@@ -8,7 +8,8 @@ ghost use Rattle.rules.specs.Calls.{dialNow, workingOn, shipEndOn, sayAgain, he
 ghost use Rattle.requests.specs.Views.{requestOf};
 ghost use Rattle.station.specs.Step.{slotAt, steppedBy, roomAfter};
 ghost use Rattle.station.specs.Draft.{draftOf, doing, onSlotBy, holding};
-ghost use Rattle.station.specs.Hearing.{heardOf, awaitsCall};
+ghost use Rattle.slots.specs.Phases.{awaitsCall};
+ghost use Rattle.station.specs.Hearing.{heardOf};
 use crate::Heard;
 use crate::Kind;
 use crate::Plan;
@@ -30,25 +31,10 @@ use requests::sameness::is_by;
 use slots::Carrier;
 use slots::Phase;
 use slots::Slot;
+use slots::phases::awaits_call;
 use units::SlotNumber;
 use units::Tenths;
 use units::Told;
-
-fn awaits_call(p: Phase) -> bool
-    ensures { λ r. ⌜ r ≡ awaitsCall p ⌝ }
-{
-    match p {
-        Phase::Free => false,
-        Phase::Offered(_) => true,
-        Phase::RingBack(_) => false,
-        Phase::RingAgain(_) => false,
-        Phase::Acknowledged(_) => true,
-        Phase::Dialling(_, _) => false,
-        Phase::Answered(_, _) => false,
-        Phase::Hold(_, _) => false,
-        Phase::Taken => false,
-    }
-}
 
 // "on an offered or acknowledged slot, same ship"
 fn awaits(s: Slot, x: Request) -> bool

@@ -1,6 +1,6 @@
 use borrow.Author.Needs.{needs}
-use Rattle.station.proofs.pieces.call_of.Statement.{statement}
-use Rattle.station.proofs.pieces.call_of.Tie as tie
+use Rattle.slots.proofs.phases.call_of.Statement.{statement}
+use Rattle.slots.proofs.phases.call_of.Tie as tie
 
 returns-6 : tie.Need-returns-6
 returns-6 c = rw (c .before .p .given .1)
