@@ -1,0 +1,23 @@
+use Rattle.rules.specs.Heard.{addressed}
+use borrow.Author.Needs.{needs}
+use Rattle.hearing.proofs.told_by.Statement.{statement}
+use Rattle.hearing.proofs.told_by.Tie as tie
+
+returns : tie.Need-returns
+unfolding addressed
+returns c = (c .before .before .before .before .asked-in .ensures, rw (c .before .before .before .before .asked-in .ensures, ← c .before .before .before .is-ours .ensures, c .before .before .if1 .taken) (c .kind-of .ensures _ (c .before .named .ensures _)))
+
+returns-2 : tie.Need-returns-2
+unfolding addressed
+returns-2 c = (c .before .before .asked-in .ensures, rw (← c .before .is-ours .ensures, c .if1 .left))
+
+pub told-by-spec : {M : Type 1} → statement M
+told-by-spec =
+    tie.close
+    (tie.spec
+    (λ c κs. search needs)
+    (λ c κs. search needs)
+    (λ c κs. search needs)
+    (λ c κs. search needs)
+    returns
+    returns-2)

@@ -1,0 +1,183 @@
+// What a sequence says to a station: its kind, and who asks for what.
+ghost use mathlib.Core.Path.{_≡_};
+ghost use mathlib.Core.Bool.{_||_};
+ghost use Prim.Native.Nat.{ℕ};
+ghost use lib.Dec.{eqb};
+ghost use Rattle.rules.specs.Words as W;
+ghost use Rattle.rules.specs.Words.{Config};
+ghost use Rattle.rules.specs.Heard.{isBlank, says, slotNamed, bqOn, agrees, kindOf, addressed};
+ghost use Rattle.requests.specs.Views.{requestOf};
+ghost use Rattle.slots.specs.Views.{foundView, configFor};
+ghost use Rattle.hearing.specs.Said.{heardAs, heardOf, modeIn, askedIn};
+use finding::slot_named;
+use requests::Mode;
+use requests::Request;
+use sequence::Field;
+use sequence::Meaning;
+use slots::Found;
+use slots::Slot;
+use units::SlotNumber;
+
+// Document 01's kinds of sequences; a BQ names the channel of a slot.
+pub enum Kind {
+    CallRequest,
+    DataRequest,
+    Bq(SlotNumber),
+    WorkingCall,
+    EndOfCall,
+    Nothing,
+}
+
+// The request of a kind that asks for nothing tells who sent it.
+pub struct Heard {
+    pub kind: Kind,
+    pub request: Request,
+}
+
+fn is_blank(f: Field) -> bool
+    ensures { λ r. ⌜ r ≡ isBlank f ⌝ }
+{
+    match f {
+        Field::Blank => true,
+        Field::Channel(_) => false,
+        Field::Duration(_) => false,
+    }
+}
+
+// An end of sequence and a first telecommand, with the field 126s.
+fn says(m: Meaning, end: u8, first: u8) -> bool
+    ensures { λ r. ⌜ r ≡ says end first m ⌝ }
+{
+    let e = m.end;
+    let t = m.first;
+    let f = m.field;
+    if e != end {
+        return false;
+    }
+    if t != first {
+        return false;
+    }
+    is_blank(f)
+}
+
+// "BQ .. telecommand 100 or 101"
+fn agrees(m: Meaning) -> bool
+    ensures { λ r. ⌜ r ≡ agrees m ⌝ }
+{
+    let e = m.end;
+    let t = m.first;
+    if e != 122 {
+        return false;
+    }
+    if t == 100 {
+        return true;
+    }
+    t == 101
+}
+
+// "Working call (127; 100 or 101; field 126s)"
+fn works(m: Meaning) -> bool
+    ensures { λ r. ⌜ r ≡ (says 127 100 m || says 127 101 m) ⌝ }
+{
+    if says(m, 127, 100) {
+        return true;
+    }
+    says(m, 127, 101)
+}
+
+fn mode_in(first: u8) -> Mode
+    ensures { λ r. ⌜ r ≡ modeIn first ⌝ }
+{
+    if first == 101 {
+        return Mode::Duplex;
+    }
+    Mode::Simplex
+}
+
+// Who asks for what, whatever kind of sequence it is.
+fn asked_in(m: Meaning) -> Request
+    ensures { λ r. ⌜ r ≡ askedIn m ⌝ }
+{
+    let n = m.number;
+    let mode = mode_in(m.first);
+    Request {
+        ship: m.sender,
+        station: m.address,
+        mode: mode,
+        second: m.second,
+        number: n,
+    }
+}
+
+// The slot whose channel is named.
+fn named(slots: [Slot; 16], count: u8, f: Field) -> Found
+    ensures { λ r. ⌜ ((identity : ℕ) → foundView r ≡ slotNamed (configFor identity count slots) f) ⌝ }
+{
+    match f {
+        Field::Blank => Found::Nothing,
+        Field::Channel(c) => slot_named(slots, count, c),
+        Field::Duration(_) => Found::Nothing,
+    }
+}
+
+// A BQ that names the channel of a slot.
+fn bq_on(i: Found) -> Kind
+    ensures { λ r. ⌜ ((x : W.Request) → heardAs r x ≡ bqOn (x .who) (foundView i)) ⌝ }
+{
+    match i {
+        Found::At(k) => Kind::Bq(k),
+        Found::Nothing => Kind::Nothing,
+    }
+}
+
+// Which of document 01's kinds it is, where its field names the slot i.
+fn kind_of(m: Meaning, i: Found) -> Kind
+    ensures { λ r. ⌜ ((c : Config) → foundView i ≡ slotNamed c (m .field) → heardAs r (requestOf (askedIn m)) ≡ kindOf c m) ⌝ }
+{
+    if says(m, 117, 100) {
+        return Kind::CallRequest;
+    }
+    if says(m, 117, 101) {
+        return Kind::CallRequest;
+    }
+    if says(m, 117, 106) {
+        return Kind::DataRequest;
+    }
+    if works(m) {
+        return Kind::WorkingCall;
+    }
+    if says(m, 117, 105) {
+        return Kind::EndOfCall;
+    }
+    if agrees(m) {
+        return bq_on(i);
+    }
+    Kind::Nothing
+}
+
+// Whether a sequence is addressed to the station of an identity.
+fn is_ours(identity: u32, m: Meaning) -> bool
+    ensures { λ r. ⌜ r ≡ eqb (m .address) identity ⌝ }
+{
+    m.address == identity
+}
+
+// "a sequence not addressed to this station" says nothing.
+pub fn told_by(identity: u32, slots: [Slot; 16], count: u8, m: Meaning) -> Heard
+    ensures { λ r. ⌜ r .request ≡ askedIn m ⌝ }
+    ensures { λ r. ⌜ heardOf r ≡ addressed (configFor identity count slots) m ⌝ }
+{
+    let f = m.field;
+    let q = asked_in(m);
+    if is_ours(identity, m) {
+        let k = kind_of(m, named(slots, count, f));
+        return Heard {
+            kind: k,
+            request: q,
+        };
+    }
+    Heard {
+        kind: Kind::Nothing,
+        request: q,
+    }
+}
