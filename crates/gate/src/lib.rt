@@ -4,9 +4,11 @@ ghost use mathlib.Core.Option.{none};
 ghost use Rattle.sequence.specs.Answers.{answerNumber, isDone};
 ghost use Rattle.sequence.specs.Refusals.{firstRefusal};
 ghost use Rattle.gate.specs.Asked.{verdictOf, andThen, askedAlways, askedNow, askedOnSlot};
+use actions::ROOM;
 use dues::falls_due;
 use sequence::Answer;
 use slots::Due;
+use units::LIMIT;
 use units::SlotNumber;
 use units::Tenths;
 
@@ -56,8 +58,8 @@ impl Look {
         let clock = self.clock;
         let v = Verdict::Accepted;
         v.and_then(self.sound, 29)
-            .and_then(320 <= size, 30)
-            .and_then(t.0 <= 4_000_000_000, 31)
+            .and_then(ROOM <= size, 30)
+            .and_then(t.0 <= LIMIT, 31)
             .and_then(clock.0 <= t.0, 32)
     }
 

@@ -3,6 +3,7 @@ ghost use mathlib.Core.Path.{_≡_};
 ghost use mathlib.Core.Bool.{_||_};
 ghost use Prim.Native.Nat.{ℕ};
 ghost use lib.Dec.{eqb};
+ghost use Rattle.sequence.specs.Figures.{firstSimplex, firstDuplex, endLast};
 ghost use Rattle.rules.specs.Words as W;
 ghost use Rattle.rules.specs.Words.{Config};
 ghost use Rattle.rules.specs.Heard.{isBlank, says, slotNamed, bqOn, agrees, kindOf, addressed};
@@ -12,9 +13,17 @@ ghost use Rattle.hearing.specs.Said.{heardAs, heardOf, modeIn, askedIn};
 use finding::slot_named;
 use requests::Mode;
 use requests::Request;
+use sequence::END_BQ;
+use sequence::END_LAST;
+use sequence::END_RQ;
+use sequence::FIRST_DATA;
+use sequence::FIRST_DUPLEX;
+use sequence::FIRST_OVER;
+use sequence::FIRST_SIMPLEX;
 use sequence::Field;
 use sequence::Meaning;
 use slots::Found;
+use slots::SLOTS;
 use slots::Slot;
 use units::SlotNumber;
 
@@ -66,29 +75,29 @@ fn agrees(m: Meaning) -> bool
 {
     let e = m.end;
     let t = m.first;
-    if e != 122 {
+    if e != END_BQ {
         return false;
     }
-    if t == 100 {
+    if t == FIRST_SIMPLEX {
         return true;
     }
-    t == 101
+    t == FIRST_DUPLEX
 }
 
 // "Working call (127; 100 or 101; field 126s)"
 fn works(m: Meaning) -> bool
-    ensures { λ r. ⌜ r ≡ (says 127 100 m || says 127 101 m) ⌝ }
+    ensures { λ r. ⌜ r ≡ (says endLast firstSimplex m || says endLast firstDuplex m) ⌝ }
 {
-    if says(m, 127, 100) {
+    if says(m, END_LAST, FIRST_SIMPLEX) {
         return true;
     }
-    says(m, 127, 101)
+    says(m, END_LAST, FIRST_DUPLEX)
 }
 
 fn mode_in(first: u8) -> Mode
     ensures { λ r. ⌜ r ≡ modeIn first ⌝ }
 {
-    if first == 101 {
+    if first == FIRST_DUPLEX {
         return Mode::Duplex;
     }
     Mode::Simplex
@@ -110,7 +119,7 @@ fn asked_in(m: Meaning) -> Request
 }
 
 // The slot whose channel is named.
-fn named(slots: [Slot; 16], count: u8, f: Field) -> Found
+fn named(slots: [Slot; SLOTS], count: u8, f: Field) -> Found
     ensures { λ r. ⌜ ((identity : ℕ) → foundView r ≡ slotNamed (configFor identity count slots) f) ⌝ }
 {
     match f {
@@ -134,19 +143,19 @@ fn bq_on(i: Found) -> Kind
 fn kind_of(m: Meaning, i: Found) -> Kind
     ensures { λ r. ⌜ ((c : Config) → foundView i ≡ slotNamed c (m .field) → heardAs r (requestOf (askedIn m)) ≡ kindOf c m) ⌝ }
 {
-    if says(m, 117, 100) {
+    if says(m, END_RQ, FIRST_SIMPLEX) {
         return Kind::CallRequest;
     }
-    if says(m, 117, 101) {
+    if says(m, END_RQ, FIRST_DUPLEX) {
         return Kind::CallRequest;
     }
-    if says(m, 117, 106) {
+    if says(m, END_RQ, FIRST_DATA) {
         return Kind::DataRequest;
     }
     if works(m) {
         return Kind::WorkingCall;
     }
-    if says(m, 117, 105) {
+    if says(m, END_RQ, FIRST_OVER) {
         return Kind::EndOfCall;
     }
     if agrees(m) {
@@ -163,7 +172,7 @@ fn is_ours(identity: u32, m: Meaning) -> bool
 }
 
 // "a sequence not addressed to this station" says nothing.
-pub fn told_by(identity: u32, slots: [Slot; 16], count: u8, m: Meaning) -> Heard
+pub fn told_by(identity: u32, slots: [Slot; SLOTS], count: u8, m: Meaning) -> Heard
     ensures { λ r. ⌜ r .request ≡ askedIn m ⌝ }
     ensures { λ r. ⌜ heardOf r ≡ addressed (configFor identity count slots) m ⌝ }
 {

@@ -2,6 +2,7 @@
 ghost use mathlib.Core.Path.{_≡_};
 ghost use Prim.Native.Nat.{_≤_, _<_};
 ghost use lib.ListN.{length};
+ghost use Rattle.rules.specs.Sound.{limit, queueRoom};
 ghost use Rattle.rules.specs.Requests.{standing, ruleA, repeated, afresh, ruleB, ruleD, offer, ruleF, newcomer, bOrC, requested};
 ghost use Rattle.rules.specs.Station as R;
 ghost use Rattle.requests.specs.Views.{requestOf, modeOf};
@@ -14,6 +15,8 @@ use crate::pieces::wait_from;
 use actions::deeds::carrier_on;
 use actions::sequences::acknowledgement;
 use actions::sequences::unable_to;
+use dues::OFFER_WAIT;
+use dues::QUEUE_WAIT;
 use finding::first_free;
 use finding::place_of;
 use finding::standing;
@@ -22,6 +25,7 @@ use requests::Request;
 use requests::sameness::same_request;
 use slots::Carrier;
 use slots::Found;
+use slots::MOST_WAITING;
 use slots::Phase;
 use slots::Place;
 use slots::QueuePlace;
@@ -31,7 +35,6 @@ use slots::places::in_line;
 use slots::queue::join_in;
 use slots::queue::replace_in;
 use units::SlotNumber;
-use units::Tenths;
 
 impl Plan {
     // a. "Data: answer 104/109."
@@ -52,19 +55,19 @@ impl Plan {
 
     // b. "new request stored, acknowledgement sent, no carrier action, wait 160 from now"
     fn afresh(self, i: SlotNumber, q: Request) -> Plan
-        requires { ⌜ self .station .clock .0 ≤ 4_000_000_000 ⌝ }
+        requires { ⌜ self .station .clock .0 ≤ limit ⌝ }
         ensures { λ r. ⌜ draftOf r ≡ doing (λ st. afresh (i .0) st (requestOf q)) (draftOf self) ⌝ }
     {
         let s = self.station;
         let c = s.channel_at(i);
-        let t = wait_from(s.clock, Tenths(160));
+        let t = wait_from(s.clock, OFFER_WAIT);
         let p = self.place(i, Phase::Offered(t), q);
         p.say(acknowledgement(i, c, q)).answering(0)
     }
 
     // b. "offered a slot by an identical request .. If it differs"
     fn offered_again(self, i: SlotNumber, stored: Request, q: Request) -> Plan
-        requires { ⌜ self .station .clock .0 ≤ 4_000_000_000 ⌝ }
+        requires { ⌜ self .station .clock .0 ≤ limit ⌝ }
         ensures { λ r. ⌜ draftOf r ≡ doing (λ st. ruleB (i .0) R.offered (requestOf stored) st (requestOf q)) (draftOf self) ⌝ }
     {
         if same_request(q, stored) {
@@ -86,7 +89,7 @@ impl Plan {
 
     // e. "offer the lowest. Carrier on, acknowledgement with the channel and BQ; wait 160"
     fn offer(self, i: SlotNumber, q: Request) -> Plan
-        requires { ⌜ self .station .clock .0 ≤ 4_000_000_000 ⌝ }
+        requires { ⌜ self .station .clock .0 ≤ limit ⌝ }
         ensures { λ r. ⌜ draftOf r ≡ doing (λ st. offer (i .0) st (requestOf q)) (draftOf self) ⌝ }
     {
         let p = self.say(carrier_on(i));
@@ -95,13 +98,13 @@ impl Plan {
 
     // f. "join it, wait 9000, answer 104/103"
     fn rule_f(self, q: Request) -> Plan
-        requires { ⌜ (self .station .clock .0 ≤ 4_000_000_000) × (length (modelOf (self .station) .queue) < 32) ⌝ }
+        requires { ⌜ (self .station .clock .0 ≤ limit) × (length (modelOf (self .station) .queue) < queueRoom) ⌝ }
         ensures { λ r. ⌜ draftOf r ≡ doing (λ st. ruleF st (requestOf q)) (draftOf self) ⌝ }
     {
         let s = self.station;
         let b = s.queue;
         let n = in_line(b, s.waiting);
-        let t = wait_from(s.clock, Tenths(9000));
+        let t = wait_from(s.clock, QUEUE_WAIT);
         let w = Waiting { due: t, request: q };
         let z = join_in(b, n, w);
         self.lined(n + 1, z).say(unable_to(103, q)).answering(0)
@@ -109,7 +112,7 @@ impl Plan {
 
     // e. "A slot is free"; f. "The queue has room"; g. "Otherwise answer 104/102."
     fn newcomer(self, q: Request) -> Plan
-        requires { ⌜ self .station .clock .0 ≤ 4_000_000_000 ⌝ }
+        requires { ⌜ self .station .clock .0 ≤ limit ⌝ }
         ensures { λ r. ⌜ draftOf r ≡ doing (λ st. newcomer st (requestOf q)) (draftOf self) ⌝ }
     {
         let s = self.station;
@@ -118,7 +121,7 @@ impl Plan {
         match f {
             Found::At(i) => self.offer(i, q),
             Found::Nothing => {
-                if s.line() < 32 {
+                if s.line() < MOST_WAITING {
                     return self.rule_f(q);
                 }
                 self.say(unable_to(102, q)).answering(0)
@@ -128,7 +131,7 @@ impl Plan {
 
     // Rules d to g, for a ship that has no slot.
     fn without_slot(self, q: Request) -> Plan
-        requires { ⌜ self .station .clock .0 ≤ 4_000_000_000 ⌝ }
+        requires { ⌜ self .station .clock .0 ≤ limit ⌝ }
         ensures { λ r. ⌜ draftOf r ≡ doing (withoutSlot (requestOf q)) (draftOf self) ⌝ }
     {
         let s = self.station;
@@ -142,7 +145,7 @@ impl Plan {
 
     // c. "If simplex with carrier absent, the coast ends that call .. then d to g apply"
     fn rule_c(self, i: SlotNumber, m: Mode, c: Carrier, q: Request) -> Plan
-        requires { ⌜ self .station .clock .0 ≤ 4_000_000_000 ⌝ }
+        requires { ⌜ self .station .clock .0 ≤ limit ⌝ }
         ensures { λ r. ⌜ draftOf r ≡ doing (ruleCBy (i .0) (modeOf m) (carrierOf c) (requestOf q)) (draftOf self) ⌝ }
     {
         match m {
@@ -156,7 +159,7 @@ impl Plan {
 
     // b or c: the ship holds the slot i.
     fn holder_asks(self, i: SlotNumber, q: Request) -> Plan
-        requires { ⌜ self .station .clock .0 ≤ 4_000_000_000 ⌝ }
+        requires { ⌜ self .station .clock .0 ≤ limit ⌝ }
         ensures { λ r. ⌜ draftOf r ≡ doing (onSlotBy (i .0) (λ st s. bOrC (i .0) s st (requestOf q))) (draftOf self) ⌝ }
     {
         let s = self.station;
@@ -179,7 +182,7 @@ impl Plan {
 
     // The first rule that fits, by where the ship stands.
     pub(crate) fn requested(self, q: Request) -> Plan
-        requires { ⌜ self .station .clock .0 ≤ 4_000_000_000 ⌝ }
+        requires { ⌜ self .station .clock .0 ≤ limit ⌝ }
         ensures { λ r. ⌜ draftOf r ≡ doing (λ st. requested st (requestOf q) (standing st (requestOf q .who))) (draftOf self) ⌝ }
     {
         let s = self.station;

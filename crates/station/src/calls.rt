@@ -1,6 +1,7 @@
 // The events of a call: off-hook, carrier up, carrier down.
 ghost use mathlib.Core.Path.{_≡_};
 ghost use Prim.Native.Nat.{_≤_};
+ghost use Rattle.rules.specs.Sound.{limit};
 ghost use Rattle.rules.specs.Words.{offHook, carrierUp, carrierDown};
 ghost use Rattle.rules.specs.Calls.{offHookOn, upOn, downOn, startLoss};
 ghost use Rattle.requests.specs.Views.{modeOf};
@@ -23,7 +24,7 @@ use units::Tenths;
 
 // The carrier's wait begins; "a second down doesn't restart it".
 fn lost_from(c: Carrier, t: Tenths, m: Mode) -> Carrier
-    requires { ⌜ t .0 ≤ 4_000_000_000 ⌝ }
+    requires { ⌜ t .0 ≤ limit ⌝ }
     ensures { λ r. ⌜ carrierOf r ≡ startLoss (t .0) (modeOf m) (carrierOf c) ⌝ }
 {
     match c {
@@ -71,7 +72,7 @@ impl Plan {
 
     // "starts a wait of 50 duplex, 450 simplex"
     pub(crate) fn carrier_down(self, i: SlotNumber) -> Plan
-        requires { ⌜ self .station .clock .0 ≤ 4_000_000_000 ⌝ }
+        requires { ⌜ self .station .clock .0 ≤ limit ⌝ }
         ensures { λ r. ⌜ draftOf r ≡ doing (onSlotBy (i .0) (downOn (i .0))) (draftOf self) ⌝ }
     {
         let s = self.station;

@@ -2,6 +2,7 @@
 ghost use mathlib.Core.Path.{_≡_};
 ghost use mathlib.Core.Bool.{_&&_};
 ghost use Prim.Native.Nat.{_≤_};
+ghost use Rattle.rules.specs.Sound.{limit};
 ghost use Rattle.rules.specs.Words.{is};
 ghost use Rattle.rules.specs.Calls.{bqFor, heardOn70};
 ghost use Rattle.requests.specs.Views.{requestOf};
@@ -16,6 +17,7 @@ use crate::Station;
 use crate::Stepped;
 use crate::Verdict;
 use crate::pieces::wait_from;
+use dues::OFFER_WAIT;
 use reading::read;
 use requests::Request;
 use requests::sameness::is_by;
@@ -40,14 +42,14 @@ fn rung(s: Slot, x: Request) -> bool
 impl Plan {
     // Ring-back acknowledged: "wait 160"
     fn agreed(self, i: SlotNumber, x: Request) -> Plan
-        requires { ⌜ self .station .clock .0 ≤ 4_000_000_000 ⌝ }
+        requires { ⌜ self .station .clock .0 ≤ limit ⌝ }
         ensures { λ r. ⌜ draftOf r ≡ doing (onSlotBy (i .0) (bqFor (i .0) (requestOf x .who))) (draftOf self) ⌝ }
     {
         let s = self.station;
         let y = s.slot_at(i);
         let q = y.request;
         if rung(y, x) {
-            let t = wait_from(s.clock, Tenths(160));
+            let t = wait_from(s.clock, OFFER_WAIT);
             return self.place(i, Phase::Acknowledged(t), q).answering(0);
         }
         self.answering(1)
@@ -55,7 +57,7 @@ impl Plan {
 
     // What was heard on channel 70.
     pub(crate) fn hear(self, h: Heard) -> Plan
-        requires { ⌜ self .station .clock .0 ≤ 4_000_000_000 ⌝ }
+        requires { ⌜ self .station .clock .0 ≤ limit ⌝ }
         ensures { λ r. ⌜ draftOf r ≡ doing (λ st. heardOn70 st (heardOf h)) (draftOf self) ⌝ }
     {
         let k = h.kind;

@@ -2,6 +2,7 @@
 ghost use mathlib.Core.Path.{_≡_};
 ghost use Prim.Native.Nat.{_≤_};
 ghost use lib.ListN.{length, getD};
+ghost use Rattle.rules.specs.Sound.{limit};
 ghost use Rattle.rules.specs.Words.{onHook};
 ghost use Rattle.rules.specs.Places.{dropAt};
 ghost use Rattle.rules.specs.Requests.{freed};
@@ -26,6 +27,7 @@ use actions::deeds::lasted;
 use actions::deeds::release_line;
 use actions::sequences::over;
 use actions::sequences::ring_back;
+use dues::RING_WAIT;
 use requests::Request;
 use requests::blank_request;
 use slots::Call;
@@ -83,7 +85,7 @@ impl Plan {
 
     // "Whenever a slot is freed and a ship waits, the same event takes the oldest"
     pub(crate) fn freed(self, i: SlotNumber) -> Plan
-        requires { ⌜ self .station .clock .0 ≤ 4_000_000_000 ⌝ }
+        requires { ⌜ self .station .clock .0 ≤ limit ⌝ }
         ensures { λ r. ⌜ draftOf r ≡ doing (freed (i .0)) (draftOf self) ⌝ }
     {
         let s = self.station;
@@ -95,14 +97,14 @@ impl Plan {
         let w = s.first_waiting();
         let q = w.request;
         let c = s.channel_at(i);
-        let t = wait_from(s.clock, Tenths(50));
+        let t = wait_from(s.clock, RING_WAIT);
         let p = self.without(QueuePlace(0)).place(i, Phase::RingBack(t), q);
         p.say(carrier_on(i)).say(ring_back(i, c, q)).answering(0)
     }
 
     // "release line, send 105/126 with 127 and the duration, carrier off, slot freed at once"
     pub(crate) fn closed(self, i: SlotNumber, q: Request, told: Told) -> Plan
-        requires { ⌜ self .station .clock .0 ≤ 4_000_000_000 ⌝ }
+        requires { ⌜ self .station .clock .0 ≤ limit ⌝ }
         ensures { λ r. ⌜ draftOf r ≡ doing (closing (i .0) (requestOf q) told) (draftOf self) ⌝ }
     {
         let a = self.say(release_line(i));
@@ -113,7 +115,7 @@ impl Plan {
 
     // The coast ends the call of the slot i.
     pub(crate) fn coast_end(self, i: SlotNumber) -> Plan
-        requires { ⌜ self .station .clock .0 ≤ 4_000_000_000 ⌝ }
+        requires { ⌜ self .station .clock .0 ≤ limit ⌝ }
         ensures { λ r. ⌜ draftOf r ≡ doing (onSlotBy (i .0) (endOn (i .0))) (draftOf self) ⌝ }
     {
         let s = self.station;

@@ -14,6 +14,7 @@ ghost use Rattle.station.specs.Draft.{verdictOf, andThen};
 use crate::NextDue;
 use crate::Station;
 use crate::Verdict;
+use actions::ROOM;
 use dues::earliest_due;
 use dues::falls_due;
 use sequence::Answer;
@@ -21,6 +22,7 @@ use slots::Due;
 use slots::phases::is_free;
 use slots::phases::is_taken;
 use slots::places::held;
+use units::LIMIT;
 use units::SlotNumber;
 use units::Tenths;
 
@@ -87,8 +89,8 @@ impl Station {
         let clock = self.clock;
         let v = Verdict::Accepted;
         v.and_then(self.is_sound(), 29)
-            .and_then(320 <= size, 30)
-            .and_then(t.0 <= 4_000_000_000, 31)
+            .and_then(ROOM <= size, 30)
+            .and_then(t.0 <= LIMIT, 31)
             .and_then(clock.0 <= t.0, 32)
     }
 

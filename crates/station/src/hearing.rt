@@ -1,6 +1,7 @@
 // What a sequence says to this station.
 ghost use mathlib.Core.Path.{_≡_};
 ghost use mathlib.Core.Bool.{_||_};
+ghost use Rattle.sequence.specs.Figures.{firstSimplex, firstDuplex, endLast};
 ghost use Rattle.rules.specs.Words as W;
 ghost use Rattle.rules.specs.Heard.{isBlank, says, slotNamed, bqOn, agrees, kindOf, addressed, requestIn};
 ghost use Rattle.requests.specs.Views.{modeOf};
@@ -13,6 +14,13 @@ use crate::Station;
 use finding::slot_named;
 use requests::Mode;
 use requests::Request;
+use sequence::END_BQ;
+use sequence::END_LAST;
+use sequence::END_RQ;
+use sequence::FIRST_DATA;
+use sequence::FIRST_DUPLEX;
+use sequence::FIRST_OVER;
+use sequence::FIRST_SIMPLEX;
 use sequence::Field;
 use sequence::Meaning;
 use slots::Found;
@@ -49,23 +57,23 @@ fn agrees(m: Meaning) -> bool
 {
     let e = m.end;
     let t = m.first;
-    if e != 122 {
+    if e != END_BQ {
         return false;
     }
-    if t == 100 {
+    if t == FIRST_SIMPLEX {
         return true;
     }
-    t == 101
+    t == FIRST_DUPLEX
 }
 
 // "Working call (127; 100 or 101; field 126s)"
 fn works(m: Meaning) -> bool
-    ensures { λ r. ⌜ r ≡ (says 127 100 m || says 127 101 m) ⌝ }
+    ensures { λ r. ⌜ r ≡ (says endLast firstSimplex m || says endLast firstDuplex m) ⌝ }
 {
-    if says(m, 127, 100) {
+    if says(m, END_LAST, FIRST_SIMPLEX) {
         return true;
     }
-    says(m, 127, 101)
+    says(m, END_LAST, FIRST_DUPLEX)
 }
 
 // A kind, with who asks for what.
@@ -114,19 +122,19 @@ impl Station {
         ensures { λ r. ⌜ heardOf r ≡ kindOf (configOf self) m ⌝ }
     {
         let f = m.field;
-        if says(m, 117, 100) {
+        if says(m, END_RQ, FIRST_SIMPLEX) {
             return heard(Kind::CallRequest, Mode::Simplex, m);
         }
-        if says(m, 117, 101) {
+        if says(m, END_RQ, FIRST_DUPLEX) {
             return heard(Kind::CallRequest, Mode::Duplex, m);
         }
-        if says(m, 117, 106) {
+        if says(m, END_RQ, FIRST_DATA) {
             return heard(Kind::DataRequest, Mode::Simplex, m);
         }
         if works(m) {
             return heard(Kind::WorkingCall, Mode::Simplex, m);
         }
-        if says(m, 117, 105) {
+        if says(m, END_RQ, FIRST_OVER) {
             return heard(Kind::EndOfCall, Mode::Simplex, m);
         }
         if agrees(m) {

@@ -14,6 +14,8 @@ mod working;
 
 use actions::Action;
 use requests::Request;
+use slots::QUEUE_ROOM;
+use slots::SLOTS;
 use slots::Slot;
 use slots::Waiting;
 use units::SlotNumber;
@@ -25,8 +27,8 @@ pub struct Station {
     pub identity: u32,
     pub count: u8,
     pub waiting: u8,
-    pub slots: [Slot; 16],
-    pub queue: [Waiting; 32],
+    pub slots: [Slot; SLOTS],
+    pub queue: [Waiting; QUEUE_ROOM],
 }
 
 pub enum NextDue {

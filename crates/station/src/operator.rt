@@ -1,6 +1,7 @@
 // The operator's hand on a slot.
 ghost use mathlib.Core.Path.{_≡_};
 ghost use Prim.Native.Nat.{_≤_};
+ghost use Rattle.rules.specs.Sound.{limit};
 ghost use Rattle.rules.specs.Words.{takes, givesBack};
 ghost use Rattle.rules.specs.Calls.{takeOn, giveOn};
 ghost use Rattle.station.specs.Step.{slotAt, steppedBy, roomAfter};
@@ -32,7 +33,7 @@ impl Plan {
 
     // "or gives it back (freed)"
     pub(crate) fn give_back(self, i: SlotNumber) -> Plan
-        requires { ⌜ self .station .clock .0 ≤ 4_000_000_000 ⌝ }
+        requires { ⌜ self .station .clock .0 ≤ limit ⌝ }
         ensures { λ r. ⌜ draftOf r ≡ doing (onSlotBy (i .0) (giveOn (i .0))) (draftOf self) ⌝ }
     {
         let s = self.station;

@@ -2,6 +2,7 @@
 ghost use mathlib.Core.Path.{_≡_};
 ghost use Prim.Native.Nat.{_≤_};
 ghost use lib.ListN.{getD};
+ghost use Rattle.rules.specs.Sound.{limit};
 ghost use Rattle.rules.specs.Station.{free, dueAfter};
 ghost use Rattle.requests.specs.Views.{viewed, requestOf};
 ghost use Rattle.slots.specs.Views.{phaseView, slotView, waitingView};
@@ -17,6 +18,7 @@ use blocks::push_in;
 use dues::due_after;
 use requests::Request;
 use slots::Phase;
+use slots::QUEUE_ROOM;
 use slots::Slot;
 use slots::Waiting;
 use slots::laying::tidy_queue;
@@ -30,7 +32,7 @@ use units::Tenths;
 
 // A wait of p begun at t.
 pub(crate) fn wait_from(t: Tenths, p: Tenths) -> Tenths
-    requires { ⌜ (t .0 ≤ 4_000_000_000) × (p .0 ≤ 9_000) ⌝ }
+    requires { ⌜ (t .0 ≤ limit) × (p .0 ≤ 9_000) ⌝ }
     ensures { λ r. ⌜ r .0 ≡ dueAfter (t .0) (p .0) ⌝ }
 {
     due_after(t, p)
@@ -149,7 +151,7 @@ impl Plan {
     }
 
     // Other ships in the queue.
-    pub(crate) fn lined(self, n: u8, b: [Waiting; 32]) -> Plan
+    pub(crate) fn lined(self, n: u8, b: [Waiting; QUEUE_ROOM]) -> Plan
         ensures { λ r. ⌜ draftOf r ≡ lining (viewed waitingView n b) (draftOf self) ⌝ }
     {
         let s = self.station;

@@ -1,6 +1,7 @@
 // Set-up from an identity and a channel list.
 ghost use mathlib.Core.Path.{_≡_};
 ghost use Prim.Native.Nat.{_≤_};
+ghost use Rattle.rules.specs.Sound.{mostSlots};
 ghost use Rattle.rules.specs.Bytes.{padded};
 ghost use Rattle.requests.specs.Views.{viewed};
 ghost use Rattle.slots.specs.Images.{blankSlot};
@@ -9,7 +10,10 @@ ghost use Rattle.station.specs.Draft.{freeOn};
 use crate::SetUp;
 use crate::Station;
 use requests::blank_request;
+use slots::MOST_SLOTS;
 use slots::Phase;
+use slots::QUEUE_ROOM;
+use slots::SLOTS;
 use slots::Slot;
 use slots::laying::blank_slot;
 use slots::laying::blank_waiting;
@@ -29,12 +33,12 @@ fn free_on(n: Channel) -> Slot
 }
 
 // "one slot each", in the list's order.
-fn listed(channels: [Channel; 16], n: u8) -> [Slot; 16]
-    requires { ⌜ n ≤ 16 ⌝ }
-    ensures { λ r. ⌜ r ≡ padded blankSlot 16 (viewed freeOn n channels) ⌝ }
+fn listed(channels: [Channel; SLOTS], n: u8) -> [Slot; SLOTS]
+    requires { ⌜ n ≤ mostSlots ⌝ }
+    ensures { λ r. ⌜ r ≡ padded blankSlot mostSlots (viewed freeOn n channels) ⌝ }
 {
     let blank = blank_slot();
-    let mut a = [blank; 16];
+    let mut a = [blank; SLOTS];
     let mut i: u8 = 0;
     while i < n {
         let s = free_on(channels[i as usize]);
@@ -56,16 +60,16 @@ impl Station {
             identity: 0,
             count: 0,
             waiting: 0,
-            slots: [s; 16],
-            queue: [w; 32],
+            slots: [s; SLOTS],
+            queue: [w; QUEUE_ROOM],
         }
     }
 
     // The first `count` channels. "All slots begin free at clock 0."
-    pub fn set_up(identity: u32, channels: [Channel; 16], count: u8) -> SetUp
+    pub fn set_up(identity: u32, channels: [Channel; SLOTS], count: u8) -> SetUp
         ensures { λ r. ⌜ r ≡ setUpOf (chosen identity channels count) ⌝ }
     {
-        if 16 < count {
+        if MOST_SLOTS < count {
             let s = Station::blank();
             return SetUp {
                 answer: 36,
@@ -87,7 +91,7 @@ impl Station {
             count: count,
             waiting: 0,
             slots: a,
-            queue: [w; 32],
+            queue: [w; QUEUE_ROOM],
         };
         SetUp {
             answer: 0,

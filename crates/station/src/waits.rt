@@ -1,6 +1,7 @@
 // A wait falls due.
 ghost use mathlib.Core.Path.{_≡_};
 ghost use Prim.Native.Nat.{_≤_};
+ghost use Rattle.rules.specs.Sound.{limit};
 ghost use Rattle.rules.specs.Station.{dealing, fires};
 ghost use Rattle.rules.specs.Calls.{offerDue, ringAgain, mainOn, ticked};
 ghost use Rattle.requests.specs.Views.{requestOf};
@@ -15,6 +16,7 @@ use crate::Verdict;
 use crate::pieces::wait_from;
 use actions::deeds::carrier_off;
 use actions::sequences::ring_back;
+use dues::RING_WAIT;
 use dues::due_by;
 use requests::Request;
 use slots::Due;
@@ -27,7 +29,7 @@ use units::Told;
 impl Plan {
     // "Offer due: carrier off, slot freed."
     pub(crate) fn offer_due(self, i: SlotNumber) -> Plan
-        requires { ⌜ self .station .clock .0 ≤ 4_000_000_000 ⌝ }
+        requires { ⌜ self .station .clock .0 ≤ limit ⌝ }
         ensures { λ r. ⌜ draftOf r ≡ doing (offerDue (i .0)) (draftOf self) ⌝ }
     {
         let p = self.say(carrier_off(i));
@@ -36,19 +38,19 @@ impl Plan {
 
     // "send once more, wait 50"
     pub(crate) fn ring_again(self, i: SlotNumber, q: Request) -> Plan
-        requires { ⌜ self .station .clock .0 ≤ 4_000_000_000 ⌝ }
+        requires { ⌜ self .station .clock .0 ≤ limit ⌝ }
         ensures { λ r. ⌜ draftOf r ≡ doing (ringAgain (i .0) (dealing (requestOf q))) (draftOf self) ⌝ }
     {
         let s = self.station;
         let c = s.channel_at(i);
-        let t = wait_from(s.clock, Tenths(50));
+        let t = wait_from(s.clock, RING_WAIT);
         let p = self.place(i, Phase::RingAgain(t), q);
         p.say(ring_back(i, c, q)).answering(0)
     }
 
     // The wait of the slot i other than its carrier's.
     pub(crate) fn main_due(self, i: SlotNumber) -> Plan
-        requires { ⌜ self .station .clock .0 ≤ 4_000_000_000 ⌝ }
+        requires { ⌜ self .station .clock .0 ≤ limit ⌝ }
         ensures { λ r. ⌜ draftOf r ≡ doing (onSlotBy (i .0) (mainOn (i .0))) (draftOf self) ⌝ }
     {
         let s = self.station;
@@ -70,7 +72,7 @@ impl Plan {
 
     // "A queue entry due is dropped."
     pub(crate) fn fire(self, w: Wait) -> Plan
-        requires { ⌜ self .station .clock .0 ≤ 4_000_000_000 ⌝ }
+        requires { ⌜ self .station .clock .0 ≤ limit ⌝ }
         ensures { λ r. ⌜ draftOf r ≡ doing (firing (waitView w)) (draftOf self) ⌝ }
     {
         match w {
@@ -84,7 +86,7 @@ impl Plan {
 impl Station {
     // "the earliest wait due at or before t, one only"
     pub(crate) fn ticked(self, time: Tenths) -> Plan
-        requires { ⌜ time .0 ≤ 4_000_000_000 ⌝ }
+        requires { ⌜ time .0 ≤ limit ⌝ }
         ensures { λ r. ⌜ draftOf r ≡ drafted (configOf self) (ticked (modelOf self) (time .0) (fires (time .0) (modelOf self))) ⌝ }
     {
         let n = self.first_due();

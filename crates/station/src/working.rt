@@ -2,6 +2,7 @@
 ghost use mathlib.Core.Path.{_≡_};
 ghost use mathlib.Core.Bool.{_&&_};
 ghost use Prim.Native.Nat.{_≤_};
+ghost use Rattle.rules.specs.Sound.{limit};
 ghost use Rattle.rules.specs.Words.{is, heard};
 ghost use Rattle.rules.specs.Station.{dealing};
 ghost use Rattle.rules.specs.Calls.{dialNow, workingOn, shipEndOn, sayAgain, heardOn};
@@ -25,6 +26,8 @@ use actions::deeds::dial;
 use actions::deeds::lasted;
 use actions::deeds::release_line;
 use actions::sequences::over;
+use dues::HOLD_WAIT;
+use dues::REPLY_WAIT;
 use reading::read;
 use requests::Request;
 use requests::sameness::is_by;
@@ -51,18 +54,18 @@ fn awaits(s: Slot, x: Request) -> bool
 impl Plan {
     // "dial the stored request's number .. Carrier counts as present; wait 600 for a reply"
     pub(crate) fn dial_now(self, i: SlotNumber, q: Request) -> Plan
-        requires { ⌜ self .station .clock .0 ≤ 4_000_000_000 ⌝ }
+        requires { ⌜ self .station .clock .0 ≤ limit ⌝ }
         ensures { λ r. ⌜ draftOf r ≡ doing (dialNow (i .0) (dealing (requestOf q))) (draftOf self) ⌝ }
     {
         let s = self.station;
         let n = q.number;
-        let t = wait_from(s.clock, Tenths(600));
+        let t = wait_from(s.clock, REPLY_WAIT);
         let p = self.place(i, Phase::Dialling(t, Carrier::Present), q);
         p.say(dial(i, n)).answering(0)
     }
 
     pub(crate) fn working_call(self, i: SlotNumber, x: Request) -> Plan
-        requires { ⌜ self .station .clock .0 ≤ 4_000_000_000 ⌝ }
+        requires { ⌜ self .station .clock .0 ≤ limit ⌝ }
         ensures { λ r. ⌜ draftOf r ≡ doing (onSlotBy (i .0) (workingOn (i .0) (requestOf x .who))) (draftOf self) ⌝ }
     {
         let s = self.station;
@@ -76,11 +79,11 @@ impl Plan {
 
     // "release line, send 105/126 with BQ and the duration, carrier off, hold for 40"
     pub(crate) fn held(self, i: SlotNumber, q: Request, told: Told) -> Plan
-        requires { ⌜ self .station .clock .0 ≤ 4_000_000_000 ⌝ }
+        requires { ⌜ self .station .clock .0 ≤ limit ⌝ }
         ensures { λ r. ⌜ draftOf r ≡ doing (holding (i .0) (requestOf q) told) (draftOf self) ⌝ }
     {
         let s = self.station;
-        let t = wait_from(s.clock, Tenths(40));
+        let t = wait_from(s.clock, HOLD_WAIT);
         let a = self.place(i, Phase::Hold(t, told), q);
         let b = a.say(release_line(i));
         let c = b.say(over(i, Ender::Ship, q, told));
@@ -98,7 +101,7 @@ impl Plan {
 
     // The ship ends its call, or repeats its end in the hold.
     pub(crate) fn ship_end(self, i: SlotNumber, x: Request) -> Plan
-        requires { ⌜ self .station .clock .0 ≤ 4_000_000_000 ⌝ }
+        requires { ⌜ self .station .clock .0 ≤ limit ⌝ }
         ensures { λ r. ⌜ draftOf r ≡ doing (onSlotBy (i .0) (shipEndOn (i .0) (requestOf x .who))) (draftOf self) ⌝ }
     {
         let s = self.station;
@@ -127,7 +130,7 @@ impl Plan {
 
     // What was heard on the working channel of the slot i.
     pub(crate) fn hear_on(self, i: SlotNumber, h: Heard) -> Plan
-        requires { ⌜ self .station .clock .0 ≤ 4_000_000_000 ⌝ }
+        requires { ⌜ self .station .clock .0 ≤ limit ⌝ }
         ensures { λ r. ⌜ draftOf r ≡ doing (onSlotBy (i .0) (λ st s. heardOn (i .0) st s (heardOf h))) (draftOf self) ⌝ }
     {
         let k = h.kind;
