@@ -10,7 +10,7 @@ use Rattle.units.specs.declared.Channel.{Channel}
 use Rattle.rules.specs.Places.{modAt, lowest}
 use Rattle.rules.specs.Words.{Mode, simplex, duplex, Request, unable}
 use Rattle.rules.specs.Station as R
-use Rattle.rules.specs.Station.{free, taken, pending, busy, held, offered, dueAfter, setSlot, setQueue}
+use Rattle.rules.specs.Station.{free, taken, pending, busy, held, offered, dueAfter, kindWait, setSlot, setQueue}
 use Rattle.rules.specs.Requests.{Out, rungBack, freedFor, freed, coastEnd, Standing, saying, ruleA, repeated, afresh, same, ruleB, ruleC, redial, ruleD, offer, ruleF, ruleG, isFree, eToG, newcomer, dToG, placeOf, requested, standing}
 use Rattle.rules.specs.Actions.{does}
 use Rattle.rules.specs.Calls.{endOn}
@@ -69,7 +69,7 @@ module _ (d : Draft) (r : Request) where
     unfolding answering handing doing repeated sentBlock sentPayload
     repeated-is ch b q h = rw (h, q, clip-clip)
 
-    pub afresh-is : (t : ℕ) (ch : Channel) (b : List ℕ) → t ≡ dueAfter (d .station .clock) 160 → ch ≡ channelAt (d .config) i → b ≡ block 3 i (sent (ableSaid ch 122 r))
+    pub afresh-is : (t : ℕ) (ch : Channel) (b : List ℕ) → t ≡ dueAfter (d .station .clock) (kindWait offered) → ch ≡ channelAt (d .config) i → b ≡ block 3 i (sent (ableSaid ch 122 r))
         → answering 0 (handing b (placing i (pending offered (R.dealing r) t) d)) ≡ doing (λ st. afresh i st r) d
     unfolding answering handing placing doing afresh sentBlock sentPayload
     afresh-is t ch b p q h = rw (h, q, p, clip-clip)

@@ -9,7 +9,7 @@ use Rattle.units.specs.declared.Told.{Told}
 use Rattle.units.specs.declared.Told.the-variants.{Nothing}
 use Rattle.rules.specs.Words.{Party, Request, is}
 use Rattle.rules.specs.Station as R
-use Rattle.rules.specs.Station.{dealing, acknowledged, dialling, answered, setSlot, dueAfter}
+use Rattle.rules.specs.Station.{dealing, acknowledged, dialling, answered, setSlot, dueAfter, kindWait}
 use Rattle.rules.specs.Slots.{pending, busy, held}
 use Rattle.rules.specs.Requests.{done, ignored}
 use Rattle.rules.specs.Actions.{theShip}
@@ -82,7 +82,7 @@ module _ (i : ℕ) (x : Party) (st : R.Station) (r : Request) where
   working-no (Hold t n) h = refl
   working-no Taken h = refl
 
-  pub bq-yes : (p : Phase) → (rings p && is x (r .who)) ≡ true → bqFor i x st (phaseView p r) ≡ done (setSlot i (pending acknowledged r (dueAfter (st .clock) 160)) st)
+  pub bq-yes : (p : Phase) → (rings p && is x (r .who)) ≡ true → bqFor i x st (phaseView p r) ≡ done (setSlot i (pending acknowledged r (dueAfter (st .clock) (kindWait acknowledged))) st)
   unfolding bqFor bqKind agreed
   bq-yes Free h = cc
   bq-yes (Offered t) h = cc
