@@ -19,7 +19,7 @@ use Rattle.actions.specs.Sent.{sent, sentPayload, sentBlock}
 use Rattle.station.specs.declared.Plan.{Plan}
 use Rattle.station.specs.Model.{modelOf}
 use Rattle.station.specs.Draft.{Draft, draftOf, answering, handing, placing, lining, doing, onSlotBy}
-use Rattle.station.specs.Hearing.{behind, withoutSlot, ruleCBy}
+use Rattle.station.specs.Asking.{behind, withoutSlot, ruleCBy}
 use Rattle.station.proofs.DraftLaws.{clip-on, clip-clip, clip-over}
 
 -- two rules that do the same here

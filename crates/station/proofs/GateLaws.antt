@@ -1,107 +1,75 @@
--- The tests of an event one behind the other, and what an accepted event has passed.
+-- What the gate asks of an event, by a station's own look, is the station's refusal; and what an accepted event has passed.
 use Prim.Native.Nat.{ℕ, _≤_}
 use mathlib.Core.Bool.{Bool, true, false, cond, not, _&&_}
 use mathlib.Core.List.{List}
 use mathlib.Core.Option.{Option, none, some}
 use mathlib.Core.Path.{_≡_, refl, sym, _∙_}
-use lib.Dec.{leb, ltb}
-use lib.ListN.{length, getD}
+use lib.Dec.{leb}
+use lib.ListN.{getD}
 use borrow.Author.Tests.{leb-true}
 use Rattle.sequence.specs.Answers.{answerNumber, isDone}
-use Rattle.rules.specs.Places.{isSome, all}
-use Rattle.rules.specs.Words.{Happened, heard, offHook, onHook, carrierUp, carrierDown, tick, onChannel70, onSlot, Event}
+use Rattle.sequence.specs.Refusals.{firstRefusal}
+use Rattle.rules.specs.Places.{all}
+use Rattle.rules.specs.Words.{Signal, Hand, handTakes, handGives, heard, signal, operator, takes, givesBack, tick, onChannel70, onSlot, Event}
 use Rattle.rules.specs.Station.{free, fires}
-use Rattle.rules.specs.Sound.{sound, limit}
+use Rattle.rules.specs.Sound.{sound, limit, mostSlots, queueRoom}
+use Rattle.rules.specs.Requests.{isFree}
 use Rattle.requests.specs.Views.{viewed, itself}
 use Rattle.keeping.specs.Kept.{slotExact, waitingExact}
 use Rattle.soundness.specs.Soundly.{soundly}
-use Rattle.rules.specs.Verdict.{readerSays, readOn, barredOn, refusals, verdict, roomNeeded}
+use Rattle.gate.specs.declared.Look.{Look}
+use Rattle.gate.specs.Asked.{andThen, askedAlways, askedNow, askedOnSlot}
+use Rattle.gate.proofs.AskedLaws.{one-more}
+use Rattle.rules.specs.Verdict.{roomNeeded, readerSays, isTaken, barredHand, refusals, verdict}
 use Rattle.station.specs.declared.Station.{Station}
 use Rattle.station.specs.Model.{modelOf, configOf}
 use Rattle.station.specs.Step.{recordsKeep, refusal}
-use Rattle.station.specs.Draft.{andThen}
+use Rattle.station.specs.Draft.{Sees}
 
-pub not-not : (b : Bool) → not (not b) ≡ b
+not-not : (b : Bool) → not (not b) ≡ b
 not-not true = refl
 not-not false = refl
 
-unbarred : (v : Option ℕ) → andThen v true 35 ≡ v
-unbarred none = refl
-unbarred (some k) = refl
+-- 29 is one test of two parts
+both-parts : {A : Type 0} (a b : Bool) (x y : A) → cond (a && b) x y ≡ cond a (cond b x y) y
+both-parts true b x y = refl
+both-parts false b x y = refl
 
-module _ (s : Station) (n t : ℕ) where
-  -- 29 to 32
-  pub tick-asked : andThen (andThen (andThen (andThen none (recordsKeep s && sound (configOf s) (modelOf s)) 29) (leb roomNeeded n) 30) (leb t limit) 31) (leb (s .clock .0) t) 32 ≡ refusal s (record { time = t; room = n; what = tick })
-  unfolding refusal refusals modelOf
-  tick-asked = go (recordsKeep s) (sound (configOf s) (modelOf s)) (leb roomNeeded n) (leb t limit) (leb (s .clock .0) t)
-    where
-      go : (a b c d e : Bool) → andThen (andThen (andThen (andThen none (a && b) 29) c 30) d 31) e 32 ≡ cond a (cond b (cond c (cond d (cond e none (some 32)) (some 31)) (some 30)) (some 29)) (some 29)
-      go false b c d e = refl
-      go true false c d e = refl
-      go true true false d e = refl
-      go true true true false e = refl
-      go true true true true e = refl
-
-  -- and 33, 34
-  pub slot-asked : (i : ℕ) → andThen (andThen (refusal s (record { time = t; room = n; what = tick })) (not (isSome (fires t (modelOf s)))) 33) (ltb i (length (modelOf s .slots))) 34 ≡ refusal s (record { time = t; room = n; what = onSlot i offHook })
+module _ (s : Station) (l : Look) (sees : Sees s l) (n t : ℕ) where
+  pub tick-asked : firstRefusal (askedAlways l n t) none ≡ refusal s (record { time = t; room = n; what = tick })
   unfolding refusal refusals
-  slot-asked i = go (recordsKeep s) (sound (configOf s) (modelOf s)) (leb roomNeeded n) (leb t limit) (leb (modelOf s .clock) t) (not (isSome (fires t (modelOf s)))) (ltb i (length (modelOf s .slots)))
-    where
-      go : (a b c d e f g : Bool) → andThen (andThen (cond a (cond b (cond c (cond d (cond e none (some 32)) (some 31)) (some 30)) (some 29)) (some 29)) f 33) g 34 ≡ cond a (cond b (cond c (cond d (cond e (cond f (cond g none (some 34)) (some 33)) (some 32)) (some 31)) (some 30)) (some 29)) (some 29)
-      go false b c d e f g = refl
-      go true false c d e f g = refl
-      go true true false d e f g = refl
-      go true true true false e f g = refl
-      go true true true true false f g = refl
-      go true true true true true false g = refl
-      go true true true true true true g = refl
+  tick-asked = rw (sees .soundly, sees .clock) (both-parts (recordsKeep s) (sound (configOf s) (modelOf s)) _ _)
 
-  -- the same for what else happens on a slot and is never barred
-  pub up-asked : (i : ℕ) → refusal s (record { time = t; room = n; what = onSlot i offHook }) ≡ refusal s (record { time = t; room = n; what = onSlot i carrierUp })
-  unfolding refusal refusals
-  up-asked i = refl
+  -- whatever the signal
+  pub signal-asked : (i : ℕ) (g : Signal) → firstRefusal (askedOnSlot l n t i) none ≡ refusal s (record { time = t; room = n; what = onSlot i (signal g) })
+  unfolding refusal refusals fires
+  signal-asked i g = rw (sees .soundly, sees .clock, sees .first, sees .slots) (both-parts (recordsKeep s) (sound (configOf s) (modelOf s)) _ _)
 
-  pub down-asked : (i : ℕ) → refusal s (record { time = t; room = n; what = onSlot i offHook }) ≡ refusal s (record { time = t; room = n; what = onSlot i carrierDown })
-  unfolding refusal refusals
-  down-asked i = refl
+  -- the operator's hand: 35 besides
+  hand-asked : (i : ℕ) (h : Hand) → andThen (firstRefusal (askedOnSlot l n t i) none) (not (barredHand (getD (modelOf s .slots) i free) h)) 35 ≡ refusal s (record { time = t; room = n; what = onSlot i (operator h) })
+  unfolding refusal refusals fires
+  hand-asked i h =
+      one-more (askedOnSlot l n t i) (refl, (refl, (refl, (refl, (refl, (refl, tt)))))) _ 35
+      ∙ rw (sees .soundly, sees .clock, sees .first, sees .slots) (both-parts (recordsKeep s) (sound (configOf s) (modelOf s)) _ _)
 
-  pub hook-asked : (i : ℕ) → refusal s (record { time = t; room = n; what = onSlot i offHook }) ≡ refusal s (record { time = t; room = n; what = onSlot i onHook })
-  unfolding refusal refusals
-  hook-asked i = refl
+  pub take-asked : (i : ℕ) → andThen (firstRefusal (askedOnSlot l n t i) none) (isFree (getD (modelOf s .slots) i free)) 35 ≡ refusal s (record { time = t; room = n; what = onSlot i takes })
+  take-asked i = rw (← not-not (isFree (getD (modelOf s .slots) i free))) (hand-asked i handTakes)
 
-  -- and the event's own: 11 to 20, 35
-  pub more-asked : (i : ℕ) (h : Happened) → andThen (andThen (refusal s (record { time = t; room = n; what = onSlot i offHook })) (isDone (readOn h)) (answerNumber (readOn h))) (not (barredOn (getD (modelOf s .slots) i free) h)) 35 ≡ refusal s (record { time = t; room = n; what = onSlot i h })
-  unfolding refusal refusals
-  more-asked i h = go (recordsKeep s) (sound (configOf s) (modelOf s)) (leb roomNeeded n) (leb t limit) (leb (modelOf s .clock) t) (not (isSome (fires t (modelOf s)))) (ltb i (length (modelOf s .slots))) (isDone (readOn h)) (not (barredOn (getD (modelOf s .slots) i free) h)) (answerNumber (readOn h))
-    where
-      go : (a b c d e f g x y : Bool) (k : ℕ) → andThen (andThen (cond a (cond b (cond c (cond d (cond e (cond f (cond g none (some 34)) (some 33)) (some 32)) (some 31)) (some 30)) (some 29)) (some 29)) x k) y 35 ≡ cond a (cond b (cond c (cond d (cond e (cond f (cond g (cond x (cond y none (some 35)) (some k)) (some 34)) (some 33)) (some 32)) (some 31)) (some 30)) (some 29)) (some 29)
-      go false b c d e f g x y k = refl
-      go true false c d e f g x y k = refl
-      go true true false d e f g x y k = refl
-      go true true true false e f g x y k = refl
-      go true true true true false f g x y k = refl
-      go true true true true true false g x y k = refl
-      go true true true true true true false x y k = refl
-      go true true true true true true true false y k = refl
-      go true true true true true true true true y k = refl
+  pub give-asked : (i : ℕ) → andThen (firstRefusal (askedOnSlot l n t i) none) (isTaken (getD (modelOf s .slots) i free)) 35 ≡ refusal s (record { time = t; room = n; what = onSlot i givesBack })
+  give-asked i = rw (← not-not (isTaken (getD (modelOf s .slots) i free))) (hand-asked i handGives)
 
-  -- on channel 70: 33, and 11 to 20
-  pub channel-asked : (m : List ℕ) → andThen (andThen (refusal s (record { time = t; room = n; what = tick })) (not (isSome (fires t (modelOf s)))) 33) (isDone (readerSays m)) (answerNumber (readerSays m)) ≡ refusal s (record { time = t; room = n; what = onChannel70 m })
-  unfolding refusal refusals
-  channel-asked m = go (recordsKeep s) (sound (configOf s) (modelOf s)) (leb roomNeeded n) (leb t limit) (leb (modelOf s .clock) t) (not (isSome (fires t (modelOf s)))) (isDone (readerSays m)) (answerNumber (readerSays m))
-    where
-      go : (a b c d e f x : Bool) (k : ℕ) → andThen (andThen (cond a (cond b (cond c (cond d (cond e none (some 32)) (some 31)) (some 30)) (some 29)) (some 29)) f 33) x k ≡ cond a (cond b (cond c (cond d (cond e (cond f (cond x none (some k)) (some 33)) (some 32)) (some 31)) (some 30)) (some 29)) (some 29)
-      go false b c d e f x k = refl
-      go true false c d e f x k = refl
-      go true true false d e f x k = refl
-      go true true true false e f x k = refl
-      go true true true true false f x k = refl
-      go true true true true true false x k = refl
-      go true true true true true true x k = refl
+  -- a sequence: 11 to 20 besides
+  pub heard-asked : (i : ℕ) (m : List ℕ) → andThen (firstRefusal (askedOnSlot l n t i) none) (isDone (readerSays m)) (answerNumber (readerSays m)) ≡ refusal s (record { time = t; room = n; what = onSlot i (heard m) })
+  unfolding refusal refusals fires
+  heard-asked i m =
+      one-more (askedOnSlot l n t i) (refl, (refl, (refl, (refl, (refl, (refl, tt)))))) _ _
+      ∙ rw (sees .soundly, sees .clock, sees .first, sees .slots) (both-parts (recordsKeep s) (sound (configOf s) (modelOf s)) _ _)
 
-  -- on a working channel: what is heard is never barred
-  pub heard-asked : (i : ℕ) (m : List ℕ) → andThen (refusal s (record { time = t; room = n; what = onSlot i offHook })) (isDone (readerSays m)) (answerNumber (readerSays m)) ≡ refusal s (record { time = t; room = n; what = onSlot i (heard m) })
-  heard-asked i m = sym (unbarred _) ∙ more-asked i (heard m)
+  pub channel-asked : (m : List ℕ) → andThen (firstRefusal (askedNow l n t) none) (isDone (readerSays m)) (answerNumber (readerSays m)) ≡ refusal s (record { time = t; room = n; what = onChannel70 m })
+  unfolding refusal refusals fires
+  channel-asked m =
+      one-more (askedNow l n t) (refl, (refl, (refl, (refl, (refl, tt))))) _ _
+      ∙ rw (sees .soundly, sees .clock, sees .first) (both-parts (recordsKeep s) (sound (configOf s) (modelOf s)) _ _)
 
 -- what an accepted event has passed
 pub record Passed (s : Station) (e : Event) : Type 0 where
@@ -135,5 +103,5 @@ apart true true false false = refl
 pub sound-is : (s : Station) → soundly (s .identity) (s .clock) (s .count) (s .slots) (s .waiting) (s .queue) ≡ (recordsKeep s && sound (configOf s) (modelOf s))
 unfolding soundly recordsKeep configOf modelOf
 sound-is s =
-    apart (leb (s .count) 16) (leb (s .waiting) 32) (sound (configOf s) (modelOf s))
+    apart (leb (s .count) mostSlots) (leb (s .waiting) queueRoom) (sound (configOf s) (modelOf s))
     (all slotExact (viewed itself (s .count) (s .slots)) && all waitingExact (viewed itself (s .waiting) (s .queue)))

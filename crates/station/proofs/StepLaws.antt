@@ -15,7 +15,7 @@ use Rattle.meanings.proofs.RoundTrip.{reads-valid}
 use Rattle.rules.specs.Words.{Config, Happened, Event, onChannel70, onSlot}
 use Rattle.rules.specs.Heard.{meaning}
 use Rattle.rules.specs.Station as R
-use Rattle.rules.specs.Station.{free, setClock, nextDue}
+use Rattle.rules.specs.Station.{free, setClock, dueAt, nextDue}
 use Rattle.rules.specs.Requests.{Out}
 use Rattle.rules.specs.Calls.{heardOn70, happenedOn, actAt, act}
 use Rattle.rules.specs.Statement.{AtMostEight}
@@ -23,18 +23,20 @@ use Rattle.rules.proofs.Eight.{at-most-eight}
 use Rattle.actions.specs.Blocks.{clip, holds, putCount, putRoom}
 use Rattle.actions.specs.Sent.{sentBlock}
 use Rattle.actions.proofs.Handed.{handed-out}
+use Rattle.slots.specs.Views.{dueView}
+use Rattle.gate.specs.declared.Look.{Look}
 use Rattle.station.specs.declared.Station.{Station}
 use Rattle.station.specs.declared.Stepped.{Stepped}
 use Rattle.station.specs.Model.{modelOf, configOf}
 use Rattle.station.specs.Step.{dueImage, refusal, steppedBy, roomAfter}
-use Rattle.station.specs.Draft.{opening, doing, onSlotBy, drafted, finished, finishedRoom}
+use Rattle.station.specs.Draft.{Sees, opening, doing, onSlotBy, drafted, finished, finishedRoom}
 use Rattle.station.proofs.GateLaws.{passed}
 
 -- a refusal hands back the station, and leaves the room
-pub refused-is : (s : Station) (room : List ℕ) (e : Event) (n : ℕ) → some n ≡ refusal s e
-    → (_≡_ {A = Stepped} (record { answer = n; count = 0; due = dueImage (nextDue (modelOf s)); station = s }) (steppedBy s e)) × (room ≡ roomAfter s room e)
-unfolding steppedBy roomAfter
-refused-is s room e n h = rw (← h) (refl, refl)
+pub refused-is : (s : Station) (l : Look) → Sees s l → (room : List ℕ) (e : Event) (n : ℕ) → some n ≡ refusal s e
+    → (_≡_ {A = Stepped} (record { answer = n; count = 0; due = dueImage (dueAt (dueView (l .due))); station = s }) (steppedBy s e)) × (room ≡ roomAfter s room e)
+unfolding steppedBy roomAfter nextDue
+refused-is s l sees room e n h = rw (← h, sees .first) (refl, refl)
 
 few : (c : Config) (o : Out) → length (o .acts) ≤ 8 → clip (map (sentBlock c) (o .acts)) ≡ map (sentBlock c) (o .acts)
 unfolding clip

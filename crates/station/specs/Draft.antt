@@ -1,39 +1,38 @@
 -- A step in the making, and the words by which its pieces are put together; only the proofs need them.
 use Prim.Native.Nat.{ℕ}
-use mathlib.Core.Bool.{Bool, cond}
+use mathlib.Core.Bool.{_&&_}
 use mathlib.Core.List.{List, [], _∷_, _++_, map}
-use mathlib.Core.Option.{Option, none, some}
-use lib.ListN.{getD}
+use mathlib.Core.Path.{_≡_}
+use lib.ListN.{length, getD}
 use Rattle.units.specs.declared.Channel.{Channel}
 use Rattle.units.specs.declared.Told.{Told}
 use Rattle.rules.specs.Actions.{does, over, theCoast, theShip}
 use Rattle.rules.specs.Words.{carrierOff, releaseLine, Config, Request}
 use Rattle.rules.specs.Station as R
-use Rattle.rules.specs.Station.{dealing, free, held, setSlot, setClock, setQueue, nextDue, dueAfter, holdWait}
+use Rattle.rules.specs.Station.{dealing, free, held, setSlot, setClock, setQueue, table, nextDue, dueAfter, holdWait}
+use Rattle.rules.specs.Sound.{sound}
 use Rattle.rules.specs.Requests.{Out, also, freed}
-use Rattle.rules.specs.Waits.{Wait}
+use Rattle.rules.specs.Waits.{Wait, earliest}
 use Rattle.rules.specs.Calls.{fire}
 use Rattle.slots.specs.declared.Slot.{Slot}
+use Rattle.slots.specs.Views.{dueView}
 use Rattle.slots.specs.Images.{slotImage}
+use Rattle.gate.specs.declared.Look.{Look}
 use Rattle.actions.specs.Blocks.{clip, handed, putCount, putRoom}
 use Rattle.actions.specs.Sent.{sentBlock}
 use Rattle.station.specs.declared.Plan.{Plan}
+use Rattle.station.specs.declared.Station.{Station}
 use Rattle.station.specs.declared.Stepped.{Stepped}
-use Rattle.station.specs.declared.Verdict.{Verdict}
-use Rattle.station.specs.declared.Verdict.the-variants.{Accepted, Refused}
 use Rattle.station.specs.Model.{modelOf, configOf, imageOf}
-use Rattle.station.specs.Step.{dueImage}
+use Rattle.station.specs.Step.{recordsKeep, dueImage}
 
--- ── a verdict ────────────────────────────────────────────────────────────────
+-- ── what the gate sees ───────────────────────────────────────────────────────
 
-abbrev pub verdictOf : Verdict → Option ℕ
-verdictOf Accepted = none
-verdictOf (Refused n) = some n
-
--- one test more behind those that were passed
-abbrev pub andThen : Option ℕ → Bool → ℕ → Option ℕ
-andThen none b n = cond b none (some n)
-andThen (some k) b n = some k
+pub record Sees (s : Station) (l : Look) : Type 0 where
+  pub soundly : l .sound ≡ (recordsKeep s && sound (configOf s) (modelOf s))
+  pub clock : l .clock .0 ≡ modelOf s .clock
+  pub slots : l .count ≡ length (modelOf s .slots)
+  pub first : dueView (l .due) ≡ earliest (table (modelOf s))
 
 -- ── a draft ──────────────────────────────────────────────────────────────────
 

@@ -1,4 +1,4 @@
 pub mod Model
 pub mod Step
 pub mod Draft
-pub mod Hearing
+pub mod Asking

@@ -9,7 +9,7 @@ ghost use Rattle.requests.specs.Views.{requestOf, modeOf};
 ghost use Rattle.slots.specs.Views.{carrierOf};
 ghost use Rattle.station.specs.Model.{modelOf};
 ghost use Rattle.station.specs.Draft.{draftOf, doing, onSlotBy};
-ghost use Rattle.station.specs.Hearing.{withoutSlot, ruleCBy};
+ghost use Rattle.station.specs.Asking.{withoutSlot, ruleCBy};
 use crate::Plan;
 use crate::pieces::wait_from;
 use actions::deeds::carrier_on;

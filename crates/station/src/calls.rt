@@ -11,9 +11,9 @@ ghost use Rattle.station.specs.Draft.{draftOf, doing, onSlotBy};
 use crate::Plan;
 use crate::Station;
 use crate::Stepped;
-use crate::Verdict;
 use crate::pieces::wait_from;
 use dues::carrier_wait;
+use gate::Verdict;
 use requests::Mode;
 use slots::Call;
 use slots::Carrier;
@@ -101,9 +101,10 @@ impl Station {
         ensures { λ r. ⌜ r ≡ steppedBy self (slotAt time slot offHook (now (room .entry))) ⌝ }
         ensures { λ _. ⌜ now (room .exit) ≡ roomAfter self (now (room .entry)) (slotAt time slot offHook (now (room .entry))) ⌝ }
     {
-        let v = self.judge_slot(room.len(), time, slot);
+        let look = self.looked();
+        let v = look.judge_slot(room.len(), time, slot);
         match v {
-            Verdict::Refused(n) => self.refused(n),
+            Verdict::Refused(n) => self.refused(n, look),
             Verdict::Accepted => {
                 let p = self.opened(time);
                 let q = p.off_hook(slot);
@@ -117,9 +118,10 @@ impl Station {
         ensures { λ r. ⌜ r ≡ steppedBy self (slotAt time slot carrierUp (now (room .entry))) ⌝ }
         ensures { λ _. ⌜ now (room .exit) ≡ roomAfter self (now (room .entry)) (slotAt time slot carrierUp (now (room .entry))) ⌝ }
     {
-        let v = self.judge_slot(room.len(), time, slot);
+        let look = self.looked();
+        let v = look.judge_slot(room.len(), time, slot);
         match v {
-            Verdict::Refused(n) => self.refused(n),
+            Verdict::Refused(n) => self.refused(n, look),
             Verdict::Accepted => {
                 let p = self.opened(time);
                 let q = p.carrier_up(slot);
@@ -133,9 +135,10 @@ impl Station {
         ensures { λ r. ⌜ r ≡ steppedBy self (slotAt time slot carrierDown (now (room .entry))) ⌝ }
         ensures { λ _. ⌜ now (room .exit) ≡ roomAfter self (now (room .entry)) (slotAt time slot carrierDown (now (room .entry))) ⌝ }
     {
-        let v = self.judge_slot(room.len(), time, slot);
+        let look = self.looked();
+        let v = look.judge_slot(room.len(), time, slot);
         match v {
-            Verdict::Refused(n) => self.refused(n),
+            Verdict::Refused(n) => self.refused(n, look),
             Verdict::Accepted => {
                 let p = self.opened(time);
                 let q = p.carrier_down(slot);

@@ -9,15 +9,16 @@ ghost use Rattle.requests.specs.Views.{requestOf};
 ghost use Rattle.station.specs.Step.{channel70At, steppedBy, roomAfter};
 ghost use Rattle.station.specs.Draft.{draftOf, doing, onSlotBy};
 ghost use Rattle.slots.specs.Phases.{rings};
-ghost use Rattle.station.specs.Hearing.{heardOf};
-use crate::Heard;
-use crate::Kind;
+ghost use Rattle.hearing.specs.Said.{heardOf};
 use crate::Plan;
 use crate::Station;
 use crate::Stepped;
-use crate::Verdict;
 use crate::pieces::wait_from;
 use dues::OFFER_WAIT;
+use gate::Verdict;
+use hearing::Heard;
+use hearing::Kind;
+use hearing::told_by;
 use reading::read;
 use requests::Request;
 use requests::sameness::is_by;
@@ -82,11 +83,13 @@ impl Station {
         let x = read(symbols);
         let a = x.answer;
         let m = x.meaning;
-        let v = self.judge_now(room.len(), time).and_read(a);
+        let look = self.looked();
+        let v = look.judge_now(room.len(), time).and_read(a);
         match v {
-            Verdict::Refused(n) => self.refused(n),
+            Verdict::Refused(n) => self.refused(n, look),
             Verdict::Accepted => {
-                let h = self.told_by(m);
+                let s = self.slots;
+                let h = told_by(self.identity, s, self.count, m);
                 let p = self.opened(time);
                 let q = p.hear(h);
                 q.finish(room)

@@ -1,14 +1,16 @@
 // How a step ends: the plan finished, or the refusal.
 ghost use mathlib.Core.Path.{_≡_};
 ghost use lib.ListN.{length};
-ghost use Rattle.rules.specs.Station.{nextDue};
-ghost use Rattle.station.specs.Model.{modelOf};
+ghost use Rattle.rules.specs.Station.{dueAt};
+ghost use Rattle.slots.specs.Views.{dueView};
 ghost use Rattle.station.specs.Step.{dueImage};
 ghost use Rattle.station.specs.Draft.{draftOf, finished, finishedRoom};
 use crate::Plan;
 use crate::Station;
 use crate::Stepped;
+use crate::look::due_time;
 use blocks::put;
+use gate::Look;
 
 impl Plan {
     // The station tidied, the actions laid into the room.
@@ -33,10 +35,11 @@ impl Plan {
 
 impl Station {
     // "hands back the station unchanged, clock included"
-    pub(crate) fn refused(self, number: u8) -> Stepped
-        ensures { λ r. ⌜ r ≡ record { answer = number; count = 0; due = dueImage (nextDue (modelOf self)); station = self } ⌝ }
+    pub(crate) fn refused(self, number: u8, look: Look) -> Stepped
+        ensures { λ r. ⌜ r ≡ record { answer = number; count = 0; due = dueImage (dueAt (dueView (look .due))); station = self } ⌝ }
     {
-        let d = self.next_due();
+        let first = look.due;
+        let d = due_time(first);
         Stepped {
             answer: number,
             count: 0,

@@ -17,7 +17,6 @@ ghost use Rattle.station.specs.Draft.{draftOf, lining, doing, onSlotBy, 
 use crate::Plan;
 use crate::Station;
 use crate::Stepped;
-use crate::Verdict;
 use crate::pieces::wait_from;
 use actions::Ender;
 use actions::deeds::carrier_off;
@@ -28,6 +27,7 @@ use actions::deeds::release_line;
 use actions::sequences::over;
 use actions::sequences::ring_back;
 use dues::RING_WAIT;
+use gate::Verdict;
 use requests::Request;
 use requests::blank_request;
 use slots::Call;
@@ -140,9 +140,10 @@ impl Station {
         ensures { λ r. ⌜ r ≡ steppedBy self (slotAt time slot onHook (now (room .entry))) ⌝ }
         ensures { λ _. ⌜ now (room .exit) ≡ roomAfter self (now (room .entry)) (slotAt time slot onHook (now (room .entry))) ⌝ }
     {
-        let v = self.judge_slot(room.len(), time, slot);
+        let look = self.looked();
+        let v = look.judge_slot(room.len(), time, slot);
         match v {
-            Verdict::Refused(n) => self.refused(n),
+            Verdict::Refused(n) => self.refused(n, look),
             Verdict::Accepted => {
                 let p = self.opened(time);
                 let q = p.coast_end(slot);

@@ -4,8 +4,7 @@ mod calls;
 mod channel_70;
 mod ending;
 mod ends;
-mod gate;
-mod hearing;
+mod look;
 mod operator;
 mod pieces;
 mod setting;
@@ -13,12 +12,10 @@ mod waits;
 mod working;
 
 use actions::Action;
-use requests::Request;
 use slots::QUEUE_ROOM;
 use slots::SLOTS;
 use slots::Slot;
 use slots::Waiting;
-use units::SlotNumber;
 use units::Tenths;
 
 // One slot for each of `count` channels, and `waiting` ships, oldest first.
@@ -56,25 +53,4 @@ struct Plan {
     count: u8,
     station: Station,
     actions: [Action; 8],
-}
-
-enum Verdict {
-    Accepted,
-    Refused(u8),
-}
-
-// Document 01's kinds of sequences; a BQ names the channel of a slot.
-enum Kind {
-    CallRequest,
-    DataRequest,
-    Bq(SlotNumber),
-    WorkingCall,
-    EndOfCall,
-    Nothing,
-}
-
-// What a sequence says to this station: its kind, and who asks for what.
-struct Heard {
-    kind: Kind,
-    request: Request,
 }

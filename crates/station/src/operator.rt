@@ -9,7 +9,7 @@ ghost use Rattle.station.specs.Draft.{draftOf, doing, onSlotBy};
 use crate::Plan;
 use crate::Station;
 use crate::Stepped;
-use crate::Verdict;
+use gate::Verdict;
 use requests::blank_request;
 use slots::Phase;
 use slots::phases::is_free;
@@ -51,9 +51,12 @@ impl Station {
         ensures { λ r. ⌜ r ≡ steppedBy self (slotAt time slot takes (now (room .entry))) ⌝ }
         ensures { λ _. ⌜ now (room .exit) ≡ roomAfter self (now (room .entry)) (slotAt time slot takes (now (room .entry))) ⌝ }
     {
-        let v = self.judge_take(room.len(), time, slot);
+        let look = self.looked();
+        let x = self.slot_at(slot);
+        let v = look.judge_slot(room.len(), time, slot)
+            .and_then(is_free(x), 35);
         match v {
-            Verdict::Refused(n) => self.refused(n),
+            Verdict::Refused(n) => self.refused(n, look),
             Verdict::Accepted => {
                 let p = self.opened(time);
                 let q = p.take(slot);
@@ -67,9 +70,12 @@ impl Station {
         ensures { λ r. ⌜ r ≡ steppedBy self (slotAt time slot givesBack (now (room .entry))) ⌝ }
         ensures { λ _. ⌜ now (room .exit) ≡ roomAfter self (now (room .entry)) (slotAt time slot givesBack (now (room .entry))) ⌝ }
     {
-        let v = self.judge_give(room.len(), time, slot);
+        let look = self.looked();
+        let x = self.slot_at(slot);
+        let v = look.judge_slot(room.len(), time, slot)
+            .and_then(is_taken(x), 35);
         match v {
-            Verdict::Refused(n) => self.refused(n),
+            Verdict::Refused(n) => self.refused(n, look),
             Verdict::Accepted => {
                 let p = self.opened(time);
                 let q = p.give_back(slot);

@@ -2,22 +2,23 @@
 ghost use mathlib.Core.Path.{_≡_};
 ghost use Prim.Native.Nat.{_≤_};
 ghost use Rattle.rules.specs.Sound.{limit};
-ghost use Rattle.rules.specs.Station.{dealing, fires};
+ghost use Rattle.rules.specs.Waits.{earliest};
+ghost use Rattle.rules.specs.Station.{dealing, table, fires};
 ghost use Rattle.rules.specs.Calls.{offerDue, ringAgain, mainOn, ticked};
 ghost use Rattle.requests.specs.Views.{requestOf};
-ghost use Rattle.slots.specs.Views.{waitView};
+ghost use Rattle.slots.specs.Views.{waitView, dueView};
 ghost use Rattle.station.specs.Model.{modelOf, configOf};
 ghost use Rattle.station.specs.Step.{tickAt, steppedBy, roomAfter};
 ghost use Rattle.station.specs.Draft.{draftOf, doing, onSlotBy, firing, drafted};
 use crate::Plan;
 use crate::Station;
 use crate::Stepped;
-use crate::Verdict;
 use crate::pieces::wait_from;
 use actions::deeds::carrier_off;
 use actions::sequences::ring_back;
 use dues::RING_WAIT;
 use dues::due_by;
+use gate::Verdict;
 use requests::Request;
 use slots::Due;
 use slots::Phase;
@@ -85,12 +86,11 @@ impl Plan {
 
 impl Station {
     // "the earliest wait due at or before t, one only"
-    pub(crate) fn ticked(self, time: Tenths) -> Plan
-        requires { ⌜ time .0 ≤ limit ⌝ }
+    pub(crate) fn ticked(self, first: Due, time: Tenths) -> Plan
+        requires { ⌜ (time .0 ≤ limit) × (dueView first ≡ earliest (table (modelOf self))) ⌝ }
         ensures { λ r. ⌜ draftOf r ≡ drafted (configOf self) (ticked (modelOf self) (time .0) (fires (time .0) (modelOf self))) ⌝ }
     {
-        let n = self.first_due();
-        let d = due_by(n, time);
+        let d = due_by(first, time);
         match d {
             Due::Never => self.opened(time),
             Due::In(u, w) => self.opened(u).fire(w),
@@ -102,11 +102,13 @@ impl Station {
         ensures { λ r. ⌜ r ≡ steppedBy self (tickAt time (now (room .entry))) ⌝ }
         ensures { λ _. ⌜ now (room .exit) ≡ roomAfter self (now (room .entry)) (tickAt time (now (room .entry))) ⌝ }
     {
-        let v = self.judge(room.len(), time);
+        let look = self.looked();
+        let v = look.judge(room.len(), time);
         match v {
-            Verdict::Refused(n) => self.refused(n),
+            Verdict::Refused(n) => self.refused(n, look),
             Verdict::Accepted => {
-                let q = self.ticked(time);
+                let d = look.due;
+                let q = self.ticked(d, time);
                 q.finish(room)
             }
         }

@@ -10,13 +10,10 @@ ghost use Rattle.requests.specs.Views.{requestOf};
 ghost use Rattle.station.specs.Step.{slotAt, steppedBy, roomAfter};
 ghost use Rattle.station.specs.Draft.{draftOf, doing, onSlotBy, holding};
 ghost use Rattle.slots.specs.Phases.{awaitsCall};
-ghost use Rattle.station.specs.Hearing.{heardOf};
-use crate::Heard;
-use crate::Kind;
+ghost use Rattle.hearing.specs.Said.{heardOf};
 use crate::Plan;
 use crate::Station;
 use crate::Stepped;
-use crate::Verdict;
 use crate::pieces::wait_from;
 use actions::Ender;
 use actions::deeds::carrier_off;
@@ -28,6 +25,10 @@ use actions::deeds::release_line;
 use actions::sequences::over;
 use dues::HOLD_WAIT;
 use dues::REPLY_WAIT;
+use gate::Verdict;
+use hearing::Heard;
+use hearing::Kind;
+use hearing::told_by;
 use reading::read;
 use requests::Request;
 use requests::sameness::is_by;
@@ -161,11 +162,13 @@ impl Station {
         let x = read(symbols);
         let a = x.answer;
         let m = x.meaning;
-        let v = self.judge_slot(room.len(), time, slot).and_read(a);
+        let look = self.looked();
+        let v = look.judge_slot(room.len(), time, slot).and_read(a);
         match v {
-            Verdict::Refused(n) => self.refused(n),
+            Verdict::Refused(n) => self.refused(n, look),
             Verdict::Accepted => {
-                let h = self.told_by(m);
+                let s = self.slots;
+                let h = told_by(self.identity, s, self.count, m);
                 let p = self.opened(time);
                 let q = p.hear_on(slot, h);
                 q.finish(room)

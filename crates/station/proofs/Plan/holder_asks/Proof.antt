@@ -5,7 +5,7 @@ use Rattle.rules.specs.Station.{offered}
 use Rattle.station.proofs.AskLaws.{c-is}
 use Rattle.station.proofs.DraftLaws.{slot-is, slot-idle}
 use Rattle.station.specs.Draft.{draftOf}
-use Rattle.station.specs.Hearing.{ruleCBy}
+use Rattle.station.specs.Asking.{ruleCBy}
 use borrow.Author.Needs.{needs}
 use Rattle.station.proofs.Plan.holder_asks.Statement.{statement}
 use Rattle.station.proofs.Plan.holder_asks.Tie as tie

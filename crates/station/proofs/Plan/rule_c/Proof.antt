@@ -5,7 +5,7 @@ use Rattle.rules.specs.Calls.{endOn}
 use Rattle.station.proofs.AskLaws.{behind-is, ended-clock}
 use Rattle.station.proofs.DraftLaws.{idle}
 use Rattle.station.specs.Draft.{draftOf, doing, onSlotBy}
-use Rattle.station.specs.Hearing.{ruleCBy, withoutSlot}
+use Rattle.station.specs.Asking.{ruleCBy, withoutSlot}
 use borrow.Author.Needs.{needs}
 use Rattle.station.proofs.Plan.rule_c.Statement.{statement}
 use Rattle.station.proofs.Plan.rule_c.Tie as tie

@@ -3,7 +3,7 @@ use Rattle.requests.specs.Views.{requestOf}
 use Rattle.rules.specs.Requests.{ruleD, newcomer}
 use Rattle.station.proofs.AskLaws.{same-doing, slotless-waits, slotless-new}
 use Rattle.station.specs.Draft.{draftOf}
-use Rattle.station.specs.Hearing.{withoutSlot}
+use Rattle.station.specs.Asking.{withoutSlot}
 use Rattle.station.specs.Model.{modelOf}
 use borrow.Author.Needs.{needs}
 use Rattle.station.proofs.Plan.without_slot.Statement.{statement}

@@ -1,26 +1,28 @@
 use mathlib.Core.Path.{refl, _∙_}
+use lib.ListN.{length}
 use Rattle.rules.specs.Calls.{happenedOn, endOn}
-use Rattle.rules.specs.Words.{onHook}
+use Rattle.rules.specs.Words.{lineHung, onHook}
 use Rattle.station.proofs.StepLaws.{refused-is, slot-event}
-use Rattle.station.proofs.GateLaws.{hook-asked, passed}
+use Rattle.station.proofs.GateLaws.{signal-asked, passed}
 use borrow.Author.Needs.{needs}
 use Rattle.station.proofs.Station.on_hook.Statement.{statement}
 use Rattle.station.proofs.Station.on_hook.Tie as tie
 
 coast-end-requires : tie.Need-coast-end-requires
-coast-end-requires c κs = let h = rw (c .before .enum-told .given .1) at (c .before .before .before .judge-slot .ensures) in rw (c .opened .ensures .1) (passed _ _ h .time)
+coast-end-requires c κs = let a = c .before .before .before .before .before .before .args in let h = (rw (c .before .enum-told .given .1) at (c .before .before .before .judge-slot .ensures)) ∙ signal-asked _ _ (c .before .before .before .before .looked .ensures) (length (a .room .now)) (a .time .0) (a .slot .0) lineHung in rw (c .opened .ensures .1) (passed _ _ h .time)
 
 returns : tie.Need-returns
-returns c = rw (c .refused .ensures) (refused-is _ _ _ _ ((rw (c .before .before .v .given .1) at (c .before .before .before .before .judge-slot .ensures)) ∙ hook-asked _ _ _ _))
+returns c = rw (c .refused .ensures) (refused-is _ _ (c .before .before .before .before .before .looked .ensures) _ _ _ ((rw (c .before .before .v .given .1) at (c .before .before .before .before .judge-slot .ensures)) ∙ signal-asked _ _ (c .before .before .before .before .before .looked .ensures) _ _ _ lineHung))
 
 returns-2 : tie.Need-returns-2
 unfolding happenedOn
-returns-2 c = let a = c .before .before .before .before .before .before .before .before .before .before .args in let h = (rw (c .before .before .before .before .before .before .enum-told .given .1) at (c .before .before .before .before .before .before .before .before .judge-slot .ensures)) ∙ hook-asked _ _ _ _ in rw (c .before .before .finish .ensures .0, c .before .before .finish .ensures .1, c .before .before .before .before .coast-end .ensures, c .before .before .before .before .before .opened .ensures .0) (slot-event (a .self) (a .room .now) (a .time .0) (a .slot .0) onHook (endOn (a .slot .0)) (λ st p. refl) h)
+returns-2 c = let a = c .before .before .before .before .before .before .before .before .before .before .before .args in let h = (rw (c .before .before .before .before .before .before .enum-told .given .1) at (c .before .before .before .before .before .before .before .before .judge-slot .ensures)) ∙ signal-asked _ _ (c .before .before .before .before .before .before .before .before .before .looked .ensures) _ _ _ lineHung in rw (c .before .before .finish .ensures .0, c .before .before .finish .ensures .1, c .before .before .before .before .coast-end .ensures, c .before .before .before .before .before .opened .ensures .0) (slot-event (a .self) (a .room .now) (a .time .0) (a .slot .0) onHook (endOn (a .slot .0)) (λ st p. refl) h)
 
 pub on-hook-spec : {M : Type 1} → statement M
 on-hook-spec =
     tie.close
     (tie.spec
+    (λ c κs. search needs)
     (λ c κs. search needs)
     (λ c. search needs)
     (λ c κs. search needs)

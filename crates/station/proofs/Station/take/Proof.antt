@@ -1,22 +1,27 @@
-use mathlib.Core.Path.{refl}
+use mathlib.Core.Path.{refl, _∙_}
 use Rattle.rules.specs.Calls.{happenedOn, takeOn}
 use Rattle.rules.specs.Words.{takes}
 use Rattle.station.proofs.StepLaws.{refused-is, slot-event}
+use Rattle.station.proofs.GateLaws.{take-asked}
 use borrow.Author.Needs.{needs}
 use Rattle.station.proofs.Station.take.Statement.{statement}
 use Rattle.station.proofs.Station.take.Tie as tie
 
 returns : tie.Need-returns
-returns c = rw (c .refused .ensures) (refused-is _ _ _ _ (rw (c .before .before .v .given .1) at (c .before .before .before .before .judge-take .ensures)))
+returns c = rw (c .refused .ensures) (refused-is _ _ (c .before .before .before .before .before .before .before .before .looked .ensures) _ _ _ ((rw (c .before .before .v .given .1, c .before .before .before .before .before .is-free .ensures, c .before .before .before .before .before .before .judge-slot .ensures, c .before .before .before .before .before .before .before .slot-at .ensures) at (c .before .before .before .before .and-then .ensures)) ∙ take-asked _ _ (c .before .before .before .before .before .before .before .before .looked .ensures) _ _ _))
 
 returns-2 : tie.Need-returns-2
 unfolding happenedOn
-returns-2 c = let a = c .before .before .before .before .before .before .before .before .before .before .args in let h = rw (c .before .before .before .before .before .before .enum-told .given .1) at (c .before .before .before .before .before .before .before .before .judge-take .ensures) in rw (c .before .before .finish .ensures .0, c .before .before .finish .ensures .1, c .before .before .before .before .take .ensures, c .before .before .before .before .before .opened .ensures .0) (slot-event (a .self) (a .room .now) (a .time .0) (a .slot .0) takes (takeOn (a .slot .0)) (λ st p. refl) h)
+returns-2 c = let a = c .before .before .before .before .before .before .before .before .before .before .before .before .before .before .args in let h = (rw (c .before .before .before .before .before .before .enum-told .given .1, c .before .before .before .before .before .before .before .before .before .is-free .ensures, c .before .before .before .before .before .before .before .before .before .before .judge-slot .ensures, c .before .before .before .before .before .before .before .before .before .before .before .slot-at .ensures) at (c .before .before .before .before .before .before .before .before .and-then .ensures)) ∙ take-asked _ _ (c .before .before .before .before .before .before .before .before .before .before .before .before .looked .ensures) _ _ _ in rw (c .before .before .finish .ensures .0, c .before .before .finish .ensures .1, c .before .before .before .before .take .ensures, c .before .before .before .before .before .opened .ensures .0) (slot-event (a .self) (a .room .now) (a .time .0) (a .slot .0) takes (takeOn (a .slot .0)) (λ st p. refl) h)
 
 pub take-spec : {M : Type 1} → statement M
 take-spec =
     tie.close
     (tie.spec
+    (λ c κs. search needs)
+    (λ c κs. search needs)
+    (λ c κs. search needs)
+    (λ c κs. search needs)
     (λ c κs. search needs)
     (λ c. search needs)
     (λ c κs. search needs)

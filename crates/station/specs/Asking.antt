@@ -1,30 +1,12 @@
--- What was heard, and what of a slot decides what it does; only the proofs need them.
+-- Rules c to g, one behind the other; only the proofs need them.
 use Prim.Native.Nat.{ℕ}
 use mathlib.Core.Option.{Option, none, some}
 use Rattle.rules.specs.Words as W
 use Rattle.rules.specs.Words.{simplex, duplex}
 use Rattle.rules.specs.Station as R
-use Rattle.rules.specs.Heard as H
-use Rattle.rules.specs.Heard.{callRequest, dataRequest, bq, workingCall, endOfCall, nothing}
 use Rattle.rules.specs.Requests.{Out, ignored, also, placeOf, dToG}
 use Rattle.rules.specs.Calls.{endOn}
-use Rattle.requests.specs.Views.{requestOf}
-use Rattle.station.specs.declared.Kind.{Kind}
-use Rattle.station.specs.declared.Kind.the-variants.{CallRequest, DataRequest, Bq, WorkingCall, EndOfCall, Nothing}
-use Rattle.station.specs.declared.Heard.{Heard}
 use Rattle.station.specs.Draft.{onSlotBy}
-
--- a kind, and who asks for what
-abbrev pub heardAs : Kind → W.Request → H.Heard
-heardAs CallRequest r = callRequest r
-heardAs DataRequest r = dataRequest (r .who) (r .number)
-heardAs (Bq i) r = bq (i .0) (r .who)
-heardAs WorkingCall r = workingCall (r .who)
-heardAs EndOfCall r = endOfCall (r .who)
-heardAs Nothing r = nothing
-
-abbrev pub heardOf : Heard → H.Heard
-heardOf h = heardAs (h .kind) (requestOf (h .request))
 
 -- one rule, and another behind it
 unfoldable pub behind : (R.Station → Out) → (R.Station → Out) → R.Station → Out
