@@ -5,7 +5,7 @@ use mathlib.Core.Bool.{true}
 use mathlib.Core.List.{List, map}
 use mathlib.Core.Option.{none}
 use native.Mathlib.Omega.{arith}
-use lib.ListN.{length, take, getD, length-take}
+use lib.ListN.{length, take, length-take}
 use borrow.Author.Tests.{le-leb, eqb-true}
 use Rattle.sequence.specs.declared.Meaning.{Meaning}
 use Rattle.sequence.specs.declared.Number.{Number}
@@ -22,7 +22,7 @@ use Rattle.rules.specs.Heard.{Heard, callRequest, dataRequest, bq, workingCall,
 use Rattle.rules.specs.Kinds.{Means, asCallRequest, asDataRequest, asWorkingCall, asEndOfCall, asBq, asNothing, OnlyThese}
 use Rattle.rules.specs.Actions.{does}
 use Rattle.rules.specs.Bytes.{blocks}
-use Rattle.rules.specs.Station.{free, Station, setClock, fires}
+use Rattle.rules.specs.Station.{Station, theSlot, setClock, fires}
 use Rattle.rules.specs.Sound.{configKeeps, oneSlotEach, numberKeeps, requestKeeps, sound}
 use Rattle.rules.specs.Requests.{standing, ruleA}
 use Rattle.rules.specs.Calls.{heardOn70, actAt, act}
@@ -75,7 +75,7 @@ module _ (c : Config) (good : configKeeps c ≡ true) where
   unfolding heardOn70 ruleA
   heard70-says st s (callRequest r) k d = requested-says c good r (k r refl) st s (standing st (r .who))
   heard70-says st s (dataRequest x n) k d = (d x n refl, tt)
-  heard70-says st s (bq i x) k d = outcome-says c good st s i (getD (st .slots) i free) (bq-outcome i st x (getD (st .slots) i free)) refl
+  heard70-says st s (bq i x) k d = outcome-says c good st s i (theSlot st i) (bq-outcome i st x (theSlot st i)) refl
   heard70-says st s (workingCall x) k d = tt
   heard70-says st s (endOfCall x) k d = tt
   heard70-says st s nothing k d = tt
@@ -96,7 +96,7 @@ module _ (c : Config) (st : Station) (is-sound : sound c st ≡ true) where
 
   pub slot-says : (t i : ℕ) (h : Happened) → Says c (actAt c st t (onSlot i h))
   unfolding actAt setClock
-  slot-says t i h = outcome-says c (from .config) (setClock t st) (clock-stored c t st stored) i (getD (st .slots) i free) (happened-outcome i (setClock t st) c (getD (st .slots) i free) h) refl
+  slot-says t i h = outcome-says c (from .config) (setClock t st) (clock-stored c t st stored) i (theSlot st i) (happened-outcome i (setClock t st) c (theSlot st i) h) refl
 
   pub channel70-says : (t : ℕ) (m : List ℕ) → isDone (readingOf m .answer) ≡ true → valid (readingOf m .meaning) ≡ true → Says c (actAt c st t (onChannel70 m))
   unfolding actAt

@@ -13,7 +13,7 @@ use Rattle.rules.specs.Places.{all, Each, lowest}
 use Rattle.rules.specs.Words.{Request, Config, unable}
 use Rattle.rules.specs.Waits.{Wait, ofQueue, loss, main, Due}
 use Rattle.rules.specs.Actions.{Action, Ender, theShip, theCoast, does}
-use Rattle.rules.specs.Station.{Stage, dialling, answered, Slot, free, taken, pending, busy, Waiting, Station, setClock}
+use Rattle.rules.specs.Station.{Slot, free, taken, pending, busy, Waiting, Station, theSlot, setClock, answeredAt}
 use Rattle.rules.specs.Sound.{configKeeps, requestKeeps, durationKeeps, slotKeeps, waitingKeeps, queueRoom}
 use Rattle.rules.specs.Requests.{Out, rungBack, freedFor, freed, lasted, endActs, coastEnd, Standing, nowhere, holds, waits, placeOf, repeated, afresh, ruleD, offer, ruleF, ruleG, isFree, eToG, newcomer, dToG, redial, requested}
 use Rattle.rules.specs.Calls.{fire, ticked}
@@ -46,19 +46,19 @@ module _ (c : Config) (good : configKeeps c ≡ true) where
   says-if true x y p q = p
   says-if false x y p q = q
 
-  end-says : (i : ℕ) → i < length (c .channels) → (e : Ender) (r : Request) (g : Stage) (t : ℕ) → requestKeeps c r ≡ true → Each (Speaks c) (endActs i e r g t)
-  end-says i h e r (dialling d) t k = let b = small c good i h in ((refl, b), (over-speaks c good r k i h e (lasted (dialling d) t) (lasted-keeps (dialling d) t), ((refl, b), tt)))
-  end-says i h e r (answered a) t k = let b = small c good i h in ((refl, b), ((refl, b), (over-speaks c good r k i h e (lasted (answered a) t) (lasted-keeps (answered a) t), ((refl, b), tt))))
+  end-says : (i : ℕ) → i < length (c .channels) → (e : Ender) (r : Request) (b : Option ℕ) (t : ℕ) → requestKeeps c r ≡ true → Each (Speaks c) (endActs i e r b t)
+  end-says i h e r none t k = let b = small c good i h in ((refl, b), (over-speaks c good r k i h e (lasted none t) (lasted-keeps none t), ((refl, b), tt)))
+  end-says i h e r (some a) t k = let b = small c good i h in ((refl, b), ((refl, b), (over-speaks c good r k i h e (lasted (some a) t) (lasted-keeps (some a) t), ((refl, b), tt))))
 
   -- a stored request
   module _ (st : Station) (s : Stored c st) where
     known : (i : ℕ) → i < length (st .slots) → i < length (c .channels)
     known i h = let m = s .many in omega arith
 
-    placed : (i : ℕ) (p : Slot) → getD (st .slots) i free ≡ p → isFree p ≡ false → i < length (c .channels)
+    placed : (i : ℕ) (p : Slot) → theSlot st i ≡ p → isFree p ≡ false → i < length (c .channels)
     placed i p e f = known i (in-use (st .slots) i p e f)
 
-    slot-keeps : (i : ℕ) (p : Slot) → getD (st .slots) i free ≡ p → slotKeeps c p ≡ true
+    slot-keeps : (i : ℕ) (p : Slot) → theSlot st i ≡ p → slotKeeps c p ≡ true
     slot-keeps i p e = rw e at (all-at (slotKeeps c) free refl i (st .slots) (s .slots-keep))
 
     module _ (i : ℕ) (there : i < length (c .channels)) where
@@ -71,7 +71,7 @@ module _ (c : Config) (good : configKeeps c ≡ true) where
       unfolding freed
       freed-says = freedFor-says (st .queue) (s .queue-keeps)
 
-      coastEnd-says : (r : Request) (g : Stage) → requestKeeps c r ≡ true → Says c (coastEnd i r g st)
+      coastEnd-says : (r : Request) (g : Option ℕ) → requestKeeps c r ≡ true → Says c (coastEnd i r g st)
       unfolding coastEnd
       coastEnd-says r g k = each-append (Speaks c) (endActs i theCoast r g (st .clock)) (freed i st .acts) (end-says i there theCoast r g (st .clock) k) freed-says
 
@@ -104,21 +104,21 @@ module _ (c : Config) (good : configKeeps c ≡ true) where
       dToG-says (some k) = (queued, tt)
 
     module _ (st : Station) (s : Stored c st) (i : ℕ) where
-      redial-says : (o : Request) (g : Stage) → i < length (c .channels) → requestKeeps c o ≡ true → Says c (redial i o g st r)
+      redial-says : (o : Request) (g : Option ℕ) → i < length (c .channels) → requestKeeps c o ≡ true → Says c (redial i o g st r)
       unfolding redial coastEnd
       redial-says o g h k = each-append (Speaks c) (coastEnd i o g st .acts) _ (coastEnd-says st s i h o g k) (dToG-says (freed i st .next) (stored-closed c .freeing i st s) (placeOf (r .who) (freed i st .next)))
 
-      ruling-says : (cs : List Stop) (p : Slot) (x : Out) → Ruling i st r cs p x → getD (st .slots) i free ≡ p → Says c x
+      ruling-says : (cs : List Stop) (p : Slot) (x : Out) → Ruling i st r cs p x → theSlot st i ≡ p → Says c x
       unfolding repeated
       ruling-says cs _ _ (passes p a) e = tt
       ruling-says cs _ _ (repeats k o d a b) e = (acknowledge-speaks c good r kept i (placed st s i (pending k o d) e refl), tt)
       ruling-says cs _ _ (renews k o d a b) e = afresh-says st i (placed st s i (pending k o d) e refl)
-      ruling-says cs _ _ (redials o g l a) e = redial-says (o .request) g (placed st s i (busy o g l) e refl) (slot-keeps st s i (busy o g l) e)
+      ruling-says cs _ _ (redials o g l a) e = redial-says (o .request) (answeredAt g) (placed st s i (busy o g l) e refl) (slot-keeps st s i (busy o g l) e)
 
     pub requested-says : (st : Station) → Stored c st → (o : Standing) → Says c (requested st r o)
     unfolding requested newcomer ruleD
     requested-says st s nowhere = eToG-says st s (lowest isFree (st .slots)) refl
-    requested-says st s (holds i) = ruling-says st s i _ (getD (st .slots) i free) _ (bOrC-ruling i st r (getD (st .slots) i free)) refl
+    requested-says st s (holds i) = ruling-says st s i _ (theSlot st i) _ (bOrC-ruling i st r (theSlot st i)) refl
     requested-says st s (waits k) = (queued, tt)
 
   -- ── on a slot ──────────────────────────────────────────────────────────────
@@ -131,8 +131,8 @@ module _ (c : Config) (good : configKeeps c ≡ true) where
   move-says i t _ _ _ (to-answer r d l) h e = tt
   move-says i t _ _ _ (to-lose r g l) h e = tt
   move-says i t _ _ _ (to-regain r g l) h e = tt
-  move-says i t _ _ _ (to-hold r g l) h e = end-says i (h refl) theShip (r .request) g t e
-  move-says i t _ _ _ (to-end r g l) h e = end-says i (h refl) theCoast (r .request) g t e
+  move-says i t _ _ _ (to-hold r g l) h e = end-says i (h refl) theShip (r .request) (answeredAt g) t e
+  move-says i t _ _ _ (to-end r g l) h e = end-says i (h refl) theCoast (r .request) (answeredAt g) t e
   move-says i t _ _ _ (to-repeat r n d) h e =
       let k = both-true (requestKeeps c (r .request)) (durationKeeps n) e in
       let b = small c good i (h refl) in
@@ -149,10 +149,10 @@ module _ (c : Config) (good : configKeeps c ≡ true) where
   move-frees i t _ _ to-give = refl
 
   module _ (st : Station) (s : Stored c st) (i : ℕ) where
-    move-placed : (p : Slot) (n : Next) (acts : List Action) → getD (st .slots) i free ≡ p → Move i (st .clock) p n acts → Each (Speaks c) acts
+    move-placed : (p : Slot) (n : Next) (acts : List Action) → theSlot st i ≡ p → Move i (st .clock) p n acts → Each (Speaks c) acts
     move-placed p n acts e u = move-says i (st .clock) p n acts u (placed st s i p e) (slot-keeps st s i p e)
 
-    pub outcome-says : {f : Line → Line} {w : Word → Word} {cs : List Stop} {o : Out} (p : Slot) → Outcome i st f w cs p o → getD (st .slots) i free ≡ p → Says c o
+    pub outcome-says : {f : Line → Line} {w : Word → Word} {cs : List Stop} {o : Out} (p : Slot) → Outcome i st f w cs p o → theSlot st i ≡ p → Says c o
     outcome-says p (passed x y z) e = tt
     outcome-says p (moved {n = stays} u x y z) e = move-placed p _ _ e u
     outcome-says p (moved {n = becomes q} u x y z) e = move-placed p _ _ e u
@@ -161,8 +161,8 @@ module _ (c : Config) (good : configKeeps c ≡ true) where
   fire-says : (st : Station) → Stored c st → (w : Wait) → Says c (fire st w)
   unfolding fire
   fire-says st s (ofQueue k) = tt
-  fire-says st s (loss i) = outcome-says st s i (getD (st .slots) i free) (end-outcome i st (getD (st .slots) i free)) refl
-  fire-says st s (main i) = outcome-says st s i (getD (st .slots) i free) (main-outcome i st (getD (st .slots) i free)) refl
+  fire-says st s (loss i) = outcome-says st s i (theSlot st i) (end-outcome i st (theSlot st i)) refl
+  fire-says st s (main i) = outcome-says st s i (theSlot st i) (main-outcome i st (theSlot st i)) refl
 
   pub ticked-says : (st : Station) → Stored c st → (t : ℕ) (o : Option Due) → Says c (ticked st t o)
   unfolding ticked

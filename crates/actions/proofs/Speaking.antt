@@ -21,7 +21,7 @@ use Rattle.rules.specs.Bytes.{channelAt, kindNumber, slotNumber, payloadOf, blo
 use Rattle.rules.specs.Sound.{identityKeeps, channelsKeep, configKeeps, numberKeeps, requestKeeps, durationKeeps}
 use Rattle.rules.proofs.SentLaws.{able-valid, unable-valid, over-valid}
 use Rattle.actions.specs.Blocks.{inBytes, joined}
-use Rattle.actions.specs.Sent.{sent, sentPayload, sentBlock, speaks}
+use Rattle.actions.specs.Sent.{sent, sentPayload, sentOn, sentBlock, speaks}
 
 -- ── blocks ───────────────────────────────────────────────────────────────────
 
@@ -34,7 +34,7 @@ unfolding block
 block-bytes kind slot p h = let e : min slot 255 ≡ slot = omega arith in rw e
 
 sent-block : (c : Config) (a : Action) → speaks c a ≡ true → sentBlock c a ≡ blockOf c a
-unfolding sentBlock blockOf sentPayload payloadOf sent
+unfolding sentBlock sentOn sentPayload blockOf payloadOf sent
 sent-block c (does (carrierOn i)) h = refl
 sent-block c (does (carrierOff i)) h = refl
 sent-block c (does (acknowledge i r)) h = rw h

@@ -6,8 +6,7 @@ use lib.Dec.{leb}
 use lib.ListN.{length, take, drop}
 use Rattle.units.specs.declared.Tenths.{Tenths}
 use Rattle.units.specs.Units.{wholeSeconds}
-use Rattle.rules.specs.Bytes.{padded, block, four, mostActions, blockSize, payloadRoom}
-use Rattle.requests.specs.Views.{viewed}
+use Rattle.rules.specs.Bytes.{padded, block, four, blockSize, payloadRoom}
 use Rattle.actions.specs.declared.Action.{Action}
 
 -- an action as it is laid out: its payload, and zeros
@@ -17,24 +16,16 @@ actionOf kind slot payload = record { kind = kind; slot = record { 0 = slot }; l
 unfoldable pub actionBlock : Action → List ℕ
 actionBlock a = block (a .kind) (a .slot .0) (take (a .length) (a .payload))
 
-unfoldable pub blankAction : Action
-blankAction = actionOf 0 0 []
-
 -- from a start to a stop, in tenths
 abbrev pub span : Tenths → Tenths → Tenths
 span start stop = record { 0 = stop .0 - start .0 }
 
 -- "ship, start, stop, seconds; four bytes each, low first"
+abbrev pub fourEach : ℕ → ℕ → ℕ → ℕ → List ℕ
+fourEach ship start stop seconds = four ship (four start (four stop (four seconds [])))
+
 abbrev pub chargeBytes : ℕ → Tenths → Tenths → List ℕ
-chargeBytes ship start stop = four ship (four (start .0) (four (stop .0) (four (wholeSeconds (span start stop) .0) [])))
-
--- "At most 8 a step"
-unfoldable pub clip : {A : Type 0} → List A → List A
-clip l = take mostActions l
-
--- the blocks of the first n actions
-unfoldable pub handed : ℕ → List Action → List (List ℕ)
-handed n a = clip (viewed actionBlock n a)
+chargeBytes ship start stop = fourEach ship (start .0) (stop .0) (wholeSeconds (span start stop) .0)
 
 -- a block in bytes: a slot's number past a byte is 255, which no slot has
 abbrev pub inBytes : List ℕ → List ℕ

@@ -2,15 +2,17 @@
 use Prim.Native.Nat.{ℕ}
 use mathlib.Core.Bool.{Bool, true, cond}
 use mathlib.Core.List.{List, []}
+use Rattle.units.specs.declared.Channel.{Channel}
 use Rattle.sequence.specs.declared.Meaning.{Meaning}
 use Rattle.sequence.specs.Figures.{endRq, endBq}
 use Rattle.sequence.specs.Layout.{valid, layout}
 use Rattle.rules.specs.Words.{Party, Config, carrierOn, carrierOff, acknowledge, ringBack, unable, dial, releaseLine}
 use Rattle.rules.specs.Actions as R
 use Rattle.rules.specs.Actions.{theShip, theCoast, does, over, charge}
-use Rattle.rules.specs.Bytes.{ableSaid, unableSaid, overSaid, channelAt, kindNumber, slotNumber, payloadOf, block}
+use Rattle.rules.specs.Bytes.{ableSaid, unableSaid, overSaid, channelAt, kindNumber, slotNumber, block}
 use Rattle.actions.specs.declared.Ender.{Ender}
 use Rattle.actions.specs.declared.Ender.the-variants.{Ship, Coast}
+use Rattle.actions.specs.Blocks.{fourEach}
 
 unfoldable pub sent : Meaning → List ℕ
 sent m = cond (valid m) (layout m) []
@@ -22,20 +24,23 @@ abbrev pub enderOf : Ender → R.Ender
 enderOf Ship = theShip
 enderOf Coast = theCoast
 
--- the payload of an action of the rules as it is made
-unfoldable pub sentPayload : Config → R.Action → List ℕ
-sentPayload c (does (carrierOn i)) = []
-sentPayload c (does (carrierOff i)) = []
-sentPayload c (does (acknowledge i r)) = sent (ableSaid (channelAt c i) endBq r)
-sentPayload c (does (ringBack i r)) = sent (ableSaid (channelAt c i) endRq r)
-sentPayload c (does (unable n x digits)) = sent (unableSaid n x digits)
-sentPayload c (does (dial i digits)) = digits
-sentPayload c (does (releaseLine i)) = []
-sentPayload c (over i e x digits n) = sent (overSaid e x digits n)
-sentPayload c (charge h) = payloadOf c (charge h)
+-- the payload of an action of the rules as it is made, where its slot works on the channel
+unfoldable pub sentPayload : Channel → R.Action → List ℕ
+sentPayload channel (does (carrierOn i)) = []
+sentPayload channel (does (carrierOff i)) = []
+sentPayload channel (does (acknowledge i r)) = sent (ableSaid channel endBq r)
+sentPayload channel (does (ringBack i r)) = sent (ableSaid channel endRq r)
+sentPayload channel (does (unable n x digits)) = sent (unableSaid n x digits)
+sentPayload channel (does (dial i digits)) = digits
+sentPayload channel (does (releaseLine i)) = []
+sentPayload channel (over i e x digits n) = sent (overSaid e x digits n)
+sentPayload channel (charge h) = fourEach (h .ship) (h .start .0) (h .stop .0) (h .seconds .0)
+
+unfoldable pub sentOn : Channel → R.Action → List ℕ
+sentOn channel a = block (kindNumber a) (slotNumber a) (sentPayload channel a)
 
 unfoldable pub sentBlock : Config → R.Action → List ℕ
-sentBlock c a = block (kindNumber a) (slotNumber a) (sentPayload c a)
+sentBlock c a = sentOn (channelAt c (slotNumber a)) a
 
 -- what is sent for an action is a sequence
 abbrev pub speaks : Config → R.Action → Bool

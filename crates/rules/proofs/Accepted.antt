@@ -12,7 +12,7 @@ use Rattle.sequence.specs.Answers.{isDone}
 use Rattle.rules.specs.Places.{lowest, all, elem, distinct, isSome}
 use Rattle.rules.specs.Words.{Party, is, Config, Event}
 use Rattle.rules.specs.Waits.{Wait, loss, main, Due, running, queueTable}
-use Rattle.rules.specs.Station.{Stage, dialling, answered, Slot, free, taken, pending, busy, held, shipOf, Waiting, Station, dueAfter, kindWait, carrierWait, lossDue, mainDue, slotTable, table, replyWait, holdWait, queueWait}
+use Rattle.rules.specs.Station.{dialling, answered, Slot, free, taken, pending, busy, held, shipOf, Waiting, Station, dueAfter, kindWait, carrierWait, lossDue, mainDue, slotTable, table, replyWait, holdWait, queueWait, answeredAt}
 use Rattle.rules.specs.Sound.{configKeeps, oneSlotEach, slotKeeps, waitingKeeps, limit, queueRoom, listed, owners, noShipTwice, fits, stageFits, lossFits, slotFits, placeFits, storedKeeps, timesFit, sound}
 use Rattle.rules.specs.Requests.{owns, waitsFor}
 use Rattle.rules.specs.Verdict.{roomNeeded, overtaken, slotThere, readIn, refusals, verdict}
@@ -89,15 +89,15 @@ pub is-sound : (cfg : Config) (st : Station) → Sound cfg st → sound cfg st �
 unfolding sound storedKeeps noShipTwice timesFit
 is-sound cfg st s = rw (s .config, s .one-each, s .slots-keep, s .queue-keeps, s .in-limit, s .room, s .no-twice, s .slots-fit, s .places-fit) refl
 
-abbrev pub begun : ℕ → Stage → Bool
-begun t (dialling d) = true
-begun t (answered b) = leb b t
+abbrev pub begun : ℕ → Option ℕ → Bool
+begun t none = true
+begun t (some b) = leb b t
 
 abbrev pub begunBy : ℕ → Slot → Bool
 begunBy t free = true
 begunBy t taken = true
 begunBy t (pending k r d) = true
-begunBy t (busy r g c) = begun t g
+begunBy t (busy r g c) = begun t (answeredAt g)
 begunBy t (held r n d) = true
 
 fits-begun : (c : ℕ) (s : Slot) → slotFits c s ≡ true → begunBy c s ≡ true

@@ -10,7 +10,7 @@ use borrow.Author.Tests.{not-true}
 use lib.ListN.{getD}
 use Rattle.rules.specs.Places.{modAt, shift, lowest, elem, distinct}
 use Rattle.rules.specs.Words.{Party, is, Request}
-use Rattle.rules.specs.Station.{Dealing, Stage, dialling, answered, Slot, free, taken, pending, busy, held, shipOf, Waiting, Station, setSlot, setQueue}
+use Rattle.rules.specs.Station.{Dealing, Stage, answeredAt, Slot, free, taken, pending, busy, held, shipOf, Waiting, Station, theSlot, setSlot, setQueue}
 use Rattle.rules.specs.Sound.{listed, owner, owners}
 use Rattle.rules.specs.Requests.{Out, rungBack, freedFor, freed, coastEnd, isOf, owns, slotOf, placeOf, standsAt, repeated, afresh, dToG, redial, requested}
 use Rattle.rules.specs.Book.{Stop, Line, Book, blank, atLine, stopOf, askedAgain, stopsAgain}
@@ -22,13 +22,16 @@ use Rattle.rules.proofs.Pieces.{Good, good-also, coastEnd-good, newcome
 
 -- ── no ship twice ────────────────────────────────────────────────────────────
 
+asked-other : (x : Party) (r : Request) (b c : Option ℕ) → is x (r .who) ≡ false → askedAgain x (callIn r b) c ≡ false
+asked-other x r none c h = refl
+asked-other x r (some b) c h = rw h refl
+
 -- a slot that is not the ship's is not stopped by its request
 others : (x : Party) (s : Slot) → owns x s ≡ false → askedAgain x (view s .call) (view s .gone) ≡ false
 others x free h = refl
 others x taken h = refl
 others x (pending k r d) h = refl
-others x (busy r (dialling d) c) h = refl
-others x (busy r (answered b) c) h = rw h refl
+others x (busy r g c) h = asked-other x (r .request) (answeredAt g) c h
 others x (held r n d) h = refl
 
 pub elem-none : (x : Party) (ss : List Slot) (q : List Party) → elem is x (owners ss q) ≡ false → lowest (owns x) ss ≡ none
@@ -101,21 +104,21 @@ module _ (i : ℕ) (st : Station) (r : Request) where
   freedFor-clock [] = refl
   freedFor-clock (w ∷ q) = refl
 
-  coastEnd-clock : (o : Request) (g : Stage) → coastEnd i o g st .next .clock ≡ st .clock
+  coastEnd-clock : (o : Request) (b : Option ℕ) → coastEnd i o b st .next .clock ≡ st .clock
   unfolding coastEnd freed
-  coastEnd-clock o g = freedFor-clock (st .queue)
+  coastEnd-clock o b = freedFor-clock (st .queue)
 
-  redial-good : (o : Dealing) (g : Stage) (c : Option ℕ) → getD (st .slots) i free ≡ busy o g c → hush (letGo (again (r .who) (view (busy o g c)))) ≡ blank
-      → Good (st .clock) B (stopOf (st .clock) i (callIn (o .request) g)) (redial i (o .request) g st r)
+  redial-good : (o : Dealing) (g : Stage) (c : Option ℕ) → theSlot st i ≡ busy o g c → hush (letGo (again (r .who) (view (busy o g c)))) ≡ blank
+      → Good (st .clock) B (stopOf (st .clock) i (callIn (o .request) (answeredAt g))) (redial i (o .request) (answeredAt g) st r)
   unfolding B redial
   redial-good o g c e h =
-      let w = coastEnd-good i (o .request) g st (busy o g c) e (again (r .who)) h in
-      let n = coastEnd i (o .request) g st .next in
+      let w = coastEnd-good i (o .request) (answeredAt g) st (busy o g c) e (again (r .who)) h in
+      let n = coastEnd i (o .request) (answeredAt g) st .next in
       let y = placeOf (r .who) n in
-      let a : Good (st .clock) (seen n) [] (dToG n r y) = rw (coastEnd-clock (o .request) g) at (dToG-good n r y refl) in
-      rw (← (append-nil (stopOf (st .clock) i (callIn (o .request) g)))) (good-also (st .clock) (atLine i (again (r .who)) (seen st)) (seen n) (stopOf (st .clock) i (callIn (o .request) g)) [] (coastEnd i (o .request) g st .acts) (dToG n r y) (w .reading) (w .charging) a)
+      let a : Good (st .clock) (seen n) [] (dToG n r y) = rw (coastEnd-clock (o .request) (answeredAt g)) at (dToG-good n r y refl) in
+      rw (← (append-nil (stopOf (st .clock) i (callIn (o .request) (answeredAt g))))) (good-also (st .clock) (atLine i (again (r .who)) (seen st)) (seen n) (stopOf (st .clock) i (callIn (o .request) (answeredAt g))) [] (coastEnd i (o .request) (answeredAt g) st .acts) (dToG n r y) (w .reading) (w .charging) a)
 
-  ruling-good : (cs : List Stop) (p : Slot) (x : Out) → Ruling i st r cs p x → getD (st .slots) i free ≡ p → owns (r .who) p ≡ true → Good (st .clock) B cs x
+  ruling-good : (cs : List Stop) (p : Slot) (x : Out) → Ruling i st r cs p x → theSlot st i ≡ p → owns (r .who) p ≡ true → Good (st .clock) B cs x
   unfolding B repeated afresh reads
   ruling-good cs _ _ (passes p a) e h = record { reading = stay i st p e (again (r .who)) (a h .0); charging = a h .1 }
   ruling-good cs _ _ (repeats k o d a b) e h = record { reading = atLine² i (again (r .who)) (tell (st .clock) r) (seen st) ∙ stay i st (pending k o d) e (λ l. tell (st .clock) r (again (r .who) l)) a; charging = b }
@@ -128,4 +131,4 @@ pub request-good : (st : Station) (r : Request) (q : List Party) → distinct is
 unfolding requested seen B
 request-good st r q d none none h w = let u = untouched (st .clock) (r .who) 0 (st .slots) h in rw (u .lines-same, u .no-stop) (newcomer-good st r w)
 request-good st r q d none (some k) h w = let u = untouched (st .clock) (r .who) 0 (st .slots) h in rw (u .lines-same, u .no-stop) (ruleD-good k st r w)
-request-good st r q d (some i) k h w = let u = touched (st .clock) (r .who) 0 i (st .slots) q d h in rw (u .one-line, u .one-stop, zero-add i) (ruling-good i st r _ (getD (st .slots) i free) _ (bOrC-ruling i st r (getD (st .slots) i free)) refl (lowest-is free (owns (r .who)) (st .slots) i h))
+request-good st r q d (some i) k h w = let u = touched (st .clock) (r .who) 0 i (st .slots) q d h in rw (u .one-line, u .one-stop, zero-add i) (ruling-good i st r _ (theSlot st i) _ (bOrC-ruling i st r (theSlot st i)) refl (lowest-is free (owns (r .who)) (st .slots) i h))

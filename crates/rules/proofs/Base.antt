@@ -1,14 +1,15 @@
 -- The station as the list shows it, and the laws by which one piece of a step is read.
 use mathlib.Core.Path.{_≡_, refl, ap, _∙_}
+use mathlib.Core.Option.{Option, none, some}
 use mathlib.Core.List.{List, [], _∷_, _++_, map}
 use mathlib.Core.Bool.{Bool, true, false, _&&_}
 use Prim.Native.Nat.{ℕ, suc, _*_}
 use lib.Dec.{eqb}
-use lib.ListN.{getD, List·getD-map}
+use lib.ListN.{List·getD-map}
 use borrow.Author.Tests.{eq-eqb, eqb-true}
 use Rattle.rules.specs.Words.{Party, is, Mode, simplex, duplex, Request, Deed}
 use Rattle.rules.specs.Actions.{Action, does, over, charge}
-use Rattle.rules.specs.Station.{Kind, offered, firstRing, secondRing, acknowledged, Stage, dialling, answered, Slot, free, taken, pending, busy, held, Waiting, Station, setSlot, carrierWait, lossDue, mainDue, slotTable, table, fires}
+use Rattle.rules.specs.Station.{Kind, offered, firstRing, secondRing, acknowledged, Slot, free, taken, pending, busy, held, Waiting, Station, theSlot, setSlot, carrierWait, lossDue, mainDue, slotTable, table, fires, answeredAt}
 use Rattle.rules.specs.Requests.{sameMode, sameNumber, same}
 use Rattle.rules.specs.Book.{silence, alikeMode, alikeDigits, alike, Said, silent, toldBQ, toldRQ, settled, Call, quiet, dialled, talking, Line, Place, Book, atLine, line, lineTable, falls}
 use Rattle.rules.specs.Reading.{read, reads}
@@ -21,9 +22,9 @@ saidOf firstRing r = toldRQ r
 saidOf secondRing r = toldRQ r
 saidOf acknowledged r = settled r
 
-abbrev pub callIn : Request → Stage → Call
-callIn r (dialling d) = dialled (r .who) (r .mode)
-callIn r (answered b) = talking (r .who) (r .mode) b
+abbrev pub callIn : Request → Option ℕ → Call
+callIn r none = dialled (r .who) (r .mode)
+callIn r (some b) = talking (r .who) (r .mode) b
 
 abbrev saidIn : Slot → Said
 saidIn free = silent
@@ -36,7 +37,7 @@ abbrev callOn : Slot → Call
 callOn free = quiet
 callOn taken = quiet
 callOn (pending k r d) = quiet
-callOn (busy r g c) = callIn (r .request) g
+callOn (busy r g c) = callIn (r .request) (answeredAt g)
 callOn (held r n d) = quiet
 
 abbrev pub view : Slot → Line
@@ -107,7 +108,7 @@ reads-append t (d ∷ a) b k = reads-append t a b (read t d k)
 
 -- ── one slot of the book ─────────────────────────────────────────────────────
 
-module _ (i : ℕ) (st : Station) (p : Slot) (e : getD (st .slots) i free ≡ p) where
+module _ (i : ℕ) (st : Station) (p : Slot) (e : theSlot st i ≡ p) where
   pub stay : (f : Line → Line) → f (view p) ≡ view p → atLine i f (seen st) ≡ seen st
   unfolding seen
   stay f h = ap (λ (x : List Line). record { now = st .clock; lines = x; places = map place (st .queue) }) (modAt-same view f free i (st .slots) (rw e h))

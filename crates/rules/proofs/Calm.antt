@@ -4,13 +4,13 @@ use mathlib.Core.List.{List, [], _∷_, _++_, map}
 use mathlib.Core.Bool.{Bool, true, false, _||_}
 use mathlib.Core.Option.{Option, none, some}
 use Prim.Native.Nat.{ℕ}
-use lib.ListN.{getD, List·getD-map}
+use lib.ListN.{List·getD-map}
 use Rattle.rules.specs.Places.{dropAt, Each}
 use Rattle.rules.specs.Words.{Party, Request, Deed}
 use Rattle.rules.specs.Waits.{Wait, ofQueue, loss, main, Due}
 use Rattle.rules.specs.Heard.{Heard, callRequest}
 use Rattle.rules.specs.Actions.{Ender, theShip, theCoast, Action}
-use Rattle.rules.specs.Station.{Dealing, dealing, firstRing, Stage, dialling, answered, Slot, free, pending, Waiting, Station, setSlot, setClock, setQueue, dueAfter, kindWait}
+use Rattle.rules.specs.Station.{Dealing, dealing, firstRing, Slot, free, pending, Waiting, Station, theSlot, setSlot, setClock, setQueue, dueAfter, kindWait, answeredAt}
 use Rattle.rules.specs.Requests.{Out, also, rungBack, freedFor, freed, endActs, coastEnd}
 use Rattle.rules.specs.Calls.{fire, ticked}
 use Rattle.rules.specs.Book.{silent, Stop, Line, Book, atLine, line}
@@ -118,16 +118,16 @@ module _ (h : Heard) (a : Party → Heard) where
     still n st k = record { mild = no-deed; known = k }
 
     -- the line is released, and the carrier off
-    end-mild : (i : ℕ) (e : Ender) (r : Request) (g : Stage) (t : ℕ) → Mild h a b (deedsOf (endActs i e r g t))
-    end-mild i e r (dialling d) t = record { repeats = (tt, (tt, tt)); fits = λ t on. ((tt, tt), ((tt, tt), tt)); untold = λ x. refl }
-    end-mild i e r (answered s) t = record { repeats = (tt, (tt, tt)); fits = λ t on. ((tt, tt), ((tt, tt), tt)); untold = λ x. refl }
+    end-mild : (i : ℕ) (e : Ender) (r : Request) (g : Option ℕ) (t : ℕ) → Mild h a b (deedsOf (endActs i e r g t))
+    end-mild i e r none t = record { repeats = (tt, (tt, tt)); fits = λ t on. ((tt, tt), ((tt, tt), tt)); untold = λ x. refl }
+    end-mild i e r (some s) t = record { repeats = (tt, (tt, tt)); fits = λ t on. ((tt, tt), ((tt, tt), tt)); untold = λ x. refl }
 
-    end-quiet : (i : ℕ) (e : Ender) (r : Request) (g : Stage) (t u : ℕ) → line (reads u (deedsOf (endActs i e r g t)) b) i .said ≡ silent
+    end-quiet : (i : ℕ) (e : Ender) (r : Request) (g : Option ℕ) (t u : ℕ) → line (reads u (deedsOf (endActs i e r g t)) b) i .said ≡ silent
     unfolding reads
-    end-quiet i e r (dialling d) t u = hushed i (atLine i letGo b)
-    end-quiet i e r (answered s) t u = hushed i (atLine i letGo b)
+    end-quiet i e r none t u = hushed i (atLine i letGo b)
+    end-quiet i e r (some s) t u = hushed i (atLine i letGo b)
 
-    pub coastEnd-calm : (i : ℕ) (st : Station) → Known a st → (r : Request) (g : Stage) → Calm h a b (coastEnd i r g st)
+    pub coastEnd-calm : (i : ℕ) (st : Station) → Known a st → (r : Request) (g : Option ℕ) → Calm h a b (coastEnd i r g st)
     unfolding coastEnd
     coastEnd-calm i st k r g = also-calm b (endActs i theCoast r g (st .clock)) (freed i st) (end-mild i theCoast r g (st .clock)) (λ t. freed-calm _ i st (end-quiet i theCoast r g (st .clock) t) k)
 
@@ -148,8 +148,8 @@ module _ (h : Heard) (a : Party → Heard) where
     move-calm i t _ _ _ (to-answer r d c) g s = (no-deed, λ u o e x. cc)
     move-calm i t _ _ _ (to-lose r g c) k s = (no-deed, λ u o e x. cc)
     move-calm i t _ _ _ (to-regain r g c) k s = (no-deed, λ u o e x. cc)
-    move-calm i t _ _ _ (to-hold r g c) k s = (end-mild i theShip (r .request) g t, λ u o e x. cc)
-    move-calm i t _ _ _ (to-end r g c) k s = (end-mild i theCoast (r .request) g t, λ u. end-quiet i theCoast (r .request) g t u)
+    move-calm i t _ _ _ (to-hold r g c) k s = (end-mild i theShip (r .request) (answeredAt g) t, λ u o e x. cc)
+    move-calm i t _ _ _ (to-end r g c) k s = (end-mild i theCoast (r .request) (answeredAt g) t, λ u. end-quiet i theCoast (r .request) (answeredAt g) t u)
     move-calm i t _ _ _ (to-repeat r n d) g s = (record { repeats = (tt, (tt, tt)); fits = λ u on. ((tt, tt), ((tt, tt), tt)); untold = λ x. refl }, λ u. tt)
     move-calm i t _ _ _ (to-run-out r n d) g s = (no-deed, λ u. s)
     move-calm i t _ _ _ to-take g s = (no-deed, λ u o e x. cc)
@@ -161,15 +161,15 @@ module _ (h : Heard) (a : Party → Heard) where
       played-calm (becomes q) acts m = record { mild = m .0; known = set-known a i q st (m .1 0) k }
       played-calm frees acts m = also-calm b acts (freed i st) (m .0) (λ t. freed-calm _ i st (m .1 t) k)
 
-      pub outcome-calm : b .lines ≡ map view (st .slots) → {f : Line → Line} {w : Word → Word} {cs : List Stop} {o : Out} → Outcome i st f w cs (getD (st .slots) i free) o → Calm h a b o
+      pub outcome-calm : b .lines ≡ map view (st .slots) → {f : Line → Line} {w : Word → Word} {cs : List Stop} {o : Out} → Outcome i st f w cs (theSlot st i) o → Calm h a b o
       outcome-calm v (passed x y z) = still 1 st k
       outcome-calm v (moved {n} {acts} u x y z) = played-calm n acts (move-calm i (st .clock) _ n acts u (each-at (Rung a) free (λ r d x. cc) i (st .slots) (k .ringing)) (rw v (ap (λ (l : Line). l .said) (List·getD-map view (st .slots) i free))))
 
     fire-calm : (st : Station) → b .lines ≡ map view (st .slots) → Known a st → (w : Wait) → Calm h a b (fire st w)
     unfolding fire
     fire-calm st v k (ofQueue j) = still 0 (setQueue (dropAt j (st .queue)) st) (queue-known a (dropAt j (st .queue)) st (each-dropped (Asked a) j (st .queue) (k .waiting)) k)
-    fire-calm st v k (loss i) = outcome-calm i st k v (end-outcome i st (getD (st .slots) i free))
-    fire-calm st v k (main i) = outcome-calm i st k v (main-outcome i st (getD (st .slots) i free))
+    fire-calm st v k (loss i) = outcome-calm i st k v (end-outcome i st (theSlot st i))
+    fire-calm st v k (main i) = outcome-calm i st k v (main-outcome i st (theSlot st i))
 
     pub tick-calm : (st : Station) → b .lines ≡ map view (st .slots) → Known a st → (t : ℕ) (o : Option Due) → Calm h a b (ticked st t o)
     unfolding ticked setClock

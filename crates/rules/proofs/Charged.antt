@@ -2,7 +2,7 @@
 use mathlib.Core.Path.{_≡_, refl}
 use mathlib.Core.Bool.{Bool, true}
 use mathlib.Core.List.{List, [], _∷_, map}
-use mathlib.Core.Option.{none}
+use mathlib.Core.Option.{Option, none, some}
 use Prim.Native.Nat.{ℕ, _≤_, _<_}
 use native.Mathlib.Omega.{arith}
 use lib.Dec.{leb}
@@ -11,7 +11,7 @@ use Rattle.sequence.specs.Identity.{isShip}
 use Rattle.rules.specs.Places.{all, Each}
 use Rattle.rules.specs.Words.{Request, Config, Event}
 use Rattle.rules.specs.Actions.{Charge}
-use Rattle.rules.specs.Station.{dialling, answered, Slot, free, taken, pending, busy, held, Station}
+use Rattle.rules.specs.Station.{Slot, free, taken, pending, busy, held, Station, answeredAt}
 use Rattle.rules.specs.Sound.{requestKeeps, slotKeeps, limit}
 use Rattle.rules.specs.Calls.{act}
 use Rattle.rules.specs.Verdict.{verdict}
@@ -19,7 +19,7 @@ use Rattle.rules.specs.Book.{Stop, Call, quiet, dialled, talking, fallin
 use Rattle.rules.specs.Reading.{stopsIn}
 use Rattle.rules.specs.Statement.{owed, InOrder, ChargesFit}
 use Rattle.rules.proofs.PlaceLaws.{and-true}
-use Rattle.rules.proofs.Base.{view, seen}
+use Rattle.rules.proofs.Base.{callIn, view, seen}
 use Rattle.rules.proofs.Accepted.{accepted, sounds}
 use Rattle.rules.proofs.Run.{noteOf, stops-are}
 use Rattle.rules.proofs.Stopped.{each-stop}
@@ -37,12 +37,15 @@ ship-known : (c : Config) (r : Request) → requestKeeps c r ≡ true → leb (r
 unfolding requestKeeps isShip
 ship-known c r k = and-true (leb 200000000 (r .who .ship)) _ (and-true (isShip (r .who .ship)) _ k .0) .1
 
+call-known : (c : Config) (r : Request) (b : Option ℕ) → requestKeeps c r ≡ true → aShips (callIn r b) ≡ true
+call-known c r none k = refl
+call-known c r (some b) k = ship-known c r k
+
 slot-known : (c : Config) (s : Slot) → slotKeeps c s ≡ true → aShips (view s .call) ≡ true
 slot-known c free k = refl
 slot-known c taken k = refl
 slot-known c (pending j r d) k = refl
-slot-known c (busy r (dialling d) l) k = refl
-slot-known c (busy r (answered b) l) k = ship-known c (r .request) k
+slot-known c (busy r g l) k = call-known c (r .request) (answeredAt g) k
 slot-known c (held r n d) k = refl
 
 all-known : (c : Config) (ss : List Slot) → all (slotKeeps c) ss ≡ true → all (λ l. aShips (l .call)) (map view ss) ≡ true

@@ -6,13 +6,13 @@ use mathlib.Core.Option.{Option, none, some}
 use Prim.Native.Nat.{ℕ, _+_, _≤_}
 use native.Mathlib.Omega.{arith}
 use lib.Dec.{ltb}
-use lib.ListN.{getD, length, length-append}
+use lib.ListN.{length, length-append}
 use Rattle.rules.specs.Places.{lowest, all, Each}
 use Rattle.rules.specs.Words.{Request, Config, What, tick, onChannel70, onSlot, Event, carrierOn}
 use Rattle.rules.specs.Waits.{Wait, ofQueue, loss, main, Due}
 use Rattle.rules.specs.Heard.{Heard, callRequest, dataRequest, bq, workingCall, endOfCall, nothing, meaning}
 use Rattle.rules.specs.Actions.{Ender, theShip, theCoast, Action, does}
-use Rattle.rules.specs.Station.{Stage, dialling, answered, Slot, free, Waiting, Station, setClock, fires}
+use Rattle.rules.specs.Station.{Slot, free, Waiting, Station, theSlot, setClock, fires, answeredAt}
 use Rattle.rules.specs.Sound.{slotKeeps, sound}
 use Rattle.rules.specs.Requests.{Out, also, rungBack, freedFor, freed, bill, lasted, endActs, coastEnd, Standing, nowhere, holds, waits, placeOf, standing, ruleA, repeated, afresh, ruleD, offer, ruleF, ruleG, isFree, eToG, newcomer, dToG, redial, requested}
 use Rattle.rules.specs.Calls.{fire, ticked, heardOn70, actAt, act}
@@ -64,14 +64,14 @@ module _ (cfg : Config) where
   unfolding freed
   freed-few i st = freedFor-few i st (st .queue)
 
-  end-slim : (i : ℕ) (a : Ender) (r : Request) (g : Stage) (t : ℕ) → Each (Slim cfg) (endActs i a r g t)
+  end-slim : (i : ℕ) (a : Ender) (r : Request) (g : Option ℕ) (t : ℕ) → Each (Slim cfg) (endActs i a r g t)
   end-slim i a r g t = each-append (Slim cfg) (bill i (r .who) g t) _ (bill-slim cfg i (r .who) g t) (release-slim cfg i, (over-slim cfg i a (r .who) (r .number) (lasted g t), (off-slim cfg i, tt)))
 
-  end-few : (i : ℕ) (a : Ender) (r : Request) (g : Stage) (t : ℕ) → length (endActs i a r g t) ≤ 4
-  end-few i a r (dialling d) t = omega arith
-  end-few i a r (answered b) t = omega arith
+  end-few : (i : ℕ) (a : Ender) (r : Request) (g : Option ℕ) (t : ℕ) → length (endActs i a r g t) ≤ 4
+  end-few i a r none t = omega arith
+  end-few i a r (some b) t = omega arith
 
-  coastEnd-few : (i : ℕ) (r : Request) (g : Stage) (st : Station) → Few cfg 6 (coastEnd i r g st)
+  coastEnd-few : (i : ℕ) (r : Request) (g : Option ℕ) (st : Station) → Few cfg 6 (coastEnd i r g st)
   unfolding coastEnd
   coastEnd-few i r g st = also-few 4 2 (endActs i theCoast r g (st .clock)) (freed i st) (end-few i theCoast r g (st .clock)) (end-slim i theCoast r g (st .clock)) (freed-few i st)
 
@@ -99,7 +99,7 @@ module _ (cfg : Config) where
   dToG-few st r none = newcomer-few st r
   dToG-few st r (some k) = ruleD-few k st r
 
-  redial-few : (i : ℕ) (o : Request) (g : Stage) (st : Station) (r : Request) → Few cfg 8 (redial i o g st r)
+  redial-few : (i : ℕ) (o : Request) (g : Option ℕ) (st : Station) (r : Request) → Few cfg 8 (redial i o g st r)
   unfolding redial
   redial-few i o g st r = let w = coastEnd-few i o g st in also-few 6 2 (coastEnd i o g st .acts) (dToG (coastEnd i o g st .next) r (placeOf (r .who) (coastEnd i o g st .next))) (w .many) (w .slim) (dToG-few (coastEnd i o g st .next) r (placeOf (r .who) (coastEnd i o g st .next)))
 
@@ -108,13 +108,13 @@ module _ (cfg : Config) where
   ruling-few i st r cs _ _ (passes p a) = none-few 8 st
   ruling-few i st r cs _ _ (repeats k o d a b) = one-few 8 st _ (acknowledge-slim cfg i r) (omega arith)
   ruling-few i st r cs _ _ (renews k o d a b) = afresh-few 8 i st r (omega arith)
-  ruling-few i st r cs _ _ (redials o g c a) = redial-few i (o .request) g st r
+  ruling-few i st r cs _ _ (redials o g c a) = redial-few i (o .request) (answeredAt g) st r
 
   request-few : (st : Station) (r : Request) (o : Standing) → Few cfg 8 (requested st r o)
   unfolding requested
   request-few st r nowhere = up-to 2 8 (omega arith) (newcomer st r) (newcomer-few st r)
   request-few st r (waits k) = up-to 2 8 (omega arith) (ruleD k st r) (ruleD-few k st r)
-  request-few st r (holds i) = ruling-few i st r _ (getD (st .slots) i free) _ (bOrC-ruling i st r (getD (st .slots) i free))
+  request-few st r (holds i) = ruling-few i st r _ (theSlot st i) _ (bOrC-ruling i st r (theSlot st i))
 
   -- ── on a slot ──────────────────────────────────────────────────────────────
 
@@ -126,8 +126,8 @@ module _ (cfg : Config) where
   move-slim i t _ _ _ (to-answer r d c) h = (omega arith, tt)
   move-slim i t _ _ _ (to-lose r g c) h = (omega arith, tt)
   move-slim i t _ _ _ (to-regain r g c) h = (omega arith, tt)
-  move-slim i t _ _ _ (to-hold r g c) h = (end-few i theShip (r .request) g t, end-slim i theShip (r .request) g t)
-  move-slim i t _ _ _ (to-end r g c) h = (end-few i theCoast (r .request) g t, end-slim i theCoast (r .request) g t)
+  move-slim i t _ _ _ (to-hold r g c) h = (end-few i theShip (r .request) (answeredAt g) t, end-slim i theShip (r .request) (answeredAt g) t)
+  move-slim i t _ _ _ (to-end r g c) h = (end-few i theCoast (r .request) (answeredAt g) t, end-slim i theCoast (r .request) (answeredAt g) t)
   move-slim i t _ _ _ (to-repeat r n d) h = (omega arith, (on-slim cfg i, (over-slim cfg i theShip (r .request .who) (r .request .number) n, (off-slim cfg i, tt))))
   move-slim i t _ _ _ (to-run-out r n d) h = (omega arith, tt)
   move-slim i t _ _ _ to-take h = (omega arith, tt)
@@ -145,14 +145,14 @@ module _ (cfg : Config) where
   -- ── an event, of a station whose stored requests keep the rules ────────────
 
   module _ (st : Station) (k : all (slotKeeps cfg) (st .slots) ≡ true) where
-    slot-few : (i : ℕ) {f : Line → Line} {w : Word → Word} {cs : List Stop} {o : Out} → Outcome i st f w cs (getD (st .slots) i free) o → Few cfg 8 o
-    slot-few i u = outcome-few i st (getD (st .slots) i free) u (all-at (slotKeeps cfg) free refl i (st .slots) k)
+    slot-few : (i : ℕ) {f : Line → Line} {w : Word → Word} {cs : List Stop} {o : Out} → Outcome i st f w cs (theSlot st i) o → Few cfg 8 o
+    slot-few i u = outcome-few i st (theSlot st i) u (all-at (slotKeeps cfg) free refl i (st .slots) k)
 
     heard-few : (h : Heard) → Few cfg 8 (heardOn70 st h)
     unfolding heardOn70 ruleA
     heard-few (callRequest r) = request-few st r (standing st (r .who))
     heard-few (dataRequest x n) = one-few 8 st _ (unable-slim cfg 109 x n) (omega arith)
-    heard-few (bq i x) = slot-few i (bq-outcome i st x (getD (st .slots) i free))
+    heard-few (bq i x) = slot-few i (bq-outcome i st x (theSlot st i))
     heard-few (workingCall x) = none-few 8 st
     heard-few (endOfCall x) = none-few 8 st
     heard-few nothing = none-few 8 st
@@ -160,8 +160,8 @@ module _ (cfg : Config) where
     fire-few : (w : Wait) → Few cfg 8 (fire st w)
     unfolding fire
     fire-few (ofQueue n) = zero-few 8 _
-    fire-few (loss i) = slot-few i (end-outcome i st (getD (st .slots) i free))
-    fire-few (main i) = slot-few i (main-outcome i st (getD (st .slots) i free))
+    fire-few (loss i) = slot-few i (end-outcome i st (theSlot st i))
+    fire-few (main i) = slot-few i (main-outcome i st (theSlot st i))
 
   act-few : (st : Station) → all (slotKeeps cfg) (st .slots) ≡ true → (t : ℕ) (w : What) → Few cfg 8 (actAt cfg st t w)
   unfolding actAt ticked setClock
@@ -171,7 +171,7 @@ module _ (cfg : Config) where
       due none = zero-few 8 _
       due (some p) = fire-few (setClock (p .at) st) k (p .what)
   act-few st k t (onChannel70 m) = heard-few (setClock t st) k (meaning cfg m)
-  act-few st k t (onSlot i h) = slot-few (setClock t st) k i (happened-outcome i (setClock t st) cfg (getD (st .slots) i free) h)
+  act-few st k t (onSlot i h) = slot-few (setClock t st) k i (happened-outcome i (setClock t st) cfg (theSlot st i) h)
 
 pub answers-few : (cfg : Config) (st : Station) (e : Event) → sound cfg st ≡ true → act cfg st e .answer ≤ 1
 answers-few cfg st e s = act-few cfg st (sounds cfg st s .slots-keep) (e .time) (e .what) .told

@@ -12,7 +12,7 @@ use Rattle.rules.specs.Places.{modAt, lowest}
 use Rattle.rules.specs.Words.{Request, Config, What, tick, onChannel70, onSlot, Event, Deed, carrierOn, carrierOff, acknowledge, ringBack, unable, dial, releaseLine}
 use Rattle.rules.specs.Waits.{Wait, ofQueue, loss, main, Due}
 use Rattle.rules.specs.Heard.{Heard, callRequest, dataRequest, bq, workingCall, endOfCall, nothing, meaning}
-use Rattle.rules.specs.Station.{dealing, offered, Stage, Slot, free, pending, Station, fresh, setClock, setQueue, dueAfter, kindWait, fires}
+use Rattle.rules.specs.Station.{dealing, offered, Slot, free, pending, Station, theSlot, fresh, setClock, setQueue, dueAfter, kindWait, fires, answeredAt}
 use Rattle.rules.specs.Requests.{Out, coastEnd, slotOf, placeOf, standsAt, standing, ruleA, repeated, afresh, ruleD, offer, ruleF, ruleG, isFree, eToG, newcomer, dToG, redial, requested}
 use Rattle.rules.specs.Calls.{fire, ticked, heardOn70, actAt, act}
 use Rattle.rules.specs.Verdict.{verdict, play}
@@ -36,7 +36,7 @@ module _ (st : Station) (r : Request) where
   newcomer-told = go (lowest isFree (st .slots)) refl
     where
       go : (o : Option ℕ) → lowest isFree (st .slots) ≡ o → Spoken (words st) (eToG st r o)
-      go (some i) h = record { telling = keeps i st (pending offered (dealing r) (dueAfter (st .clock) (kindWait offered))) (ap word (free-is (getD (st .slots) i free) (lowest-is free isFree (st .slots) i h))) }
+      go (some i) h = record { telling = keeps i st (pending offered (dealing r) (dueAfter (st .clock) (kindWait offered))) (ap word (free-is (theSlot st i) (lowest-is free isFree (st .slots) i h))) }
       go none h = told-if (words st) (ltb (length (st .queue)) 32) (ruleF st r) (ruleG st r) (record { telling = refl }) (record { telling = refl })
 
   ruleD-told : (k : ℕ) → Spoken (words st) (ruleD k st r)
@@ -49,7 +49,7 @@ module _ (st : Station) (r : Request) where
   dToG-told (some k) = ruleD-told k
 
 module _ (i : ℕ) (st : Station) (r : Request) where
-  afresh-told : word (getD (st .slots) i free) ≡ idle → Spoken (words st) (afresh i st r)
+  afresh-told : word (theSlot st i) ≡ idle → Spoken (words st) (afresh i st r)
   unfolding afresh spoken
   afresh-told h = record { telling = keeps i st (pending offered (dealing r) (dueAfter (st .clock) (kindWait offered))) h }
 
@@ -57,21 +57,21 @@ module _ (i : ℕ) (st : Station) (r : Request) where
   unfolding repeated spoken
   repeat-told = record { telling = refl }
 
-  redial-told : (o : Request) (g : Stage) → Spoken (words st) (redial i o g st r)
+  redial-told : (o : Request) (g : Option ℕ) → Spoken (words st) (redial i o g st r)
   unfolding redial
   redial-told o g = told-also (words st) (words (coastEnd i o g st .next)) (coastEnd i o g st .acts) (dToG (coastEnd i o g st .next) r (placeOf (r .who) (coastEnd i o g st .next))) (coastEnd-told i st o g .telling) (dToG-told (coastEnd i o g st .next) r (placeOf (r .who) (coastEnd i o g st .next)))
 
-  ruling-told : (cs : List Stop) (p : Slot) (x : Out) → Ruling i st r cs p x → getD (st .slots) i free ≡ p → Spoken (words st) x
+  ruling-told : (cs : List Stop) (p : Slot) (x : Out) → Ruling i st r cs p x → theSlot st i ≡ p → Spoken (words st) x
   ruling-told cs _ _ (passes p a) e = told-ignored (words st) st refl
   ruling-told cs _ _ (repeats k o d a b) e = repeat-told
   ruling-told cs _ _ (renews k o d a b) e = afresh-told (rw e refl)
-  ruling-told cs _ _ (redials o g c a) e = redial-told (o .request) g
+  ruling-told cs _ _ (redials o g c a) e = redial-told (o .request) (answeredAt g)
 
 request-told : (st : Station) (r : Request) (o k : Option ℕ) → Spoken (words st) (requested st r (standsAt o k))
 unfolding requested
 request-told st r none none = newcomer-told st r
 request-told st r none (some k) = ruleD-told st r k
-request-told st r (some i) k = ruling-told i st r _ (getD (st .slots) i free) _ (bOrC-ruling i st r (getD (st .slots) i free)) refl
+request-told st r (some i) k = ruling-told i st r _ (theSlot st i) _ (bOrC-ruling i st r (theSlot st i)) refl
 
 -- ── an event ─────────────────────────────────────────────────────────────────
 
@@ -79,7 +79,7 @@ heard-told : (st : Station) (h : Heard) → Spoken (words st) (heardOn70 st h)
 unfolding heardOn70 ruleA standing spoken
 heard-told st (callRequest r) = request-told st r (slotOf (r .who) st) (placeOf (r .who) st)
 heard-told st (dataRequest x n) = record { telling = refl }
-heard-told st (bq i x) = calm-told i st (getD (st .slots) i free) (bq-outcome i st x (getD (st .slots) i free)) refl
+heard-told st (bq i x) = calm-told i st (theSlot st i) (bq-outcome i st x (theSlot st i)) refl
 heard-told st (workingCall x) = told-ignored (words st) st refl
 heard-told st (endOfCall x) = told-ignored (words st) st refl
 heard-told st nothing = told-ignored (words st) st refl
@@ -87,8 +87,8 @@ heard-told st nothing = told-ignored (words st) st refl
 fire-told : (st : Station) (w : Wait) → Spoken (words st) (fire st w)
 unfolding fire setQueue
 fire-told st (ofQueue k) = told-next (words st) _ refl
-fire-told st (loss i) = calm-told i st (getD (st .slots) i free) (end-outcome i st (getD (st .slots) i free)) refl
-fire-told st (main i) = calm-told i st (getD (st .slots) i free) (main-outcome i st (getD (st .slots) i free)) refl
+fire-told st (loss i) = calm-told i st (theSlot st i) (end-outcome i st (theSlot st i)) refl
+fire-told st (main i) = calm-told i st (theSlot st i) (main-outcome i st (theSlot st i)) refl
 
 tick-told : (st : Station) (t : ℕ) (o : Option Due) → Spoken (words st) (ticked st t o)
 unfolding ticked setClock
@@ -104,7 +104,7 @@ act-told : (cfg : Config) (st : Station) (t : ℕ) (w : What) → Spoken (heardB
 unfolding actAt setClock
 act-told cfg st t tick = tick-told st t (fires t st)
 act-told cfg st t (onChannel70 m) = heard-told (setClock t st) (meaning cfg m)
-act-told cfg st t (onSlot i h) = outcome-told i (setClock t st) (getD (st .slots) i free) (happened-outcome i (setClock t st) cfg (getD (st .slots) i free) h) refl
+act-told cfg st t (onSlot i h) = outcome-told i (setClock t st) (theSlot st i) (happened-outcome i (setClock t st) cfg (theSlot st i) h) refl
 
 -- ── one slot of them ─────────────────────────────────────────────────────────
 

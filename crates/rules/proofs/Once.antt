@@ -9,7 +9,7 @@ use lib.ListN.{getD}
 use borrow.Author.Tests.{not-true}
 use Rattle.rules.specs.Places.{modAt, lowest, elem, distinct}
 use Rattle.rules.specs.Words.{Party, is, Request}
-use Rattle.rules.specs.Station.{dealing, firstRing, Stage, Slot, free, pending, shipOf, Waiting, Station, setSlot, setQueue, dueAfter, kindWait}
+use Rattle.rules.specs.Station.{dealing, firstRing, Slot, free, pending, shipOf, Waiting, Station, theSlot, setSlot, setQueue, dueAfter, kindWait}
 use Rattle.rules.specs.Sound.{listed, owners}
 use Rattle.rules.specs.Requests.{rungBack, freedFor, freed, coastEnd, isOf, owns, waitsFor}
 use Rattle.rules.proofs.PlaceLaws.{or-false, and-true, shift-none}
@@ -104,7 +104,7 @@ waiting-count x (v ∷ q) h = go (is x (v .request .who)) refl (λ k. waiting-co
     go false e ih = rw (e, ih (shift-none _ (rw e at h))) refl
 
 -- the slot of the ship is freed: the ship stands nowhere
-freedFor-gone : (i : ℕ) (x : Party) (st : Station) → Once st → owns x (getD (st .slots) i free) ≡ true → (q : List Waiting) → st .queue ≡ q → countS x (freedFor i st q .next .slots) ≡ 0
+freedFor-gone : (i : ℕ) (x : Party) (st : Station) → Once st → owns x (theSlot st i) ≡ true → (q : List Waiting) → st .queue ≡ q → countS x (freedFor i st q .next .slots) ≡ 0
 unfolding freedFor rungBack setSlot setQueue
 freedFor-gone i x st w h [] e = none-left (countS x (modAt (λ y. free) i (st .slots))) (countS x (st .slots)) (countQ x (st .queue)) (rw h at (count-set x i free (st .slots))) (w x)
   where
@@ -115,6 +115,6 @@ freedFor-gone i x st w h (v ∷ q) e = none-left (countS x (modAt (λ y. pending
     none-left : (n s b k : ℕ) → n + 1 ≤ s + b → s + (b + k) ≤ 1 → n ≡ 0
     none-left n s b k u v = omega arith
 
-pub coastEnd-gone : (i : ℕ) (x : Party) (r : Request) (g : Stage) (st : Station) → Once st → owns x (getD (st .slots) i free) ≡ true → countS x (coastEnd i r g st .next .slots) ≡ 0
+pub coastEnd-gone : (i : ℕ) (x : Party) (r : Request) (g : Option ℕ) (st : Station) → Once st → owns x (theSlot st i) ≡ true → countS x (coastEnd i r g st .next .slots) ≡ 0
 unfolding coastEnd freed
 coastEnd-gone i x r g st w h = freedFor-gone i x st w h (st .queue) refl

@@ -4,11 +4,10 @@ use mathlib.Core.List.{List, [], _∷_, map, append-nil}
 use mathlib.Core.Bool.{Bool, true, false}
 use mathlib.Core.Option.{Option, none, some}
 use Prim.Native.Nat.{ℕ, zero}
-use lib.ListN.{getD}
 use Rattle.rules.specs.Places.{lowest, Each}
 use Rattle.rules.specs.Words.{Party, is, Deed, carrierOn, carrierOff, acknowledge, ringBack, unable, dial, releaseLine}
 use Rattle.rules.specs.Actions.{Action}
-use Rattle.rules.specs.Station.{Slot, free, Waiting, Station}
+use Rattle.rules.specs.Station.{Slot, Waiting, Station, theSlot}
 use Rattle.rules.specs.Requests.{Out, freed, waitsFor}
 use Rattle.rules.specs.Book.{Stop, Line, Book, atLine}
 use Rattle.rules.specs.Reading.{tell, rungUp, dialUp, letGo, hush, leave, reads}
@@ -39,7 +38,7 @@ reads-here t i b (unable n x digits ∷ ds) f a = absurd (a .0)
 reads-here t i b (dial j n ∷ ds) f a = rw (← (a .0), atLine² i f (dialUp t) b) (reads-here t i b ds (λ l. dialUp t (f l)) (a .1))
 reads-here t i b (releaseLine j ∷ ds) f a = rw (← (a .0), atLine² i f letGo b) (reads-here t i b ds (λ l. letGo (f l)) (a .1))
 
-module _ (i : ℕ) (st : Station) (p : Slot) (e : getD (st .slots) i free ≡ p) where
+module _ (i : ℕ) (st : Station) (p : Slot) (e : theSlot st i ≡ p) where
   played-good : (f : Line → Line) (cs : List Stop) (n : Next) (acts : List Action) → Each (About i (map place (st .queue))) (deedsOf acts)
       → linesDone (st .clock) (deedsOf acts) (f (view p)) ≡ view (leaves p n) → chargesOf acts ≡ map owed cs → Good (st .clock) (atLine i f (seen st)) cs (played i st n acts)
   unfolding seen

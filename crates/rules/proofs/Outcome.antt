@@ -9,7 +9,7 @@ use Rattle.rules.specs.Places.{Each}
 use Rattle.rules.specs.Words.{Party, is, Request, Config, lineLifted, lineHung, carrierHeard, carrierLost, handTakes, handGives, Happened, heard, signal, operator, offHook, Deed, carrierOn, carrierOff, acknowledge, ringBack, unable, dial, releaseLine}
 use Rattle.rules.specs.Heard.{Heard, callRequest, dataRequest, bq, workingCall, endOfCall, nothing, meaning}
 use Rattle.rules.specs.Actions.{Action, does, over, Ender, theShip, theCoast}
-use Rattle.rules.specs.Station.{Kind, offered, firstRing, secondRing, acknowledged, Stage, dialling, answered, Dealing, Slot, free, taken, pending, busy, held, Station, setSlot, dueAfter, kindWait, replyWait, holdWait}
+use Rattle.rules.specs.Station.{Kind, offered, firstRing, secondRing, acknowledged, Stage, answeredAt, dialling, answered, Dealing, Slot, free, taken, pending, busy, held, Station, setSlot, dueAfter, kindWait, replyWait, holdWait}
 use Rattle.rules.specs.Requests.{Out, ignored, also, freed, lasted, endActs, coastEnd}
 use Rattle.rules.specs.Calls.{dialNow, workingKind, workingOn, agreed, bqKind, bqFor, offHookStage, offHookOn, startLoss, downOn, upOn, shipEnd, sayAgain, shipEndOn, endOn, takeOn, giveOn, offerDue, ringAgain, pendingDue, replyDue, mainOn, heardOn, happenedOn}
 use Rattle.rules.specs.Book.{Stop, Line, Place, stopOf, callOf, stopsSaid, stopsOn}
@@ -41,8 +41,8 @@ pub data Move (i t : ℕ) : Slot → Next → List Action → Type 0 where
   to-lose : (r : Dealing) (g : Stage) (c : Option ℕ) → Move i t (busy r g c) (becomes (busy r g (startLoss t (r .request .mode) c))) []
   to-regain : (r : Dealing) (g : Stage) (c : Option ℕ) → Move i t (busy r g c) (becomes (busy r g none)) []
   to-hold : (r : Dealing) (g : Stage) (c : Option ℕ)
-      → Move i t (busy r g c) (becomes (held r (lasted g t) (dueAfter t holdWait))) (endActs i theShip (r .request) g t)
-  to-end : (r : Dealing) (g : Stage) (c : Option ℕ) → Move i t (busy r g c) frees (endActs i theCoast (r .request) g t)
+      → Move i t (busy r g c) (becomes (held r (lasted (answeredAt g) t) (dueAfter t holdWait))) (endActs i theShip (r .request) (answeredAt g) t)
+  to-end : (r : Dealing) (g : Stage) (c : Option ℕ) → Move i t (busy r g c) frees (endActs i theCoast (r .request) (answeredAt g) t)
   -- in its hold
   to-repeat : (r : Dealing) (n : Told) (d : ℕ)
       → Move i t (held r n d) stays (does (carrierOn i) ∷ over i theShip (r .request .who) (r .request .number) n ∷ does (carrierOff i) ∷ [])
@@ -109,9 +109,9 @@ About i ps (releaseLine j) = i ≡ j
 abbrev pub Apart : List Place → Slot → Type 0
 Apart ps p = (k : Kind) (r : Dealing) (d : ℕ) → p ≡ pending k r d → leave (r .request .who) ps ≡ ps
 
-end-about : (i : ℕ) (ps : List Place) (e : Ender) (r : Request) (g : Stage) (t : ℕ) → Each (About i ps) (deedsOf (endActs i e r g t))
-end-about i ps e r (dialling d) t = (refl, (refl, tt))
-end-about i ps e r (answered b) t = (refl, (refl, tt))
+end-about : (i : ℕ) (ps : List Place) (e : Ender) (r : Request) (b : Option ℕ) (t : ℕ) → Each (About i ps) (deedsOf (endActs i e r b t))
+end-about i ps e r none t = (refl, (refl, tt))
+end-about i ps e r (some b) t = (refl, (refl, tt))
 
 -- all that a slot does is about itself
 pub move-about : (ps : List Place) (i t : ℕ) (p : Slot) (n : Next) (acts : List Action) → Move i t p n acts → Apart ps p → Each (About i ps) (deedsOf acts)
@@ -122,8 +122,8 @@ move-about ps i t _ _ _ (to-drop k r d) h = (refl, tt)
 move-about ps i t _ _ _ (to-answer r d c) h = tt
 move-about ps i t _ _ _ (to-lose r g c) h = tt
 move-about ps i t _ _ _ (to-regain r g c) h = tt
-move-about ps i t _ _ _ (to-hold r g c) h = end-about i ps theShip (r .request) g t
-move-about ps i t _ _ _ (to-end r g c) h = end-about i ps theCoast (r .request) g t
+move-about ps i t _ _ _ (to-hold r g c) h = end-about i ps theShip (r .request) (answeredAt g) t
+move-about ps i t _ _ _ (to-end r g c) h = end-about i ps theCoast (r .request) (answeredAt g) t
 move-about ps i t _ _ _ (to-repeat r n d) h = (refl, (refl, tt))
 move-about ps i t _ _ _ (to-run-out r n d) h = tt
 move-about ps i t _ _ _ to-take h = tt
@@ -189,8 +189,8 @@ module _ (i : ℕ) (st : Station) where
   shipEnd-outcome x free = passed refl refl refl
   shipEnd-outcome x taken = passed refl refl refl
   shipEnd-outcome x (pending k r d) = passed refl refl refl
-  shipEnd-outcome x (busy r (dialling d) c) = outcome-if (is x (r .request .who)) (shipEnd i r (dialling d) st) (ignored st) (λ h. moved (to-hold r (dialling d) c) (rw h refl) refl (rw h refl)) (λ h. passed (rw h refl) refl (rw h refl))
-  shipEnd-outcome x (busy r (answered b) c) = outcome-if (is x (r .request .who)) (shipEnd i r (answered b) st) (ignored st) (λ h. moved (to-hold r (answered b) c) (rw h refl) refl (rw h refl)) (λ h. passed (rw h refl) refl (rw h refl))
+  shipEnd-outcome x (busy r (dialling d) c) = outcome-if (is x (r .request .who)) (shipEnd i r none st) (ignored st) (λ h. moved (to-hold r (dialling d) c) (rw h refl) refl (rw h refl)) (λ h. passed (rw h refl) refl (rw h refl))
+  shipEnd-outcome x (busy r (answered b) c) = outcome-if (is x (r .request .who)) (shipEnd i r (some b) st) (ignored st) (λ h. moved (to-hold r (answered b) c) (rw h refl) refl (rw h refl)) (λ h. passed (rw h refl) refl (rw h refl))
   shipEnd-outcome x (held r n d) = outcome-if (is x (r .request .who)) (sayAgain i (r .request) n st) (ignored st) (λ h. moved (to-repeat r n d) refl refl refl) (λ h. passed refl refl refl)
 
   -- ── the working call ──

@@ -1,5 +1,6 @@
 -- Every sequence that is sent has at most 28 symbols, so that every payload but a number dialled is within 36 bytes whatever it is made of.
 use mathlib.Core.Path.{_≡_, refl, ap}
+use mathlib.Core.Option.{Option, none, some}
 use mathlib.Core.List.{List, [], _∷_}
 use mathlib.Core.Bool.{Bool, true, false, cond}
 use Prim.Native.Nat.{ℕ, zero, suc, _*_, _/_, _%_, _≤_}
@@ -16,7 +17,6 @@ use Rattle.sequence.specs.Layout.{front, body, layout}
 use Rattle.rules.specs.Places.{Each}
 use Rattle.rules.specs.Words.{Party, Request, Config, carrierOn, carrierOff, acknowledge, ringBack, unable, dial, releaseLine}
 use Rattle.rules.specs.Actions.{Ender, Action, does, over}
-use Rattle.rules.specs.Station.{Stage, dialling, answered}
 use Rattle.rules.specs.Sound.{numberKeeps, requestKeeps}
 use Rattle.rules.specs.Requests.{bill}
 use Rattle.rules.specs.Bytes.{padded, numberOf, answerTo, ableSaid, unableSaid, overSaid, block, channelAt, payloadOf, blockOf, blocks, blockSize}
@@ -95,10 +95,10 @@ module _ (cfg : Config) where
   unfolding payloadOf overSaid answerTo
   over-slim i a x digits n = sent-length (overSaid a x digits n) digits refl
 
-  pub bill-slim : (i : ℕ) (x : Party) (g : Stage) (t : ℕ) → Each (Slim cfg) (bill i x g t)
+  pub bill-slim : (i : ℕ) (x : Party) (g : Option ℕ) (t : ℕ) → Each (Slim cfg) (bill i x g t)
   unfolding payloadOf
-  bill-slim i x (dialling d) t = tt
-  bill-slim i x (answered b) t = (omega arith, tt)
+  bill-slim i x none t = tt
+  bill-slim i x (some b) t = (omega arith, tt)
 
   pub dial-slim : (i : ℕ) (r : Request) → requestKeeps cfg r ≡ true → Slim cfg (does (dial i (r .number)))
   unfolding payloadOf requestKeeps numberKeeps

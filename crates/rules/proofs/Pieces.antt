@@ -5,12 +5,12 @@ use mathlib.Core.Bool.{Bool, true, false, cond}
 use mathlib.Core.Option.{Option, none, some}
 use Prim.Native.Nat.{ℕ, zero, suc}
 use lib.Dec.{ltb}
-use lib.ListN.{getD, length}
+use lib.ListN.{length}
 use native.Mathlib.Omega.{arith}
 use Rattle.rules.specs.Places.{modAt, shift, lowest}
 use Rattle.rules.specs.Words.{Party, is, Request}
 use Rattle.rules.specs.Actions.{theCoast, Action}
-use Rattle.rules.specs.Station.{dealing, offered, firstRing, Stage, dialling, answered, Slot, free, taken, pending, busy, held, Waiting, Station, setSlot, setQueue, dueAfter, queueWait, kindWait}
+use Rattle.rules.specs.Station.{dealing, offered, firstRing, Slot, free, taken, pending, busy, held, Waiting, Station, theSlot, setSlot, setQueue, dueAfter, queueWait, kindWait}
 use Rattle.rules.specs.Requests.{Out, done, ignored, also, rungBack, freedFor, freed, endActs, coastEnd, waitsFor, afresh, ruleD, offer, ruleF, ruleG, isFree, eToG, newcomer}
 use Rattle.rules.specs.Book.{Stop, Line, Place, Book, blank, atLine, stopOf}
 use Rattle.rules.specs.Reading.{tell, rungUp, letGo, hush, leave, join, reads}
@@ -52,7 +52,7 @@ pub book-is : {a b : Book} → a .now ≡ b .now → a .lines ≡ b .lines → a
 book-is p q r = λ k. record { now = p k; lines = q k; places = r k }
 
 -- two readings of one slot, one after the other
-pub lines² : (i : ℕ) (st : Station) (p : Slot) → getD (st .slots) i free ≡ p → (f g : Line → Line) (q : Slot) → g (f (view p)) ≡ view q
+pub lines² : (i : ℕ) (st : Station) (p : Slot) → theSlot st i ≡ p → (f g : Line → Line) (q : Slot) → g (f (view p)) ≡ view q
     → modAt g i (modAt f i (map view (st .slots))) ≡ map view (modAt (λ x. q) i (st .slots))
 lines² i st p e f g q h = modAt-modAt f g i (map view (st .slots)) ∙ modAt-map view (λ l. g (f l)) q free i (st .slots) (rw e h)
 
@@ -64,7 +64,7 @@ atLine³ i f g h b = ap (atLine i h) (atLine² i f g b) ∙ atLine² i (λ l. g 
 leave-first : (x : Party) (p : Place) (ps : List Place) → p .who ≡ x → leave x (p ∷ ps) ≡ ps
 leave-first x p ps h = rw (is-same x (p .who) (sym h))
 
-freedFor-good : (i : ℕ) (st : Station) (p : Slot) → getD (st .slots) i free ≡ p → (q : List Waiting) → st .queue ≡ q
+freedFor-good : (i : ℕ) (st : Station) (p : Slot) → theSlot st i ≡ p → (q : List Waiting) → st .queue ≡ q
     → (f : Line → Line) → f (view p) ≡ blank → Good (st .clock) (atLine i f (seen st)) [] (freedFor i st q)
 unfolding freedFor rungBack reads seen setSlot setQueue
 freedFor-good i st p e [] eq f h = record { reading = moves i st p e f free h; charging = refl }
@@ -73,17 +73,17 @@ freedFor-good i st p e (w ∷ q) eq f h = record {
   charging = refl;
 }
 
-pub freed-good : (i : ℕ) (st : Station) (p : Slot) → getD (st .slots) i free ≡ p → (f : Line → Line) → f (view p) ≡ blank → Good (st .clock) (atLine i f (seen st)) [] (freed i st)
+pub freed-good : (i : ℕ) (st : Station) (p : Slot) → theSlot st i ≡ p → (f : Line → Line) → f (view p) ≡ blank → Good (st .clock) (atLine i f (seen st)) [] (freed i st)
 unfolding freed
 freed-good i st p e f h = freedFor-good i st p e (st .queue) refl f h
 
 -- ── the coast's end ──────────────────────────────────────────────────────────
 
-pub coastEnd-good : (i : ℕ) (r : Request) (g : Stage) (st : Station) (p : Slot) → getD (st .slots) i free ≡ p → (f : Line → Line) → hush (letGo (f (view p))) ≡ blank
+pub coastEnd-good : (i : ℕ) (r : Request) (g : Option ℕ) (st : Station) (p : Slot) → theSlot st i ≡ p → (f : Line → Line) → hush (letGo (f (view p))) ≡ blank
     → Good (st .clock) (atLine i f (seen st)) (stopOf (st .clock) i (callIn r g)) (coastEnd i r g st)
 unfolding coastEnd reads
-coastEnd-good i r (dialling d) st p e f h = good-also (st .clock) (atLine i f (seen st)) (atLine i (λ l. hush (letGo (f l))) (seen st)) [] [] (endActs i theCoast r (dialling d) (st .clock)) (freed i st) (atLine³ i f letGo hush (seen st)) refl (freed-good i st p e (λ l. hush (letGo (f l))) h)
-coastEnd-good i r (answered b) st p e f h = good-also (st .clock) (atLine i f (seen st)) (atLine i (λ l. hush (letGo (f l))) (seen st)) (stopOf (st .clock) i (callIn r (answered b))) [] (endActs i theCoast r (answered b) (st .clock)) (freed i st) (atLine³ i f letGo hush (seen st)) refl (freed-good i st p e (λ l. hush (letGo (f l))) h)
+coastEnd-good i r none st p e f h = good-also (st .clock) (atLine i f (seen st)) (atLine i (λ l. hush (letGo (f l))) (seen st)) [] [] (endActs i theCoast r none (st .clock)) (freed i st) (atLine³ i f letGo hush (seen st)) refl (freed-good i st p e (λ l. hush (letGo (f l))) h)
+coastEnd-good i r (some b) st p e f h = good-also (st .clock) (atLine i f (seen st)) (atLine i (λ l. hush (letGo (f l))) (seen st)) (stopOf (st .clock) i (callIn r (some b))) [] (endActs i theCoast r (some b) (st .clock)) (freed i st) (atLine³ i f letGo hush (seen st)) refl (freed-good i st p e (λ l. hush (letGo (f l))) h)
 
 -- ── rules d to g ─────────────────────────────────────────────────────────────
 

@@ -6,11 +6,11 @@ use mathlib.Core.Option.{Option, none, some}
 use Prim.Native.Nat.{ℕ, zero, suc, _+_, _≤_}
 use native.Mathlib.Omega.{arith}
 use lib.Dec.{ltb}
-use lib.ListN.{getD, length, replicate}
+use lib.ListN.{length, replicate}
 use Rattle.rules.specs.Places.{modAt, shift, lowest, Each}
 use Rattle.rules.specs.Words.{Party, is, Request, Config, What, tick, onChannel70, onSlot, Event, Deed}
 use Rattle.rules.specs.Heard.{Heard, callRequest, dataRequest, bq, workingCall, endOfCall, nothing, meaning}
-use Rattle.rules.specs.Station.{Stage, Slot, free, Waiting, Station, fresh, setSlot, setClock, setQueue, dueAfter, queueWait, fires}
+use Rattle.rules.specs.Station.{Slot, free, Waiting, Station, theSlot, fresh, setSlot, setClock, setQueue, dueAfter, queueWait, fires, answeredAt}
 use Rattle.rules.specs.Requests.{Out, also, rungBack, freedFor, freed, coastEnd, owns, waitsFor, slotOf, placeOf, standsAt, standing, ruleA, repeated, afresh, ruleD, offer, ruleF, ruleG, isFree, eToG, newcomer, dToG, redial, requested}
 use Rattle.rules.specs.Calls.{heardOn70, actAt, act}
 use Rattle.rules.specs.Verdict.{verdict, play}
@@ -140,7 +140,7 @@ unfolding freedFor rungBack setSlot setQueue
 freedFor-fewer i x st [] e n = n
 freedFor-fewer i x st (w ∷ q) e n = let m : bit (is x (w .request .who)) + countQ x q ≤ 1 = rw e at n in omega arith
 
-coastEnd-fewer : (i : ℕ) (x : Party) (o : Request) (g : Stage) (st : Station) → countQ x (st .queue) ≤ 1 → countQ x (coastEnd i o g st .next .queue) ≤ 1
+coastEnd-fewer : (i : ℕ) (x : Party) (o : Request) (g : Option ℕ) (st : Station) → countQ x (st .queue) ≤ 1 → countQ x (coastEnd i o g st .next .queue) ≤ 1
 unfolding coastEnd freed
 coastEnd-fewer i x o g st n = freedFor-fewer i x st (st .queue) refl n
 
@@ -148,21 +148,22 @@ module _ (r : Request) (a : Party → Heard) (b : Book) (st : Station) (k : Know
   waits-once : countQ (r .who) (st .queue) ≤ 1
   waits-once = omega (arith, once (r .who))
 
-  ruling-said : (i : ℕ) (cs : List Stop) (p : Slot) (o : Out) → Ruling i st r cs p o → getD (st .slots) i free ≡ p → owns (r .who) p ≡ true → Said (callRequest r) a b o
+  ruling-said : (i : ℕ) (cs : List Stop) (p : Slot) (o : Out) → Ruling i st r cs p o → theSlot st i ≡ p → owns (r .who) p ≡ true → Said (callRequest r) a b o
   unfolding redial
   ruling-said i cs _ _ (passes p x) e h = calm-said _ a b _ (still (callRequest r) a b 1 st k)
   ruling-said i cs _ _ (repeats j o d x y) e h = calm-said _ a b _ (repeated-calm r a b i st k)
   ruling-said i cs _ _ (renews j o d x y) e h = calm-said _ a b _ (afresh-calm r a b i st k)
   ruling-said i cs _ _ (redials o g c x) e h =
       let q = o .request in
-      let end = coastEnd-calm (callRequest r) a b i st k q g in
-      also-said (callRequest r) a b (coastEnd i q g st) _ end (λ t. dToG-said r a (reads t (deedsOf (coastEnd i q g st .acts)) b) (coastEnd i q g st .next) (end .known) (coastEnd-gone i (r .who) q g st once (rw e h)) (placeOf (r .who) (coastEnd i q g st .next)) refl (coastEnd-fewer i (r .who) q g st waits-once))
+      let s = answeredAt g in
+      let end = coastEnd-calm (callRequest r) a b i st k q s in
+      also-said (callRequest r) a b (coastEnd i q s st) _ end (λ t. dToG-said r a (reads t (deedsOf (coastEnd i q s st .acts)) b) (coastEnd i q s st .next) (end .known) (coastEnd-gone i (r .who) q s st once (rw e h)) (placeOf (r .who) (coastEnd i q s st .next)) refl (coastEnd-fewer i (r .who) q s st waits-once))
 
   request-said : (o q : Option ℕ) → slotOf (r .who) st ≡ o → placeOf (r .who) st ≡ q → Said (callRequest r) a b (requested st r (standsAt o q))
   unfolding requested
   request-said none none e h = newcomer-said r a b st k (none-count (r .who) (st .slots) e) h
   request-said none (some j) e h = ruleD-said r a b st k (none-count (r .who) (st .slots) e) j h waits-once
-  request-said (some i) q e h = ruling-said i _ (getD (st .slots) i free) _ (bOrC-ruling i st r (getD (st .slots) i free)) refl (lowest-is free (owns (r .who)) (st .slots) i e)
+  request-said (some i) q e h = ruling-said i _ (theSlot st i) _ (bOrC-ruling i st r (theSlot st i)) refl (lowest-is free (owns (r .who)) (st .slots) i e)
 
 -- ── any event ────────────────────────────────────────────────────────────────
 
@@ -171,7 +172,7 @@ module _ (a : Party → Heard) where
   unfolding heardOn70 ruleA standing
   heard-said b st v k once (callRequest r) = request-said r a b st k once (slotOf (r .who) st) (placeOf (r .who) st) refl refl
   heard-said b st v k once (dataRequest x n) = calm-said _ a b _ (record { mild = record { repeats = ((refl, refl), tt); fits = λ t on. ((tt, tt), tt); untold = λ x. refl }; known = k })
-  heard-said b st v k once (bq i x) = calm-said _ a b _ (outcome-calm (bq i x) a b i st k v (bq-outcome i st x (getD (st .slots) i free)))
+  heard-said b st v k once (bq i x) = calm-said _ a b _ (outcome-calm (bq i x) a b i st k v (bq-outcome i st x (theSlot st i)))
   heard-said b st v k once (workingCall x) = calm-said _ a b _ (still (workingCall x) a b 1 st k)
   heard-said b st v k once (endOfCall x) = calm-said _ a b _ (still (endOfCall x) a b 1 st k)
   heard-said b st v k once nothing = calm-said _ a b _ (still nothing a b 1 st k)
@@ -180,7 +181,7 @@ module _ (a : Party → Heard) where
   unfolding actAt setClock seen
   act-said cfg st k once t tick = calm-said _ a (seen st) _ (tick-calm nothing a (seen st) st refl k t (fires t st))
   act-said cfg st k once t (onChannel70 m) = heard-said (seen st) (setClock t st) refl (clock-known a t st k) once (meaning cfg m)
-  act-said cfg st k once t (onSlot i h) = calm-said _ a (seen st) _ (outcome-calm nothing a (seen st) i (setClock t st) (clock-known a t st k) refl (happened-outcome i (setClock t st) cfg (getD (st .slots) i free) h))
+  act-said cfg st k once t (onSlot i h) = calm-said _ a (seen st) _ (outcome-calm nothing a (seen st) i (setClock t st) (clock-known a t st k) refl (happened-outcome i (setClock t st) cfg (theSlot st i) h))
 
 -- ── the run ──────────────────────────────────────────────────────────────────
 

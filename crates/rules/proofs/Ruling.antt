@@ -5,7 +5,7 @@ use mathlib.Core.Bool.{Bool, true, false, cond}
 use mathlib.Core.Option.{Option, none, some}
 use Prim.Native.Nat.{ℕ}
 use Rattle.rules.specs.Words.{Party, Mode, simplex, duplex, Request}
-use Rattle.rules.specs.Station.{Kind, offered, firstRing, secondRing, acknowledged, Stage, dialling, answered, Dealing, dealing, Slot, free, taken, pending, busy, held, Station, dueAfter, kindWait}
+use Rattle.rules.specs.Station.{Kind, offered, firstRing, secondRing, acknowledged, Stage, answeredAt, dialling, answered, Dealing, dealing, Slot, free, taken, pending, busy, held, Station, dueAfter, kindWait}
 use Rattle.rules.specs.Requests.{Out, ignored, owns, repeated, afresh, same, ruleB, redial, ruleC, bOrC}
 use Rattle.rules.specs.Book.{Stop, Line, blank, stopOf, askedAgain}
 use Rattle.rules.specs.Reading.{again, tell, letGo, hush}
@@ -29,15 +29,15 @@ pub data Ruling (i : ℕ) (st : Station) (r : Request) (cs : List Stop) : Slot �
   renews : (k : Kind) (o : Dealing) (d : ℕ) → tell (st .clock) r (again (r .who) (view (pending k o d))) ≡ view (offerOf r st) → [] ≡ map owed cs
       → Ruling i st r cs (pending k o d) (afresh i st r)
   redials : (o : Dealing) (g : Stage) (c : Option ℕ)
-      → (owns (r .who) (busy o g c) ≡ true → (hush (letGo (again (r .who) (view (busy o g c)))) ≡ blank) × (cs ≡ stopOf (st .clock) i (callIn (o .request) g)))
-      → Ruling i st r cs (busy o g c) (redial i (o .request) g st r)
+      → (owns (r .who) (busy o g c) ≡ true → (hush (letGo (again (r .who) (view (busy o g c)))) ≡ blank) × (cs ≡ stopOf (st .clock) i (callIn (o .request) (answeredAt g))))
+      → Ruling i st r cs (busy o g c) (redial i (o .request) (answeredAt g) st r)
 
 module _ (i : ℕ) (st : Station) (r : Request) where
   ruling-if : {cs : List Stop} {p : Slot} (b : Bool) (x y : Out) → (b ≡ true → Ruling i st r cs p x) → (b ≡ false → Ruling i st r cs p y) → Ruling i st r cs p (cond b x y)
   ruling-if true x y g h = g refl
   ruling-if false x y g h = h refl
 
-  ruleC-ruling : (o : Dealing) (g : Stage) (m : Mode) (c : Option ℕ) → o .request .mode ≡ m → Ruling i st r (againOf (st .clock) (r .who) i (view (busy o g c))) (busy o g c) (ruleC i (o .request) g m c st r)
+  ruleC-ruling : (o : Dealing) (g : Stage) (m : Mode) (c : Option ℕ) → o .request .mode ≡ m → Ruling i st r (againOf (st .clock) (r .who) i (view (busy o g c))) (busy o g c) (ruleC i (o .request) (answeredAt g) m c st r)
   unfolding ruleC
   ruleC-ruling o (dialling d) duplex c e = passes (busy o (dialling d) c) (λ h. (refl, refl))
   ruleC-ruling o (answered b) duplex c e = passes (busy o (answered b) c) (λ h. (rw (h, e) refl, rw (h, e) refl))

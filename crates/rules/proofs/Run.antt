@@ -4,13 +4,13 @@ use mathlib.Core.List.{List, [], _∷_, map}
 use mathlib.Core.Bool.{true}
 use mathlib.Core.Option.{Option, none, some}
 use Prim.Native.Nat.{ℕ, zero, suc}
-use lib.ListN.{getD, length, replicate}
+use lib.ListN.{length, replicate}
 use Rattle.rules.specs.Places.{dropAt, distinct}
 use Rattle.rules.specs.Words.{is, Config, What, tick, onChannel70, onSlot, Event}
 use Rattle.rules.specs.Waits.{Wait, ofQueue, loss, main, Due}
 use Rattle.rules.specs.Heard.{Heard, callRequest, dataRequest, bq, workingCall, endOfCall, nothing, meaning}
 use Rattle.rules.specs.Actions.{Action}
-use Rattle.rules.specs.Station.{free, Waiting, Station, fresh, setClock, setQueue, fires}
+use Rattle.rules.specs.Station.{free, Waiting, Station, theSlot, fresh, setClock, setQueue, fires}
 use Rattle.rules.specs.Sound.{owners}
 use Rattle.rules.specs.Requests.{Out, slotOf, placeOf, standing, ruleA}
 use Rattle.rules.specs.Calls.{fire, ticked, heardOn70, actAt, act}
@@ -29,11 +29,11 @@ use Rattle.rules.proofs.Accepted.{accepted, Sound, sounds, elem-waiting
 -- ── a slot of a station in which no ship stands twice ─────────────────────────
 
 module _ (st : Station) (once : distinct is (owners (st .slots) (map (λ w. w .request .who) (st .queue))) ≡ true) (i : ℕ) where
-  apart : Apart (map place (st .queue)) (getD (st .slots) i free)
+  apart : Apart (map place (st .queue)) (theSlot st i)
   apart k r d e = leave-none (r .request .who) (st .queue) (elem-waiting (r .request .who) (st .queue) (owner-apart (r .request .who) (st .slots) (map (λ w. w .request .who) (st .queue)) i once (rw e (is-same (r .request .who) (r .request .who) refl))))
 
-  slot-good : {f : Line → Line} {w : Word → Word} {cs : List Stop} {o : Out} → Outcome i st f w cs (getD (st .slots) i free) o → Good (st .clock) (atLine i f (seen st)) cs o
-  slot-good u = outcome-good i st (getD (st .slots) i free) refl u apart
+  slot-good : {f : Line → Line} {w : Word → Word} {cs : List Stop} {o : Out} → Outcome i st f w cs (theSlot st i) o → Good (st .clock) (atLine i f (seen st)) cs o
+  slot-good u = outcome-good i st (theSlot st i) refl u apart
 
 -- ── a tick ───────────────────────────────────────────────────────────────────
 
@@ -46,8 +46,8 @@ fire-good : (cfg : Config) (st : Station) → Sound cfg st → (w : Wait) (d : �
     → Good d (hearDue (setNow d (seen st)) (some record { what = w; at = d })) (stopsDue d (seen st) (some record { what = w; at = d })) (fire (setClock d st) w)
 unfolding fire setClock setQueue seen
 fire-good cfg st s (ofQueue k) d = good-done (setQueue (dropAt k (st .queue)) (setClock d st)) _ (ap (λ (z : List Place). record { now = d; lines = map view (st .slots); places = z }) (dropAt-map k (st .queue)))
-fire-good cfg st s (loss i) d = rw (line-is i st (getD (st .slots) i free) refl) (slot-good (setClock d st) (s .no-twice) i (end-outcome i (setClock d st) (getD (st .slots) i free)))
-fire-good cfg st s (main i) d = slot-good (setClock d st) (s .no-twice) i (main-outcome i (setClock d st) (getD (st .slots) i free))
+fire-good cfg st s (loss i) d = rw (line-is i st (theSlot st i) refl) (slot-good (setClock d st) (s .no-twice) i (end-outcome i (setClock d st) (theSlot st i)))
+fire-good cfg st s (main i) d = slot-good (setClock d st) (s .no-twice) i (main-outcome i (setClock d st) (theSlot st i))
 
 tick-good : (cfg : Config) (st : Station) → Sound cfg st → (t : ℕ) (o : Option Due) → Good (momentOf t o) (hearDue (setNow (momentOf t o) (seen st)) o) (stopsDue (momentOf t o) (seen st) o) (ticked st t o)
 unfolding ticked setClock seen
@@ -60,7 +60,7 @@ heard-good : (st : Station) → distinct is (owners (st .slots) (map (λ w. w .r
 unfolding heardOn70 ruleA standing seen reads
 heard-good st s (callRequest r) = request-good st r (map (λ w. w .request .who) (st .queue)) s (slotOf (r .who) st) (placeOf (r .who) st) refl refl
 heard-good st s (dataRequest x n) = record { reading = refl; charging = refl }
-heard-good st s (bq i x) = slot-good st s i (bq-outcome i st x (getD (st .slots) i free))
+heard-good st s (bq i x) = slot-good st s i (bq-outcome i st x (theSlot st i))
 heard-good st s (workingCall x) = good-ignored st _ refl
 heard-good st s (endOfCall x) = good-ignored st _ refl
 heard-good st s nothing = good-ignored st _ refl
@@ -70,7 +70,7 @@ pub event-good : (cfg : Config) (st : Station) → Sound cfg st → (t : ℕ) (w
 unfolding actAt seen setClock
 event-good cfg st s t tick = rw (falls-fires t st) (tick-good cfg st s t (fires t st))
 event-good cfg st s t (onChannel70 m) = heard-good (setClock t st) (s .no-twice) (meaning cfg m)
-event-good cfg st s t (onSlot i h) = rw (line-is i st (getD (st .slots) i free) refl) (slot-good (setClock t st) (s .no-twice) i (happened-outcome i (setClock t st) cfg (getD (st .slots) i free) h))
+event-good cfg st s t (onSlot i h) = rw (line-is i st (theSlot st i) refl) (slot-good (setClock t st) (s .no-twice) i (happened-outcome i (setClock t st) cfg (theSlot st i) h))
 
 -- ── the run ──────────────────────────────────────────────────────────────────
 

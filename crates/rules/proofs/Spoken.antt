@@ -1,5 +1,6 @@
 -- The three words dialled, released, lifted, of all slots at once: what each event says of them is what the book says.
 use mathlib.Core.Path.{_≡_, refl, sym, ap, _∙_}
+use mathlib.Core.Option.{Option, none, some}
 use mathlib.Core.List.{List, [], _∷_, _++_, map}
 use mathlib.Core.Bool.{Bool, true, false, cond}
 use Prim.Native.Nat.{ℕ, zero, suc}
@@ -7,7 +8,7 @@ use lib.ListN.{getD}
 use Rattle.rules.specs.Places.{modAt, Each}
 use Rattle.rules.specs.Words.{Request, Deed, carrierOn, carrierOff, acknowledge, ringBack, unable, dial, releaseLine}
 use Rattle.rules.specs.Actions.{theCoast, Action}
-use Rattle.rules.specs.Station.{dealing, firstRing, Stage, dialling, answered, Slot, free, pending, Waiting, Station, setSlot, setQueue, dueAfter, kindWait}
+use Rattle.rules.specs.Station.{dealing, firstRing, Slot, free, pending, Waiting, Station, theSlot, setSlot, setQueue, dueAfter, kindWait}
 use Rattle.rules.specs.Requests.{Out, done, ignored, also, rungBack, freedFor, freed, endActs, coastEnd}
 use Rattle.rules.specs.Book.{Stop, Line}
 use Rattle.rules.specs.ThreeWords.{Word, idle, ringing}
@@ -72,15 +73,15 @@ keep-word q (suc i) (s ∷ l) h = ap (λ r. word s ∷ r) (keep-word q i l h)
 
 module _ (i : ℕ) (st : Station) where
   -- the slot's word becomes that of q
-  turns-to : (f : Word → Word) (q : Slot) → f (word (getD (st .slots) i free)) ≡ word q → modAt f i (words st) ≡ words (setSlot i q st)
+  turns-to : (f : Word → Word) (q : Slot) → f (word (theSlot st i)) ≡ word q → modAt f i (words st) ≡ words (setSlot i q st)
   unfolding setSlot
   turns-to f q h = modAt-map word f q free i (st .slots) h
 
-  pub keeps : (q : Slot) → word (getD (st .slots) i free) ≡ word q → words st ≡ words (setSlot i q st)
+  pub keeps : (q : Slot) → word (theSlot st i) ≡ word q → words st ≡ words (setSlot i q st)
   unfolding setSlot
   keeps q h = keep-word q i (st .slots) h
 
-  rests : (f : Word → Word) → f (word (getD (st .slots) i free)) ≡ word (getD (st .slots) i free) → modAt f i (words st) ≡ words st
+  rests : (f : Word → Word) → f (word (theSlot st i)) ≡ word (theSlot st i) → modAt f i (words st) ≡ words st
   rests f h = modAt-same word f free i (st .slots) h
 
   freedFor-told : (ws : List Word) → ws ≡ words (setSlot i free st) → (q : List Waiting) → Spoken ws (freedFor i st q)
@@ -93,10 +94,10 @@ module _ (i : ℕ) (st : Station) where
   freed-told ws h = freedFor-told ws h (st .queue)
 
   -- the line is released
-  pub coastEnd-told : (r : Request) (g : Stage) → Spoken (words st) (coastEnd i r g st)
+  pub coastEnd-told : (r : Request) (g : Option ℕ) → Spoken (words st) (coastEnd i r g st)
   unfolding coastEnd spoken
-  coastEnd-told r (dialling d) = told-also (words st) (modAt (λ w. idle) i (words st)) (endActs i theCoast r (dialling d) (st .clock)) (freed i st) refl (freed-told (modAt (λ w. idle) i (words st)) (turns-to (λ w. idle) free refl))
-  coastEnd-told r (answered b) = told-also (words st) (modAt (λ w. idle) i (words st)) (endActs i theCoast r (answered b) (st .clock)) (freed i st) refl (freed-told (modAt (λ w. idle) i (words st)) (turns-to (λ w. idle) free refl))
+  coastEnd-told r none = told-also (words st) (modAt (λ w. idle) i (words st)) (endActs i theCoast r none (st .clock)) (freed i st) refl (freed-told (modAt (λ w. idle) i (words st)) (turns-to (λ w. idle) free refl))
+  coastEnd-told r (some b) = told-also (words st) (modAt (λ w. idle) i (words st)) (endActs i theCoast r (some b) (st .clock)) (freed i st) refl (freed-told (modAt (λ w. idle) i (words st)) (turns-to (λ w. idle) free refl))
 
   -- ── whatever happens to the slot ──
   spoken-here : (ds : List Deed) (f : Word → Word) (ws : List Word) → Each (About i []) ds → spoken ds (modAt f i ws) ≡ modAt (λ w. allDone ds (f w)) i ws
@@ -110,15 +111,15 @@ module _ (i : ℕ) (st : Station) where
   spoken-here (dial j n ∷ ds) f ws a = rw (← (a .0), modAt-modAt f (λ w. ringing) i ws) (spoken-here ds (λ w. ringing) ws (a .1))
   spoken-here (releaseLine j ∷ ds) f ws a = rw (← (a .0), modAt-modAt f (λ w. idle) i ws) (spoken-here ds (λ w. idle) ws (a .1))
 
-  played-told : (f : Word → Word) (p : Slot) (n : Next) (acts : List Action) → getD (st .slots) i free ≡ p → Each (About i []) (deedsOf acts) → allDone (deedsOf acts) (f (word p)) ≡ word (leaves p n) → Spoken (modAt f i (words st)) (played i st n acts)
+  played-told : (f : Word → Word) (p : Slot) (n : Next) (acts : List Action) → theSlot st i ≡ p → Each (About i []) (deedsOf acts) → allDone (deedsOf acts) (f (word p)) ≡ word (leaves p n) → Spoken (modAt f i (words st)) (played i st n acts)
   played-told f p stays acts e a h = record { telling = spoken-here (deedsOf acts) f (words st) a ∙ rests (λ w. allDone (deedsOf acts) (f w)) (rw e h) }
   played-told f p (becomes q) acts e a h = record { telling = spoken-here (deedsOf acts) f (words st) a ∙ turns-to (λ w. allDone (deedsOf acts) (f w)) q (rw e h) }
   played-told f p frees acts e a h = told-also (modAt f i (words st)) (modAt (λ w. allDone (deedsOf acts) (f w)) i (words st)) acts (freed i st) (spoken-here (deedsOf acts) f (words st) a) (freed-told _ (turns-to (λ w. allDone (deedsOf acts) (f w)) free (rw e h)))
 
-  pub outcome-told : {f : Line → Line} {w : Word → Word} {cs : List Stop} {o : Out} (p : Slot) → Outcome i st f w cs p o → getD (st .slots) i free ≡ p → Spoken (modAt w i (words st)) o
+  pub outcome-told : {f : Line → Line} {w : Word → Word} {cs : List Stop} {o : Out} (p : Slot) → Outcome i st f w cs p o → theSlot st i ≡ p → Spoken (modAt w i (words st)) o
   outcome-told {w = w} p (passed a b c) e = told-ignored (modAt w i (words st)) st (rests w (rw e b))
   outcome-told {w = w} p (moved {n} {acts} u a b c) e = played-told w p n acts e (move-about [] i (st .clock) p n acts u (λ k r d h. refl)) b
 
   -- where no line is lifted
-  pub calm-told : {f : Line → Line} {cs : List Stop} {o : Out} (p : Slot) → Outcome i st f (λ w. w) cs p o → getD (st .slots) i free ≡ p → Spoken (words st) o
+  pub calm-told : {f : Line → Line} {cs : List Stop} {o : Out} (p : Slot) → Outcome i st f (λ w. w) cs p o → theSlot st i ≡ p → Spoken (words st) o
   calm-told p u e = record { telling = ap (spoken _) (sym (rests (λ w. w) refl)) ∙ outcome-told p u e .telling }

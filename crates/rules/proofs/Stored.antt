@@ -1,11 +1,12 @@
 -- What a station stores keeps the rules of 01: what every event keeps of it.
 use mathlib.Core.Path.{_≡_, refl, _∙_}
+use mathlib.Core.Option.{Option, none, some}
 use mathlib.Core.List.{List, [], _∷_}
 use mathlib.Core.Bool.{Bool, true, false, cond}
 use Prim.Native.Nat.{ℕ, zero, suc, _-_, _/_, _%_}
 use native.Mathlib.Omega.{arith}
 use lib.Dec.{leb}
-use lib.ListN.{getD, length}
+use lib.ListN.{length}
 use borrow.Author.Tests.{leb-true, le-leb}
 use Rattle.units.specs.Units.{wholeSeconds, durationOf}
 use Rattle.units.specs.declared.Seconds.{Seconds}
@@ -14,7 +15,7 @@ use Rattle.sequence.specs.Field.{durationOk}
 use Rattle.rules.specs.Places.{modAt, dropAt, all}
 use Rattle.rules.specs.Words.{Request, Config}
 use Rattle.rules.specs.Actions.{Action}
-use Rattle.rules.specs.Station.{dealing, firstRing, Stage, dialling, answered, Slot, free, pending, Waiting, Station, setSlot, setClock, setQueue, dueAfter, kindWait}
+use Rattle.rules.specs.Station.{dealing, firstRing, Slot, free, pending, Waiting, Station, theSlot, setSlot, setClock, setQueue, dueAfter, kindWait, answeredAt}
 use Rattle.rules.specs.Sound.{requestKeeps, durationKeeps, slotKeeps, waitingKeeps}
 use Rattle.rules.specs.Requests.{rungBack, freedFor, freed, lasted, ruleD, ruleF}
 use Rattle.rules.proofs.PlaceLaws.{and-true, modAt-length, all-set, all-at, all-end, all-dropped}
@@ -37,10 +38,10 @@ duration-keeps s = go (leb (s .0) 359999) refl
     go true e = let h = leb-true (s .0) 359999 e in rw (le-leb (s .0 / 3600) 99 (omega arith), le-leb (s .0 / 60 % 60) 59 (omega arith), le-leb (s .0 % 60) 59 (omega arith)) refl
     go false e = refl
 
-pub lasted-keeps : (g : Stage) (t : ℕ) → durationKeeps (lasted g t) ≡ true
+pub lasted-keeps : (g : Option ℕ) (t : ℕ) → durationKeeps (lasted g t) ≡ true
 unfolding durationKeeps
-lasted-keeps (dialling d) t = refl
-lasted-keeps (answered b) t = duration-keeps (wholeSeconds (record { 0 = t - b }))
+lasted-keeps none t = refl
+lasted-keeps (some b) t = duration-keeps (wholeSeconds (record { 0 = t - b }))
 
 -- ── the pieces ───────────────────────────────────────────────────────────────
 
@@ -69,10 +70,10 @@ module _ (cfg : Config) where
   turned-keeps i t _ _ _ (to-answer r d c) h = h
   turned-keeps i t _ _ _ (to-lose r g c) h = h
   turned-keeps i t _ _ _ (to-regain r g c) h = h
-  turned-keeps i t _ _ _ (to-hold r g c) h = rw (h, lasted-keeps g t) refl
+  turned-keeps i t _ _ _ (to-hold r g c) h = rw (h, lasted-keeps (answeredAt g) t) refl
   turned-keeps i t _ _ _ to-take h = refl
 
-  turned-stored : (i : ℕ) (st : Station) (p q : Slot) (acts : List Action) → getD (st .slots) i free ≡ p → Move i (st .clock) p (becomes q) acts → Stored cfg st → Stored cfg (setSlot i q st)
+  turned-stored : (i : ℕ) (st : Station) (p q : Slot) (acts : List Action) → theSlot st i ≡ p → Move i (st .clock) p (becomes q) acts → Stored cfg st → Stored cfg (setSlot i q st)
   turned-stored i st p q acts e t s = set-stored i q st (turned-keeps i (st .clock) p q acts t (rw e at (all-at (slotKeeps cfg) free refl i (st .slots) (s .slots-keep)))) s
 
   freedFor-stored : (i : ℕ) (st : Station) → Stored cfg st → (q : List Waiting) → st .queue ≡ q → Stored cfg (freedFor i st q .next)

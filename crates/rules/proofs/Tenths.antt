@@ -9,19 +9,19 @@ use lib.Dec.{eqb, leb}
 use lib.ListN.{length, replicate}
 use borrow.Author.Tests.{leb-true}
 use Rattle.rules.specs.Places.{all}
-use Rattle.rules.specs.Words.{Party, Config, What, tick, onChannel70, onSlot, Event, Deed, carrierOn, carrierOff, acknowledge, ringBack, unable, dial, releaseLine}
+use Rattle.rules.specs.Words.{Party, Request, Config, What, tick, onChannel70, onSlot, Event, Deed, carrierOn, carrierOff, acknowledge, ringBack, unable, dial, releaseLine}
 use Rattle.rules.specs.Waits.{Wait, ofQueue, loss, main, Due, sooner, earliest, ifDue}
 use Rattle.rules.specs.Heard.{Heard, callRequest, dataRequest, bq, workingCall, endOfCall, nothing, meaning}
 use Rattle.rules.specs.Actions.{Charge}
-use Rattle.rules.specs.Station.{dialling, answered, Slot, free, taken, pending, busy, held, Station, fresh, table, fires}
+use Rattle.rules.specs.Station.{Slot, free, taken, pending, busy, held, Station, fresh, table, fires, answeredAt}
 use Rattle.rules.specs.Calls.{act}
 use Rattle.rules.specs.Verdict.{verdict, play, final}
 use Rattle.rules.specs.Book.{Note, Stop, after, Call, quiet, dialled, talking, Book, atPlaces, fallsAt, falling, momentOf, moment}
 use Rattle.rules.specs.Reading.{hearHeard, hearDue, hear, join, read, reads, setNow, turn, stopsIn, Numbered, numbered, isTalking, talkers, counted, talked, talkedBy}
-use Rattle.rules.specs.Statement.{notes, charged, owed, tenthsIn, heldSlot, heldSlots, heldTenths, TenthsAgree}
+use Rattle.rules.specs.Statement.{notes, charged, owed, tenthsIn, heldFrom, heldSlot, heldSlots, heldTenths, TenthsAgree}
 use Rattle.rules.proofs.PlaceLaws.{and-true}
-use Rattle.rules.proofs.Base.{view, seen, falls-fires}
-use Rattle.rules.proofs.Accepted.{accepted, Sound, sounds, begunBy, begun-all, due-all}
+use Rattle.rules.proofs.Base.{callIn, view, seen, falls-fires}
+use Rattle.rules.proofs.Accepted.{accepted, Sound, sounds, begun, begunBy, begun-all, due-all}
 use Rattle.rules.proofs.Run.{noteOf, turn-is, stops-are, play-on, play-past, final-on, final-past, fresh-seen}
 use Rattle.rules.proofs.Talked.{sum, turn-takes}
 
@@ -32,20 +32,26 @@ since t quiet = true
 since t (dialled x m) = true
 since t (talking x m b) = leb b t
 
+since-call : (t : ℕ) (r : Request) (b : Option ℕ) → since t (callIn r b) ≡ begun t b
+since-call t r none = refl
+since-call t r (some b) = refl
+
 pub since-slot : (t : ℕ) (s : Slot) → since t (view s .call) ≡ begunBy t s
 since-slot t free = refl
 since-slot t taken = refl
 since-slot t (pending k r d) = refl
-since-slot t (busy r (dialling d) c) = refl
-since-slot t (busy r (answered b) c) = refl
+since-slot t (busy r g c) = since-call t (r .request) (answeredAt g)
 since-slot t (held r n d) = refl
+
+held-call : (t : ℕ) (r : Request) (b : Option ℕ) → talked t (callIn r b) ≡ heldFrom t b
+held-call t r none = refl
+held-call t r (some b) = refl
 
 held-slot : (t : ℕ) (s : Slot) → talked t (view s .call) ≡ heldSlot t s
 held-slot t free = refl
 held-slot t taken = refl
 held-slot t (pending k r d) = refl
-held-slot t (busy r (dialling d) c) = refl
-held-slot t (busy r (answered b) c) = refl
+held-slot t (busy r g c) = held-call t (r .request) (answeredAt g)
 held-slot t (held r n d) = refl
 
 held-slots : (t : ℕ) (ss : List Slot) → talkedBy t (map view ss) ≡ heldSlots t ss

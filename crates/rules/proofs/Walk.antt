@@ -5,12 +5,12 @@ use mathlib.Core.Bool.{Bool, true, false, cond}
 use mathlib.Core.Option.{Option, none, some}
 use Prim.Native.Nat.{ℕ}
 use lib.Dec.{ltb}
-use lib.ListN.{getD, length}
+use lib.ListN.{length}
 use Rattle.rules.specs.Places.{dropAt, lowest}
 use Rattle.rules.specs.Words.{is, Request, Config, What, tick, onChannel70, onSlot, Event}
 use Rattle.rules.specs.Waits.{Wait, ofQueue, loss, main, Due}
 use Rattle.rules.specs.Heard.{Heard, callRequest, dataRequest, bq, workingCall, endOfCall, nothing, meaning}
-use Rattle.rules.specs.Station.{Dealing, Kind, Stage, Slot, free, pending, Station, setSlot, setClock, setQueue, fires}
+use Rattle.rules.specs.Station.{Dealing, Kind, Slot, free, pending, Station, theSlot, setSlot, setClock, setQueue, fires, answeredAt}
 use Rattle.rules.specs.Sound.{requestKeeps, queueRoom}
 use Rattle.rules.specs.Requests.{Out, freed, coastEnd, owns, slotOf, placeOf, standsAt, standing, ruleA, repeated, afresh, ruleD, offer, ruleF, ruleG, isFree, eToG, newcomer, dToG, redial, requested}
 use Rattle.rules.specs.Calls.{fire, ticked, heardOn70, actAt, act}
@@ -30,10 +30,10 @@ use Rattle.rules.proofs.Once.{countS, Once, distinct-once, none-count, 
 -- ── the changes ──────────────────────────────────────────────────────────────
 
 pub record Closed (cfg : Config) (P : Station → Type 0) : Type 0 where
-  pub turning : (i : ℕ) (st : Station) (p q : Slot) (acts : List Action) → getD (st .slots) i free ≡ p → Move i (st .clock) p (becomes q) acts → P st → P (setSlot i q st)
+  pub turning : (i : ℕ) (st : Station) (p q : Slot) (acts : List Action) → theSlot st i ≡ p → Move i (st .clock) p (becomes q) acts → P st → P (setSlot i q st)
   pub freeing : (i : ℕ) (st : Station) → P st → P (freed i st .next)
   -- a request that keeps the rules: offered afresh to its ship, offered to a ship that stands nowhere, waiting, replaced
-  pub renewed : (i : ℕ) (st : Station) (r : Request) → requestKeeps cfg r ≡ true → (k : Kind) (o : Dealing) (d : ℕ) → getD (st .slots) i free ≡ pending k o d → is (r .who) (o .request .who) ≡ true → P st → P (setSlot i (offerOf r st) st)
+  pub renewed : (i : ℕ) (st : Station) (r : Request) → requestKeeps cfg r ≡ true → (k : Kind) (o : Dealing) (d : ℕ) → theSlot st i ≡ pending k o d → is (r .who) (o .request .who) ≡ true → P st → P (setSlot i (offerOf r st) st)
   pub offering : (i : ℕ) (st : Station) (r : Request) → requestKeeps cfg r ≡ true → countS (r .who) (st .slots) ≡ 0 → placeOf (r .who) st ≡ none → P st → P (setSlot i (offerOf r st) st)
   pub joining : (st : Station) (r : Request) → requestKeeps cfg r ≡ true → countS (r .who) (st .slots) ≡ 0 → placeOf (r .who) st ≡ none → lowest isFree (st .slots) ≡ none → ltb (length (st .queue)) queueRoom ≡ true → P st → P (ruleF st r .next)
   pub replacing : (k : ℕ) (st : Station) (r : Request) → requestKeeps cfg r ≡ true → placeOf (r .who) st ≡ some k → P st → P (ruleD k st r .next)
@@ -42,11 +42,11 @@ pub record Closed (cfg : Config) (P : Station → Type 0) : Type 0 where
 -- ── on a slot ────────────────────────────────────────────────────────────────
 
 module _ (cfg : Config) (P : Station → Type 0) (closed : Closed cfg P) where
-  coastEnd-kept : (i : ℕ) (r : Request) (g : Stage) (st : Station) → P st → P (coastEnd i r g st .next)
+  coastEnd-kept : (i : ℕ) (r : Request) (g : Option ℕ) (st : Station) → P st → P (coastEnd i r g st .next)
   unfolding coastEnd
   coastEnd-kept i r g st s = closed .freeing i st s
 
-  outcome-kept : (i : ℕ) (st : Station) {f : Line → Line} {w : Word → Word} {cs : List Stop} (p : Slot) {o : Out} → Outcome i st f w cs p o → getD (st .slots) i free ≡ p → P st → P (o .next)
+  outcome-kept : (i : ℕ) (st : Station) {f : Line → Line} {w : Word → Word} {cs : List Stop} (p : Slot) {o : Out} → Outcome i st f w cs p o → theSlot st i ≡ p → P st → P (o .next)
   outcome-kept i st p (passed a b c) e s = s
   outcome-kept i st p (moved {n = stays} u a b c) e s = s
   outcome-kept i st p (moved {n = becomes q} u a b c) e s = closed .turning i st p q _ e u s
@@ -55,8 +55,8 @@ module _ (cfg : Config) (P : Station → Type 0) (closed : Closed cfg P) where
   fire-kept : (st : Station) → P st → (w : Wait) → P (fire st w .next)
   unfolding fire
   fire-kept st s (ofQueue k) = closed .dropping k st s
-  fire-kept st s (loss i) = outcome-kept i st (getD (st .slots) i free) (end-outcome i st (getD (st .slots) i free)) refl s
-  fire-kept st s (main i) = outcome-kept i st (getD (st .slots) i free) (main-outcome i st (getD (st .slots) i free)) refl s
+  fire-kept st s (loss i) = outcome-kept i st (theSlot st i) (end-outcome i st (theSlot st i)) refl s
+  fire-kept st s (main i) = outcome-kept i st (theSlot st i) (main-outcome i st (theSlot st i)) refl s
 
   -- ── a request ──────────────────────────────────────────────────────────────
 
@@ -80,24 +80,24 @@ module _ (cfg : Config) (P : Station → Type 0) (closed : Closed cfg P) where
     dToG-kept st s n (some k) h = closed .replacing k st r keeps h s
 
     module _ (i : ℕ) (st : Station) (s : P st) (once : Once st) where
-      ruling-kept : (cs : List Stop) (p : Slot) (o : Out) → Ruling i st r cs p o → getD (st .slots) i free ≡ p → owns (r .who) p ≡ true → P (o .next)
+      ruling-kept : (cs : List Stop) (p : Slot) (o : Out) → Ruling i st r cs p o → theSlot st i ≡ p → owns (r .who) p ≡ true → P (o .next)
       unfolding repeated afresh redial
       ruling-kept cs _ _ (passes p a) e h = s
       ruling-kept cs _ _ (repeats k o d a b) e h = s
       ruling-kept cs _ _ (renews k o d a b) e h = closed .renewed i st r keeps k o d e h s
-      ruling-kept cs _ _ (redials o g c a) e h = dToG-kept (coastEnd i (o .request) g st .next) (coastEnd-kept i (o .request) g st s) (coastEnd-gone i (r .who) (o .request) g st once (rw e h)) (placeOf (r .who) (coastEnd i (o .request) g st .next)) refl
+      ruling-kept cs _ _ (redials o g c a) e h = dToG-kept (coastEnd i (o .request) (answeredAt g) st .next) (coastEnd-kept i (o .request) (answeredAt g) st s) (coastEnd-gone i (r .who) (o .request) (answeredAt g) st once (rw e h)) (placeOf (r .who) (coastEnd i (o .request) (answeredAt g) st .next)) refl
 
     request-kept : (st : Station) → P st → Once st → (o k : Option ℕ) → slotOf (r .who) st ≡ o → placeOf (r .who) st ≡ k → P (requested st r (standsAt o k) .next)
     unfolding requested
     request-kept st s once none none e h = newcomer-kept st s (none-count (r .who) (st .slots) e) h
     request-kept st s once none (some k) e h = closed .replacing k st r keeps h s
-    request-kept st s once (some i) k e h = ruling-kept i st s once _ (getD (st .slots) i free) _ (bOrC-ruling i st r (getD (st .slots) i free)) refl (lowest-is free (owns (r .who)) (st .slots) i e)
+    request-kept st s once (some i) k e h = ruling-kept i st s once _ (theSlot st i) _ (bOrC-ruling i st r (theSlot st i)) refl (lowest-is free (owns (r .who)) (st .slots) i e)
 
   heard-kept : (st : Station) → P st → Once st → (m : Heard) → ((r : Request) → m ≡ callRequest r → requestKeeps cfg r ≡ true) → P (heardOn70 st m .next)
   unfolding heardOn70 ruleA standing
   heard-kept st s once (callRequest r) k = request-kept r (k r refl) st s once (slotOf (r .who) st) (placeOf (r .who) st) refl refl
   heard-kept st s once (dataRequest x n) k = s
-  heard-kept st s once (bq i x) k = outcome-kept i st (getD (st .slots) i free) (bq-outcome i st x (getD (st .slots) i free)) refl s
+  heard-kept st s once (bq i x) k = outcome-kept i st (theSlot st i) (bq-outcome i st x (theSlot st i)) refl s
   heard-kept st s once (workingCall x) k = s
   heard-kept st s once (endOfCall x) k = s
   heard-kept st s once nothing k = s
@@ -124,4 +124,4 @@ module _ (cfg : Config) (P : Station → Type 0) (closed : Closed cfg P) where
       go : (w : What) → e .what ≡ w → P (setClock (momentOf (e .time) (fallsAt (seen st) (e .time) w)) st) → P (actAt cfg st (e .time) w .next)
       go tick x k = fired (fires (e .time) st) (rw (falls-fires (e .time) st) at k)
       go (onChannel70 m) x k = heard-kept (setClock (e .time) st) k once (meaning cfg m) (readable m x)
-      go (onSlot i h) x k = outcome-kept i (setClock (e .time) st) (getD (st .slots) i free) (happened-outcome i (setClock (e .time) st) cfg (getD (st .slots) i free) h) refl k
+      go (onSlot i h) x k = outcome-kept i (setClock (e .time) st) (theSlot st i) (happened-outcome i (setClock (e .time) st) cfg (theSlot st i) h) refl k

@@ -11,7 +11,7 @@ use borrow.Author.Tests.{leb-true, ltb-true, le-leb}
 use Rattle.rules.specs.Places.{modAt, dropAt, all}
 use Rattle.rules.specs.Words.{Party, is, Mode, Request, Config}
 use Rattle.rules.specs.Actions.{Action}
-use Rattle.rules.specs.Station.{Dealing, dealing, Kind, offered, firstRing, secondRing, acknowledged, Stage, Slot, free, pending, Waiting, Station, setSlot, setQueue, dueAfter, kindWait, carrierWait, replyWait, holdWait, queueWait}
+use Rattle.rules.specs.Station.{Dealing, dealing, Kind, offered, firstRing, secondRing, acknowledged, Stage, Slot, free, pending, Waiting, Station, theSlot, setSlot, setQueue, dueAfter, kindWait, carrierWait, replyWait, holdWait, queueWait}
 use Rattle.rules.specs.Sound.{queueRoom, fits, stageFits, lossFits, slotFits, placeFits}
 use Rattle.rules.specs.Requests.{rungBack, freedFor, freed, owns, waitsFor, placeOf, ruleD, ruleF}
 use Rattle.rules.specs.Calls.{startLoss}
@@ -38,10 +38,10 @@ new-wait : (c w : ℕ) → fits c w (dueAfter c w) ≡ true
 new-wait c w = rw (le-leb c (c + (w + 1)) (omega arith), le-leb (c + (w + 1)) (c + (w + 1)) (omega arith)) refl
 
 set-whole : (i : ℕ) (q : Slot) (st : Station) → Whole st → slotFits (st .clock) q ≡ true
-    → ((x : Party) → countS x (st .slots) + countQ x (st .queue) + bit (owns x q) ≤ 1 + bit (owns x (getD (st .slots) i free))) → Whole (setSlot i q st)
+    → ((x : Party) → countS x (st .slots) + countQ x (st .queue) + bit (owns x q) ≤ 1 + bit (owns x (theSlot st i))) → Whole (setSlot i q st)
 unfolding setSlot
 set-whole i q st w f h = record {
-  once = λ x. less (countS x (modAt (λ y. q) i (st .slots))) (bit (owns x (getD (st .slots) i free))) (countS x (st .slots)) (bit (owns x q)) (countQ x (st .queue)) (count-set x i q (st .slots)) (h x);
+  once = λ x. less (countS x (modAt (λ y. q) i (st .slots))) (bit (owns x (theSlot st i))) (countS x (st .slots)) (bit (owns x q)) (countQ x (st .queue)) (count-set x i q (st .slots)) (h x);
   fit = all-set (slotFits (st .clock)) i q (st .slots) (w .fit) f;
   placed = w .placed;
   room = w .room;
@@ -51,7 +51,7 @@ set-whole i q st w f h = record {
     less n o s p k a b = omega arith
 
 -- a slot's ship stays or goes
-turn-whole : (i : ℕ) (st : Station) (p : Slot) → getD (st .slots) i free ≡ p → Whole st → (q : Slot) → slotFits (st .clock) q ≡ true → ((x : Party) → bit (owns x q) ≤ bit (owns x p)) → Whole (setSlot i q st)
+turn-whole : (i : ℕ) (st : Station) (p : Slot) → theSlot st i ≡ p → Whole st → (q : Slot) → slotFits (st .clock) q ≡ true → ((x : Party) → bit (owns x q) ≤ bit (owns x p)) → Whole (setSlot i q st)
 turn-whole i st p e w q f h = set-whole i q st w f (λ x. rw e (sum3 (countS x (st .slots)) (countQ x (st .queue)) (bit (owns x q)) (bit (owns x p)) (w .once x) (h x)))
   where
     sum3 : (a b c d : ℕ) → a + b ≤ 1 → c ≤ d → a + b + c ≤ 1 + d
@@ -82,16 +82,16 @@ turned-owner i t _ _ _ (to-regain r g c) x = omega arith
 turned-owner i t _ _ _ (to-hold r g c) x = omega arith
 turned-owner i t _ _ _ to-take x = omega arith
 
-turned-whole : (i : ℕ) (st : Station) (p q : Slot) (acts : List Action) → getD (st .slots) i free ≡ p → Move i (st .clock) p (becomes q) acts → Whole st → Whole (setSlot i q st)
+turned-whole : (i : ℕ) (st : Station) (p q : Slot) (acts : List Action) → theSlot st i ≡ p → Move i (st .clock) p (becomes q) acts → Whole st → Whole (setSlot i q st)
 turned-whole i st p q acts e t w = turn-whole i st p e w q (turned-fits i (st .clock) p q acts t (rw e at (all-at (slotFits (st .clock)) free refl i (st .slots) (w .fit)))) (turned-owner i (st .clock) p q acts t)
 
 -- ── a slot freed ─────────────────────────────────────────────────────────────
 
 freedFor-whole : (i : ℕ) (st : Station) → Whole st → (q : List Waiting) → st .queue ≡ q → Whole (freedFor i st q .next)
 unfolding freedFor rungBack setSlot setQueue
-freedFor-whole i st w [] e = turn-whole i st (getD (st .slots) i free) refl w free refl (λ x. omega arith)
+freedFor-whole i st w [] e = turn-whole i st (theSlot st i) refl w free refl (λ x. omega arith)
 freedFor-whole i st w (v ∷ q) e = record {
-  once = λ x. less (countS x (modAt (λ y. pending firstRing (dealing (v .request)) (dueAfter (st .clock) (kindWait firstRing))) i (st .slots))) (bit (owns x (getD (st .slots) i free))) (countS x (st .slots)) (bit (is x (v .request .who))) (countQ x q) (count-set x i (pending firstRing (dealing (v .request)) (dueAfter (st .clock) (kindWait firstRing))) (st .slots)) (rw e at (w .once x));
+  once = λ x. less (countS x (modAt (λ y. pending firstRing (dealing (v .request)) (dueAfter (st .clock) (kindWait firstRing))) i (st .slots))) (bit (owns x (theSlot st i))) (countS x (st .slots)) (bit (is x (v .request .who))) (countQ x q) (count-set x i (pending firstRing (dealing (v .request)) (dueAfter (st .clock) (kindWait firstRing))) (st .slots)) (rw e at (w .once x));
   fit = all-set (slotFits (st .clock)) i (pending firstRing (dealing (v .request)) (dueAfter (st .clock) (kindWait firstRing))) (st .slots) (w .fit) (new-wait (st .clock) (kindWait firstRing));
   placed = and-true (placeFits (st .clock) v) (all (placeFits (st .clock)) q) (rw e at (w .placed)) .1;
   room = shorter (length q) (rw e at (w .room));
@@ -160,12 +160,12 @@ module _ (st : Station) (r : Request) (here : countS (r .who) (st .slots) ≡ 0)
       more n h = omega arith
 
   offer-whole : (i : ℕ) → Whole (setSlot i (offerOf r st) st)
-  offer-whole i = set-whole i (offerOf r st) st w (new-wait (st .clock) (kindWait offered)) (λ x. weaker (bit (owns x (getD (st .slots) i free))) (countS x (st .slots) + countQ x (st .queue) + bit (is x (r .who))) (once-more x))
+  offer-whole i = set-whole i (offerOf r st) st w (new-wait (st .clock) (kindWait offered)) (λ x. weaker (bit (owns x (theSlot st i))) (countS x (st .slots) + countQ x (st .queue) + bit (is x (r .who))) (once-more x))
     where
       weaker : (b n : ℕ) → n ≤ 1 → n ≤ 1 + b
       weaker b n h = omega arith
 
-renewed-whole : (i : ℕ) (st : Station) (r : Request) (k : Kind) (o : Dealing) (d : ℕ) → getD (st .slots) i free ≡ pending k o d → is (r .who) (o .request .who) ≡ true → Whole st → Whole (setSlot i (offerOf r st) st)
+renewed-whole : (i : ℕ) (st : Station) (r : Request) (k : Kind) (o : Dealing) (d : ℕ) → theSlot st i ≡ pending k o d → is (r .who) (o .request .who) ≡ true → Whole st → Whole (setSlot i (offerOf r st) st)
 renewed-whole i st r k o d e h w = turn-whole i st (pending k o d) e w (offerOf r st) (new-wait (st .clock) (kindWait offered)) (λ x. rw (is-true (r .who) (o .request .who) h) (omega arith))
 
 -- ── the queue ────────────────────────────────────────────────────────────────

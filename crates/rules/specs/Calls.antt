@@ -3,14 +3,13 @@ use mathlib.Core.List.{[], _∷_}
 use mathlib.Core.Bool.{cond}
 use mathlib.Core.Option.{Option, none, some}
 use Prim.Native.Nat.{ℕ}
-use lib.ListN.{getD}
 use Rattle.units.specs.declared.Told.{Told}
 use Rattle.rules.specs.Places.{dropAt}
 use Rattle.rules.specs.Words.{Party, is, Mode, Request, Config, Signal, lineLifted, lineHung, carrierHeard, carrierLost, Hand, handTakes, handGives, Happened, heard, signal, operator, What, tick, onChannel70, onSlot, Event, carrierOn, carrierOff, ringBack, dial}
 use Rattle.rules.specs.Waits.{Wait, ofQueue, loss, main, Due}
 use Rattle.rules.specs.Heard.{Heard, callRequest, dataRequest, bq, workingCall, endOfCall, nothing, meaning}
 use Rattle.rules.specs.Actions.{does, over, theShip}
-use Rattle.rules.specs.Station.{Kind, offered, firstRing, secondRing, acknowledged, Stage, dialling, answered, Dealing, Slot, free, taken, pending, busy, held, Station, setSlot, setClock, setQueue, dueAfter, kindWait, carrierWait, replyWait, holdWait, fires}
+use Rattle.rules.specs.Station.{Kind, offered, firstRing, secondRing, acknowledged, Stage, dialling, answered, answeredAt, Dealing, Slot, free, taken, pending, busy, held, Station, theSlot, setSlot, setClock, setQueue, dueAfter, kindWait, carrierWait, replyWait, holdWait, fires}
 use Rattle.rules.specs.Requests.{Out, done, ignored, also, freed, lasted, endActs, coastEnd, standing, ruleA, requested}
 
 -- ── working call ─────────────────────────────────────────────────────────────
@@ -97,12 +96,12 @@ upOn i st (held r n d) = ignored st
 -- ── ship's end of call ───────────────────────────────────────────────────────
 
 -- ".. with BQ and the duration, carrier off, hold for 40" (house: not given to others)
-unfoldable pub shipEnd : ℕ → Dealing → Stage → Station → Out
-shipEnd i r g st =
+unfoldable pub shipEnd : ℕ → Dealing → Option ℕ → Station → Out
+shipEnd i r b st =
     record {
       answer = 0;
-      next = setSlot i (held r (lasted g (st .clock)) (dueAfter (st .clock) holdWait)) st;
-      acts = endActs i theShip (r .request) g (st .clock);
+      next = setSlot i (held r (lasted b (st .clock)) (dueAfter (st .clock) holdWait)) st;
+      acts = endActs i theShip (r .request) b (st .clock);
     }
 
 -- "in the hold: carrier on, the same answer sent, carrier off; the wait unchanged"
@@ -114,7 +113,7 @@ unfoldable pub shipEndOn : ℕ → Party → Station → Slot → Out
 shipEndOn i x st free = ignored st
 shipEndOn i x st taken = ignored st
 shipEndOn i x st (pending k r d) = ignored st
-shipEndOn i x st (busy r g c) = cond (is x (r .request .who)) (shipEnd i r g st) (ignored st)
+shipEndOn i x st (busy r g c) = cond (is x (r .request .who)) (shipEnd i r (answeredAt g) st) (ignored st)
 shipEndOn i x st (held r n d) = cond (is x (r .request .who)) (sayAgain i (r .request) n st) (ignored st)
 
 -- ── coast's end: on-hook, carrier loss ───────────────────────────────────────
@@ -123,7 +122,7 @@ unfoldable pub endOn : ℕ → Station → Slot → Out
 endOn i st free = ignored st
 endOn i st taken = ignored st
 endOn i st (pending k r d) = ignored st
-endOn i st (busy r g c) = coastEnd i (r .request) g st
+endOn i st (busy r g c) = coastEnd i (r .request) (answeredAt g) st
 endOn i st (held r n d) = ignored st
 
 -- ── operator ─────────────────────────────────────────────────────────────────
@@ -168,7 +167,7 @@ pendingDue i acknowledged r st = offerDue i st
 
 -- no reply
 unfoldable pub replyDue : ℕ → Request → Station → Stage → Out
-replyDue i r st (dialling d) = coastEnd i r (dialling d) st
+replyDue i r st (dialling d) = coastEnd i r none st
 replyDue i r st (answered b) = ignored st
 
 -- the hold: "Then freed."
@@ -182,8 +181,8 @@ mainOn i st (held r n d) = freed i st
 -- "A queue entry due is dropped."
 unfoldable pub fire : Station → Wait → Out
 fire st (ofQueue k) = done (setQueue (dropAt k (st .queue)) st)
-fire st (loss i) = endOn i st (getD (st .slots) i free)
-fire st (main i) = mainOn i st (getD (st .slots) i free)
+fire st (loss i) = endOn i st (theSlot st i)
+fire st (main i) = mainOn i st (theSlot st i)
 
 -- "sets the clock to its due time; with none due the clock becomes t"
 unfoldable pub ticked : Station → ℕ → Option Due → Out
@@ -196,7 +195,7 @@ ticked st t (some p) = fire (setClock (p .at) st) (p .what)
 unfoldable pub heardOn70 : Station → Heard → Out
 heardOn70 st (callRequest r) = requested st r (standing st (r .who))
 heardOn70 st (dataRequest x n) = ruleA st x n
-heardOn70 st (bq i x) = bqFor i x st (getD (st .slots) i free)
+heardOn70 st (bq i x) = bqFor i x st (theSlot st i)
 heardOn70 st (workingCall x) = ignored st
 heardOn70 st (endOfCall x) = ignored st
 heardOn70 st nothing = ignored st
@@ -229,7 +228,7 @@ happenedOn c i st s (operator h) = handOn i st s h
 unfoldable pub actAt : Config → Station → ℕ → What → Out
 actAt c st t tick = ticked st t (fires t st)
 actAt c st t (onChannel70 m) = heardOn70 (setClock t st) (meaning c m)
-actAt c st t (onSlot i h) = happenedOn c i (setClock t st) (getD (st .slots) i free) h
+actAt c st t (onSlot i h) = happenedOn c i (setClock t st) (theSlot st i) h
 
 abbrev pub act : Config → Station → Event → Out
 act c st e = actAt c st (e .time) (e .what)

@@ -4,14 +4,14 @@ use mathlib.Core.Bool.{Bool, true, false, cond, _&&_}
 use mathlib.Core.Option.{Option, none, some}
 use Prim.Native.Nat.{ℕ, _-_}
 use lib.Dec.{eqb, ltb}
-use lib.ListN.{length, getD}
+use lib.ListN.{length}
 use Rattle.units.specs.Units.{wholeSeconds, durationOf}
 use Rattle.units.specs.declared.Told.{Told}
 use Rattle.units.specs.declared.Told.the-variants.{Nothing}
 use Rattle.rules.specs.Places.{modAt, lowest}
 use Rattle.rules.specs.Words.{Party, is, Mode, simplex, duplex, Request, Deed, carrierOn, carrierOff, acknowledge, ringBack, unable, releaseLine}
 use Rattle.rules.specs.Actions.{Action, does, over, charge, Ender, theCoast}
-use Rattle.rules.specs.Station.{Kind, offered, firstRing, secondRing, acknowledged, Stage, dialling, answered, Slot, free, taken, pending, busy, held, dealing, shipOf, Waiting, Station, setSlot, setQueue, dueAfter, kindWait, queueWait}
+use Rattle.rules.specs.Station.{Kind, offered, firstRing, secondRing, acknowledged, answeredAt, Slot, free, taken, pending, busy, held, dealing, shipOf, Waiting, Station, theSlot, setSlot, setQueue, dueAfter, kindWait, queueWait}
 use Rattle.rules.specs.Sound.{queueRoom}
 
 -- what an accepted event gives: its answer, the next station, the actions in order
@@ -58,9 +58,9 @@ freed i st = freedFor i st (st .queue)
 -- ── the end of a call ────────────────────────────────────────────────────────
 
 -- "charge if answered": the one place where a charge is made
-abbrev pub bill : ℕ → Party → Stage → ℕ → List Action
-bill i x (dialling d) t = []
-bill i x (answered b) t =
+abbrev pub bill : ℕ → Party → Option ℕ → ℕ → List Action
+bill i x none t = []
+bill i x (some b) t =
     charge record {
       slot = i;
       ship = x .ship;
@@ -70,17 +70,17 @@ bill i x (answered b) t =
     } ∷ []
 
 -- "Duration: whole seconds, rounded down; unanswered, or 100 hours and over: 126s"
-abbrev pub lasted : Stage → ℕ → Told
-lasted (dialling d) t = Nothing
-lasted (answered b) t = durationOf (wholeSeconds (record { 0 = t - b }))
+abbrev pub lasted : Option ℕ → ℕ → Told
+lasted none t = Nothing
+lasted (some b) t = durationOf (wholeSeconds (record { 0 = t - b }))
 
 -- "charge if answered, release line, send 105/126 with .. and the duration, carrier off"
-abbrev pub endActs : ℕ → Ender → Request → Stage → ℕ → List Action
-endActs i e r g t = bill i (r .who) g t ++ does (releaseLine i) ∷ over i e (r .who) (r .number) (lasted g t) ∷ does (carrierOff i) ∷ []
+abbrev pub endActs : ℕ → Ender → Request → Option ℕ → ℕ → List Action
+endActs i e r b t = bill i (r .who) b t ++ does (releaseLine i) ∷ over i e (r .who) (r .number) (lasted b t) ∷ does (carrierOff i) ∷ []
 
 -- coast's end: ".. slot freed at once"
-unfoldable pub coastEnd : ℕ → Request → Stage → Station → Out
-coastEnd i r g st = also (endActs i theCoast r g (st .clock)) (freed i st)
+unfoldable pub coastEnd : ℕ → Request → Option ℕ → Station → Out
+coastEnd i r b st = also (endActs i theCoast r b (st .clock)) (freed i st)
 
 -- ── where a ship stands ──────────────────────────────────────────────────────
 
@@ -203,25 +203,25 @@ dToG st r none = newcomer st r
 dToG st r (some k) = ruleD k st r
 
 -- c. "the coast ends that call (§2.4.3), any ring-back follows, then d to g apply"
-unfoldable pub redial : ℕ → Request → Stage → Station → Request → Out
-redial i o g st r = also (coastEnd i o g st .acts) (dToG (coastEnd i o g st .next) r (placeOf (r .who) (coastEnd i o g st .next)))
+unfoldable pub redial : ℕ → Request → Option ℕ → Station → Request → Out
+redial i o b st r = also (coastEnd i o b st .acts) (dToG (coastEnd i o b st .next) r (placeOf (r .who) (coastEnd i o b st .next)))
 
 -- c. "ignored if duplex or if its carrier is present. If simplex with carrier absent, .."
-unfoldable pub ruleC : ℕ → Request → Stage → Mode → Option ℕ → Station → Request → Out
-ruleC i o g duplex c st r = ignored st
-ruleC i o g simplex none st r = ignored st
-ruleC i o g simplex (some d) st r = redial i o g st r
+unfoldable pub ruleC : ℕ → Request → Option ℕ → Mode → Option ℕ → Station → Request → Out
+ruleC i o b duplex c st r = ignored st
+ruleC i o b simplex none st r = ignored st
+ruleC i o b simplex (some d) st r = redial i o b st r
 
 -- b. the ship's slot is before its dialling; c. "dialling or answered"
 unfoldable pub bOrC : ℕ → Slot → Station → Request → Out
 bOrC i free st r = ignored st
 bOrC i taken st r = ignored st
 bOrC i (pending k o d) st r = ruleB i k (o .request) st r
-bOrC i (busy o g c) st r = ruleC i (o .request) g (o .request .mode) c st r
+bOrC i (busy o g c) st r = ruleC i (o .request) (answeredAt g) (o .request .mode) c st r
 bOrC i (held o n d) st r = ignored st
 
 -- the first rule that fits, by where the ship stands
 unfoldable pub requested : Station → Request → Standing → Out
 requested st r nowhere = newcomer st r
-requested st r (holds i) = bOrC i (getD (st .slots) i free) st r
+requested st r (holds i) = bOrC i (theSlot st i) st r
 requested st r (waits k) = ruleD k st r

@@ -2,14 +2,14 @@
 use mathlib.Core.Path.{_≡_}
 use mathlib.Core.List.{List, [], _∷_, _++_}
 use mathlib.Core.Bool.{true}
-use mathlib.Core.Option.{none, some}
+use mathlib.Core.Option.{Option, none, some}
 use Prim.Native.Nat.{ℕ, suc, _+_, _-_, _/_, _<_, _≤_}
 use lib.ListN.{length}
 use Rattle.units.specs.declared.Seconds.{Seconds}
 use Rattle.rules.specs.Places.{lowest, Each}
 use Rattle.rules.specs.Words.{Config, Event, Deed}
 use Rattle.rules.specs.Actions.{Charge, Action, does, over, charge}
-use Rattle.rules.specs.Station.{Stage, dialling, answered, Slot, free, taken, pending, busy, held, Waiting, Station, fresh}
+use Rattle.rules.specs.Station.{Slot, free, taken, pending, busy, held, Waiting, Station, fresh, answeredAt}
 use Rattle.rules.specs.Sound.{sound}
 use Rattle.rules.specs.Requests.{isFree}
 use Rattle.rules.specs.Calls.{act}
@@ -89,15 +89,15 @@ tenthsIn [] = 0
 tenthsIn (h ∷ hs) = (h .it .stop .0 - h .it .start .0) + tenthsIn hs
 
 -- the calls that the station holds as answered, up to its clock
-abbrev pub heldStage : ℕ → Stage → ℕ
-heldStage t (dialling d) = 0
-heldStage t (answered b) = t - b
+abbrev pub heldFrom : ℕ → Option ℕ → ℕ
+heldFrom t none = 0
+heldFrom t (some b) = t - b
 
 abbrev pub heldSlot : ℕ → Slot → ℕ
 heldSlot t free = 0
 heldSlot t taken = 0
 heldSlot t (pending k r d) = 0
-heldSlot t (busy r g c) = heldStage t g
+heldSlot t (busy r g c) = heldFrom t (answeredAt g)
 heldSlot t (held r n d) = 0
 
 abbrev pub heldSlots : ℕ → List Slot → ℕ

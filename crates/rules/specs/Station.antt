@@ -2,7 +2,7 @@
 use mathlib.Core.List.{List, [], _∷_, map}
 use mathlib.Core.Option.{Option, none, some}
 use Prim.Native.Nat.{ℕ, suc, _+_}
-use lib.ListN.{length, replicate}
+use lib.ListN.{length, getD, replicate}
 use Rattle.units.specs.declared.Told.{Told}
 use Rattle.rules.specs.Places.{modAt}
 use Rattle.rules.specs.Words.{Party, Mode, simplex, duplex, Request, Config}
@@ -17,6 +17,11 @@ pub data Kind : Type 0 where
 pub data Stage : Type 0 where
   dialling : ℕ → Stage  -- the due time of the reply wait
   answered : ℕ → Stage  -- since when
+
+-- since when the call is answered, if it is
+abbrev pub answeredAt : Stage → Option ℕ
+answeredAt (dialling d) = none
+answeredAt (answered b) = some b
 
 -- what a slot keeps of its call
 pub record Dealing : Type 0 where
@@ -49,6 +54,10 @@ pub record Station : Type 0 where
   pub clock : ℕ
   pub slots : List Slot
   pub queue : List Waiting
+
+-- the slot i; one that is not there counts as free
+abbrev pub theSlot : Station → ℕ → Slot
+theSlot st i = getD (st .slots) i free
 
 -- "All slots begin free at clock 0."
 unfoldable pub fresh : Config → Station

@@ -13,16 +13,10 @@ use Rattle.slots.proofs.phases.is_taken.Reads as is-taken
 use Rattle.slots.proofs.phases.awaits_call.Reads as awaits-call
 use Rattle.slots.proofs.phases.is_rung.Reads as is-rung
 use Rattle.slots.proofs.phases.call_of.Reads as call-of
-use Rattle.slots.proofs.places.slot_in.Reads as slot-in
-use Rattle.slots.proofs.places.channel_in.Reads as channel-in
-use Rattle.slots.proofs.places.put_in.Reads as put-in
 use Rattle.slots.proofs.places.held.Reads as held
-use Rattle.slots.proofs.places.oldest.Reads as oldest
 use Rattle.slots.proofs.places.in_line.Reads as in-line
 use Rattle.slots.proofs.queue.cut_count.Reads as cut-count
 use Rattle.slots.proofs.queue.cut_in.Reads as cut-in
-use Rattle.slots.proofs.queue.join_in.Reads as join-in
-use Rattle.slots.proofs.queue.replace_in.Reads as replace-in
 
 pub blank-slot-settled : (κs : Lfts 0) (a : _) (r r' : _) (s s' : _) → blank-slot.Post κs a r s → blank-slot.Post κs a r' s' → r ≡ r'
 blank-slot-settled κs a r r' s s' p q = p ∙ sym q
@@ -57,20 +51,8 @@ is-rung-settled κs a r r' s s' p q = p ∙ sym q
 pub call-of-settled : (κs : Lfts 0) (a : _) (r r' : _) (s s' : _) → call-of.Post κs a r s → call-of.Post κs a r' s' → r ≡ r'
 call-of-settled κs a r r' s s' p q = call-one _ _ _ (p ∙ sym q)
 
-pub slot-in-settled : (κs : Lfts 0) (a : _) (r r' : _) (s s' : _) → slot-in.Post κs a r s → slot-in.Post κs a r' s' → r ≡ r'
-slot-in-settled κs a r r' s s' p q = p .0 ∙ sym (q .0)
-
-pub channel-in-settled : (κs : Lfts 0) (a : _) (r r' : _) (s s' : _) → channel-in.Post κs a r s → channel-in.Post κs a r' s' → r ≡ r'
-channel-in-settled κs a r r' s s' p q = p ∙ sym q
-
-pub put-in-settled : (κs : Lfts 0) (a : _) (r r' : _) (s s' : _) → put-in.Post κs a r s → put-in.Post κs a r' s' → r ≡ r'
-put-in-settled κs a r r' s s' p q = p .0 ∙ sym (q .0)
-
 pub held-settled : (κs : Lfts 0) (a : _) (r r' : _) (s s' : _) → held.Post κs a r s → held.Post κs a r' s' → r ≡ r'
 held-settled κs a r r' s s' p q = p ∙ sym q
-
-pub oldest-settled : (κs : Lfts 0) (a : _) (r r' : _) (s s' : _) → oldest.Post κs a r s → oldest.Post κs a r' s' → r ≡ r'
-oldest-settled κs a r r' s s' p q = p .0 ∙ sym (q .0)
 
 pub in-line-settled : (κs : Lfts 0) (a : _) (r r' : _) (s s' : _) → in-line.Post κs a r s → in-line.Post κs a r' s' → r ≡ r'
 in-line-settled κs a r r' s s' p q = p ∙ sym q
@@ -80,9 +62,3 @@ cut-count-settled κs a r r' s s' p q = p ∙ sym q
 
 pub cut-in-settled : (κs : Lfts 0) (a : _) (r r' : _) (s s' : _) → cut-in.Post κs a r s → cut-in.Post κs a r' s' → r ≡ r'
 cut-in-settled κs a r r' s s' p q = p .0 ∙ sym (q .0)
-
-pub join-in-settled : (κs : Lfts 0) (a : _) (r r' : _) (s s' : _) → join-in.Post κs a r s → join-in.Post κs a r' s' → r ≡ r'
-join-in-settled κs a r r' s s' p q = p .0 ∙ sym (q .0)
-
-pub replace-in-settled : (κs : Lfts 0) (a : _) (r r' : _) (s s' : _) → replace-in.Post κs a r s → replace-in.Post κs a r' s' → r ≡ r'
-replace-in-settled κs a r r' s s' p q = p .0 ∙ sym (q .0)

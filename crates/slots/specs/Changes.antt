@@ -1,25 +1,11 @@
--- What is done to an array, on the records themselves; and the searches and joins that count their place.
+-- A queue without one of its ships, on the records themselves.
 use Prim.Native.Nat.{ℕ, zero, suc, _-_, min}
 use mathlib.Core.Bool.{cond}
 use mathlib.Core.List.{List, [], _∷_, _++_}
 use lib.Dec.{leb}
-use lib.ListN.{getD, set}
-use Rattle.rules.specs.Waits as T
 use Rattle.rules.specs.Sound.{queueRoom}
-use Rattle.requests.specs.declared.Request.{Request}
-use Rattle.slots.specs.declared.Phase.{Phase}
-use Rattle.slots.specs.declared.Slot.{Slot}
 use Rattle.slots.specs.declared.Waiting.{Waiting}
-use Rattle.slots.specs.Views.{noSlot, noWaiting}
 use Rattle.slots.specs.Images.{blankWaiting}
-
--- another phase and request at i, the channel kept
-unfoldable pub putIn : List Slot → ℕ → Phase → Request → List Slot
-putIn a i p q = set a i (record { phase = p; channel = getD a i noSlot .channel; request = q })
-
--- another request at k, the due time kept
-unfoldable pub replaceIn : List Waiting → ℕ → Request → List Waiting
-replaceIn a k q = set a k (record { due = getD a k noWaiting .due; request = q })
 
 -- the list without its element k, with b at its end
 unfoldable pub without : {A : Type 0} → A → List A → ℕ → List A

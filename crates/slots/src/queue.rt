@@ -1,20 +1,17 @@
-// The queue changed: a ship leaves it, joins it, or asks for something else.
+// A ship leaves the queue.
 ghost use mathlib.Core.Path.{_≡_};
-ghost use mathlib.Core.List.{[], _∷_, _++_};
-ghost use Prim.Native.Nat.{_+_, _-_, _<_};
-ghost use lib.ListN.{set};
-ghost use Rattle.rules.specs.Places.{modAt, dropAt};
+ghost use Prim.Native.Nat.{_<_};
+ghost use Rattle.rules.specs.Places.{dropAt};
 ghost use Rattle.rules.specs.Sound.{queueRoom};
-ghost use Rattle.requests.specs.Views.{viewed, requestOf};
+ghost use Rattle.requests.specs.Views.{viewed};
 ghost use Rattle.slots.specs.Views.{waitingView};
 ghost use Rattle.slots.specs.Images.{blankWaiting};
-ghost use Rattle.slots.specs.Changes.{without, cutIn, cutLine, replaceIn};
+ghost use Rattle.slots.specs.Changes.{without, cutIn, cutLine};
 use crate::MOST_WAITING;
 use crate::QUEUE_ROOM;
 use crate::QueuePlace;
 use crate::Waiting;
 use crate::laying::blank_waiting;
-use requests::Request;
 use requests::least;
 
 const LAST: usize = QUEUE_ROOM - 1;
@@ -56,35 +53,4 @@ pub fn cut_in(a: [Waiting; QUEUE_ROOM], n: u8, k: QueuePlace) -> [Waiting; QUEUE
         return a;
     }
     closed_up(a, k.0 as usize)
-}
-
-// The n waiting ships with one more at the end, where there is room.
-pub fn join_in(mut a: [Waiting; QUEUE_ROOM], n: u8, w: Waiting) -> [Waiting; QUEUE_ROOM]
-    ensures { λ r. ⌜ r ≡ set a n w ⌝ }
-    ensures { λ r. ⌜ (n < queueRoom → viewed waitingView (n + 1) r ≡ viewed waitingView n a ++ (waitingView w ∷ [])) ⌝ }
-{
-    if MOST_WAITING <= n {
-        return a;
-    }
-    a[n as usize] = w;
-    a
-}
-
-// Rule d: the waiting ship at k asks for q, its place and due time kept.
-pub fn replace_in(
-    mut a: [Waiting; QUEUE_ROOM],
-    n: u8,
-    k: QueuePlace,
-    q: Request,
-) -> [Waiting; QUEUE_ROOM]
-    ensures { λ r. ⌜ r ≡ replaceIn a (k .0) q ⌝ }
-    ensures { λ r. ⌜ viewed waitingView n r ≡ modAt (λ w. record { request = requestOf q; due = w .due }) (k .0) (viewed waitingView n a) ⌝ }
-{
-    if MOST_WAITING <= k.0 {
-        return a;
-    }
-    let w = a[k.0 as usize];
-    let t = w.due;
-    a[k.0 as usize] = Waiting { due: t, request: q };
-    a
 }

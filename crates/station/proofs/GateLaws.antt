@@ -10,25 +10,20 @@ use borrow.Author.Tests.{leb-true}
 use Rattle.sequence.specs.Answers.{answerNumber, isDone}
 use Rattle.sequence.specs.Refusals.{firstRefusal}
 use Rattle.rules.specs.Places.{all}
-use Rattle.rules.specs.Words.{Signal, Hand, handTakes, handGives, heard, signal, operator, takes, givesBack, tick, onChannel70, onSlot, Event}
+use Rattle.rules.specs.Words.{Signal, Hand, heard, signal, operator, tick, onChannel70, onSlot, Event}
 use Rattle.rules.specs.Station.{free, fires}
-use Rattle.rules.specs.Sound.{sound, limit, mostSlots, queueRoom}
-use Rattle.rules.specs.Requests.{isFree}
+use Rattle.rules.specs.Sound.{sound}
 use Rattle.requests.specs.Views.{viewed, itself}
 use Rattle.keeping.specs.Kept.{slotExact, waitingExact}
 use Rattle.soundness.specs.Soundly.{soundly}
 use Rattle.gate.specs.declared.Look.{Look}
 use Rattle.gate.specs.Asked.{andThen, askedAlways, askedNow, askedOnSlot}
 use Rattle.gate.proofs.AskedLaws.{one-more}
-use Rattle.rules.specs.Verdict.{roomNeeded, readerSays, isTaken, barredHand, refusals, verdict}
+use Rattle.rules.specs.Verdict.{readerSays, barredHand, refusals, verdict}
 use Rattle.station.specs.declared.Station.{Station}
 use Rattle.station.specs.Model.{modelOf, configOf}
 use Rattle.station.specs.Step.{recordsKeep, refusal}
-use Rattle.station.specs.Draft.{Sees}
-
-not-not : (b : Bool) → not (not b) ≡ b
-not-not true = refl
-not-not false = refl
+use Rattle.station.specs.Pieces.{Sees}
 
 -- 29 is one test of two parts
 both-parts : {A : Type 0} (a b : Bool) (x y : A) → cond (a && b) x y ≡ cond a (cond b x y) y
@@ -46,17 +41,11 @@ module _ (s : Station) (l : Look) (sees : Sees s l) (n t : ℕ) where
   signal-asked i g = rw (sees .soundly, sees .clock, sees .first, sees .slots) (both-parts (recordsKeep s) (sound (configOf s) (modelOf s)) _ _)
 
   -- the operator's hand: 35 besides
-  hand-asked : (i : ℕ) (h : Hand) → andThen (firstRefusal (askedOnSlot l n t i) none) (not (barredHand (getD (modelOf s .slots) i free) h)) 35 ≡ refusal s (record { time = t; room = n; what = onSlot i (operator h) })
+  pub hand-asked : (i : ℕ) (h : Hand) → andThen (firstRefusal (askedOnSlot l n t i) none) (not (barredHand (getD (modelOf s .slots) i free) h)) 35 ≡ refusal s (record { time = t; room = n; what = onSlot i (operator h) })
   unfolding refusal refusals fires
   hand-asked i h =
       one-more (askedOnSlot l n t i) (refl, (refl, (refl, (refl, (refl, (refl, tt)))))) _ 35
       ∙ rw (sees .soundly, sees .clock, sees .first, sees .slots) (both-parts (recordsKeep s) (sound (configOf s) (modelOf s)) _ _)
-
-  pub take-asked : (i : ℕ) → andThen (firstRefusal (askedOnSlot l n t i) none) (isFree (getD (modelOf s .slots) i free)) 35 ≡ refusal s (record { time = t; room = n; what = onSlot i takes })
-  take-asked i = rw (← not-not (isFree (getD (modelOf s .slots) i free))) (hand-asked i handTakes)
-
-  pub give-asked : (i : ℕ) → andThen (firstRefusal (askedOnSlot l n t i) none) (isTaken (getD (modelOf s .slots) i free)) 35 ≡ refusal s (record { time = t; room = n; what = onSlot i givesBack })
-  give-asked i = rw (← not-not (isTaken (getD (modelOf s .slots) i free))) (hand-asked i handGives)
 
   -- a sequence: 11 to 20 besides
   pub heard-asked : (i : ℕ) (m : List ℕ) → andThen (firstRefusal (askedOnSlot l n t i) none) (isDone (readerSays m)) (answerNumber (readerSays m)) ≡ refusal s (record { time = t; room = n; what = onSlot i (heard m) })
@@ -74,8 +63,8 @@ module _ (s : Station) (l : Look) (sees : Sees s l) (n t : ℕ) where
 -- what an accepted event has passed
 pub record Passed (s : Station) (e : Event) : Type 0 where
   pub sounds : sound (configOf s) (modelOf s) ≡ true
-  pub room : roomNeeded ≤ e .room
-  pub time : e .time ≤ limit
+  pub room : 320 ≤ e .room
+  pub time : e .time ≤ 4000000000
   pub judged : verdict (configOf s) (modelOf s) e ≡ none
 
 one : (b : Bool) (n : ℕ) (x : Option ℕ) → none ≡ cond b x (some n) → (b ≡ true) × (none ≡ x)
@@ -87,9 +76,9 @@ unfolding refusal refusals verdict
 passed s e h =
     let a = one (recordsKeep s) 29 _ h in
     let b = one (sound (configOf s) (modelOf s)) 29 _ (a .1) in
-    let c = one (leb roomNeeded (e .room)) 30 _ (b .1) in
-    let d = one (leb (e .time) limit) 31 _ (c .1) in
-    record { sounds = b .0; room = leb-true roomNeeded (e .room) (c .0); time = leb-true (e .time) limit (d .0); judged = sym (a .1) }
+    let c = one (leb 320 (e .room)) 30 _ (b .1) in
+    let d = one (leb (e .time) 4000000000) 31 _ (c .1) in
+    record { sounds = b .0; room = leb-true 320 (e .room) (c .0); time = leb-true (e .time) 4000000000 (d .0); judged = sym (a .1) }
 
 -- the parts of soundness, in the order of the tests
 apart : (a b x y : Bool) → (a && (b && (x && y))) ≡ ((a && (b && y)) && x)
@@ -103,5 +92,5 @@ apart true true false false = refl
 pub sound-is : (s : Station) → soundly (s .identity) (s .clock) (s .count) (s .slots) (s .waiting) (s .queue) ≡ (recordsKeep s && sound (configOf s) (modelOf s))
 unfolding soundly recordsKeep configOf modelOf
 sound-is s =
-    apart (leb (s .count) mostSlots) (leb (s .waiting) queueRoom) (sound (configOf s) (modelOf s))
+    apart (leb (s .count) 16) (leb (s .waiting) 32) (sound (configOf s) (modelOf s))
     (all slotExact (viewed itself (s .count) (s .slots)) && all waitingExact (viewed itself (s .waiting) (s .queue)))

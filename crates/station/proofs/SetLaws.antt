@@ -24,7 +24,7 @@ use Rattle.slots.specs.Images.{slotImage, blankSlot, blankWaiting, tenths, slot
 use Rattle.station.specs.declared.SetUp.{SetUp}
 use Rattle.station.specs.Model.{imageOf}
 use Rattle.station.specs.Step.{channelNumber, given, chosen, sixteenOf, blankStation, setUpOf, setUpBy}
-use Rattle.station.specs.Draft.{freeOn}
+use Rattle.station.specs.Pieces.{freeOn}
 
 channels-back : (m n : ℕ) (l : List Channel) → length l ≤ m → n ≡ length l → viewed channelOf n (padded blankSlot m (map freeOn l)) ≡ l
 unfolding viewed padded freeOn slotImage

@@ -1,35 +1,39 @@
--- From the verdict and the draft to what an event hands back.
+-- From the verdict and the outcome to what an event hands back.
 use Prim.Native.Nat.{ℕ, _*_, _≤_}
 use mathlib.Core.Bool.{true}
-use mathlib.Core.List.{List, map}
+use mathlib.Core.List.{List, [], _∷_, map}
 use mathlib.Core.Option.{none, some}
-use mathlib.Core.Path.{_≡_, refl, sym, ap}
+use mathlib.Core.Path.{_≡_, refl}
 use native.Mathlib.Omega.{arith}
 use lib.ListN.{length, getD, length-map}
-use lib.Seq.{take-all}
 use borrow.Author.Tests.{le-leb}
 use Rattle.sequence.specs.Answers.{isDone}
 use Rattle.sequence.specs.Layout.{valid}
 use Rattle.sequence.specs.Reading.{readingOf}
 use Rattle.meanings.proofs.RoundTrip.{reads-valid}
-use Rattle.rules.specs.Words.{Config, Happened, Event, onChannel70, onSlot}
-use Rattle.rules.specs.Heard.{meaning}
+use Rattle.rules.specs.Words.{Config, Happened, Event, onSlot}
+use Rattle.rules.specs.Actions.{Action}
+use Rattle.rules.specs.Bytes.{channelAt, slotNumber, block}
 use Rattle.rules.specs.Station as R
-use Rattle.rules.specs.Station.{free, setClock, dueAt, nextDue}
+use Rattle.rules.specs.Station.{free, setClock, nextDue, dueAt}
 use Rattle.rules.specs.Requests.{Out}
-use Rattle.rules.specs.Calls.{heardOn70, happenedOn, actAt, act}
+use Rattle.rules.specs.Calls.{happenedOn, actAt, act}
 use Rattle.rules.specs.Statement.{AtMostEight}
 use Rattle.rules.proofs.Eight.{at-most-eight}
-use Rattle.actions.specs.Blocks.{clip, holds, putCount, putRoom}
-use Rattle.actions.specs.Sent.{sentBlock}
-use Rattle.actions.proofs.Handed.{handed-out}
+use Rattle.rules.proofs.Kept.{stays-sound}
+use Rattle.requests.proofs.ArrayLaws.{padded-length}
 use Rattle.slots.specs.Views.{dueView}
+use Rattle.actions.specs.Blocks.{holds, putCount, putRoom}
+use Rattle.actions.specs.Sent.{sentPayload, sentOn, sentBlock}
+use Rattle.actions.proofs.Handed.{handed-out}
+use Rattle.blocks.proofs.LaidLaws.{Forty, laid-put}
+use Rattle.soundness.proofs.FitLaws.{sound-fits}
 use Rattle.gate.specs.declared.Look.{Look}
 use Rattle.station.specs.declared.Station.{Station}
 use Rattle.station.specs.declared.Stepped.{Stepped}
 use Rattle.station.specs.Model.{modelOf, configOf}
 use Rattle.station.specs.Step.{dueImage, refusal, steppedBy, roomAfter}
-use Rattle.station.specs.Draft.{Sees, opening, doing, onSlotBy, drafted, finished, finishedRoom}
+use Rattle.station.specs.Pieces.{Sees, laidOf, enacted}
 use Rattle.station.proofs.GateLaws.{passed}
 
 -- a refusal hands back the station, and leaves the room
@@ -38,14 +42,15 @@ pub refused-is : (s : Station) (l : Look) → Sees s l → (room : List ℕ) (e 
 unfolding steppedBy roomAfter nextDue
 refused-is s l sees room e n h = rw (← h, sees .first) (refl, refl)
 
-few : (c : Config) (o : Out) → length (o .acts) ≤ 8 → clip (map (sentBlock c) (o .acts)) ≡ map (sentBlock c) (o .acts)
-unfolding clip
-few c o h = take-all 8 (map (sentBlock c) (o .acts)) (simp length-map h)
-
 -- what the reader accepts is valid
 pub reads : (m : List ℕ) → isDone (readingOf m .answer) ≡ true → valid (readingOf m .meaning) ≡ true
 unfolding readingOf
 reads m h = rw h (reads-valid m h)
+
+forty : (c : Config) (l : List Action) → Forty (map (sentBlock c) l)
+unfolding sentBlock sentOn block
+forty c [] = tt
+forty c (a ∷ l) = (omega (arith, padded-length 0 36 (sentPayload (channelAt c (slotNumber a)) a)), forty c l)
 
 -- what was accepted is what the rules say
 module _ (s : Station) (room : List ℕ) (e : Event) (same : e .room ≡ length room) (h : none ≡ refusal s e) where
@@ -53,42 +58,34 @@ module _ (s : Station) (room : List ℕ) (e : Event) (same : e .room ≡ length 
   unfolding AtMostEight
   bound = at-most-eight (configOf s) (modelOf s) e (passed s e h .sounds) .0
 
-  room-holds : holds (map (sentBlock (configOf s)) (act (configOf s) (modelOf s) e .acts)) (length room) ≡ true
-  unfolding holds
-  room-holds =
+  -- the next station fits
+  pub line-fits : (o : Out) → o ≡ act (configOf s) (modelOf s) e → length (o .next .queue) ≤ 32
+  line-fits o q = rw q (sound-fits (configOf s) _ (stays-sound (configOf s) (modelOf s) e (passed s e h .judged)) .line)
+
+  laid-is : laidOf (configOf s) (act (configOf s) (modelOf s) e .acts) 0 room
+      ≡ record { next = putCount (map (sentBlock (configOf s)) (act (configOf s) (modelOf s) e .acts)) (length room); room = putRoom (map (sentBlock (configOf s)) (act (configOf s) (modelOf s) e .acts)) room }
+  unfolding laidOf
+  laid-is =
       let o = act (configOf s) (modelOf s) e in
       let l : length (map (sentBlock (configOf s)) (o .acts)) ≡ length (o .acts) = simp length-map in
       let b = bound in
       let r = passed s e h .room in
-      le-leb (40 * length (map (sentBlock (configOf s)) (o .acts))) (length room) (omega arith)
+      laid-put (map (sentBlock (configOf s)) (o .acts)) (forty (configOf s) (o .acts)) room (omega arith) (omega arith)
 
-  pub accepted-is : (finished (length room) (drafted (configOf s) (act (configOf s) (modelOf s) e)) ≡ steppedBy s e) × (finishedRoom (drafted (configOf s) (act (configOf s) (modelOf s) e)) room ≡ roomAfter s room e)
-  unfolding steppedBy roomAfter finished finishedRoom drafted putCount putRoom
-  accepted-is =
+  pub accepted-is : (o : Out) → o ≡ act (configOf s) (modelOf s) e
+      → (enacted (configOf s) (laidOf (configOf s) (o .acts) 0 room) o ≡ steppedBy s e) × (laidOf (configOf s) (o .acts) 0 room .room ≡ roomAfter s room e)
+  unfolding steppedBy roomAfter enacted putCount putRoom holds
+  accepted-is o q =
       let c = configOf s in
-      let o = act (configOf s) (modelOf s) e in
-      let l : length (map (sentBlock c) (o .acts)) ≡ length (o .acts) = simp length-map in
-      rw (← h, few c o bound, room-holds, l, handed-out reads (configOf s) (modelOf s) e (passed s e h .judged)) (refl, refl)
+      let x = act (configOf s) (modelOf s) e in
+      let n : length (map (sentBlock c) (x .acts)) ≡ length (x .acts) = simp length-map in
+      let b = bound in
+      let r = passed s e h .room in
+      let w = le-leb (40 * length (map (sentBlock c) (x .acts))) (length room) (omega arith) in
+      rw (q, laid-is, w, ← h, n, handed-out reads (configOf s) (modelOf s) e (passed s e h .judged)) (refl, refl)
 
 -- what happens on a slot
-module _ (s : Station) (room : List ℕ) (t i : ℕ) (k : Happened) (g : R.Station → R.Slot → Out)
-    (is : (st : R.Station) (p : R.Slot) → happenedOn (configOf s) i st p k ≡ g st p) where
-  drawn : doing (onSlotBy i g) (opening t (configOf s) (modelOf s)) ≡ drafted (configOf s) (act (configOf s) (modelOf s) (record { time = t; room = length room; what = onSlot i k }))
-  unfolding doing onSlotBy opening drafted actAt setClock
-  drawn = ap (drafted (configOf s)) (sym (is (setClock t (modelOf s)) (getD (modelOf s .slots) i free)))
-
-  pub slot-event : none ≡ refusal s (record { time = t; room = length room; what = onSlot i k })
-      → (finished (length room) (doing (onSlotBy i g) (opening t (configOf s) (modelOf s))) ≡ steppedBy s (record { time = t; room = length room; what = onSlot i k }))
-      × (finishedRoom (doing (onSlotBy i g) (opening t (configOf s) (modelOf s))) room ≡ roomAfter s room (record { time = t; room = length room; what = onSlot i k }))
-  slot-event h = rw drawn (accepted-is s room (record { time = t; room = length room; what = onSlot i k }) refl h)
-
--- what is heard on channel 70
-module _ (s : Station) (room m : List ℕ) (t : ℕ) where
-  heard-drawn : doing (λ st. heardOn70 st (meaning (configOf s) m)) (opening t (configOf s) (modelOf s)) ≡ drafted (configOf s) (act (configOf s) (modelOf s) (record { time = t; room = length room; what = onChannel70 m }))
-  unfolding doing opening drafted actAt
-  heard-drawn = refl
-
-  pub channel-event : none ≡ refusal s (record { time = t; room = length room; what = onChannel70 m })
-      → (finished (length room) (doing (λ st. heardOn70 st (meaning (configOf s) m)) (opening t (configOf s) (modelOf s))) ≡ steppedBy s (record { time = t; room = length room; what = onChannel70 m }))
-      × (finishedRoom (doing (λ st. heardOn70 st (meaning (configOf s) m)) (opening t (configOf s) (modelOf s))) room ≡ roomAfter s room (record { time = t; room = length room; what = onChannel70 m }))
-  channel-event h = rw heard-drawn (accepted-is s room (record { time = t; room = length room; what = onChannel70 m }) refl h)
+pub slot-acts : (s : Station) (t i n : ℕ) (k : Happened) (p : R.Slot) → p ≡ getD (modelOf s .slots) i free
+    → happenedOn (configOf s) i (setClock t (modelOf s)) p k ≡ act (configOf s) (modelOf s) (record { time = t; room = n; what = onSlot i k })
+unfolding actAt
+slot-acts s t i n k p e = rw e refl

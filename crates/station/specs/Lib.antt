@@ -1,4 +1,3 @@
 pub mod Model
 pub mod Step
-pub mod Draft
-pub mod Asking
+pub mod Pieces

@@ -1,21 +1,21 @@
 // The station of the rack, by value: set-up, and one method for each kind of event.
-mod asking;
-mod calls;
+mod applying;
 mod channel_70;
-mod ending;
-mod ends;
+mod enacting;
 mod look;
 mod operator;
-mod pieces;
+mod places;
 mod setting;
+mod signals;
 mod waits;
 mod working;
 
-use actions::Action;
+use outcomes::Outcome;
 use slots::QUEUE_ROOM;
 use slots::SLOTS;
 use slots::Slot;
 use slots::Waiting;
+use units::SlotNumber;
 use units::Tenths;
 
 // One slot for each of `count` channels, and `waiting` ships, oldest first.
@@ -47,10 +47,22 @@ pub struct SetUp {
     pub station: Station,
 }
 
-// A step in the making: the answer, the station and the actions so far.
-struct Plan {
-    answer: u8,
-    count: u8,
-    station: Station,
-    actions: [Action; 8],
+// Of the line ashore, and of the ship's carrier.
+enum Signal {
+    LineLifted,
+    LineHung,
+    CarrierHeard,
+    CarrierLost,
+}
+
+// The operator's.
+enum Hand {
+    Takes,
+    GivesBack,
+}
+
+// What is done, and to which slot.
+struct Choice {
+    slot: SlotNumber,
+    outcome: Outcome,
 }

@@ -7,7 +7,7 @@ ghost use Rattle.rules.specs.Station.{table, nextDue, dueAt};
 ghost use Rattle.slots.specs.Views.{dueView};
 ghost use Rattle.station.specs.Model.{modelOf, configOf};
 ghost use Rattle.station.specs.Step.{recordsKeep, dueImage};
-ghost use Rattle.station.specs.Draft.{Sees};
+ghost use Rattle.station.specs.Pieces.{Sees};
 use crate::NextDue;
 use crate::Station;
 use dues::earliest_due;

@@ -6,7 +6,7 @@ ghost use Rattle.rules.specs.Bytes.{padded};
 ghost use Rattle.requests.specs.Views.{viewed};
 ghost use Rattle.slots.specs.Images.{blankSlot};
 ghost use Rattle.station.specs.Step.{blankStation, chosen, setUpOf};
-ghost use Rattle.station.specs.Draft.{freeOn};
+ghost use Rattle.station.specs.Pieces.{freeOn};
 use crate::SetUp;
 use crate::Station;
 use requests::blank_request;

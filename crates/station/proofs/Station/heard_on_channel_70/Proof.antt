@@ -1,23 +1,69 @@
-use mathlib.Core.Path.{_∙_}
-use native.Mathlib.Omega.{arith}
+use mathlib.Core.Option.{none}
+use mathlib.Core.Path.{_≡_, refl, _∙_}
 use lib.ListN.{length}
-use Rattle.rules.specs.Heard.{meaning}
-use Rattle.station.specs.Model.{configOf}
-use Rattle.station.proofs.StepLaws.{refused-is, channel-event}
-use Rattle.station.proofs.GateLaws.{channel-asked, passed}
+use Rattle.rules.specs.Words.{Event}
+use Rattle.rules.specs.Calls.{act}
+use Rattle.requests.specs.Views.{requestOf}
+use Rattle.station.specs.Model.{modelOf, configOf}
+use Rattle.station.specs.Step.{channel70At, refusal}
+use Rattle.station.specs.Pieces.{wholeAt}
+use Rattle.station.proofs.GateLaws.{passed, channel-asked}
+use Rattle.station.proofs.StepLaws.{refused-is, line-fits, accepted-is}
+use Rattle.station.proofs.EventLaws.{heard-is, channel-acts}
 use borrow.Author.Needs.{needs}
 use Rattle.station.proofs.Station.heard_on_channel_70.Statement.{statement}
 use Rattle.station.proofs.Station.heard_on_channel_70.Tie as tie
 
-hear-requires : tie.Need-hear-requires
-hear-requires c κs = let a = c .before .before .before .before .before .before .before .before .before .before .before .before .args in let h = (rw (c .before .before .before .enum-told .given .1, c .before .before .before .before .before .before .judge-now .ensures, c .before .before .before .before .before .before .before .before .before .read .ensures) at (c .before .before .before .before .before .and-read .ensures)) ∙ channel-asked _ _ (c .before .before .before .before .before .before .before .looked .ensures) (length (a .room .now)) (a .time .0) (a .symbols .now) in omega (arith, c .opened .ensures .1, passed (a .self) _ h .time)
+abbrev start : tie.After-told-by → tie.Start
+start b = b .before .before .before .before .before .before .before .before .before .before .before
+
+abbrev event : tie.Start → Event
+event z = channel70At (z .args .time) (z .args .symbols .now) (z .args .room .now)
+
+accepted : (b : tie.After-told-by) → none ≡ refusal (start b .args .self) (event (start b))
+accepted b =
+    let x = start b .args in
+    (rw (b .before .before .enum-told .given .1, b .before .before .before .before .before .judge-now .ensures, b .before .before .before .before .before .before .before .before .read .ensures) at (b .before .before .before .before .and-read .ensures))
+    ∙ channel-asked _ _ (b .before .before .before .before .before .before .looked .ensures) (length (x .room .now)) (x .time .0) (x .symbols .now)
+
+abbrev told : tie.After-enact-whole-arg → tie.After-told-by
+told c = c .before .before .before
+
+decided : (c : tie.After-enact-whole-arg)
+    → wholeAt (start (told c) .args .self) (start (told c) .args .time) (c .before .before .choice .result .slot) (requestOf (told c .told-by .result .request)) (c .before .before .choice .result .outcome)
+    ≡ act (configOf (start (told c) .args .self)) (modelOf (start (told c) .args .self)) (event (start (told c)))
+decided c =
+    let b = told c in
+    let x = start b .args in
+    channel-acts (x .self) (x .time) (length (x .room .now)) (x .symbols .now) (b .told-by .result)
+    (heard-is (x .self) (x .symbols .now) _ (b .before .before .before .before .before .before .before .before .read .ensures) (b .told-by .result) (b .told-by .ensures .1)) _ (c .before .before .choice .ensures)
+
+choice-requires : tie.Need-choice-requires
+choice-requires c κs = passed (start c .args .self) (event (start c)) (accepted c) .time
+
+enact-whole-requires : tie.Need-enact-whole-requires
+enact-whole-requires c κs =
+    let b = told c in
+    let x = start b .args in
+    (passed (x .self) (event (start b)) (accepted b) .time, line-fits (x .self) (x .room .now) (event (start b)) refl (accepted b) _ (decided c))
 
 returns : tie.Need-returns
-returns c = let a = c .before .before .before .before .before .before .before .before .before .before .before .args in rw (c .refused .ensures) (refused-is _ _ (c .before .before .before .before .before .before .looked .ensures) _ _ _ ((rw (c .before .before .v .given .1, c .before .before .before .before .before .judge-now .ensures, c .before .before .before .before .before .before .before .before .read .ensures) at (c .before .before .before .before .and-read .ensures)) ∙ channel-asked _ _ (c .before .before .before .before .before .before .looked .ensures) (length (a .room .now)) (a .time .0) (a .symbols .now)))
+returns c =
+    let z = c .before .before .before .before .before .before .before .before .before .before .before in
+    let sees = c .before .before .before .before .before .before .looked .ensures in
+    rw (c .refused .ensures)
+    (refused-is _ _ sees _ (event z) _
+    ((rw (c .before .before .v .given .1, c .before .before .before .before .before .judge-now .ensures, c .before .before .before .before .before .before .before .before .read .ensures) at (c .before .before .before .before .and-read .ensures))
+    ∙ channel-asked _ _ sees (length (z .args .room .now)) (z .args .time .0) (z .args .symbols .now)))
 
 returns-2 : tie.Need-returns-2
-unfolding meaning configOf
-returns-2 c = let a = c .before .before .before .before .before .before .before .before .before .before .before .before .before .before .before .before .before .args in let h = (rw (c .before .before .before .before .before .before .before .before .enum-told .given .1, c .before .before .before .before .before .before .before .before .before .before .before .judge-now .ensures, c .before .before .before .before .before .before .before .before .before .before .before .before .before .before .read .ensures) at (c .before .before .before .before .before .before .before .before .before .before .and-read .ensures)) ∙ channel-asked _ _ (c .before .before .before .before .before .before .before .before .before .before .before .before .looked .ensures) (length (a .room .now)) (a .time .0) (a .symbols .now) in rw (c .before .before .finish .ensures .0, c .before .before .finish .ensures .1, c .before .before .before .before .hear .ensures, c .before .before .before .before .before .opened .ensures .0, c .before .before .before .before .before .before .told-by .ensures .1, c .before .before .before .before .before .before .before .before .before .before .before .before .before .before .read .ensures) (channel-event (a .self) (a .room .now) (a .symbols .now) (a .time .0) h)
+returns-2 c =
+    let a = c .before .before .before in
+    let b = told a in
+    let x = start b .args in
+    let e = c .before .before .enact-whole .ensures in
+    let p = accepted-is (x .self) (x .room .now) (event (start b)) refl (accepted b) _ (decided a) in
+    (e .0 ∙ p .0, e .1 ∙ p .1)
 
 pub heard-on-channel-70-spec : {M : Type 1} → statement M
 heard-on-channel-70-spec =
@@ -31,9 +77,8 @@ heard-on-channel-70-spec =
     (λ c κs. search needs)
     (λ c. search needs)
     (λ c κs. search needs)
-    (λ c κs. search needs)
-    hear-requires
-    (λ c κs. search needs)
+    choice-requires
+    enact-whole-requires
     returns
     (λ c. search needs)
     returns-2)

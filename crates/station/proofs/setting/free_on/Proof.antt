@@ -1,5 +1,5 @@
 use Rattle.slots.specs.Images.{slotImage}
-use Rattle.station.specs.Draft.{freeOn}
+use Rattle.station.specs.Pieces.{freeOn}
 use borrow.Author.Needs.{needs}
 use Rattle.station.proofs.setting.free_on.Statement.{statement}
 use Rattle.station.proofs.setting.free_on.Tie as tie

@@ -6,7 +6,7 @@ use Rattle.rules.specs.Bytes.{padded}
 use Rattle.requests.specs.Views.{viewed}
 use Rattle.requests.proofs.ArrayLaws.{laid-more}
 use Rattle.slots.specs.Images.{blankSlot}
-use Rattle.station.specs.Draft.{freeOn}
+use Rattle.station.specs.Pieces.{freeOn}
 use borrow.Author.Needs.{needs}
 use Rattle.station.proofs.setting.listed.Statement.{statement}
 use Rattle.station.proofs.setting.listed.Tie as tie

@@ -1,0 +1,60 @@
+-- An outcome in the words of the rules is its parts together: the answer, the actions, and the station with its slot and its queue so changed.
+use Prim.Native.Nat.{ℕ, _≤_}
+use mathlib.Core.List.{List, [], _∷_, _++_}
+use mathlib.Core.Path.{_≡_, refl, ap, _∙_}
+use native.Mathlib.Omega.{arith}
+use lib.ListN.{length}
+use Rattle.rules.specs.Words.{Request, carrierOff}
+use Rattle.rules.specs.Actions.{Action, does, theCoast}
+use Rattle.rules.specs.Station as R
+use Rattle.rules.specs.Requests.{Out, also, rungBack, freedFor, freed, endActs, coastEnd, repeated, afresh, ruleD, offer, ruleF}
+use Rattle.rules.specs.Calls.{dialNow, shipEnd, sayAgain, offerDue, ringAgain, fire}
+use Rattle.outcomes.specs.declared.Talk.{Talk}
+use Rattle.outcomes.specs.declared.Outcome.{Outcome}
+use Rattle.outcomes.specs.declared.Outcome.the-variants.{Ignored, Passes, Turns, Dials, RingsAgain, Frees, Clears, CoastEnds, ShipEnds, SaysAgain, Repeats, Renews, Redials, Offers, Joins, Replaces, Unable, Drops}
+use Rattle.outcomes.specs.Does.{sinceOf, outOf, sceneOf, actsOf, freeActs, turned, lined, applied}
+use Rattle.outcomes.proofs.RuleLaws.{wait-fits}
+
+module _ (i : ℕ) (own asked : Request) (st : R.Station) (h : st .clock ≤ 4_000_000_000) where
+  -- a slot is freed: nobody waits, or the oldest is rung back
+  frees-applied : (q : List R.Waiting) → st .queue ≡ q → freed i st ≡ applied (sceneOf i own asked st) Frees st
+  unfolding freed freedFor rungBack applied sceneOf actsOf turned lined
+  frees-applied [] e = rw e refl
+  frees-applied (w ∷ q) e = rw (e, wait-fits (st .clock) 50 h (omega arith)) refl
+
+  -- with actions before it
+  also-frees : (a : List Action) → also a (freed i st) ≡ also a (applied (sceneOf i own asked st) Frees st)
+  also-frees a = ap (also a) (frees-applied (st .queue) refl)
+
+  clears-applied : offerDue i st ≡ applied (sceneOf i own asked st) Clears st
+  unfolding offerDue applied actsOf sceneOf
+  clears-applied = also-frees (does (carrierOff i) ∷ [])
+
+  ends-applied : (k : Talk) → coastEnd i own (sinceOf k) st ≡ applied (sceneOf i own asked st) (CoastEnds k) st
+  unfolding coastEnd applied actsOf sceneOf
+  ends-applied k = also-frees (endActs i theCoast own (sinceOf k) (st .clock))
+
+  redials-applied : (k : Talk) → coastEnd i own (sinceOf k) st ≡ applied (sceneOf i own asked st) (Redials k) st
+  unfolding applied actsOf
+  redials-applied k = ends-applied k
+
+  pub outcome-applied : (o : Outcome) → outOf i own asked o st ≡ applied (sceneOf i own asked st) o st
+  unfolding outOf applied sceneOf actsOf turned lined dialNow ringAgain shipEnd sayAgain repeated afresh offer ruleD ruleF fire
+  outcome-applied Ignored = refl
+  outcome-applied Passes = refl
+  outcome-applied (Turns p) = refl
+  outcome-applied Dials = rw (wait-fits (st .clock) 600 h (omega arith)) refl
+  outcome-applied RingsAgain = rw (wait-fits (st .clock) 50 h (omega arith)) refl
+  outcome-applied Frees = frees-applied (st .queue) refl
+  outcome-applied Clears = clears-applied
+  outcome-applied (CoastEnds k) = ends-applied k
+  outcome-applied (ShipEnds k) = rw (wait-fits (st .clock) 40 h (omega arith)) refl
+  outcome-applied (SaysAgain n) = refl
+  outcome-applied Repeats = refl
+  outcome-applied Renews = rw (wait-fits (st .clock) 160 h (omega arith)) refl
+  outcome-applied (Redials k) = redials-applied k
+  outcome-applied Offers = rw (wait-fits (st .clock) 160 h (omega arith)) refl
+  outcome-applied Joins = rw (wait-fits (st .clock) 9000 h (omega arith)) refl
+  outcome-applied (Replaces k) = refl
+  outcome-applied (Unable n) = refl
+  outcome-applied (Drops k) = refl

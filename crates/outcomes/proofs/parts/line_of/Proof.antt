@@ -1,0 +1,36 @@
+use borrow.Author.Needs.{needs}
+use mathlib.Core.List.{[], _∷_}
+use Rattle.outcomes.specs.Does.{lineOf}
+use Rattle.outcomes.proofs.ArmLaws.{outcome-arm}
+use Rattle.outcomes.proofs.parts.line_of.Statement.{statement}
+use Rattle.outcomes.proofs.parts.line_of.Tie as tie
+
+returns : tie.Need-returns
+returns c = rw (c .free-line .ensures) (outcome-arm (5 ∷ 6 ∷ 7 ∷ 12 ∷ []) _ (lineOf (c .before .before .args .t) (c .before .before .args .line)) (search needs) (c .before .before .args .o) (c .before .match .keys1))
+
+returns-2 : tie.Need-returns-2
+returns-2 c = rw (c .wait-from .ensures, c .before .enum-told .given .1)
+
+returns-3 : tie.Need-returns-3
+returns-3 c = rw (c .before .o .given .1)
+
+returns-4 : tie.Need-returns-4
+returns-4 c = rw (c .before .o2 .given .1)
+
+returns-5 : tie.Need-returns-5
+returns-5 c = outcome-arm (0 ∷ 1 ∷ 2 ∷ 3 ∷ 4 ∷ 8 ∷ 9 ∷ 10 ∷ 11 ∷ 13 ∷ 16 ∷ []) _ (lineOf (c .before .args .t) (c .before .args .line)) (search needs) (c .before .args .o) (c .match .keys5)
+
+pub line-of-spec : {M : Type 1} → statement M
+line-of-spec =
+    tie.close
+    (tie.spec
+    (λ c κs. search needs)
+    (λ c. search needs)
+    (λ c κs. search needs)
+    (λ c. search needs)
+    (λ c. search needs)
+    returns
+    returns-2
+    returns-3
+    returns-4
+    returns-5)

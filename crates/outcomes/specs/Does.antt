@@ -1,0 +1,249 @@
+-- What each outcome means: in the words of the rules; and in its parts, the answer, the actions, the slot, the queue.
+use Prim.Native.Nat.{ℕ, zero, suc, min}
+use mathlib.Core.Option.{Option, none, some}
+use mathlib.Core.List.{List, [], _∷_, _++_}
+use mathlib.Core.Bool.{Bool, true, false, cond}
+use lib.ListN.{length, getD}
+use Rattle.units.specs.declared.Tenths.{Tenths}
+use Rattle.units.specs.declared.Told.{Told}
+use Rattle.rules.specs.Places.{modAt, dropAt}
+use Rattle.rules.specs.Words.{Request, carrierOn, carrierOff, acknowledge, ringBack, unable, dial}
+use Rattle.rules.specs.Actions.{Action, does, over, theShip, theCoast}
+use Rattle.rules.specs.Station as R
+use Rattle.rules.specs.Station.{dealing, offered, firstRing, secondRing, setSlot, setQueue, dueAfter, kindWait, replyWait, holdWait, queueWait}
+use Rattle.rules.specs.Requests.{Out, done, ignored, saying, also, freed, lasted, endActs, coastEnd, placeOf, repeated, afresh, ruleD, offer, ruleF, dToG}
+use Rattle.rules.specs.Calls.{dialNow, shipEnd, sayAgain, offerDue, ringAgain, fire}
+use Rattle.rules.specs.Waits.{ofQueue}
+use Rattle.slots.specs.declared.Carrier.the-variants.{Present}
+use Rattle.slots.specs.declared.Phase.{Phase}
+use Rattle.slots.specs.declared.Phase.the-variants.{Free, Offered, RingBack, RingAgain, Dialling, Hold}
+use Rattle.slots.specs.declared.QueuePlace.{QueuePlace}
+use Rattle.slots.specs.Views.{phaseView, waitingView}
+use Rattle.slots.specs.Images.{blankWaiting}
+use Rattle.outcomes.specs.declared.Talk.{Talk}
+use Rattle.outcomes.specs.declared.Talk.the-variants.{Unanswered, Since}
+use Rattle.outcomes.specs.declared.Outcome.{Outcome}
+use Rattle.outcomes.specs.declared.Outcome.the-variants.{Ignored, Passes, Turns, Dials, RingsAgain, Frees, Clears, CoastEnds, ShipEnds, SaysAgain, Repeats, Renews, Redials, Offers, Joins, Replaces, Unable, Drops}
+use Rattle.outcomes.specs.declared.Turn.{Turn}
+use Rattle.outcomes.specs.declared.Turn.the-variants.{Stays, Own, Asked, Oldest}
+use Rattle.outcomes.specs.declared.Line.{Line}
+use Rattle.outcomes.specs.declared.Line.the-variants as L
+use Rattle.outcomes.specs.declared.Line.the-variants.{Same, Leaves}
+
+-- since when a call is answered, as the rules have it
+abbrev pub sinceOf : Talk → Option ℕ
+sinceOf Unanswered = none
+sinceOf (Since b) = some (b .0)
+
+-- ── in the words of the rules ────────────────────────────────────────────────
+
+-- on the slot i, which keeps `own`, where the event asks for `asked`; after `Redials` d to g go on
+unfoldable pub outOf : ℕ → Request → Request → Outcome → R.Station → Out
+outOf i own asked Ignored st = ignored st
+outOf i own asked Passes st = done st
+outOf i own asked (Turns p) st = done (setSlot i (phaseView p own) st)
+outOf i own asked Dials st = dialNow i (dealing own) st
+outOf i own asked RingsAgain st = ringAgain i (dealing own) st
+outOf i own asked Frees st = freed i st
+outOf i own asked Clears st = offerDue i st
+outOf i own asked (CoastEnds k) st = coastEnd i own (sinceOf k) st
+outOf i own asked (ShipEnds k) st = shipEnd i (dealing own) (sinceOf k) st
+outOf i own asked (SaysAgain n) st = sayAgain i own n st
+outOf i own asked Repeats st = repeated i st asked
+outOf i own asked Renews st = afresh i st asked
+outOf i own asked (Redials k) st = coastEnd i own (sinceOf k) st
+outOf i own asked Offers st = offer i st asked
+outOf i own asked Joins st = ruleF st asked
+outOf i own asked (Replaces k) st = ruleD (k .0) st asked
+outOf i own asked (Unable n) st = saying (unable n (asked .who) (asked .number)) st
+outOf i own asked (Drops k) st = fire st (ofQueue (k .0))
+
+-- c. "then d to g apply"
+abbrev pub goesOn : Outcome → Bool
+goesOn Ignored = false
+goesOn Passes = false
+goesOn (Turns p) = false
+goesOn Dials = false
+goesOn RingsAgain = false
+goesOn Frees = false
+goesOn Clears = false
+goesOn (CoastEnds k) = false
+goesOn (ShipEnds k) = false
+goesOn (SaysAgain n) = false
+goesOn Repeats = false
+goesOn Renews = false
+goesOn (Redials k) = true
+goesOn Offers = false
+goesOn Joins = false
+goesOn (Replaces k) = false
+goesOn (Unable n) = false
+goesOn (Drops k) = false
+
+-- one rule, and another behind it on the station that it leaves
+unfoldable pub behind : (R.Station → Out) → (R.Station → Out) → R.Station → Out
+behind f g st = also (f st .acts) (g (f st .next))
+
+-- d to g, for a ship that has no slot
+unfoldable pub withoutSlot : Request → R.Station → Out
+withoutSlot asked st = dToG st asked (placeOf (asked .who) st)
+
+unfoldable pub wholeOf : ℕ → Request → Request → Outcome → R.Station → Out
+wholeOf i own asked o st = cond (goesOn o) (behind (outOf i own asked o) (withoutSlot asked) st) (outOf i own asked o st)
+
+-- ── in its parts ─────────────────────────────────────────────────────────────
+
+-- all that is asked of a station to carry an outcome out
+pub record Scene : Type 0 where
+  pub clock : ℕ
+  pub slot : ℕ
+  pub own : Request  -- the slot's
+  pub asked : Request  -- the event's
+  pub oldest : Request  -- the oldest waiting ship's, where one waits
+  pub line : ℕ  -- how many wait
+
+unfoldable pub sceneOf : ℕ → Request → Request → R.Station → Scene
+sceneOf i own asked st =
+    record {
+      clock = st .clock;
+      slot = i;
+      own = own;
+      asked = asked;
+      oldest = getD (st .queue) 0 (waitingView blankWaiting) .request;
+      line = length (st .queue);
+    }
+
+-- "0 done", "1 ignored"
+abbrev pub answerOf : Outcome → ℕ
+answerOf Ignored = 1
+answerOf Passes = 0
+answerOf (Turns p) = 0
+answerOf Dials = 0
+answerOf RingsAgain = 0
+answerOf Frees = 0
+answerOf Clears = 0
+answerOf (CoastEnds k) = 0
+answerOf (ShipEnds k) = 0
+answerOf (SaysAgain n) = 0
+answerOf Repeats = 0
+answerOf Renews = 0
+answerOf (Redials k) = 0
+answerOf Offers = 0
+answerOf Joins = 0
+answerOf (Replaces k) = 0
+answerOf (Unable n) = 0
+answerOf (Drops k) = 0
+
+-- a slot is freed: the oldest of so many is rung back
+abbrev pub ringActs : ℕ → Request → ℕ → List Action
+ringActs i oldest zero = []
+ringActs i oldest (suc n) = does (carrierOn i) ∷ does (ringBack i oldest) ∷ []
+
+abbrev pub freeActs : Scene → List Action
+freeActs sc = ringActs (sc .slot) (sc .oldest) (sc .line)
+
+abbrev pub unableActs : ℕ → Scene → List Action
+unableActs n sc = does (unable n (sc .asked .who) (sc .asked .number)) ∷ []
+
+-- the actions, in order
+unfoldable pub actsOf : Scene → Outcome → List Action
+actsOf sc Ignored = []
+actsOf sc Passes = []
+actsOf sc (Turns p) = []
+actsOf sc Dials = does (dial (sc .slot) (sc .own .number)) ∷ []
+actsOf sc RingsAgain = does (ringBack (sc .slot) (sc .own)) ∷ []
+actsOf sc Frees = freeActs sc
+actsOf sc Clears = does (carrierOff (sc .slot)) ∷ freeActs sc
+actsOf sc (CoastEnds k) = endActs (sc .slot) theCoast (sc .own) (sinceOf k) (sc .clock) ++ freeActs sc
+actsOf sc (ShipEnds k) = endActs (sc .slot) theShip (sc .own) (sinceOf k) (sc .clock)
+actsOf sc (SaysAgain n) = does (carrierOn (sc .slot)) ∷ over (sc .slot) theShip (sc .own .who) (sc .own .number) n ∷ does (carrierOff (sc .slot)) ∷ []
+actsOf sc Repeats = does (acknowledge (sc .slot) (sc .asked)) ∷ []
+actsOf sc Renews = does (acknowledge (sc .slot) (sc .asked)) ∷ []
+actsOf sc (Redials k) = endActs (sc .slot) theCoast (sc .own) (sinceOf k) (sc .clock) ++ freeActs sc
+actsOf sc Offers = does (carrierOn (sc .slot)) ∷ does (acknowledge (sc .slot) (sc .asked)) ∷ []
+actsOf sc Joins = unableActs 103 sc
+actsOf sc (Replaces k) = unableActs 103 sc
+actsOf sc (Unable n) = unableActs n sc
+actsOf sc (Drops k) = []
+
+abbrev pub timeOf : R.Station → Tenths
+timeOf st = record { 0 = st .clock }
+
+-- a wait of p begun at t, in 32 bits
+abbrev pub waitFrom : Tenths → ℕ → Tenths
+waitFrom t p = record { 0 = min (dueAfter (t .0) p) 4294967295 }
+
+-- what an end of call at t tells
+abbrev pub toldOf : Talk → Tenths → Told
+toldOf k t = lasted (sinceOf k) (t .0)
+
+abbrev pub freeTurn : Tenths → ℕ → Turn
+freeTurn t zero = Own Free
+freeTurn t (suc n) = Oldest (RingBack (waitFrom t (kindWait firstRing)))
+
+-- what becomes of the slot at the time t, where so many wait
+abbrev pub turnOf : Tenths → ℕ → Outcome → Turn
+turnOf t line Ignored = Stays
+turnOf t line Passes = Stays
+turnOf t line (Turns p) = Own p
+turnOf t line Dials = Own (Dialling (waitFrom t replyWait) Present)
+turnOf t line RingsAgain = Own (RingAgain (waitFrom t (kindWait secondRing)))
+turnOf t line Frees = freeTurn t line
+turnOf t line Clears = freeTurn t line
+turnOf t line (CoastEnds k) = freeTurn t line
+turnOf t line (ShipEnds k) = Own (Hold (waitFrom t holdWait) (toldOf k t))
+turnOf t line (SaysAgain n) = Stays
+turnOf t line Repeats = Stays
+turnOf t line Renews = Asked (Offered (waitFrom t (kindWait offered)))
+turnOf t line (Redials k) = freeTurn t line
+turnOf t line Offers = Asked (Offered (waitFrom t (kindWait offered)))
+turnOf t line Joins = Stays
+turnOf t line (Replaces k) = Stays
+turnOf t line (Unable n) = Stays
+turnOf t line (Drops k) = Stays
+
+abbrev pub freeLine : ℕ → Line
+freeLine zero = Same
+freeLine (suc n) = Leaves (record { 0 = 0 })
+
+-- what becomes of the queue
+abbrev pub lineOf : Tenths → ℕ → Outcome → Line
+lineOf t line Ignored = Same
+lineOf t line Passes = Same
+lineOf t line (Turns p) = Same
+lineOf t line Dials = Same
+lineOf t line RingsAgain = Same
+lineOf t line Frees = freeLine line
+lineOf t line Clears = freeLine line
+lineOf t line (CoastEnds k) = freeLine line
+lineOf t line (ShipEnds k) = Same
+lineOf t line (SaysAgain n) = Same
+lineOf t line Repeats = Same
+lineOf t line Renews = Same
+lineOf t line (Redials k) = freeLine line
+lineOf t line Offers = Same
+lineOf t line Joins = L.Joins (waitFrom t queueWait)
+lineOf t line (Replaces k) = L.Replaces k
+lineOf t line (Unable n) = Same
+lineOf t line (Drops k) = Leaves k
+
+-- a slot and a queue so changed
+unfoldable pub turned : Scene → Turn → R.Station → R.Station
+turned sc Stays st = st
+turned sc (Own p) st = setSlot (sc .slot) (phaseView p (sc .own)) st
+turned sc (Asked p) st = setSlot (sc .slot) (phaseView p (sc .asked)) st
+turned sc (Oldest p) st = setSlot (sc .slot) (phaseView p (sc .oldest)) st
+
+unfoldable pub lined : Scene → Line → R.Station → R.Station
+lined sc Same st = st
+lined sc (Leaves k) st = setQueue (dropAt (k .0) (st .queue)) st
+lined sc (L.Joins d) st = setQueue (st .queue ++ record { request = sc .asked; due = d .0 } ∷ []) st
+lined sc (L.Replaces k) st = setQueue (modAt (λ w. record { request = sc .asked; due = w .due }) (k .0) (st .queue)) st
+
+-- all its parts together
+unfoldable pub applied : Scene → Outcome → R.Station → Out
+applied sc o st =
+    record {
+      answer = answerOf o;
+      next = turned sc (turnOf (timeOf st) (sc .line) o) (lined sc (lineOf (timeOf st) (sc .line) o) st);
+      acts = actsOf sc o;
+    }

@@ -1,0 +1,150 @@
+// The events of a slot, each by the slot's phase; what document 01 does not name is ignored.
+ghost use mathlib.Core.Path.{_≡_};
+ghost use Rattle.outcomes.specs.Decides.{offHookBy, upBy, lossFrom, downBy, coastEndBy, workingBy, shipEndBy, bqBy, takeBy, giveBackBy, mainDueBy};
+use crate::Outcome;
+use crate::Talk;
+use crate::parts::wait_from;
+use dues::OFFER_WAIT;
+use dues::carrier_wait;
+use requests::Mode;
+use slots::Carrier;
+use slots::Phase;
+use units::Tenths;
+
+// "while dialling: answered, the reply wait ends, a carrier wait runs on"
+pub fn off_hook(t: Tenths, p: Phase) -> Outcome
+    ensures { λ r. ⌜ r ≡ offHookBy t p ⌝ }
+{
+    match p {
+        Phase::Dialling(_, c) => Outcome::Turns(Phase::Answered(t, c)),
+        Phase::Answered(_, _) => Outcome::Ignored,
+        _ => Outcome::Ignored,
+    }
+}
+
+// "carrier up ends it"
+pub fn carrier_up(p: Phase) -> Outcome
+    ensures { λ r. ⌜ r ≡ upBy p ⌝ }
+{
+    match p {
+        Phase::Dialling(d, _) => Outcome::Turns(Phase::Dialling(d, Carrier::Present)),
+        Phase::Answered(b, _) => Outcome::Turns(Phase::Answered(b, Carrier::Present)),
+        _ => Outcome::Ignored,
+    }
+}
+
+// The carrier's wait begins; "a second down doesn't restart it".
+fn lost_from(t: Tenths, m: Mode, c: Carrier) -> Carrier
+    ensures { λ r. ⌜ r ≡ lossFrom t m c ⌝ }
+{
+    let d = wait_from(t, carrier_wait(m));
+    match c {
+        Carrier::Present => Carrier::Lost(d),
+        Carrier::Lost(u) => Carrier::Lost(u),
+    }
+}
+
+// "starts a wait of 50 duplex, 450 simplex"
+pub fn carrier_down(t: Tenths, m: Mode, p: Phase) -> Outcome
+    ensures { λ r. ⌜ r ≡ downBy t m p ⌝ }
+{
+    match p {
+        Phase::Dialling(d, c) => {
+            let l = lost_from(t, m, c);
+            Outcome::Turns(Phase::Dialling(d, l))
+        }
+        Phase::Answered(b, c) => {
+            let l = lost_from(t, m, c);
+            Outcome::Turns(Phase::Answered(b, l))
+        }
+        _ => Outcome::Ignored,
+    }
+}
+
+// On-hook, and a carrier loss.
+pub fn coast_end(p: Phase) -> Outcome
+    ensures { λ r. ⌜ r ≡ coastEndBy p ⌝ }
+{
+    match p {
+        Phase::Dialling(_, _) => Outcome::CoastEnds(Talk::Unanswered),
+        Phase::Answered(b, _) => Outcome::CoastEnds(Talk::Since(b)),
+        _ => Outcome::Ignored,
+    }
+}
+
+// "on an offered or acknowledged slot, same ship"
+pub fn working_call(own: bool, p: Phase) -> Outcome
+    ensures { λ r. ⌜ r ≡ workingBy own p ⌝ }
+{
+    if own {
+        return match p {
+            Phase::Offered(_) | Phase::Acknowledged(_) => Outcome::Dials,
+            _ => Outcome::Ignored,
+        };
+    }
+    Outcome::Ignored
+}
+
+// "while dialling or answered, same ship"; "in the hold: .. the same answer sent"
+pub fn ship_end(own: bool, p: Phase) -> Outcome
+    ensures { λ r. ⌜ r ≡ shipEndBy own p ⌝ }
+{
+    if own {
+        return match p {
+            Phase::Dialling(_, _) => Outcome::ShipEnds(Talk::Unanswered),
+            Phase::Answered(b, _) => Outcome::ShipEnds(Talk::Since(b)),
+            Phase::Hold(_, told) => Outcome::SaysAgain(told),
+            _ => Outcome::Ignored,
+        };
+    }
+    Outcome::Ignored
+}
+
+// Ring-back acknowledged: "wait 160".
+pub fn bq(own: bool, t: Tenths, p: Phase) -> Outcome
+    ensures { λ r. ⌜ r ≡ bqBy own t p ⌝ }
+{
+    if own {
+        return match p {
+            Phase::RingBack(_) | Phase::RingAgain(_) => {
+                let d = wait_from(t, OFFER_WAIT);
+                Outcome::Turns(Phase::Acknowledged(d))
+            }
+            _ => Outcome::Ignored,
+        };
+    }
+    Outcome::Ignored
+}
+
+// The operator "takes a free slot".
+pub fn take(p: Phase) -> Outcome
+    ensures { λ r. ⌜ r ≡ takeBy p ⌝ }
+{
+    match p {
+        Phase::Free => Outcome::Turns(Phase::Taken),
+        _ => Outcome::Ignored,
+    }
+}
+
+// "or gives it back (freed)"
+pub fn give_back(p: Phase) -> Outcome
+    ensures { λ r. ⌜ r ≡ giveBackBy p ⌝ }
+{
+    match p {
+        Phase::Taken => Outcome::Frees,
+        _ => Outcome::Ignored,
+    }
+}
+
+// The wait of a slot other than its carrier's falls due.
+pub fn main_due(p: Phase) -> Outcome
+    ensures { λ r. ⌜ r ≡ mainDueBy p ⌝ }
+{
+    match p {
+        Phase::Offered(_) | Phase::RingAgain(_) | Phase::Acknowledged(_) => Outcome::Clears,
+        Phase::RingBack(_) => Outcome::RingsAgain,
+        Phase::Dialling(_, _) => Outcome::CoastEnds(Talk::Unanswered),
+        Phase::Hold(_, _) => Outcome::Frees,
+        _ => Outcome::Ignored,
+    }
+}

@@ -1,0 +1,125 @@
+// What an outcome comes to: the answer, the slot, the queue.
+ghost use mathlib.Core.Path.{_≡_};
+ghost use Rattle.outcomes.specs.Does.{answerOf, goesOn, waitFrom, toldOf, freeTurn, turnOf, freeLine, lineOf};
+use crate::Line;
+use crate::Outcome;
+use crate::Talk;
+use crate::Turn;
+use actions::deeds::lasted;
+use dues::HOLD_WAIT;
+use dues::OFFER_WAIT;
+use dues::QUEUE_WAIT;
+use dues::REPLY_WAIT;
+use dues::RING_WAIT;
+use dues::due_after;
+use slots::Carrier;
+use slots::Phase;
+use slots::QueuePlace;
+use units::Tenths;
+use units::Told;
+
+// A wait of p begun at t.
+pub(crate) fn wait_from(t: Tenths, p: Tenths) -> Tenths
+    ensures { λ r. ⌜ r ≡ waitFrom t (p .0) ⌝ }
+{
+    due_after(t, p)
+}
+
+// What an end of call at t tells: of an unanswered one nothing.
+pub fn told_of(k: Talk, t: Tenths) -> Told
+    ensures { λ r. ⌜ r ≡ toldOf k t ⌝ }
+{
+    match k {
+        Talk::Unanswered => Told::Nothing,
+        Talk::Since(b) => lasted(b, t),
+    }
+}
+
+// "0 done", "1 ignored"
+pub fn answer_of(o: Outcome) -> u8
+    ensures { λ r. ⌜ r ≡ answerOf o ⌝ }
+{
+    match o {
+        Outcome::Ignored => 1,
+        _ => 0,
+    }
+}
+
+// Rule c: "then d to g apply".
+pub fn goes_on(o: Outcome) -> bool
+    ensures { λ r. ⌜ r ≡ goesOn o ⌝ }
+{
+    match o {
+        Outcome::Redials(_) => true,
+        _ => false,
+    }
+}
+
+// A slot is freed where so many wait: "the same event takes the oldest".
+fn free_turn(t: Tenths, line: u8) -> Turn
+    ensures { λ r. ⌜ r ≡ freeTurn t line ⌝ }
+{
+    if line == 0 {
+        return Turn::Own(Phase::Free);
+    }
+    let d = wait_from(t, RING_WAIT);
+    Turn::Oldest(Phase::RingBack(d))
+}
+
+// What becomes of the slot at the time t, where so many wait.
+pub fn turn_of(o: Outcome, t: Tenths, line: u8) -> Turn
+    ensures { λ r. ⌜ r ≡ turnOf t line o ⌝ }
+{
+    match o {
+        Outcome::Turns(p) => Turn::Own(p),
+        Outcome::Dials => {
+            let d = wait_from(t, REPLY_WAIT);
+            Turn::Own(Phase::Dialling(d, Carrier::Present))
+        }
+        Outcome::RingsAgain => {
+            let d = wait_from(t, RING_WAIT);
+            Turn::Own(Phase::RingAgain(d))
+        }
+        Outcome::ShipEnds(k) => {
+            let told = told_of(k, t);
+            let d = wait_from(t, HOLD_WAIT);
+            Turn::Own(Phase::Hold(d, told))
+        }
+        Outcome::Renews | Outcome::Offers => {
+            let d = wait_from(t, OFFER_WAIT);
+            Turn::Asked(Phase::Offered(d))
+        }
+        Outcome::Frees | Outcome::Clears | Outcome::CoastEnds(_) | Outcome::Redials(_) => free_turn(
+            t,
+            line,
+        ),
+        _ => Turn::Stays,
+    }
+}
+
+fn free_line(line: u8) -> Line
+    ensures { λ r. ⌜ r ≡ freeLine line ⌝ }
+{
+    if line == 0 {
+        return Line::Same;
+    }
+    Line::Leaves(QueuePlace(0))
+}
+
+// What becomes of the queue.
+pub fn line_of(o: Outcome, t: Tenths, line: u8) -> Line
+    ensures { λ r. ⌜ r ≡ lineOf t line o ⌝ }
+{
+    match o {
+        Outcome::Frees | Outcome::Clears | Outcome::CoastEnds(_) | Outcome::Redials(_) => free_line(
+            line,
+        ),
+        Outcome::Joins => {
+            let d = wait_from(t, QUEUE_WAIT);
+            Line::Joins(d)
+        }
+        Outcome::Replaces(k) => Line::Replaces(k),
+        Outcome::Drops(k) => Line::Leaves(k),
+        _ => Line::Same,
+    }
+}

@@ -1,0 +1,62 @@
+-- An outcome told and applied by its scene is the outcome in the words of the rules.
+use Prim.Native.Nat.{ℕ, _≤_}
+use mathlib.Core.List.{List, map}
+use mathlib.Core.Path.{_≡_, sym, ap, _∙_}
+use Rattle.units.specs.declared.SlotNumber.{SlotNumber}
+use Rattle.units.specs.declared.Tenths.{Tenths}
+use Rattle.rules.specs.Words.{Request}
+use Rattle.rules.specs.Bytes.{channelAt}
+use Rattle.rules.specs.Station.{setClock, nextDue}
+use Rattle.rules.specs.Requests.{Out}
+use Rattle.actions.specs.Sent.{sentBlock}
+use Rattle.blocks.specs.Laid.{Laid, laidFrom}
+use Rattle.outcomes.specs.declared.Outcome.{Outcome}
+use Rattle.outcomes.specs.Does as D
+use Rattle.outcomes.specs.Does.{outOf, sceneOf, actsOf, answerOf, applied}
+use Rattle.outcomes.proofs.PartLaws.{outcome-applied}
+use Rattle.telling.specs.declared.Scene.{Scene}
+use Rattle.telling.specs.Told.{sceneView, telling}
+use Rattle.telling.proofs.TellLaws.{telling-sent}
+use Rattle.station.specs.declared.Station.{Station}
+use Rattle.station.specs.declared.Stepped.{Stepped}
+use Rattle.station.specs.Model.{modelOf, configOf, imageOf}
+use Rattle.station.specs.Step.{dueImage}
+use Rattle.station.specs.Pieces.{ownOf, outAt, laidOf, enacted}
+use Rattle.station.proofs.ApplyLaws.{applied-clock}
+
+scene-out : (s : Station) (t i : ℕ) (own asked : Request) → t ≤ 4_000_000_000 → (sc : D.Scene) (o : Outcome) → sc ≡ sceneOf i own asked (setClock t (modelOf s))
+    → applied sc o (setClock t (modelOf s)) ≡ outOf i own asked o (setClock t (modelOf s))
+unfolding setClock
+scene-out s t i own asked late sc o e = rw e (sym (outcome-applied i own asked (setClock t (modelOf s)) late o))
+
+-- the scene of the slot i at the time t, where q is asked for
+abbrev pub Shows : Station → Tenths → SlotNumber → Request → Scene → Type 0
+Shows s t i q sc = (sceneView sc ≡ sceneOf (i .0) (ownOf s (i .0)) q (setClock (t .0) (modelOf s))) × ((sc .clock ≡ t) × (sc .channel ≡ channelAt (configOf s) (sc .slot .0)))
+
+module _ (s : Station) (t : Tenths) (i : SlotNumber) (q : Request) (sc : Scene) (o : Outcome) (late : t .0 ≤ 4_000_000_000) (shows : Shows s t i q sc) where
+  pub out-is : applied (sceneView sc) o (setClock (sc .clock .0) (modelOf s)) ≡ outAt s t i q o
+  unfolding outAt
+  out-is =
+      ap (λ (u : Tenths). applied (sceneView sc) o (setClock (u .0) (modelOf s))) (shows .1 .0)
+      ∙ scene-out s (t .0) (i .0) (ownOf s (i .0)) q late (sceneView sc) o (shows .0)
+
+  pub clock-is : outAt s t i q o .next .clock ≡ t .0
+  unfolding setClock
+  clock-is =
+      ap (λ (x : Out). x .next .clock) (sym out-is) ∙ applied-clock (sceneView sc) o (setClock (sc .clock .0) (modelOf s)) ∙ ap (λ (u : Tenths). u .0) (shows .1 .0)
+
+  pub told-is : (k : ℕ) (room : List ℕ) → telling sc (actsOf (sceneView sc) o) k room ≡ laidOf (configOf s) (outAt s t i q o .acts) k room
+  unfolding laidOf applied
+  told-is k room = telling-sent (configOf s) sc (shows .1 .1) o k room ∙ ap (λ (x : Out). laidFrom (map (sentBlock (configOf s)) (x .acts)) k room) out-is
+
+  -- told from block number k to block number n, and applied
+  module _ (next : Station) (moved : (modelOf next ≡ applied (sceneView sc) o (setClock (sc .clock .0) (modelOf s)) .next) × (configOf next ≡ configOf s))
+      (k n : ℕ) (room after : List ℕ) (told : (n ≡ telling sc (actsOf (sceneView sc) o) k room .next) × (after ≡ telling sc (actsOf (sceneView sc) o) k room .room)) where
+    handed : _≡_ {A = Stepped} (record { answer = answerOf o; count = n; due = dueImage (nextDue (modelOf next)); station = imageOf (configOf next) (modelOf next) })
+        (enacted (configOf s) (laidOf (configOf s) (outAt s t i q o .acts) k room) (outAt s t i q o))
+    unfolding enacted applied
+    handed = rw (moved .0, moved .1, told .0, told-is k room) (ap (enacted (configOf s) (laidOf (configOf s) (outAt s t i q o .acts) k room)) out-is)
+
+    pub enacts : (a : ℕ) → a ≡ answerOf o → (r : Stepped) → r ≡ record { answer = a; count = n; due = dueImage (nextDue (modelOf next)); station = imageOf (configOf next) (modelOf next) }
+        → (r ≡ enacted (configOf s) (laidOf (configOf s) (outAt s t i q o .acts) k room) (outAt s t i q o)) × (after ≡ laidOf (configOf s) (outAt s t i q o .acts) k room .room)
+    enacts a e r f = ((rw e at f) ∙ handed, told .1 ∙ ap (λ (l : Laid). l .room) (told-is k room))

@@ -1,0 +1,32 @@
+use mathlib.Core.Path.{refl, ap, _∙_}
+use Rattle.rules.specs.Words.{is}
+use Rattle.rules.specs.Station as R
+use Rattle.rules.specs.Station.{setClock}
+use Rattle.rules.specs.Calls.{bqFor}
+use Rattle.requests.specs.Views.{requestOf}
+use Rattle.outcomes.proofs.RuleLaws.{bq-is}
+use Rattle.station.specs.Model.{modelOf}
+use Rattle.station.specs.Pieces.{slotOf, ownOf, wholeAt}
+use Rattle.station.proofs.AskLaws.{ends-there, bq-ends}
+use Rattle.station.proofs.PlaceLaws.{slot-view}
+use borrow.Author.Needs.{needs}
+use Rattle.station.proofs.Station.agreed.Statement.{statement}
+use Rattle.station.proofs.Station.agreed.Tie as tie
+
+returns : tie.Need-returns
+unfolding wholeAt ownOf setClock requestOf
+returns c =
+    let z = c .before .before .before .before in
+    let x = z .args in
+    let i = x .i .0 in
+    let y = slotOf (x .self) i in
+    let r = requestOf (y .request) in
+    let q = requestOf (x .q) in
+    let st : R.Station = setClock (x .t .0) (modelOf (x .self)) in
+    rw (c .bq .ensures, c .before .is-by .ensures, c .before .before .before .slot-at .ensures)
+    (ends-there i r q _ st (bq-ends (is (q .who) (r .who)) (x .t) (y .phase))
+    ∙ bq-is i st r q (q .who) (is (q .who) (r .who)) refl (z .pre) (y .phase)
+    ∙ ap (bqFor i (q .who) st) (slot-view (x .self) i))
+
+pub agreed-spec : {M : Type 1} → statement M
+agreed-spec = tie.close (tie.spec (λ c κs. search needs) (λ c κs. search needs) (λ c κs. search needs) returns)

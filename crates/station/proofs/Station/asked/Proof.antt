@@ -1,0 +1,50 @@
+use mathlib.Core.Path.{ap, _∙_}
+use Rattle.rules.specs.Station as R
+use Rattle.rules.specs.Station.{setClock}
+use Rattle.rules.specs.Requests.{standing, requested}
+use Rattle.requests.specs.Views.{requestOf}
+use Rattle.outcomes.specs.Does.{outOf, wholeOf}
+use Rattle.station.specs.Model.{modelOf}
+use Rattle.station.specs.Pieces.{wholeAt}
+use Rattle.station.proofs.AskLaws.{ends-there}
+use borrow.Author.Needs.{needs}
+use Rattle.station.proofs.Station.asked.Statement.{statement}
+use Rattle.station.proofs.Station.asked.Tie as tie
+
+returns : tie.Need-returns
+unfolding modelOf setClock requestOf standing requested wholeAt
+returns c =
+    let x = c .before .before .before .before .before .before .args in
+    let st : R.Station = setClock (x .t .0) (modelOf (x .self)) in
+    let h = rw (c .before .enum-told .given .1) at (c .before .before .before .standing .ensures) in
+    ends-there _ _ _ _ st (c .newcomer .ensures .1) ∙ c .newcomer .ensures .0 (x .t .0) _ _ ∙ ap (requested st (requestOf (x .q))) h
+
+returns-2 : tie.Need-returns-2
+unfolding modelOf setClock requestOf standing
+returns-2 c =
+    let x = c .before .before .before .before .before .before .before .args in
+    let st : R.Station = setClock (x .t .0) (modelOf (x .self)) in
+    let h = rw (c .before .before .w .given .1) at (c .before .before .before .before .standing .ensures) in
+    c .asked-again .ensures ∙ ap (requested st (requestOf (x .q))) h
+
+returns-3 : tie.Need-returns-3
+unfolding modelOf setClock requestOf standing requested wholeAt wholeOf outOf
+returns-3 c =
+    let x = c .before .before .before .before .before .before .args in
+    let st : R.Station = setClock (x .t .0) (modelOf (x .self)) in
+    let h = rw (c .before .w2 .given .1) at (c .before .before .before .standing .ensures) in
+    ap (requested st (requestOf (x .q))) h
+
+pub asked-spec : {M : Type 1} → statement M
+asked-spec =
+    tie.close
+    (tie.spec
+    (λ c κs. search needs)
+    (λ c. search needs)
+    (λ c κs. search needs)
+    (λ c. search needs)
+    (λ c κs. search needs)
+    (λ c. search needs)
+    returns
+    returns-2
+    returns-3)

@@ -1,0 +1,133 @@
+-- Words of the contracts of private functions; only the proofs need them.
+use Prim.Native.Nat.{ℕ}
+use mathlib.Core.Bool.{Bool, _&&_}
+use mathlib.Core.Path.{_≡_}
+use mathlib.Core.List.{List, map}
+use lib.ListN.{length, getD}
+use Rattle.units.specs.declared.Channel.{Channel}
+use Rattle.units.specs.declared.SlotNumber.{SlotNumber}
+use Rattle.units.specs.declared.Tenths.{Tenths}
+use Rattle.rules.specs.Words as W
+use Rattle.rules.specs.Words.{Config, lineLifted, lineHung, carrierHeard, carrierLost, handTakes, handGives}
+use Rattle.rules.specs.Waits.{earliest}
+use Rattle.rules.specs.Sound.{sound}
+use Rattle.rules.specs.Station.{free, setClock, table, nextDue}
+use Rattle.rules.specs.Requests.{Out}
+use Rattle.rules.specs.Actions.{Action}
+use Rattle.requests.specs.declared.Mode.{Mode}
+use Rattle.requests.specs.Views.{viewed, itself, requestOf}
+use Rattle.slots.specs.declared.Slot.{Slot}
+use Rattle.slots.specs.declared.Phase.{Phase}
+use Rattle.slots.specs.declared.Wait.{Wait}
+use Rattle.slots.specs.declared.Wait.the-variants.{Entry, Loss, Main}
+use Rattle.slots.specs.declared.Due.{Due}
+use Rattle.slots.specs.declared.Due.the-variants.{Never, In}
+use Rattle.slots.specs.Images.{slotImage, blankSlot}
+use Rattle.slots.specs.Views.{dueView}
+use Rattle.actions.specs.Sent.{sentBlock}
+use Rattle.blocks.specs.Laid.{Laid, laidFrom}
+use Rattle.gate.specs.declared.Look.{Look}
+use Rattle.hearing.specs.declared.Kind.{Kind}
+use Rattle.hearing.specs.declared.Kind.the-variants.{CallRequest, DataRequest, Bq, WorkingCall, EndOfCall, Nothing}
+use Rattle.outcomes.specs.declared.Outcome.{Outcome}
+use Rattle.outcomes.specs.declared.Outcome.the-variants.{Ignored, Passes, Drops}
+use Rattle.outcomes.specs.Does.{outOf, wholeOf}
+use Rattle.outcomes.specs.Decides.{offHookBy, upBy, downBy, coastEndBy, workingBy, shipEndBy, takeBy, giveBackBy, mainDueBy}
+use Rattle.station.specs.declared.Station.{Station}
+use Rattle.station.specs.declared.Stepped.{Stepped}
+use Rattle.station.specs.declared.Signal.{Signal}
+use Rattle.station.specs.declared.Signal.the-variants.{LineLifted, LineHung, CarrierHeard, CarrierLost}
+use Rattle.station.specs.declared.Hand.{Hand}
+use Rattle.station.specs.declared.Hand.the-variants.{Takes, GivesBack}
+use Rattle.station.specs.Model.{modelOf, configOf, imageOf}
+use Rattle.station.specs.Step.{recordsKeep, dueImage}
+
+-- a free slot on a channel
+unfoldable pub freeOn : Channel → Slot
+freeOn n = slotImage n free
+
+-- what the gate sees
+pub record Sees (s : Station) (l : Look) : Type 0 where
+  pub soundly : l .sound ≡ (recordsKeep s && sound (configOf s) (modelOf s))
+  pub clock : l .clock .0 ≡ modelOf s .clock
+  pub slots : l .count ≡ length (modelOf s .slots)
+  pub first : dueView (l .due) ≡ earliest (table (modelOf s))
+
+-- the slot i, and the request that it keeps
+unfoldable pub slotOf : Station → ℕ → Slot
+slotOf s i = getD (viewed itself (s .count) (s .slots)) i blankSlot
+
+unfoldable pub ownOf : Station → ℕ → W.Request
+ownOf s i = requestOf (slotOf s i .request)
+
+-- ── enacted ──────────────────────────────────────────────────────────────────
+
+-- an outcome of the slot i at the time t, where q is asked for
+unfoldable pub outAt : Station → Tenths → SlotNumber → W.Request → Outcome → Out
+outAt s t i q o = outOf (i .0) (ownOf s (i .0)) q o (setClock (t .0) (modelOf s))
+
+-- and with what goes on behind it
+unfoldable pub wholeAt : Station → Tenths → SlotNumber → W.Request → Outcome → Out
+wholeAt s t i q o = wholeOf (i .0) (ownOf s (i .0)) q o (setClock (t .0) (modelOf s))
+
+-- the blocks of actions, laid from block number k on
+unfoldable pub laidOf : Config → List Action → ℕ → List ℕ → Laid
+laidOf c acts k room = laidFrom (map (sentBlock c) acts) k room
+
+-- what is handed back once the blocks are laid
+unfoldable pub enacted : Config → Laid → Out → Stepped
+enacted c l o = record { answer = o .answer; count = l .next; due = dueImage (nextDue (o .next)); station = imageOf c (o .next) }
+
+-- ── which rule decides ───────────────────────────────────────────────────────
+
+abbrev pub signalView : Signal → W.Signal
+signalView LineLifted = lineLifted
+signalView LineHung = lineHung
+signalView CarrierHeard = carrierHeard
+signalView CarrierLost = carrierLost
+
+abbrev pub bySignal : Signal → Tenths → Mode → Phase → Outcome
+bySignal LineLifted t m p = offHookBy t p
+bySignal LineHung t m p = coastEndBy p
+bySignal CarrierHeard t m p = upBy p
+bySignal CarrierLost t m p = downBy t m p
+
+abbrev pub handView : Hand → W.Hand
+handView Takes = handTakes
+handView GivesBack = handGives
+
+abbrev pub byHand : Hand → Phase → Outcome
+byHand Takes p = takeBy p
+byHand GivesBack p = giveBackBy p
+
+-- what falls due: the slot that is meant, the time, the outcome; a queue entry and nothing due mean no slot
+abbrev pub waitSlot : Wait → SlotNumber
+waitSlot (Entry k) = record { 0 = 0 }
+waitSlot (Loss i) = i
+waitSlot (Main i) = i
+
+abbrev pub dueSlot : Due → SlotNumber
+dueSlot Never = record { 0 = 0 }
+dueSlot (In t w) = waitSlot w
+
+abbrev pub moment : Due → Tenths → Tenths
+moment Never t = t
+moment (In u w) t = u
+
+abbrev pub byWait : Wait → Phase → Outcome
+byWait (Entry k) p = Drops k
+byWait (Loss i) p = coastEndBy p
+byWait (Main i) p = mainDueBy p
+
+abbrev pub byDue : Due → Phase → Outcome
+byDue Never p = Passes
+byDue (In t w) p = byWait w p
+
+-- heard on a working channel, from the slot's own ship or from another
+abbrev pub byKind : Kind → Bool → Phase → Outcome
+byKind CallRequest own p = Ignored
+byKind DataRequest own p = Ignored
+byKind (Bq i) own p = Ignored
+byKind WorkingCall own p = workingBy own p
+byKind EndOfCall own p = shipEndBy own p
+byKind Nothing own p = Ignored

@@ -1,0 +1,119 @@
+-- The two parts of what an outcome tells, and actions laid as blocks.
+use Prim.Native.Nat.{ℕ, zero, suc}
+use mathlib.Core.List.{List, [], _∷_, map}
+use Rattle.rules.specs.Words.{carrierOn, carrierOff, acknowledge, ringBack, unable, dial}
+use Rattle.rules.specs.Actions.{Action, Ender, does, over, theShip}
+use Rattle.rules.specs.Requests.{bill, endActs}
+use Rattle.units.specs.declared.Told.{Told}
+use Rattle.requests.specs.Views.{requestOf}
+use Rattle.actions.specs.declared.Ender.the-variants.{Ship, Coast}
+use Rattle.actions.specs.Sent.{enderOf, sentOn}
+use Rattle.blocks.specs.Laid.{Laid, laidFrom}
+use Rattle.outcomes.specs.declared.Talk.{Talk}
+use Rattle.outcomes.specs.declared.Outcome.{Outcome}
+use Rattle.outcomes.specs.declared.Outcome.the-variants as O
+use Rattle.outcomes.specs.Does as D
+use Rattle.outcomes.specs.Does.{sinceOf}
+use Rattle.telling.specs.declared.Scene.{Scene}
+use Rattle.telling.specs.declared.Close.{Close}
+use Rattle.telling.specs.declared.Close.the-variants.{Leaves, CarrierOff, Ends, Again}
+use Rattle.telling.specs.declared.Word.{Word}
+use Rattle.telling.specs.declared.Word.the-variants.{Dials, RingsOwn, RingsOldest, Acknowledges, Unable}
+use Rattle.telling.specs.declared.Say.{Say}
+use Rattle.telling.specs.declared.Say.the-variants.{Nothing, Plain, Lifted}
+
+-- a scene as the outcomes read it
+unfoldable pub sceneView : Scene → D.Scene
+sceneView s =
+    record {
+      clock = s .clock .0;
+      slot = s .slot .0;
+      own = requestOf (s .own);
+      asked = requestOf (s .asked);
+      oldest = requestOf (s .oldest);
+      line = s .line;
+    }
+
+-- actions about its slot, from block number k on
+unfoldable pub telling : Scene → List Action → ℕ → List ℕ → Laid
+telling s acts k room = laidFrom (map (sentOn (s .channel)) acts) k room
+
+-- ── an outcome's two parts ───────────────────────────────────────────────────
+
+-- how the call of the slot is closed
+abbrev pub closeOf : Outcome → Close
+closeOf O.Ignored = Leaves
+closeOf O.Passes = Leaves
+closeOf (O.Turns p) = Leaves
+closeOf O.Dials = Leaves
+closeOf O.RingsAgain = Leaves
+closeOf O.Frees = Leaves
+closeOf O.Clears = CarrierOff
+closeOf (O.CoastEnds k) = Ends Coast k
+closeOf (O.ShipEnds k) = Ends Ship k
+closeOf (O.SaysAgain n) = Again n
+closeOf O.Repeats = Leaves
+closeOf O.Renews = Leaves
+closeOf (O.Redials k) = Ends Coast k
+closeOf O.Offers = Leaves
+closeOf O.Joins = Leaves
+closeOf (O.Replaces k) = Leaves
+closeOf (O.Unable n) = Leaves
+closeOf (O.Drops k) = Leaves
+
+-- a slot is freed where so many wait
+abbrev pub freeSay : ℕ → Say
+freeSay zero = Nothing
+freeSay (suc n) = Lifted RingsOldest
+
+-- what is then sent or dialled
+abbrev pub sayOf : ℕ → Outcome → Say
+sayOf line O.Ignored = Nothing
+sayOf line O.Passes = Nothing
+sayOf line (O.Turns p) = Nothing
+sayOf line O.Dials = Plain Dials
+sayOf line O.RingsAgain = Plain RingsOwn
+sayOf line O.Frees = freeSay line
+sayOf line O.Clears = freeSay line
+sayOf line (O.CoastEnds k) = freeSay line
+sayOf line (O.ShipEnds k) = Nothing
+sayOf line (O.SaysAgain n) = Nothing
+sayOf line O.Repeats = Plain Acknowledges
+sayOf line O.Renews = Plain Acknowledges
+sayOf line (O.Redials k) = freeSay line
+sayOf line O.Offers = Lifted Acknowledges
+sayOf line O.Joins = Plain (Unable 103)
+sayOf line (O.Replaces k) = Plain (Unable 103)
+sayOf line (O.Unable n) = Plain (Unable n)
+sayOf line (O.Drops k) = Nothing
+
+-- "charge if answered"
+abbrev pub billActs : D.Scene → Talk → List Action
+billActs sc k = bill (sc .slot) (sc .own .who) (sinceOf k) (sc .clock)
+
+abbrev pub offActs : D.Scene → Ender → Told → List Action
+offActs sc e n = over (sc .slot) e (sc .own .who) (sc .own .number) n ∷ does (carrierOff (sc .slot)) ∷ []
+
+abbrev pub endedActs : D.Scene → Ender → Talk → List Action
+endedActs sc e k = endActs (sc .slot) e (sc .own) (sinceOf k) (sc .clock)
+
+abbrev pub againActs : D.Scene → Told → List Action
+againActs sc n = does (carrierOn (sc .slot)) ∷ offActs sc theShip n
+
+abbrev pub closeActs : D.Scene → Close → List Action
+closeActs sc Leaves = []
+closeActs sc CarrierOff = does (carrierOff (sc .slot)) ∷ []
+closeActs sc (Ends e k) = endedActs sc (enderOf e) k
+closeActs sc (Again n) = againActs sc n
+
+abbrev pub wordAct : D.Scene → Word → Action
+wordAct sc Dials = does (dial (sc .slot) (sc .own .number))
+wordAct sc RingsOwn = does (ringBack (sc .slot) (sc .own))
+wordAct sc RingsOldest = does (ringBack (sc .slot) (sc .oldest))
+wordAct sc Acknowledges = does (acknowledge (sc .slot) (sc .asked))
+wordAct sc (Unable n) = does (unable n (sc .asked .who) (sc .asked .number))
+
+abbrev pub sayActs : D.Scene → Say → List Action
+sayActs sc Nothing = []
+sayActs sc (Plain w) = wordAct sc w ∷ []
+sayActs sc (Lifted w) = does (carrierOn (sc .slot)) ∷ wordAct sc w ∷ []

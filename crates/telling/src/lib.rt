@@ -1,0 +1,197 @@
+// What an outcome tells: the blocks of its actions, laid straight into the lent room.
+ghost use mathlib.Core.Path.{_≡_};
+ghost use Rattle.actions.specs.Blocks.{actionBlock};
+ghost use Rattle.actions.specs.Sent.{enderOf, sentOn};
+ghost use Rattle.outcomes.specs.Does.{actsOf};
+ghost use Rattle.telling.specs.Told.{sceneView, telling, closeOf, freeSay, sayOf, billActs, offActs, endedActs, againActs, closeActs, wordAct, sayActs};
+use actions::Action;
+use actions::Ender;
+use actions::deeds::carrier_off;
+use actions::deeds::carrier_on;
+use actions::deeds::charge;
+use actions::deeds::dial;
+use actions::deeds::release_line;
+use actions::sequences::acknowledgement;
+use actions::sequences::over;
+use actions::sequences::ring_back;
+use actions::sequences::unable_to;
+use blocks::lay;
+use outcomes::Outcome;
+use outcomes::Talk;
+use outcomes::parts::told_of;
+use requests::Request;
+use units::Channel;
+use units::SlotNumber;
+use units::Tenths;
+use units::Told;
+
+// All that is asked of a station to carry an outcome out.
+pub struct Scene {
+    pub clock: Tenths,
+    pub slot: SlotNumber,
+    pub channel: Channel, // the slot's
+    pub own: Request, // the slot's
+    pub asked: Request, // the event's
+    pub oldest: Request, // the oldest waiting ship's, where one waits
+    pub line: u8, // how many wait
+}
+
+// How the call of the slot is closed.
+enum Close {
+    Leaves,
+    CarrierOff,
+    Ends(Ender, Talk),
+    Again(Told),
+}
+
+enum Word {
+    Dials,
+    RingsOwn,
+    RingsOldest,
+    Acknowledges,
+    Unable(u8),
+}
+
+// What is then sent or dialled, with the carrier as it is or switched on.
+enum Say {
+    Nothing,
+    Plain(Word),
+    Lifted(Word),
+}
+
+fn close_of(o: Outcome) -> Close
+    ensures { λ r. ⌜ r ≡ closeOf o ⌝ }
+{
+    match o {
+        Outcome::Clears => Close::CarrierOff,
+        Outcome::CoastEnds(talk) => Close::Ends(Ender::Coast, talk),
+        Outcome::ShipEnds(talk) => Close::Ends(Ender::Ship, talk),
+        Outcome::SaysAgain(told) => Close::Again(told),
+        Outcome::Redials(talk) => Close::Ends(Ender::Coast, talk),
+        _ => Close::Leaves,
+    }
+}
+
+// A slot is freed: the oldest of those that wait is rung back.
+fn free_say(line: u8) -> Say
+    ensures { λ r. ⌜ r ≡ freeSay line ⌝ }
+{
+    if line == 0 {
+        return Say::Nothing;
+    }
+    Say::Lifted(Word::RingsOldest)
+}
+
+fn say_of(o: Outcome, line: u8) -> Say
+    ensures { λ r. ⌜ r ≡ sayOf line o ⌝ }
+{
+    match o {
+        Outcome::Dials => Say::Plain(Word::Dials),
+        Outcome::RingsAgain => Say::Plain(Word::RingsOwn),
+        Outcome::Frees | Outcome::Clears | Outcome::CoastEnds(_) | Outcome::Redials(_) => free_say(
+            line,
+        ),
+        Outcome::Repeats | Outcome::Renews => Say::Plain(Word::Acknowledges),
+        Outcome::Offers => Say::Lifted(Word::Acknowledges),
+        Outcome::Joins | Outcome::Replaces(_) => Say::Plain(Word::Unable(103)),
+        Outcome::Unable(n) => Say::Plain(Word::Unable(n)),
+        _ => Say::Nothing,
+    }
+}
+
+impl Scene {
+    // "charge if answered"
+    fn bill(self, talk: Talk, k: u8, room: &mut [u8]) -> u8
+        ensures { λ r. ⌜ r ≡ telling self (billActs (sceneView self) talk) k (now (room .entry)) .next ⌝ }
+        ensures { λ _. ⌜ now (room .exit) ≡ telling self (billActs (sceneView self) talk) k (now (room .entry)) .room ⌝ }
+    {
+        match talk {
+            Talk::Unanswered => k,
+            Talk::Since(b) => lay(charge(self.slot, self.own.ship, b, self.clock), k, room),
+        }
+    }
+
+    // "send 105/126 .. and the duration, carrier off"
+    fn sign_off(self, by: Ender, told: Told, k: u8, room: &mut [u8]) -> u8
+        ensures { λ r. ⌜ r ≡ telling self (offActs (sceneView self) (enderOf by) told) k (now (room .entry)) .next ⌝ }
+        ensures { λ _. ⌜ now (room .exit) ≡ telling self (offActs (sceneView self) (enderOf by) told) k (now (room .entry)) .room ⌝ }
+    {
+        let n = lay(over(self.slot, by, self.own, told), k, room);
+        lay(carrier_off(self.slot), n, room)
+    }
+
+    // "charge if answered, release line, send .."
+    fn end(self, by: Ender, talk: Talk, k: u8, room: &mut [u8]) -> u8
+        ensures { λ r. ⌜ r ≡ telling self (endedActs (sceneView self) (enderOf by) talk) k (now (room .entry)) .next ⌝ }
+        ensures { λ _. ⌜ now (room .exit) ≡ telling self (endedActs (sceneView self) (enderOf by) talk) k (now (room .entry)) .room ⌝ }
+    {
+        let told = told_of(talk, self.clock);
+        let m = self.bill(talk, k, room);
+        let n = lay(release_line(self.slot), m, room);
+        self.sign_off(by, told, n, room)
+    }
+
+    // "in the hold: carrier on, the same answer sent, carrier off"
+    fn again(self, told: Told, k: u8, room: &mut [u8]) -> u8
+        ensures { λ r. ⌜ r ≡ telling self (againActs (sceneView self) told) k (now (room .entry)) .next ⌝ }
+        ensures { λ _. ⌜ now (room .exit) ≡ telling self (againActs (sceneView self) told) k (now (room .entry)) .room ⌝ }
+    {
+        let n = lay(carrier_on(self.slot), k, room);
+        self.sign_off(Ender::Ship, told, n, room)
+    }
+
+    fn close(self, c: Close, k: u8, room: &mut [u8]) -> u8
+        ensures { λ r. ⌜ r ≡ telling self (closeActs (sceneView self) c) k (now (room .entry)) .next ⌝ }
+        ensures { λ _. ⌜ now (room .exit) ≡ telling self (closeActs (sceneView self) c) k (now (room .entry)) .room ⌝ }
+    {
+        match c {
+            Close::Leaves => k,
+            Close::CarrierOff => lay(carrier_off(self.slot), k, room),
+            Close::Ends(by, talk) => self.end(by, talk, k, room),
+            Close::Again(told) => self.again(told, k, room),
+        }
+    }
+
+    fn word(self, w: Word) -> Action
+        ensures { λ r. ⌜ actionBlock r ≡ sentOn (self .channel) (wordAct (sceneView self) w) ⌝ }
+    {
+        let i = self.slot;
+        let c = self.channel;
+        match w {
+            Word::Dials => dial(i, self.own.number),
+            Word::RingsOwn => ring_back(i, c, self.own),
+            Word::RingsOldest => ring_back(i, c, self.oldest),
+            Word::Acknowledges => acknowledgement(i, c, self.asked),
+            Word::Unable(n) => unable_to(n, self.asked),
+        }
+    }
+
+    fn say(self, s: Say, k: u8, room: &mut [u8]) -> u8
+        ensures { λ r. ⌜ r ≡ telling self (sayActs (sceneView self) s) k (now (room .entry)) .next ⌝ }
+        ensures { λ _. ⌜ now (room .exit) ≡ telling self (sayActs (sceneView self) s) k (now (room .entry)) .room ⌝ }
+    {
+        match s {
+            Say::Nothing => k,
+            Say::Plain(w) => {
+                let x = self.word(w);
+                lay(x, k, room)
+            }
+            Say::Lifted(w) => {
+                let x = self.word(w);
+                let n = lay(carrier_on(self.slot), k, room);
+                lay(x, n, room)
+            }
+        }
+    }
+
+    // Lays the blocks of an outcome's actions from block number k on, and returns the number of the next block.
+    pub fn tell(self, o: Outcome, k: u8, room: &mut [u8]) -> u8
+        ensures { λ r. ⌜ r ≡ telling self (actsOf (sceneView self) o) k (now (room .entry)) .next ⌝ }
+        ensures { λ _. ⌜ now (room .exit) ≡ telling self (actsOf (sceneView self) o) k (now (room .entry)) .room ⌝ }
+    {
+        let c = close_of(o);
+        let s = say_of(o, self.line);
+        let n = self.close(c, k, room);
+        self.say(s, n, room)
+    }
+}
