@@ -6,6 +6,9 @@ use Rattle.dues.proofs.carrier_wait.Reads as carrier-wait
 use Rattle.dues.proofs.due_after.Reads as due-after
 use Rattle.dues.proofs.due_by.Reads as due-by
 use Rattle.dues.proofs.falls_due.Reads as falls-due
+use Rattle.dues.proofs.sooner_of.Reads as sooner-of
+use Rattle.dues.proofs.loss_due.Reads as loss-due
+use Rattle.dues.proofs.main_due.Reads as main-due
 use Rattle.dues.proofs.earliest_due.Reads as earliest-due
 
 pub carrier-wait-settled : (κs : Lfts 0) (a : _) (r r' : _) (s s' : _) → carrier-wait.Post κs a r s → carrier-wait.Post κs a r' s' → r ≡ r'
@@ -19,6 +22,15 @@ due-by-settled κs a r r' s s' p q = due-one _ _ (p ∙ sym q)
 
 pub falls-due-settled : (κs : Lfts 0) (a : _) (r r' : _) (s s' : _) → falls-due.Post κs a r s → falls-due.Post κs a r' s' → r ≡ r'
 falls-due-settled κs a r r' s s' p q = p ∙ sym q
+
+pub sooner-of-settled : (κs : Lfts 0) (a : _) (r r' : _) (s s' : _) → sooner-of.Post κs a r s → sooner-of.Post κs a r' s' → r ≡ r'
+sooner-of-settled κs a r r' s s' p q = due-one _ _ (p ∙ sym q)
+
+pub loss-due-settled : (κs : Lfts 0) (a : _) (r r' : _) (s s' : _) → loss-due.Post κs a r s → loss-due.Post κs a r' s' → r ≡ r'
+loss-due-settled κs a r r' s s' p q = due-one _ _ (p ∙ sym q)
+
+pub main-due-settled : (κs : Lfts 0) (a : _) (r r' : _) (s s' : _) → main-due.Post κs a r s → main-due.Post κs a r' s' → r ≡ r'
+main-due-settled κs a r r' s s' p q = due-one _ _ (p ∙ sym q)
 
 pub earliest-due-settled : (κs : Lfts 0) (a : _) (r r' : _) (s s' : _) → earliest-due.Post κs a r s → earliest-due.Post κs a r' s' → r ≡ r'
 earliest-due-settled κs a r r' s s' p q = due-one _ _ (p ∙ sym q)

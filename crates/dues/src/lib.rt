@@ -8,7 +8,7 @@ ghost use Rattle.rules.specs.Waits.{loss, main, sooner, earliest, ifDue, queueT
 ghost use Rattle.rules.specs.Station.{lossDue, mainDue, slotTable, carrierWait, dueAfter};
 ghost use Rattle.requests.specs.Views.{viewed, modeOf};
 ghost use Rattle.slots.specs.Views.{slotView, waitingView, carrierOf, waitView, dueView, dueOf};
-ghost use Rattle.dues.specs.Joins.{joinDue, queueJoined};
+ghost use Rattle.dues.specs.Joins.{whenView, joinDue, queueJoined};
 use requests::Mode;
 use requests::least;
 use slots::Carrier;
@@ -64,8 +64,14 @@ pub fn due_after(s: Tenths, p: Tenths) -> Tenths
     Tenths(GREATEST)
 }
 
+// When a wait falls due, if it runs.
+enum When {
+    Never,
+    At(Tenths),
+}
+
 // The wait w due at t, or d where that is due before it.
-fn sooner_of(t: Tenths, w: Wait, d: Due) -> Due
+pub fn sooner_of(t: Tenths, w: Wait, d: Due) -> Due
     ensures { λ r. ⌜ dueView r ≡ sooner (record { what = waitView w; at = t .0 }) (dueView d) ⌝ }
 {
     match d {
@@ -74,47 +80,75 @@ fn sooner_of(t: Tenths, w: Wait, d: Due) -> Due
     }
 }
 
-fn carrier_due(c: Carrier, i: SlotNumber, d: Due) -> Due
-    ensures { λ r. ⌜ dueView r ≡ joinDue (loss (i .0)) (carrierOf c) (dueView d) ⌝ }
+// A wait that may run, before d.
+fn sooner_when(t: When, w: Wait, d: Due) -> Due
+    ensures { λ r. ⌜ dueView r ≡ joinDue (waitView w) (whenView t) (dueView d) ⌝ }
+{
+    match t {
+        When::Never => d,
+        When::At(u) => sooner_of(u, w, d),
+    }
+}
+
+fn loss_when(c: Carrier) -> When
+    ensures { λ r. ⌜ whenView r ≡ carrierOf c ⌝ }
 {
     match c {
-        Carrier::Present => d,
-        Carrier::Lost(t) => sooner_of(t, Wait::Loss(i), d),
+        Carrier::Present => When::Never,
+        Carrier::Lost(t) => When::At(t),
     }
 }
 
-fn loss_due(s: Slot, i: SlotNumber, d: Due) -> Due
+// When the carrier's absence in a slot falls due.
+fn loss_of(s: Slot) -> When
+    ensures { λ r. ⌜ whenView r ≡ lossDue (slotView s) ⌝ }
+{
+    let p = s.phase;
+    match p {
+        Phase::Free => When::Never,
+        Phase::Offered(_) => When::Never,
+        Phase::RingBack(_) => When::Never,
+        Phase::RingAgain(_) => When::Never,
+        Phase::Acknowledged(_) => When::Never,
+        Phase::Dialling(_, c) => loss_when(c),
+        Phase::Answered(_, c) => loss_when(c),
+        Phase::Hold(_, _) => When::Never,
+        Phase::Taken => When::Never,
+    }
+}
+
+// When the other wait of a slot falls due.
+fn main_of(s: Slot) -> When
+    ensures { λ r. ⌜ whenView r ≡ mainDue (slotView s) ⌝ }
+{
+    let p = s.phase;
+    match p {
+        Phase::Free => When::Never,
+        Phase::Offered(t) => When::At(t),
+        Phase::RingBack(t) => When::At(t),
+        Phase::RingAgain(t) => When::At(t),
+        Phase::Acknowledged(t) => When::At(t),
+        Phase::Dialling(t, _) => When::At(t),
+        Phase::Answered(_, _) => When::Never,
+        Phase::Hold(t, _) => When::At(t),
+        Phase::Taken => When::Never,
+    }
+}
+
+// The carrier's absence in the slot i, before d.
+pub fn loss_due(s: Slot, i: SlotNumber, d: Due) -> Due
     ensures { λ r. ⌜ dueView r ≡ joinDue (loss (i .0)) (lossDue (slotView s)) (dueView d) ⌝ }
 {
-    let p = s.phase;
-    match p {
-        Phase::Free => d,
-        Phase::Offered(_) => d,
-        Phase::RingBack(_) => d,
-        Phase::RingAgain(_) => d,
-        Phase::Acknowledged(_) => d,
-        Phase::Dialling(_, c) => carrier_due(c, i, d),
-        Phase::Answered(_, c) => carrier_due(c, i, d),
-        Phase::Hold(_, _) => d,
-        Phase::Taken => d,
-    }
+    let t = loss_of(s);
+    sooner_when(t, Wait::Loss(i), d)
 }
 
-fn main_due(s: Slot, i: SlotNumber, d: Due) -> Due
+// The other wait of the slot i, before d.
+pub fn main_due(s: Slot, i: SlotNumber, d: Due) -> Due
     ensures { λ r. ⌜ dueView r ≡ joinDue (main (i .0)) (mainDue (slotView s)) (dueView d) ⌝ }
 {
-    let p = s.phase;
-    match p {
-        Phase::Free => d,
-        Phase::Offered(t) => sooner_of(t, Wait::Main(i), d),
-        Phase::RingBack(t) => sooner_of(t, Wait::Main(i), d),
-        Phase::RingAgain(t) => sooner_of(t, Wait::Main(i), d),
-        Phase::Acknowledged(t) => sooner_of(t, Wait::Main(i), d),
-        Phase::Dialling(t, _) => sooner_of(t, Wait::Main(i), d),
-        Phase::Answered(_, _) => d,
-        Phase::Hold(t, _) => sooner_of(t, Wait::Main(i), d),
-        Phase::Taken => d,
-    }
+    let t = main_of(s);
+    sooner_when(t, Wait::Main(i), d)
 }
 
 // The earliest wait of the first n slots: from the last slot to the first, so that of two due together the lower stands.

@@ -3,7 +3,7 @@ ghost use mathlib.Core.Bool.{true, false};
 ghost use mathlib.Core.Path.{_≡_};
 ghost use Prim.Native.Nat.{ℕ, _≤_};
 ghost use lib.ListN.{length, getD};
-ghost use Rattle.rules.specs.Sound.{limit, queueRoom};
+ghost use Rattle.rules.specs.Sound.{limit, queueRoom, sound};
 ghost use Rattle.rules.specs.Words as W;
 ghost use Rattle.rules.specs.Station.{free, setClock};
 ghost use Rattle.rules.specs.Requests as Q;
@@ -162,6 +162,7 @@ impl Station {
     // c. ".. then d to g apply", to the station that the coast's end leaves.
     fn go_on(self, t: Tenths, c: Choice, q: Request, room: &mut [u8]) -> Stepped
         requires { ⌜ t .0 ≤ limit ⌝ }
+        requires { ⌜ sound (configOf self) (modelOf self) ≡ true ⌝ }
         requires { ⌜ goesOn (c .outcome) ≡ true ⌝ }
         requires { ⌜ length (wholeAt self t (c .slot) (requestOf q) (c .outcome) .next .queue) ≤ queueRoom ⌝ }
         ensures { λ r. ⌜ r ≡ enacted (configOf self) (laidOf (configOf self) (wholeAt self t (c .slot) (requestOf q) (c .outcome) .acts) 0 (now (room .entry))) (wholeAt self t (c .slot) (requestOf q) (c .outcome)) ⌝ }
@@ -169,9 +170,9 @@ impl Station {
     {
         let i = c.slot;
         let o = c.outcome;
-        let scene = self.scene(t, i, q);
-        let n = scene.tell(o, 0, room);
-        let next = self.moved(scene, o);
+        let ended = self.enact(t, i, o, q, 0, room);
+        let n = ended.count;
+        let next = ended.station;
         let d = next.without_slot(q);
         let j = d.slot;
         let p = d.outcome;
@@ -180,6 +181,7 @@ impl Station {
 
     fn enact_whole(self, t: Tenths, c: Choice, q: Request, room: &mut [u8]) -> Stepped
         requires { ⌜ t .0 ≤ limit ⌝ }
+        requires { ⌜ sound (configOf self) (modelOf self) ≡ true ⌝ }
         requires { ⌜ length (wholeAt self t (c .slot) (requestOf q) (c .outcome) .next .queue) ≤ queueRoom ⌝ }
         ensures { λ r. ⌜ r ≡ enacted (configOf self) (laidOf (configOf self) (wholeAt self t (c .slot) (requestOf q) (c .outcome) .acts) 0 (now (room .entry))) (wholeAt self t (c .slot) (requestOf q) (c .outcome)) ⌝ }
         ensures { λ _. ⌜ now (room .exit) ≡ laidOf (configOf self) (wholeAt self t (c .slot) (requestOf q) (c .outcome) .acts) 0 (now (room .entry)) .room ⌝ }

@@ -3,57 +3,7 @@ use Rattle.dues.proofs.main_due.Statement.{statement}
 use Rattle.dues.proofs.main_due.Tie as tie
 
 returns : tie.Need-returns
-returns c = search needs
-
-returns-2 : tie.Need-returns-2
-returns-2 c = rw (c .before .before .p .given .1, ← c .sooner-of .ensures)
-
-returns-3 : tie.Need-returns-3
-returns-3 c = rw (c .before .before .p2 .given .1, ← c .sooner-of2 .ensures)
-
-returns-4 : tie.Need-returns-4
-returns-4 c = rw (c .before .before .p3 .given .1, ← c .sooner-of3 .ensures)
-
-returns-5 : tie.Need-returns-5
-returns-5 c = rw (c .before .before .p4 .given .1, ← c .sooner-of4 .ensures)
-
-returns-6 : tie.Need-returns-6
-returns-6 c = rw (c .before .before .p5 .given .1, ← c .sooner-of5 .ensures)
-
-returns-7 : tie.Need-returns-7
-returns-7 c = search needs
-
-returns-8 : tie.Need-returns-8
-returns-8 c = rw (c .before .before .p6 .given .1, ← c .sooner-of6 .ensures)
-
-returns-9 : tie.Need-returns-9
-returns-9 c = search needs
+returns c = rw (← c .before .main-of .ensures) (c .sooner-when .ensures)
 
 pub main-due-spec : {M : Type 1} → statement M
-main-due-spec =
-    tie.close
-    (tie.spec
-    (λ c. search needs)
-    (λ c. search needs)
-    (λ c κs. search needs)
-    (λ c. search needs)
-    (λ c κs. search needs)
-    (λ c. search needs)
-    (λ c κs. search needs)
-    (λ c. search needs)
-    (λ c κs. search needs)
-    (λ c. search needs)
-    (λ c κs. search needs)
-    (λ c. search needs)
-    (λ c. search needs)
-    (λ c κs. search needs)
-    (λ c. search needs)
-    returns
-    returns-2
-    returns-3
-    returns-4
-    returns-5
-    returns-6
-    returns-7
-    returns-8
-    returns-9)
+main-due-spec = tie.close (tie.spec (λ c κs. search needs) (λ c κs. search needs) returns)

@@ -9,7 +9,7 @@ use Rattle.station.proofs.Station.enact_whole.Tie as tie
 go-on-requires : tie.Need-go-on-requires
 go-on-requires c κs =
     let z = c .before .before .before .before in
-    (z .pre .0, (sym (c .before .before .goes-on .ensures) ∙ c .before .if1 .taken, z .pre .1))
+    (z .pre .0, (z .pre .1 .0, (sym (c .before .before .goes-on .ensures) ∙ c .before .if1 .taken, z .pre .1 .1)))
 
 -- nothing goes on
 alone : (b : tie.After-enact-arg)
@@ -18,7 +18,7 @@ alone : (b : tie.After-enact-arg)
 alone b = ended _ _ _ _ _ (sym (b .before .before .before .goes-on .ensures) ∙ b .before .before .if1 .left)
 
 enact-requires : tie.Need-enact-requires
-enact-requires c κs = let z = c .before .before .before .before .before in (z .pre .0, rw (alone c) at (z .pre .1))
+enact-requires c κs = let z = c .before .before .before .before .before in (z .pre .0, rw (alone c) at (z .pre .1 .1))
 
 returns-2 : tie.Need-returns-2
 returns-2 c = rw (alone (c .before .before .before)) (c .before .before .enact .ensures)

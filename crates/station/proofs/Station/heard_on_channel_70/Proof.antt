@@ -45,7 +45,8 @@ enact-whole-requires : tie.Need-enact-whole-requires
 enact-whole-requires c κs =
     let b = told c in
     let x = start b .args in
-    (passed (x .self) (event (start b)) (accepted b) .time, line-fits (x .self) (x .room .now) (event (start b)) refl (accepted b) _ (decided c))
+    let p = passed (x .self) (event (start b)) (accepted b) in
+    (p .time, (p .sounds, line-fits (x .self) (x .room .now) (event (start b)) refl (accepted b) _ (decided c)))
 
 returns : tie.Need-returns
 returns c =
