@@ -17,16 +17,16 @@ extern const struct entries second; /* of tests/stations/second.c */
 
 static uint8_t station[COAST_STATION_SIZE], room[COAST_ACTIONS_SIZE];
 
-static void put_identity(uint8_t *bytes, uint32_t identity) {
+static void put_number(uint8_t *bytes, uint32_t number) {
     for (uint32_t i = 0; i < 4u; i++)
-        bytes[i] = (uint8_t)(identity >> (8u * i) & 255u);
+        bytes[i] = (uint8_t)(number >> (8u * i) & 255u);
 }
 
 /* A ship asks for a number ashore: it gets a slot while one is free, and waits otherwise. */
 static bool call_from(uint32_t ship) {
     uint8_t symbols[COAST_LONGEST_SEQUENCE], meaning[COAST_MEANING_SIZE] = {0};
-    put_identity(meaning + COAST_AT_ADDRESS, COAST_IDENTITY);
-    put_identity(meaning + COAST_AT_SENDER, ship);
+    put_number(meaning + COAST_AT_ADDRESS, COAST_IDENTITY);
+    put_number(meaning + COAST_AT_SENDER, ship);
     meaning[COAST_AT_FIRST] = 100;
     meaning[COAST_AT_SECOND] = 126;
     meaning[COAST_AT_DIGIT_COUNT] = 8;

@@ -99,9 +99,9 @@ static bool take_bytes(const char **at, struct order *order) {
 
 /* ---- what a ship sends ---- */
 
-static void put_identity(uint8_t *bytes, uint32_t identity) {
+static void put_number(uint8_t *bytes, uint32_t number) {
     for (size_t i = 0; i < 4u; i++)
-        bytes[i] = (uint8_t)(identity >> 8u * i & 255u);
+        bytes[i] = (uint8_t)(number >> 8u * i & 255u);
 }
 
 static bool take_mode(const char **at, uint8_t *meaning) {
@@ -157,8 +157,8 @@ static bool take_sequence(const char **at, uint32_t identity, struct order *orde
     uint32_t ship = 0;
     if (!take_whole(at, UINT32_MAX, &ship) || !take_saying(at, meaning) || !take_digits(at, meaning))
         return false;
-    put_identity(meaning + COAST_AT_ADDRESS, identity);
-    put_identity(meaning + COAST_AT_SENDER, ship);
+    put_number(meaning + COAST_AT_ADDRESS, identity);
+    put_number(meaning + COAST_AT_SENDER, ship);
     uint32_t returned = coast_write_sequence(meaning, sizeof meaning, order->bytes, sizeof order->bytes);
     order->count = coast_count(returned);
     return coast_answer(returned) == COAST_DONE;

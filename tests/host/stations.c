@@ -5,46 +5,58 @@
 #include "event.h"
 #include "lent.h"
 
-#define IDENTITY 2001234u
 #define FILLING 85u
 #define NONE 0u /* no wait runs */
+#define SET_UP "S 002001234 26 27"
+#define SPOILT " 128 0 0 0 0 0 0 0 0 0 0 0 0 0 0 0 0 0 0 0 0 0 0 0"
 
-static const uint8_t channels[] = {26, 27};
-static const struct event set_up = {'S', IDENTITY, 0, channels, 2};
-
-/* An event from a fresh station on, and what it must give. */
+/* A line of a script, in which P1 to P6 stand for their symbols, and what it must give. */
 struct step {
-    struct event event;
+    const char *line;
     uint32_t answer, count, due;
 };
 
-#define P(number) checked[(number)-1], CHECKED_LENGTH
+/* From a fresh station on. */
 static const struct step course[] = {
-    {{'Q', 100, 0, P(1)}, COAST_DONE, 2, 261},       {{'Q', 110, 0, P(2)}, COAST_IGNORED, 0, 261},
-    {{'W', 250, 0, P(4)}, COAST_DONE, 1, 851},       {{'M', 260, 1, NULL, 0}, COAST_DONE, 0, 851},
-    {{'D', 300, 0, NULL, 0}, COAST_DONE, 0, 351},    {{'U', 310, 0, NULL, 0}, COAST_DONE, 0, 851},
-    {{'O', 720, 0, NULL, 0}, COAST_DONE, 0, NONE},   {{'F', 730, 1, NULL, 0}, COAST_DONE, 0, NONE},
-    {{'T', 900, 0, NULL, 0}, COAST_DONE, 0, NONE},   {{'W', 4829, 0, P(5)}, COAST_DONE, 4, 4870},
-    {{'H', 4830, 0, NULL, 0}, COAST_IGNORED, 0, 4870}, {{'T', 9000, 0, NULL, 0}, COAST_DONE, 0, NONE},
+    {"Q 100 P1", COAST_DONE, 2, 261},   {"Q 110 P2", COAST_IGNORED, 0, 261}, {"W 250 0 P4", COAST_DONE, 1, 851},
+    {"M 260 1", COAST_DONE, 0, 851},    {"D 300 0", COAST_DONE, 0, 351},     {"U 310 0", COAST_DONE, 0, 851},
+    {"O 720 0", COAST_DONE, 0, NONE},   {"F 730 1", COAST_DONE, 0, NONE},    {"T 900", COAST_DONE, 0, NONE},
+    {"W 4829 0 P5", COAST_DONE, 4, 4870}, {"H 4830 0", COAST_IGNORED, 0, 4870}, {"T 9000", COAST_DONE, 0, NONE},
 };
 #define STEPS (sizeof course / sizeof course[0])
+
+/* No list is a null pointer; what is no line gives what no entry returns. */
+static uint64_t hand_in_line(const char *text, const struct lent_bytes *lent) {
+    struct line line = {.length = 0};
+    struct event event;
+    uint8_t list[LIST_MOST];
+    for (; *text != '\0' && *text != 'P'; text++)
+        line.text[line.length++] = (uint8_t)*text;
+    line.length -= *text == 'P' ? 1u : 0u; /* the space */
+    if (!read_event(&line, &event, list))
+        return UINT64_MAX;
+    if (*text == 'P')
+        event.count = CHECKED_LENGTH;
+    event.list = event.count == 0u ? NULL : *text == 'P' ? checked[text[1] - '1'] : list;
+    return hand_in(&library, &event, lent);
+}
 
 /* A station of its own, anywhere, with room for its actions. */
 struct own {
     uint8_t station[COAST_STATION_SIZE], room[COAST_ACTIONS_SIZE];
 };
 
-static uint64_t hand_in_own(struct own *own, const struct event *event) {
+static uint64_t hand_in_own(struct own *own, const char *line) {
     struct lent_bytes lent = {own->station, sizeof own->station, own->room, sizeof own->room};
-    return hand_in(&library, event, &lent);
+    return hand_in_line(line, &lent);
 }
 
 /* The station that the first steps of the course leave. */
 static struct own after(size_t steps) {
     struct own own = {{0}, {0}};
-    hand_in_own(&own, &set_up);
+    hand_in_own(&own, SET_UP);
     for (size_t i = 0; i < steps; i++)
-        hand_in_own(&own, &course[i].event);
+        hand_in_own(&own, course[i].line);
     return own;
 }
 
@@ -59,11 +71,11 @@ static void want_due(const char *what, uint64_t returned, uint32_t due) {
 static void try_course(bool at_end) {
     uint8_t *station = lend(FOR_STATION, COAST_STATION_SIZE, at_end, FILLING);
     struct lent_bytes lent = {station, COAST_STATION_SIZE, NULL, 0};
-    want("set-up", (uint32_t)hand_in(&library, &set_up, &lent), COAST_DONE);
+    want("set-up", (uint32_t)hand_in_line(SET_UP, &lent), COAST_DONE);
     lent.room_size = COAST_ACTIONS_SIZE;
     for (size_t i = 0; i < STEPS; i++) {
         lent.room = lend(FOR_ACTIONS, COAST_ACTIONS_SIZE, at_end, FILLING);
-        uint64_t returned = hand_in(&library, &course[i].event, &lent);
+        uint64_t returned = hand_in_line(course[i].line, &lent);
         want("a step's answer", coast_answer(returned), course[i].answer);
         want("a step's actions", (uint32_t)coast_count(returned), course[i].count);
         want_due("a step's due time", returned, course[i].due);
@@ -86,7 +98,7 @@ static void try_action(void) {
 }
 
 /* These bytes of a station, cut off or with more behind them, must get this refusal and stay as they are. */
-static void want_refused(const char *what, const struct event *event, const uint8_t *bytes, size_t size, size_t room_size,
+static void want_refused(const char *what, const char *line, const uint8_t *bytes, size_t size, size_t room_size,
                          uint32_t wanted) {
     size_t whole = size < COAST_STATION_SIZE ? size : COAST_STATION_SIZE;
     for (int end = 0; end < 2; end++) {
@@ -94,7 +106,7 @@ static void want_refused(const char *what, const struct event *event, const uint
         uint8_t *room = lend(FOR_ACTIONS, room_size, end == 1, FILLING);
         struct lent_bytes lent = {size == 0u ? NULL : station, size, room_size == 0u ? NULL : room, room_size};
         copy(station, bytes, whole);
-        uint64_t returned = hand_in(&library, event, &lent);
+        uint64_t returned = hand_in_line(line, &lent);
         want(what, coast_answer(returned), wanted);
         want("a refusal's actions", (uint32_t)coast_count(returned), 0);
         want_true("a refusal leaves the station",
@@ -111,12 +123,12 @@ static void try_sizes(void) {
     for (size_t i = 0; i < STEPS; i++) {
         struct own own = after(i);
         for (size_t j = 0; j < sizeof sizes / sizeof sizes[0]; j++) {
-            want_refused("a size", &course[i].event, own.station, sizes[j], COAST_ACTIONS_SIZE, COAST_NOT_SOUND);
-            want_refused("a size and no room", &course[i].event, own.station, sizes[j], 0, COAST_NOT_SOUND);
-            want_refused("a size to set up", &set_up, own.station, sizes[j], 0, COAST_WRONG_SIZE);
+            want_refused("a size", course[i].line, own.station, sizes[j], COAST_ACTIONS_SIZE, COAST_NOT_SOUND);
+            want_refused("a size and no room", course[i].line, own.station, sizes[j], 0, COAST_NOT_SOUND);
+            want_refused("a size to set up", SET_UP, own.station, sizes[j], 0, COAST_WRONG_SIZE);
         }
         for (size_t j = 0; j < sizeof rooms / sizeof rooms[0]; j++)
-            want_refused("a room", &course[i].event, own.station, COAST_STATION_SIZE, rooms[j], COAST_ACTIONS_SHORT);
+            want_refused("a room", course[i].line, own.station, COAST_STATION_SIZE, rooms[j], COAST_ACTIONS_SHORT);
     }
     want("due in no bytes", coast_answer(coast_next_due(NULL, 0)), COAST_NOT_SOUND);
 }
@@ -129,31 +141,27 @@ static void litter(struct own *own) {
 
 /* To the station of the course's first step, at clock 100 with a wait due at 261. */
 static void try_refusals(void) {
-    static const uint8_t spoilt[CHECKED_LENGTH] = {128};
     static const struct step refused[] = {
-        {{'T', 4000000001u, 0, NULL, 0}, COAST_TIME_TOO_LATE, 0, 0}, {{'T', 99, 0, NULL, 0}, COAST_TIME_BEFORE_CLOCK, 0, 0},
-        {{'Q', 261, 0, spoilt, CHECKED_LENGTH}, COAST_WAIT_DUE, 0, 0}, {{'W', 261, 9, P(4)}, COAST_WAIT_DUE, 0, 0},
-        {{'W', 260, 2, spoilt, CHECKED_LENGTH}, COAST_NO_SLOT, 0, 0}, {{'O', 260, 4294967295u, NULL, 0}, COAST_NO_SLOT, 0, 0},
-        {{'W', 260, 65536, P(4)}, COAST_NO_SLOT, 0, 0}, {{'M', 260, 257, NULL, 0}, COAST_NO_SLOT, 0, 0},
-        {{'Q', 260, 0, NULL, 0}, COAST_BAD_LENGTH, 0, 0}, {{'W', 260, 0, NULL, 0}, COAST_BAD_LENGTH, 0, 0},
-        {{'Q', 260, 0, spoilt, CHECKED_LENGTH}, COAST_BAD_SYMBOL, 0, 0},
-        {{'M', 260, 0, NULL, 0}, COAST_OPERATOR, 0, 0}, {{'F', 260, 1, NULL, 0}, COAST_OPERATOR, 0, 0}};
+        {"T 4000000001", COAST_TIME_TOO_LATE, 0, 0},  {"T 99", COAST_TIME_BEFORE_CLOCK, 0, 0},
+        {"Q 261" SPOILT, COAST_WAIT_DUE, 0, 0},       {"W 261 9 P4", COAST_WAIT_DUE, 0, 0},
+        {"W 260 2" SPOILT, COAST_NO_SLOT, 0, 0},      {"O 260 4294967295", COAST_NO_SLOT, 0, 0},
+        {"W 260 65536 P4", COAST_NO_SLOT, 0, 0},      {"M 260 257", COAST_NO_SLOT, 0, 0},
+        {"Q 260", COAST_BAD_LENGTH, 0, 0},            {"W 260 0", COAST_BAD_LENGTH, 0, 0},
+        {"Q 260" SPOILT, COAST_BAD_SYMBOL, 0, 0},     {"M 260 0", COAST_OPERATOR, 0, 0},
+        {"F 260 1", COAST_OPERATOR, 0, 0}};
     struct own own = after(1);
     litter(&own);
     for (size_t i = 0; i < sizeof refused / sizeof refused[0]; i++)
-        want_refused("a refusal", &refused[i].event, own.station, COAST_STATION_SIZE, COAST_ACTIONS_SIZE, refused[i].answer);
+        want_refused("a refusal", refused[i].line, own.station, COAST_STATION_SIZE, COAST_ACTIONS_SIZE, refused[i].answer);
 }
 
 static void try_bad_set_ups(void) {
-    static const uint8_t twice[] = {26, 26}, sixteen[] = {26, 16}, seventy[] = {70}, none[] = {255}, seventeen[17] = {
-        1, 2, 3, 4, 5, 6, 7, 8, 9, 10, 11, 12, 13, 14, 15, 17, 18};
-    static const struct event bad[] = {
-        {'S', 1999999, 0, channels, 2}, {'S', 200056789, 0, channels, 2}, {'S', IDENTITY, 0, NULL, 0},
-        {'S', IDENTITY, 0, twice, 2}, {'S', IDENTITY, 0, sixteen, 2}, {'S', IDENTITY, 0, seventy, 1},
-        {'S', IDENTITY, 0, none, 1}, {'S', IDENTITY, 0, seventeen, 17}};
+    static const char *const bad[] = {
+        "S 1999999 26 27", "S 200056789 26 27", "S 2001234", "S 2001234 26 26", "S 2001234 26 16", "S 2001234 70",
+        "S 2001234 255", "S 2001234 1 2 3 4 5 6 7 8 9 10 11 12 13 14 15 17 18"};
     struct own own = after(3);
     for (size_t i = 0; i < sizeof bad / sizeof bad[0]; i++)
-        want_refused("a set-up", &bad[i], own.station, COAST_STATION_SIZE, 0, COAST_BAD_SET_UP);
+        want_refused("a set-up", bad[i], own.station, COAST_STATION_SIZE, 0, COAST_BAD_SET_UP);
 }
 
 /* One byte made wrong in the station after so many steps: 3 dials on slot 0, 5 lost the carrier there, 10 holds. */
@@ -168,7 +176,7 @@ static void try_unsound(void) {
         struct own own = after(wrong[i].steps);
         own.station[wrong[i].place] = wrong[i].value;
         for (size_t j = 0; j < STEPS; j++)
-            want_refused("an unsound station", &course[j].event, own.station, COAST_STATION_SIZE, 0, COAST_NOT_SOUND);
+            want_refused("an unsound station", course[j].line, own.station, COAST_STATION_SIZE, 0, COAST_NOT_SOUND);
         want("due in an unsound one", coast_answer(coast_next_due(own.station, COAST_STATION_SIZE)), COAST_NOT_SOUND);
     }
 }
@@ -183,9 +191,9 @@ static void try_side_by_side(void) {
         struct own first = after(behind), second = after(0), whole = after(STEPS), part = after(STEPS - behind);
         struct own copied = first;
         for (size_t i = behind; i < STEPS; i++) {
-            uint64_t returned = hand_in_own(&first, &course[i].event);
-            hand_in_own(&second, &course[i - behind].event);
-            want_true("a copy returns the same", hand_in_own(&copied, &course[i].event) == returned);
+            uint64_t returned = hand_in_own(&first, course[i].line);
+            hand_in_own(&second, course[i - behind].line);
+            want_true("a copy returns the same", hand_in_own(&copied, course[i].line) == returned);
         }
         want_same("beside another", &first, &whole);
         want_same("behind another", &second, &part);
@@ -198,8 +206,8 @@ static void try_unused_bytes(void) {
     for (size_t i = 0; i < STEPS; i++) {
         struct own clean = after(i), littered = clean;
         litter(&littered);
-        uint64_t returned = hand_in_own(&clean, &course[i].event);
-        want_true("unused bytes", hand_in_own(&littered, &course[i].event) == returned);
+        uint64_t returned = hand_in_own(&clean, course[i].line);
+        want_true("unused bytes", hand_in_own(&littered, course[i].line) == returned);
         want_same("unused bytes are 0", &littered, &clean);
     }
 }

@@ -4,20 +4,8 @@
 
 #define NONE MOST_SLOTS
 
-static bool expects_ship(enum phase phase) {
-    return holds_ship(phase) && !has_call(phase);
-}
-
 static bool ends(enum phase phase) {
-    return has_call(phase) || phase == PHASE_HOLD;
-}
-
-static bool is_free(enum phase phase) {
-    return phase == PHASE_FREE;
-}
-
-static bool is_taken(enum phase phase) {
-    return phase == PHASE_TAKEN;
+    return has_call(phase) || is_held(phase);
 }
 
 /* A slot of that kind by chance, or none. */
@@ -78,9 +66,9 @@ static uint32_t answer(struct event *event) {
 /* The handset ashore. */
 static uint32_t handset(struct event *event) {
     uint32_t slot = any_slot(has_call);
-    bool dialling = slot != NONE && stage.station.slots[slot].phase == PHASE_DIALLING;
+    bool rings = slot != NONE && expects_reply(stage.station.slots[slot].phase);
     event->slot = slot == NONE || one_in(20) ? chance(stage.station.channel_count) : slot;
-    event->letter = one_in(dialling ? 6u : 2u) ? 'H' : 'O';
+    event->letter = one_in(rings ? 6u : 2u) ? 'H' : 'O';
     return RING_BACK_WAIT;
 }
 

@@ -70,6 +70,15 @@ void put_sequence(struct event *event, const struct meaning *m);
 void put_stray(struct event *event); /* any valid sequence, or one overheard */
 void spoil_sequence(struct event *event);
 
+/* ---- phases.c ---- */
+bool is_free(enum phase phase);
+bool is_taken(enum phase phase);
+bool expects_ship(enum phase phase); /* to call on the channel, or to answer there when it is rung back */
+bool expects_working_call(enum phase phase);
+bool expects_reply(enum phase phase); /* from the line that is dialled */
+bool talks(enum phase phase);
+bool is_held(enum phase phase);
+
 /* ---- moves.c ---- */
 void make_move(const struct mood *mood);
 

@@ -30,7 +30,7 @@ static uint32_t all_due(uint32_t *due) {
 static uint32_t together(uint32_t wait, uint32_t slot) {
     uint32_t due[MOST_WAITS], clock = stage.station.clock, first = 0;
     uint32_t count = all_due(due), from = count == 0u ? 0u : chance(count);
-    if (count > 0u && slot < stage.station.channel_count && stage.station.slots[slot].phase == PHASE_DIALLING)
+    if (count > 0u && slot < stage.station.channel_count && expects_reply(stage.station.slots[slot].phase))
         due[from] = stage.station.slots[slot].due;
     for (uint32_t i = 0; i < count && next_due(&first); i++) {
         uint32_t other = due[(from + i) % count];
@@ -46,7 +46,7 @@ static uint32_t at_an_edge(void) {
     const struct slot *slot = &stage.station.slots[chance(stage.station.channel_count)];
     uint32_t length = lengths[chance(4)], clock = stage.station.clock;
     uint64_t edge;
-    if (slot->phase != PHASE_ANSWERED)
+    if (!talks(slot->phase))
         return clock + chance(20);
     edge = slot->start + (uint64_t)length * ((clock - slot->start) / length + 1u) - chance(2);
     return edge < clock || edge > TIME_LIMIT ? clock : (uint32_t)edge;
@@ -75,7 +75,7 @@ uint32_t leap(void) {
     uint32_t most = one_in(40) ? left : one_in(2) ? HUNDRED_HOURS + 100u : 20000u;
     const struct slot *slot = &stage.station.slots[chance(stage.station.channel_count)];
     uint32_t length = one_in(3) ? HUNDRED_HOURS - chance(HUNDRED_HOURS / 10u) : HUNDRED_HOURS - 10u + chance(20);
-    if (slot->phase == PHASE_ANSWERED && one_in(2) && slot->start + length > clock && length <= TIME_LIMIT - slot->start)
+    if (talks(slot->phase) && one_in(2) && slot->start + length > clock && length <= TIME_LIMIT - slot->start)
         return slot->start + length;
     return clock + chance((most < left ? most : left) + 1u);
 }

@@ -124,6 +124,19 @@ static enum phase any_phase(bool with_free) {
     return phases[with_free ? chance(16) : 2u + chance(14)];
 }
 
+enum phase draw_phase(bool (*wanted)(enum phase)) {
+    uint32_t phase = chance(PHASE_HOLD + 1u);
+    while (!wanted((enum phase)phase))
+        phase = chance(PHASE_HOLD + 1u);
+    return (enum phase)phase;
+}
+
+void draw_idle(void) {
+    for (uint32_t i = 0; i < stage.station.channel_count; i++)
+        draw_slot(i, one_in(2) ? PHASE_FREE : PHASE_TAKEN);
+    stage.station.waiting_count = 0;
+}
+
 void draw_station_of(uint32_t clock, uint32_t identity, uint32_t slots, uint32_t waiting) {
     static const struct station blank = {0};
     bool with_free = one_in(2);

@@ -9,19 +9,14 @@ enum from { PLAINLY, FROM_CLOCK, FROM_IDENTITY };
 /* How the part is drawn before one of its fields is moved. */
 enum state { AS_DRAWN, FULL, IDLE, LOST_SIMPLEX, LOST_DUPLEX, WITH_DURATION, ONE_DIGIT, FIFTEEN_DIGITS, SIXTEEN_DIGITS };
 
-#define ANY_PHASE 0u
-#define OF(phase) (1u << (phase))
-#define OFFERS (OF(PHASE_OFFERED) | OF(PHASE_ACKNOWLEDGED))
-#define RINGS (OF(PHASE_RING_BACK) | OF(PHASE_RING_BACK_REPEATED))
-#define CALLS (OF(PHASE_DIALLING) | OF(PHASE_ANSWERED))
-#define STORES (OFFERS | RINGS | CALLS | OF(PHASE_HOLD))
+#define ANY_PHASE NULL
 
 #define MOST_VALUES 20u
 struct field {
     const char *name;
     enum part part;
     enum state state;
-    uint32_t phases; /* of the slot */
+    bool (*phases)(enum phase); /* of the slot */
     size_t at, width;
     enum from from;
     uint32_t count;
@@ -57,20 +52,20 @@ static const struct field fields[] = {
      {0, 1, 15, 16, 17, 28, 29, 59, 60, 69, 70, 71, 88, 89, 255, 256 + 26, 26 << 8, (1 << 16) + 26, (1 << 24) + 26,
       26 << 24}},
     {"phase", SLOT, AS_DRAWN, ANY_PHASE, PHASE_AT, 1, PLAINLY, 12, {0, 1, 2, 3, 4, 5, 6, 7, 8, 9, 10, 255}},
-    {"offer's due time", SLOT, AS_DRAWN, OFFERS, TIME_AT, 4, FROM_CLOCK, 4, {-1, 0, 161, 162}},
-    {"ring-back's due time", SLOT, AS_DRAWN, RINGS, TIME_AT, 4, FROM_CLOCK, 4, {-1, 0, 51, 52}},
-    {"reply's due time", SLOT, AS_DRAWN, OF(PHASE_DIALLING), TIME_AT, 4, FROM_CLOCK, 4, {-1, 0, 601, 602}},
-    {"hold's due time", SLOT, AS_DRAWN, OF(PHASE_HOLD), TIME_AT, 4, FROM_CLOCK, 4, {-1, 0, 41, 42}},
-    {"since", SLOT, AS_DRAWN, OF(PHASE_ANSWERED), TIME_AT, 4, FROM_CLOCK, 2, {0, 1}},
-    {"carrier", SLOT, LOST_DUPLEX, CALLS, CARRIER_AT, 1, PLAINLY, 4, {0, 1, 2, 255}},
-    {"simplex carrier's due time", SLOT, LOST_SIMPLEX, CALLS, CARRIER_DUE_AT, 4, FROM_CLOCK, 4, {-1, 0, 451, 452}},
-    {"duplex carrier's due time", SLOT, LOST_DUPLEX, CALLS, CARRIER_DUE_AT, 4, FROM_CLOCK, 4, {-1, 0, 51, 52}},
-    {"lost carrier's mode", SLOT, LOST_SIMPLEX, CALLS, SLOT_REQUEST_AT + MODE_AT, 1, PLAINLY, 2, {0, 1}},
-    {"told", SLOT, WITH_DURATION, OF(PHASE_HOLD), TOLD_AT, 1, PLAINLY, 4, {0, 1, 2, 255}},
-    {"hours", SLOT, WITH_DURATION, OF(PHASE_HOLD), HOURS_AT, 1, PLAINLY, 3, {99, 100, 255}},
-    {"minutes", SLOT, WITH_DURATION, OF(PHASE_HOLD), MINUTES_AT, 1, PLAINLY, 3, {59, 60, 255}},
-    {"seconds", SLOT, WITH_DURATION, OF(PHASE_HOLD), SECONDS_AT, 1, PLAINLY, 3, {59, 60, 255}},
-    OF_REQUEST("slot's ", SLOT, STORES, SLOT_REQUEST_AT),
+    {"offer's due time", SLOT, AS_DRAWN, expects_working_call, TIME_AT, 4, FROM_CLOCK, 4, {-1, 0, 161, 162}},
+    {"ring-back's due time", SLOT, AS_DRAWN, is_rung, TIME_AT, 4, FROM_CLOCK, 4, {-1, 0, 51, 52}},
+    {"reply's due time", SLOT, AS_DRAWN, expects_reply, TIME_AT, 4, FROM_CLOCK, 4, {-1, 0, 601, 602}},
+    {"hold's due time", SLOT, AS_DRAWN, is_held, TIME_AT, 4, FROM_CLOCK, 4, {-1, 0, 41, 42}},
+    {"since", SLOT, AS_DRAWN, talks, TIME_AT, 4, FROM_CLOCK, 2, {0, 1}},
+    {"carrier", SLOT, LOST_DUPLEX, has_call, CARRIER_AT, 1, PLAINLY, 4, {0, 1, 2, 255}},
+    {"simplex carrier's due time", SLOT, LOST_SIMPLEX, has_call, CARRIER_DUE_AT, 4, FROM_CLOCK, 4, {-1, 0, 451, 452}},
+    {"duplex carrier's due time", SLOT, LOST_DUPLEX, has_call, CARRIER_DUE_AT, 4, FROM_CLOCK, 4, {-1, 0, 51, 52}},
+    {"lost carrier's mode", SLOT, LOST_SIMPLEX, has_call, SLOT_REQUEST_AT + MODE_AT, 1, PLAINLY, 2, {0, 1}},
+    {"told", SLOT, WITH_DURATION, is_held, TOLD_AT, 1, PLAINLY, 4, {0, 1, 2, 255}},
+    {"hours", SLOT, WITH_DURATION, is_held, HOURS_AT, 1, PLAINLY, 3, {99, 100, 255}},
+    {"minutes", SLOT, WITH_DURATION, is_held, MINUTES_AT, 1, PLAINLY, 3, {59, 60, 255}},
+    {"seconds", SLOT, WITH_DURATION, is_held, SECONDS_AT, 1, PLAINLY, 3, {59, 60, 255}},
+    OF_REQUEST("slot's ", SLOT, stores_request, SLOT_REQUEST_AT),
     {"waiting ship's due time", WAITING, AS_DRAWN, ANY_PHASE, WAITING_DUE_AT, 4, FROM_CLOCK, 4, {-1, 0, 9001, 9002}},
     OF_REQUEST("waiting ship's ", WAITING, ANY_PHASE, WAITING_REQUEST_AT),
     {"a ship twice", SHIP_TWICE, AS_DRAWN, ANY_PHASE, 0, 0, PLAINLY, 1, {0}},
@@ -82,13 +77,6 @@ static uint32_t sounds[FIELDS], unsounds[FIELDS];
 static size_t last;
 
 /* ---- the station before the move ---- */
-
-static enum phase one_of(uint32_t phases) {
-    uint32_t phase = chance(PHASE_HOLD + 1u);
-    while ((phases & OF(phase)) == 0u)
-        phase = chance(PHASE_HOLD + 1u);
-    return (enum phase)phase;
-}
 
 static void lose_carrier(struct slot *slot, uint8_t mode, uint32_t wait) {
     slot->request.first = mode;
@@ -115,12 +103,6 @@ static void bring_to(enum state state, struct slot *slot, struct meaning *reques
     }
 }
 
-static void draw_idle(void) {
-    for (uint32_t i = 0; i < stage.station.channel_count; i++)
-        draw_slot(i, one_in(2) ? PHASE_FREE : PHASE_TAKEN);
-    stage.station.waiting_count = 0;
-}
-
 /* Where the part begins that has the field. */
 static size_t draw_part(const struct field *field) {
     struct station *station = &stage.station;
@@ -131,7 +113,7 @@ static size_t draw_part(const struct field *field) {
         draw_idle();
     if (field->part == SLOT) {
         if (field->phases != ANY_PHASE)
-            draw_slot(slot, one_of(field->phases));
+            draw_slot(slot, draw_phase(field->phases));
         bring_to(field->state, &station->slots[slot], &station->slots[slot].request);
         return slot_begins(slot);
     }

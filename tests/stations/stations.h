@@ -21,6 +21,8 @@ void draw_any_station(void);
 void draw_station(uint32_t clock, uint32_t identity);
 void draw_station_of(uint32_t clock, uint32_t identity, uint32_t slots, uint32_t waiting);
 void draw_slot(uint32_t slot, enum phase phase);
+enum phase draw_phase(bool (*wanted)(enum phase));
+void draw_idle(void); /* no ship stands in the station, or waits */
 void draw_waiting(uint32_t place);
 
 /* ---- moved.c: a sound station with one field moved to an edge of its rule ---- */

@@ -43,7 +43,7 @@ void note_call(char letter, uint64_t returned, const uint8_t *room) {
 void note_drawn(void) {
     bool idle = false;
     for (uint32_t i = 0; i < stage.station.channel_count; i++)
-        idle = idle || stage.station.slots[i].phase == PHASE_FREE;
+        idle = idle || is_free(stage.station.slots[i].phase);
     if (idle && stage.station.waiting_count > 0u)
         tally.idle_beside_waiting++;
 }

@@ -6,7 +6,7 @@ use mathlib.Core.List.{List, map}
 use mathlib.Core.Option.{none}
 use native.Mathlib.Omega.{arith}
 use lib.ListN.{length, take, length-take}
-use borrow.Author.Tests.{le-leb, eqb-true}
+use borrow.Author.Tests.{le-leb}
 use Rattle.sequence.specs.declared.Meaning.{Meaning}
 use Rattle.sequence.specs.declared.Number.{Number}
 use Rattle.sequence.specs.Answers.{isDone}
@@ -17,26 +17,30 @@ use Rattle.sequence.specs.Layout.{valid}
 use Rattle.sequence.specs.Reading.{readingOf}
 use Rattle.writing.proofs.Valid.{parts}
 use Rattle.writing.proofs.EvenedLaws.{fit, all-take}
-use Rattle.rules.specs.Words.{Party, Request, Config, Happened, What, tick, onChannel70, onSlot, Event, unable}
-use Rattle.rules.specs.Heard.{Heard, callRequest, dataRequest, bq, workingCall, endOfCall, nothing, digitsIn, sentBy, addressed, meaning}
+use Rattle.rules.specs.Words.{Party, Request, Config, Event, unable}
+use Rattle.rules.specs.Heard.{Heard, callRequest, dataRequest, digitsIn, sentBy, addressed, meaning}
 use Rattle.rules.specs.Kinds.{Means, asCallRequest, asDataRequest, asWorkingCall, asEndOfCall, asBq, asNothing, OnlyThese}
 use Rattle.rules.specs.Actions.{does}
 use Rattle.rules.specs.Bytes.{blocks}
-use Rattle.rules.specs.Station.{Station, theSlot, setClock, fires}
-use Rattle.rules.specs.Sound.{configKeeps, oneSlotEach, numberKeeps, requestKeeps, sound}
-use Rattle.rules.specs.Requests.{standing, ruleA}
-use Rattle.rules.specs.Calls.{heardOn70, actAt, act}
+use Rattle.rules.specs.Station.{Station, theSlot, setClock}
+use Rattle.rules.specs.Sound.{configKeeps, numberKeeps, requestKeeps, sound}
+use Rattle.rules.specs.Requests.{standing, ruleA, Out}
+use Rattle.rules.specs.Calls.{act}
 use Rattle.rules.specs.Verdict.{readIn, verdict}
+use Rattle.rules.specs.Book.{Stop, Book, moment}
+use Rattle.rules.specs.ThreeWords.{Word}
 use Rattle.rules.proofs.KindLaws.{only-these}
 use Rattle.rules.proofs.Readable.{heard-keeps, from-ship}
 use Rattle.rules.proofs.SentLaws.{unable-valid}
-use Rattle.rules.proofs.Outcome.{bq-outcome, happened-outcome}
 use Rattle.rules.proofs.Stored.{Stored, clock-stored}
-use Rattle.rules.proofs.Accepted.{accepted, Sound, sounds}
+use Rattle.rules.proofs.Accepted.{accepted, sounds}
+use Rattle.rules.proofs.Effect.{Effect, rests, drops, data-asked, call-asked, to-slot, act-effect, heard-at}
+use Rattle.rules.proofs.Base.{seen}
+use Rattle.rules.proofs.Kept.{stored}
 use Rattle.actions.specs.Blocks.{joined}
 use Rattle.actions.specs.Sent.{sentBlock, speaks}
 use Rattle.actions.proofs.Speaking.{Speaks, coast, sent-blocks}
-use Rattle.actions.proofs.Saying.{Says, requested-says, outcome-says, ticked-says}
+use Rattle.actions.proofs.Saying.{Says, requested-says, outcome-says}
 
 -- ── a data request ───────────────────────────────────────────────────────────
 
@@ -70,48 +74,28 @@ module _ (c : Config) (good : configKeeps c ≡ true) where
       go _ (asBq w n i a b k d f) e = cc
       go _ asNothing e = cc
 
-  heard70-says : (st : Station) → Stored c st → (m : Heard) → ((r : Request) → m ≡ callRequest r → requestKeeps c r ≡ true)
-      → ((x : Party) (n : List ℕ) → m ≡ dataRequest x n → Speaks c (does (unable 109 x n))) → Says c (heardOn70 st m)
-  unfolding heardOn70 ruleA
-  heard70-says st s (callRequest r) k d = requested-says c good r (k r refl) st s (standing st (r .who))
-  heard70-says st s (dataRequest x n) k d = (d x n refl, tt)
-  heard70-says st s (bq i x) k d = outcome-says c good st s i (theSlot st i) (bq-outcome i st x (theSlot st i)) refl
-  heard70-says st s (workingCall x) k d = tt
-  heard70-says st s (endOfCall x) k d = tt
-  heard70-says st s nothing k d = tt
+  -- what is heard on channel 70 can be answered
+  abbrev Answerable : Heard → Type 0
+  Answerable m = ((r : Request) → m ≡ callRequest r → requestKeeps c r ≡ true) × ((x : Party) (n : List ℕ) → m ≡ dataRequest x n → Speaks c (does (unable 109 x n)))
+
+  effect-says : (st : Station) → Stored c st → (b : Book) (ws : List Word) (cs : List Stop) (m : Heard) (o : Out) → Effect st b ws cs m o → Answerable m → Says c o
+  unfolding ruleA
+  effect-says st s _ _ _ _ _ (rests m n h) a = tt
+  effect-says st s _ _ _ _ _ (drops k) a = tt
+  effect-says st s _ _ _ _ _ (data-asked x n) a = (a .1 x n refl, tt)
+  effect-says st s _ _ _ _ _ (call-asked r) a = requested-says c good r (a .0 r refl) st s (standing st (r .who))
+  effect-says st s _ _ _ _ _ (to-slot m i u e) a = outcome-says c good st s i (theSlot st i) u refl
 
 -- ── an event of a sound station ──────────────────────────────────────────────
-
-module _ (c : Config) (st : Station) (is-sound : sound c st ≡ true) where
-  from : Sound c st
-  from = sounds c st is-sound
-
-  stored : Stored c st
-  unfolding oneSlotEach
-  stored = record { slots-keep = from .slots-keep; queue-keeps = from .queue-keeps; many = eqb-true (length (st .slots)) (length (c .channels)) (from .one-each) }
-
-  pub tick-says : (t : ℕ) → Says c (actAt c st t tick)
-  unfolding actAt
-  tick-says t = ticked-says c (from .config) st stored t (fires t st)
-
-  pub slot-says : (t i : ℕ) (h : Happened) → Says c (actAt c st t (onSlot i h))
-  unfolding actAt setClock
-  slot-says t i h = outcome-says c (from .config) (setClock t st) (clock-stored c t st stored) i (theSlot st i) (happened-outcome i (setClock t st) c (theSlot st i) h) refl
-
-  pub channel70-says : (t : ℕ) (m : List ℕ) → isDone (readingOf m .answer) ≡ true → valid (readingOf m .meaning) ≡ true → Says c (actAt c st t (onChannel70 m))
-  unfolding actAt
-  channel70-says t m d v =
-      heard70-says c (from .config) (setClock t st) (clock-stored c t st stored) (meaning c m) (heard-keeps c (from .config) m d) (heard-data c (from .config) m v)
 
 -- where symbols that the reader accepts have a valid meaning, the blocks handed out are those of the rules
 module _ (reads : (s : List ℕ) → isDone (readingOf s .answer) ≡ true → valid (readingOf s .meaning) ≡ true) where
   pub act-says : (c : Config) (st : Station) → sound c st ≡ true → (e : Event) → isDone (readIn (e .what)) ≡ true → Says c (act c st e)
-  act-says c st s e d = go (e .what) d
-    where
-      go : (w : What) → isDone (readIn w) ≡ true → Says c (actAt c st (e .time) w)
-      go tick h = tick-says c st s (e .time)
-      go (onChannel70 m) h = channel70-says c st s (e .time) m h (reads m h)
-      go (onSlot i k) h = slot-says c st s (e .time) i k
+  unfolding setClock
+  act-says c st s e d =
+      let from = sounds c st s in
+      effect-says c (from .config) _ (clock-stored c (moment (seen st) e) st (stored c st from)) _ _ _ _ _ (act-effect c st (e .time) (e .what))
+      (heard-at c (Answerable c (from .config)) (e .what) d (λ r y. cc, λ x n y. let q : _≡_ {A = ℕ} 0 1 = cc in absurd (omega (arith, q))) (λ m k. (heard-keeps c (from .config) m k, heard-data c (from .config) m (reads m k))))
 
   pub handed-out : (c : Config) (st : Station) (e : Event) → verdict c st e ≡ none → joined (map (sentBlock c) (act c st e .acts)) ≡ blocks c (act c st e .acts)
   handed-out c st e v =

@@ -1,40 +1,28 @@
 -- Everything that an event sends is a sequence, by the pieces of the rules, of a station whose stored requests keep them.
-use Prim.Native.Nat.{ℕ, zero, suc, _<_}
+use Prim.Native.Nat.{ℕ, _<_}
 use mathlib.Core.Path.{_≡_, refl}
 use mathlib.Core.Bool.{Bool, true, false, cond, not}
 use mathlib.Core.List.{List, [], _∷_}
 use mathlib.Core.Option.{Option, none, some}
 use native.Mathlib.Omega.{arith}
 use lib.Dec.{ltb}
-use lib.ListN.{length, getD}
+use lib.ListN.{length}
 use Rattle.sequence.specs.Field.{unableSecond}
 use Rattle.sequence.proofs.Tests.{both-true}
 use Rattle.rules.specs.Places.{all, Each, lowest}
 use Rattle.rules.specs.Words.{Request, Config, unable}
-use Rattle.rules.specs.Waits.{Wait, ofQueue, loss, main, Due}
 use Rattle.rules.specs.Actions.{Action, Ender, theShip, theCoast, does}
-use Rattle.rules.specs.Station.{Slot, free, taken, pending, busy, Waiting, Station, theSlot, setClock, answeredAt}
+use Rattle.rules.specs.Station.{Slot, pending, busy, Waiting, Station, theSlot, answeredAt}
 use Rattle.rules.specs.Sound.{configKeeps, requestKeeps, durationKeeps, slotKeeps, waitingKeeps, queueRoom}
 use Rattle.rules.specs.Requests.{Out, rungBack, freedFor, freed, lasted, endActs, coastEnd, Standing, nowhere, holds, waits, placeOf, repeated, afresh, ruleD, offer, ruleF, ruleG, isFree, eToG, newcomer, dToG, redial, requested}
-use Rattle.rules.specs.Calls.{fire, ticked}
 use Rattle.rules.specs.Book.{Stop, Line}
 use Rattle.rules.specs.ThreeWords.{Word}
-use Rattle.rules.proofs.PlaceLaws.{lowest-is, all-at, each-append}
-use Rattle.rules.proofs.Outcome.{Next, stays, becomes, frees, Move, to-dial, to-agree, to-ring, to-drop, to-answer, to-lose, to-regain, to-hold, to-end, to-repeat, to-run-out, to-take, to-give, Outcome, passed, moved, end-outcome, main-outcome}
+use Rattle.rules.proofs.PlaceLaws.{each-append, lowest-there}
+use Rattle.rules.proofs.Outcome.{Next, stays, becomes, frees, Move, to-dial, to-agree, to-ring, to-drop, to-answer, to-lose, to-regain, to-hold, to-end, to-repeat, to-run-out, to-take, to-give, Outcome, passed, moved}
 use Rattle.rules.proofs.Ruling.{Ruling, passes, repeats, renews, redials, bOrC-ruling}
-use Rattle.rules.proofs.Stored.{Stored, clock-stored, stored-closed, lasted-keeps}
+use Rattle.rules.proofs.Stored.{Stored, stored-closed, lasted-keeps}
+use Rattle.rules.proofs.Base.{slot-all, slot-there}
 use Rattle.actions.proofs.Speaking.{Speaks, small, acknowledge-speaks, ringBack-speaks, unable-speaks, over-speaks}
-
--- ── places ───────────────────────────────────────────────────────────────────
-
--- an element that passes where nothing past the end does
-in-range : {A : Type 0} (p : A → Bool) (d : A) → p d ≡ false → (l : List A) (i : ℕ) → p (getD l i d) ≡ true → i < length l
-in-range p d z [] i e = let q : _≡_ {A = ℕ} 0 1 = cc in absurd (omega (arith, q))
-in-range p d z (x ∷ l) zero e = omega arith
-in-range p d z (x ∷ l) (suc i) e = let h = in-range p d z l i e in omega arith
-
-in-use : (l : List Slot) (i : ℕ) (p : Slot) → getD l i free ≡ p → isFree p ≡ false → i < length l
-in-use l i p e f = in-range (λ s. not (isFree s)) free refl l i (rw (e, f))
 
 -- ── the pieces ───────────────────────────────────────────────────────────────
 
@@ -56,10 +44,10 @@ module _ (c : Config) (good : configKeeps c ≡ true) where
     known i h = let m = s .many in omega arith
 
     placed : (i : ℕ) (p : Slot) → theSlot st i ≡ p → isFree p ≡ false → i < length (c .channels)
-    placed i p e f = known i (in-use (st .slots) i p e f)
+    placed i p e f = known i (slot-there st (λ s. not (isFree s)) refl i (rw (e, f)))
 
     slot-keeps : (i : ℕ) (p : Slot) → theSlot st i ≡ p → slotKeeps c p ≡ true
-    slot-keeps i p e = rw e at (all-at (slotKeeps c) free refl i (st .slots) (s .slots-keep))
+    slot-keeps i p e = rw e at (slot-all st (slotKeeps c) refl i (s .slots-keep))
 
     module _ (i : ℕ) (there : i < length (c .channels)) where
       freedFor-says : (q : List Waiting) → all (waitingKeeps c) q ≡ true → Says c (freedFor i st q)
@@ -94,7 +82,7 @@ module _ (c : Config) (good : configKeeps c ≡ true) where
       eToG-says : (o : Option ℕ) → lowest isFree (st .slots) ≡ o → Says c (eToG st r o)
       unfolding eToG offer afresh ruleF ruleG
       eToG-says (some i) e =
-          let h = known st s i (in-range isFree taken refl (st .slots) i (lowest-is taken isFree (st .slots) i e)) in
+          let h = known st s i (lowest-there isFree (st .slots) i e) in
           ((refl, small c good i h), (acknowledge-speaks c good r kept i h, tt))
       eToG-says none e = says-if (ltb (length (st .queue)) queueRoom) (ruleF st r) (ruleG st r) (queued, tt) (full, tt)
 
@@ -157,14 +145,3 @@ module _ (c : Config) (good : configKeeps c ≡ true) where
     outcome-says p (moved {n = stays} u x y z) e = move-placed p _ _ e u
     outcome-says p (moved {n = becomes q} u x y z) e = move-placed p _ _ e u
     outcome-says p (moved {n = frees} {acts} u x y z) e = each-append (Speaks c) acts (freed i st .acts) (move-placed p frees acts e u) (freed-says st s i (placed st s i p e (move-frees i (st .clock) p acts u)))
-
-  fire-says : (st : Station) → Stored c st → (w : Wait) → Says c (fire st w)
-  unfolding fire
-  fire-says st s (ofQueue k) = tt
-  fire-says st s (loss i) = outcome-says st s i (theSlot st i) (end-outcome i st (theSlot st i)) refl
-  fire-says st s (main i) = outcome-says st s i (theSlot st i) (main-outcome i st (theSlot st i)) refl
-
-  pub ticked-says : (st : Station) → Stored c st → (t : ℕ) (o : Option Due) → Says c (ticked st t o)
-  unfolding ticked
-  ticked-says st s t none = tt
-  ticked-says st s t (some p) = fire-says (setClock (p .at) st) (clock-stored c (p .at) st s) (p .what)

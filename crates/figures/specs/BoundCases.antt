@@ -1,21 +1,21 @@
 -- Rows on both sides of a boundary, and for what the other tables see only in its usual value: other slots, places, stations,
 -- second telecommands, kinds of sequence.
 use mathlib.Core.List.{List, [], _∷_, _++_}
-use mathlib.Core.Option.{Option, none, some}
+use mathlib.Core.Option.{none, some}
 use mathlib.Core.Bool.{Bool, cond}
 use Prim.Native.Nat.{ℕ}
 use lib.ListN.{replicate}
-use Rattle.units.specs.declared.Told.the-variants.{Nothing, Lasting}
+use Rattle.units.specs.declared.Told.the-variants.{Nothing}
 use Rattle.sequence.specs.declared.Field.the-variants.{Blank, Channel}
 use Rattle.sequence.specs.Layout.{valid, layout}
-use Rattle.rules.specs.Words.{Party, is, Mode, simplex, duplex, modeNumber, Config, heard, offHook, onHook, carrierUp, carrierDown, takes, givesBack, tick, onChannel70, Event, carrierOn}
+use Rattle.rules.specs.Words.{Party, is, Mode, simplex, duplex, modeNumber, Config, Event, carrierOn}
 use Rattle.rules.specs.Actions.{theShip, does, over, charge}
 use Rattle.rules.specs.Station.{offered, firstRing, secondRing, acknowledged, dialling, answered, free, taken, Waiting, Station, fresh}
 use Rattle.rules.specs.Slots.{pending, busy, held}
 use Rattle.rules.specs.Verdict.{step}
 use Rattle.rules.specs.Bytes.{numberOf, ableSaid, unableSaid, overSaid, blocks}
 use Rattle.rules.specs.Printed.{lines}
-use Rattle.rules.specs.Runs.{channel, station, seven, eight, nine, sends, at, usual, callsFor, calls, accepts, on, works, ends, ticks, paid}
+use Rattle.rules.specs.Runs.{channel, station, seven, eight, nine, sends, usual, callsFor, calls, accepts, works, ends, ticks, paid, says, saysOn, picksUp, hangs, regains, loses, reserves, restores, ticksIn}
 use Rattle.rules.specs.Cases.{Row}
 use Rattle.rules.specs.Scripts.{gives, waits, waitingShips, charges, ackEight26, ackSeven26, ackSeven26Again, ackSeven26Simplex, ackSeven27, overSeven, overSevenByCoast, ringEight26, ringNine26, ringSeven26, unable102Nine, unable103Eight, unable103Seven}
 use Rattle.rules.specs.SoundCases.{asking, from, lasting, holding, asked, with, queued, setUp, Judged, sounds, unsound, refused36}
@@ -38,7 +38,7 @@ asks station second end digits x m =
 
 -- a call request with a second telecommand
 abbrev pub callsAs : ℕ → List ℕ → ℕ → ℕ → Mode → Event
-callsAs second digits t x m = at t (onChannel70 (asks 2001234 second 117 digits x m))
+callsAs second digits t x m = says t (asks 2001234 second 117 digits x m)
 
 -- what an event prints in a station whose one slot is taken, at the clock 100
 abbrev pub waitingWith : List Waiting → Event → List (List ℕ)
@@ -194,10 +194,10 @@ ringOther = 123 ∷ 20 ∷ 0 ∷ 0 ∷ 0 ∷ 80 ∷ 100 ∷ 0 ∷ 79 ∷ 99 ∷ 
 -- a whole day on the second slot, the first one taken: every action names it
 abbrev pub secondSlotScript : List Event
 secondSlotScript =
-    on 50 0 takes ∷ callsAs 100 usual 100 seven duplex ∷ callsAs 100 usual 110 seven duplex ∷
-    callsFor (4 ∷ 2 ∷ []) 120 seven duplex ∷ works 130 1 seven ∷ on 140 1 carrierDown ∷ on 150 1 carrierUp ∷ on 160 1 offHook ∷
-    on 170 1 carrierDown ∷ on 175 1 carrierUp ∷ calls 180 eight duplex ∷ calls 190 nine simplex ∷ ends 200 1 seven ∷
-    ends 210 1 seven ∷ ticks 241 ∷ ticks 292 ∷ accepts 300 27 eight ∷ works 310 1 eight ∷ on 320 1 onHook ∷
+    reserves 50 0 ∷ callsAs 100 usual 100 seven duplex ∷ callsAs 100 usual 110 seven duplex ∷
+    callsFor (4 ∷ 2 ∷ []) 120 seven duplex ∷ works 130 1 seven ∷ loses 140 1 ∷ regains 150 1 ∷ picksUp 160 1 ∷
+    loses 170 1 ∷ regains 175 1 ∷ calls 180 eight duplex ∷ calls 190 nine simplex ∷ ends 200 1 seven ∷
+    ends 210 1 seven ∷ ticks 241 ∷ ticks 292 ∷ accepts 300 27 eight ∷ works 310 1 eight ∷ hangs 320 1 ∷
     calls 330 nine simplex ∷ ticks 491 ∷ []
 
 abbrev pub secondSlot : Row
@@ -231,10 +231,10 @@ secondSlot = record {
 -- the same slot: rule c answered and only dialled, no reply, carrier loss, the operator
 abbrev pub secondSlotAgainScript : List Event
 secondSlotAgainScript =
-    on 50 0 takes ∷ calls 100 seven simplex ∷ works 110 1 seven ∷ on 120 1 offHook ∷ on 130 1 carrierDown ∷
-    calls 140 seven simplex ∷ works 150 1 seven ∷ on 160 1 carrierDown ∷ calls 170 seven simplex ∷ works 180 1 seven ∷
-    ticks 781 ∷ calls 800 seven duplex ∷ works 810 1 seven ∷ on 820 1 offHook ∷ on 830 1 carrierDown ∷ ticks 900 ∷
-    on 910 1 takes ∷ on 920 1 givesBack ∷ []
+    reserves 50 0 ∷ calls 100 seven simplex ∷ works 110 1 seven ∷ picksUp 120 1 ∷ loses 130 1 ∷
+    calls 140 seven simplex ∷ works 150 1 seven ∷ loses 160 1 ∷ calls 170 seven simplex ∷ works 180 1 seven ∷
+    ticks 781 ∷ calls 800 seven duplex ∷ works 810 1 seven ∷ picksUp 820 1 ∷ loses 830 1 ∷ ticks 900 ∷
+    reserves 910 1 ∷ restores 920 1 ∷ []
 
 abbrev pub secondSlotAgain : Row
 secondSlotAgain = record {
@@ -265,9 +265,9 @@ secondSlotAgain = record {
 -- the same slot: acknowledged and asked again, acknowledged and let go, rung twice and let go
 abbrev pub secondSlotQueuedScript : List Event
 secondSlotQueuedScript =
-    on 50 0 takes ∷ on 51 1 takes ∷ calls 100 seven duplex ∷ calls 101 eight duplex ∷ calls 102 nine duplex ∷
-    on 110 1 givesBack ∷ accepts 120 27 seven ∷ calls 130 seven duplex ∷ ticks 291 ∷ ticks 342 ∷ accepts 350 27 eight ∷
-    ticks 511 ∷ ticks 562 ∷ calls 570 nine duplex ∷ works 580 1 nine ∷ on 590 1 onHook ∷ []
+    reserves 50 0 ∷ reserves 51 1 ∷ calls 100 seven duplex ∷ calls 101 eight duplex ∷ calls 102 nine duplex ∷
+    restores 110 1 ∷ accepts 120 27 seven ∷ calls 130 seven duplex ∷ ticks 291 ∷ ticks 342 ∷ accepts 350 27 eight ∷
+    ticks 511 ∷ ticks 562 ∷ calls 570 nine duplex ∷ works 580 1 nine ∷ hangs 590 1 ∷ []
 
 abbrev pub secondSlotQueued : Row
 secondSlotQueued = record {
@@ -294,7 +294,7 @@ secondSlotQueued = record {
 -- two slots taken: the third is offered, and its waits are its own
 abbrev pub thirdSlotScript : List Event
 thirdSlotScript =
-    on 50 0 takes ∷ on 51 1 takes ∷ calls 100 seven duplex ∷ works 110 2 seven ∷ on 120 2 offHook ∷ on 130 2 carrierDown ∷
+    reserves 50 0 ∷ reserves 51 1 ∷ calls 100 seven duplex ∷ works 110 2 seven ∷ picksUp 120 2 ∷ loses 130 2 ∷
     ticks 181 ∷ calls 200 eight duplex ∷ ticks 361 ∷ []
 
 abbrev pub thirdSlot : Row
@@ -315,8 +315,8 @@ thirdSlot = record {
 -- three ships wait; the second and the third ask again, and keep their places and due times
 abbrev pub placesScript : List Event
 placesScript =
-    on 50 0 takes ∷ calls 100 seven duplex ∷ calls 110 eight duplex ∷ calls 120 nine duplex ∷
-    callsFor (4 ∷ 2 ∷ []) 130 nine duplex ∷ calls 135 eight simplex ∷ ticks 9101 ∷ ticks 9111 ∷ on 9120 0 givesBack ∷ []
+    reserves 50 0 ∷ calls 100 seven duplex ∷ calls 110 eight duplex ∷ calls 120 nine duplex ∷
+    callsFor (4 ∷ 2 ∷ []) 130 nine duplex ∷ calls 135 eight simplex ∷ ticks 9101 ∷ ticks 9111 ∷ restores 9120 0 ∷ []
 
 abbrev pub places : Row
 places = record {
@@ -336,7 +336,7 @@ places = record {
 -- of three waiting ships the oldest is rung back, then the next
 abbrev pub oldestFirstScript : List Event
 oldestFirstScript =
-    on 50 0 takes ∷ calls 100 seven duplex ∷ calls 110 eight duplex ∷ calls 120 nine duplex ∷ on 200 0 givesBack ∷ ticks 251 ∷
+    reserves 50 0 ∷ calls 100 seven duplex ∷ calls 110 eight duplex ∷ calls 120 nine duplex ∷ restores 200 0 ∷ ticks 251 ∷
     ticks 302 ∷ ticks 353 ∷ ticks 404 ∷ []
 
 abbrev pub oldestFirst : Row
@@ -357,7 +357,7 @@ oldestFirst = record {
 -- the second telecommand of a request is repeated, by the acknowledgement and by the ring-back
 abbrev pub secondKeptScript : List Event
 secondKeptScript =
-    on 50 0 takes ∷ callsAs 109 usual 100 seven simplex ∷ on 200 0 givesBack ∷ callsAs 100 usual 210 seven simplex ∷ []
+    reserves 50 0 ∷ callsAs 109 usual 100 seven simplex ∷ restores 200 0 ∷ callsAs 100 usual 210 seven simplex ∷ []
 
 abbrev pub secondKept : Row
 secondKept = record {
@@ -372,9 +372,9 @@ secondKept = record {
 -- another station: a request to it is answered in its name, one to 002001234 is ignored
 abbrev pub otherStationScript : List Event
 otherStationScript =
-    at 100 (onChannel70 (asks 7999999 126 117 usual seven duplex)) ∷
-    at 110 (onChannel70 (asks 2001234 126 117 usual eight duplex)) ∷ on 120 1 takes ∷
-    at 130 (onChannel70 (asks 7999999 126 117 usual eight duplex)) ∷ ticks 261 ∷ []
+    says 100 (asks 7999999 126 117 usual seven duplex) ∷
+    says 110 (asks 2001234 126 117 usual eight duplex) ∷ reserves 120 1 ∷
+    says 130 (asks 7999999 126 117 usual eight duplex) ∷ ticks 261 ∷ []
 
 abbrev pub otherStation : Row
 otherStation = record {
@@ -479,7 +479,7 @@ sameShip = record {
 -- c. simplex, only dialled, carrier absent: the coast ends that call too, and nothing is charged
 abbrev pub ruleCDialled : Row
 ruleCDialled = record {
-  computed = gives 1 (calls 100 seven simplex ∷ works 200 0 seven ∷ on 300 0 carrierDown ∷ calls 310 seven simplex ∷ []);
+  computed = gives 1 (calls 100 seven simplex ∷ works 200 0 seven ∷ loses 300 0 ∷ calls 310 seven simplex ∷ []);
   expected = (0 ∷ 310 ∷ 5 ∷ 471 ∷ []) ∷ (6 ∷ 0 ∷ []) ∷ (4 ∷ 0 ∷ overSevenByCoast) ∷ (2 ∷ 0 ∷ []) ∷ (1 ∷ 0 ∷ []) ∷
       (3 ∷ 0 ∷ ackSeven26Simplex) ∷ [];
 }
@@ -494,14 +494,14 @@ ruleCDialledPresent = record {
 -- c. duplex, only dialled, carrier absent: ignored
 abbrev pub ruleCDialledDuplex : Row
 ruleCDialledDuplex = record {
-  computed = gives 1 (calls 100 seven duplex ∷ works 200 0 seven ∷ on 300 0 carrierDown ∷ calls 310 seven duplex ∷ []);
+  computed = gives 1 (calls 100 seven duplex ∷ works 200 0 seven ∷ loses 300 0 ∷ calls 310 seven duplex ∷ []);
   expected = (1 ∷ 310 ∷ 0 ∷ 351 ∷ []) ∷ [];
 }
 
 -- a ship in its hold asks again: the held slot is not its own, and it waits
 abbrev pub holdAsked : Row
 holdAsked = record {
-  computed = gives 1 (calls 100 seven duplex ∷ works 200 0 seven ∷ on 300 0 offHook ∷ ends 400 0 seven ∷ calls 410 seven duplex ∷ []);
+  computed = gives 1 (calls 100 seven duplex ∷ works 200 0 seven ∷ picksUp 300 0 ∷ ends 400 0 seven ∷ calls 410 seven duplex ∷ []);
   expected = (0 ∷ 410 ∷ 1 ∷ 441 ∷ []) ∷ (3 ∷ 255 ∷ unable103Seven) ∷ [];
 }
 
@@ -510,7 +510,7 @@ holdAsked = record {
 -- a request that names a channel is none
 abbrev pub requestWithChannel : Row
 requestWithChannel = record {
-  computed = gives 1 (at 100 (onChannel70 (sends seven 101 117 (Channel (channel 26)) usual)) ∷ []);
+  computed = gives 1 (says 100 (sends seven 101 117 (Channel (channel 26)) usual) ∷ []);
   expected = (1 ∷ 100 ∷ 0 ∷ []) ∷ [];
 }
 
@@ -518,7 +518,7 @@ requestWithChannel = record {
 abbrev pub bqSimplex : Row
 bqSimplex = record {
   computed = gives 1 (calls 100 seven duplex ∷ calls 110 eight duplex ∷ ticks 261 ∷
-      at 270 (onChannel70 (sends eight 100 122 (Channel (channel 26)) usual)) ∷ []);
+      says 270 (sends eight 100 122 (Channel (channel 26)) usual) ∷ []);
   expected = (0 ∷ 270 ∷ 0 ∷ 431 ∷ []) ∷ [];
 }
 
@@ -526,7 +526,7 @@ bqSimplex = record {
 abbrev pub bqData : Row
 bqData = record {
   computed = gives 1 (calls 100 seven duplex ∷ calls 110 eight duplex ∷ ticks 261 ∷
-      at 270 (onChannel70 (sends eight 106 122 (Channel (channel 26)) usual)) ∷ []);
+      says 270 (sends eight 106 122 (Channel (channel 26)) usual) ∷ []);
   expected = (1 ∷ 270 ∷ 0 ∷ 312 ∷ []) ∷ [];
 }
 
@@ -534,7 +534,7 @@ bqData = record {
 abbrev pub bqAsRq : Row
 bqAsRq = record {
   computed = gives 1 (calls 100 seven duplex ∷ calls 110 eight duplex ∷ ticks 261 ∷
-      at 270 (onChannel70 (sends eight 101 117 (Channel (channel 26)) usual)) ∷ []);
+      says 270 (sends eight 101 117 (Channel (channel 26)) usual) ∷ []);
   expected = (1 ∷ 270 ∷ 0 ∷ 312 ∷ []) ∷ [];
 }
 
@@ -542,7 +542,7 @@ bqAsRq = record {
 abbrev pub bqAs127 : Row
 bqAs127 = record {
   computed = gives 1 (calls 100 seven duplex ∷ calls 110 eight duplex ∷ ticks 261 ∷
-      at 270 (onChannel70 (sends eight 101 127 (Channel (channel 26)) usual)) ∷ []);
+      says 270 (sends eight 101 127 (Channel (channel 26)) usual) ∷ []);
   expected = (1 ∷ 270 ∷ 0 ∷ 312 ∷ []) ∷ [];
 }
 
@@ -550,7 +550,7 @@ bqAs127 = record {
 abbrev pub bqUnnamed : Row
 bqUnnamed = record {
   computed = gives 1 (calls 100 seven duplex ∷ calls 110 eight duplex ∷ ticks 261 ∷
-      at 270 (onChannel70 (sends eight 101 122 Blank usual)) ∷ []);
+      says 270 (sends eight 101 122 Blank usual) ∷ []);
   expected = (1 ∷ 270 ∷ 0 ∷ 312 ∷ []) ∷ [];
 }
 
@@ -564,49 +564,49 @@ bqInSecondRing = record {
 -- on the working channel of an offered slot: ignored
 abbrev pub bqOnSlot : Row
 bqOnSlot = record {
-  computed = gives 1 (calls 100 seven duplex ∷ on 110 0 (heard (sends seven 101 122 (Channel (channel 26)) usual)) ∷ []);
+  computed = gives 1 (calls 100 seven duplex ∷ saysOn 110 0 (sends seven 101 122 (Channel (channel 26)) usual) ∷ []);
   expected = (1 ∷ 110 ∷ 0 ∷ 261 ∷ []) ∷ [];
 }
 
 -- and with the field 126s: it is no working call
 abbrev pub blankBqOnSlot : Row
 blankBqOnSlot = record {
-  computed = gives 1 (calls 100 seven duplex ∷ on 110 0 (heard (sends seven 101 122 Blank usual)) ∷ []);
+  computed = gives 1 (calls 100 seven duplex ∷ saysOn 110 0 (sends seven 101 122 Blank usual) ∷ []);
   expected = (1 ∷ 110 ∷ 0 ∷ 261 ∷ []) ∷ [];
 }
 
 -- a working call in simplex dials as well
 abbrev pub workingSimplex : Row
 workingSimplex = record {
-  computed = gives 1 (calls 100 seven duplex ∷ on 110 0 (heard (sends seven 100 127 Blank usual)) ∷ []);
+  computed = gives 1 (calls 100 seven duplex ∷ saysOn 110 0 (sends seven 100 127 Blank usual) ∷ []);
   expected = (0 ∷ 110 ∷ 1 ∷ 711 ∷ []) ∷ (5 ∷ 0 ∷ usual) ∷ [];
 }
 
 -- and with the telecommand of data it does not
 abbrev pub workingData : Row
 workingData = record {
-  computed = gives 1 (calls 100 seven duplex ∷ on 110 0 (heard (sends seven 106 127 Blank usual)) ∷ []);
+  computed = gives 1 (calls 100 seven duplex ∷ saysOn 110 0 (sends seven 106 127 Blank usual) ∷ []);
   expected = (1 ∷ 110 ∷ 0 ∷ 261 ∷ []) ∷ [];
 }
 
 -- an end of call with 127 is none of the ship
 abbrev pub endAs127 : Row
 endAs127 = record {
-  computed = gives 1 (calls 100 seven duplex ∷ works 110 0 seven ∷ on 120 0 (heard (sends seven 105 127 Blank usual)) ∷ []);
+  computed = gives 1 (calls 100 seven duplex ∷ works 110 0 seven ∷ saysOn 120 0 (sends seven 105 127 Blank usual) ∷ []);
   expected = (1 ∷ 120 ∷ 0 ∷ 711 ∷ []) ∷ [];
 }
 
 -- nor one with BQ
 abbrev pub endAsBq : Row
 endAsBq = record {
-  computed = gives 1 (calls 100 seven duplex ∷ works 110 0 seven ∷ on 120 0 (heard (sends seven 105 122 Blank usual)) ∷ []);
+  computed = gives 1 (calls 100 seven duplex ∷ works 110 0 seven ∷ saysOn 120 0 (sends seven 105 122 Blank usual) ∷ []);
   expected = (1 ∷ 120 ∷ 0 ∷ 711 ∷ []) ∷ [];
 }
 
 -- a request to the station 002001233, one below
 abbrev pub addressedBelow : Row
 addressedBelow = record {
-  computed = gives 1 (at 100 (onChannel70 (asks 2001233 126 117 usual seven duplex)) ∷ []);
+  computed = gives 1 (says 100 (asks 2001233 126 117 usual seven duplex) ∷ []);
   expected = (1 ∷ 100 ∷ 0 ∷ []) ∷ [];
 }
 
@@ -615,13 +615,13 @@ addressedBelow = record {
 -- no reply while the carrier is absent: the reply wait is due first, and the coast ends the call
 abbrev pub replyBeforeLoss : Row
 replyBeforeLoss = record {
-  computed = gives 1 (calls 100 seven simplex ∷ works 200 0 seven ∷ on 790 0 carrierDown ∷ ticks 900 ∷ []);
+  computed = gives 1 (calls 100 seven simplex ∷ works 200 0 seven ∷ loses 790 0 ∷ ticks 900 ∷ []);
   expected = (0 ∷ 801 ∷ 3 ∷ []) ∷ (6 ∷ 0 ∷ []) ∷ (4 ∷ 0 ∷ overSevenByCoast) ∷ (2 ∷ 0 ∷ []) ∷ [];
 }
 
 -- a tick one tenth before the due time fires nothing
-abbrev pub tickOneEarlier : Row
-tickOneEarlier = record {
+abbrev pub oneTenthEarlier : Row
+oneTenthEarlier = record {
   computed = gives 1 (calls 100 seven duplex ∷ ticks 260 ∷ []);
   expected = (0 ∷ 260 ∷ 0 ∷ 261 ∷ []) ∷ [];
 }
@@ -629,8 +629,8 @@ tickOneEarlier = record {
 -- the slot due one tenth before the queue entry goes first
 abbrev pub slotBeforeQueue : Row
 slotBeforeQueue = record {
-  computed = gives 2 (on 10 1 takes ∷ calls 100 seven duplex ∷ works 110 0 seven ∷ on 120 0 offHook ∷ calls 150 eight duplex ∷
-      on 9099 0 carrierDown ∷ ticks 9999 ∷ []);
+  computed = gives 2 (reserves 10 1 ∷ calls 100 seven duplex ∷ works 110 0 seven ∷ picksUp 120 0 ∷ calls 150 eight duplex ∷
+      loses 9099 0 ∷ ticks 9999 ∷ []);
   expected = (0 ∷ 9150 ∷ 6 ∷ 9201 ∷ []) ∷ charges 0 seven 120 9150 903 ∷ (6 ∷ 0 ∷ []) ∷ (4 ∷ 0 ∷ overSevenByCoast903) ∷ (2 ∷ 0 ∷ []) ∷
       (1 ∷ 0 ∷ []) ∷ (3 ∷ 0 ∷ ringEight26) ∷ [];
 }
@@ -694,51 +694,51 @@ accepted33 = record {
 }
 
 -- 34: off-hook on no such slot
-abbrev pub refused34OffHook : Row
-refused34OffHook = record {
-  computed = gives 2 (on 100 2 offHook ∷ []);
+abbrev pub refused34PicksUp : Row
+refused34PicksUp = record {
+  computed = gives 2 (picksUp 100 2 ∷ []);
   expected = (34 ∷ 0 ∷ 0 ∷ []) ∷ [];
 }
 
 -- 34: carrier up on no such slot
-abbrev pub refused34CarrierUp : Row
-refused34CarrierUp = record {
-  computed = gives 2 (on 100 2 carrierUp ∷ []);
+abbrev pub refused34Regains : Row
+refused34Regains = record {
+  computed = gives 2 (regains 100 2 ∷ []);
   expected = (34 ∷ 0 ∷ 0 ∷ []) ∷ [];
 }
 
 -- 34: carrier down on no such slot
-abbrev pub refused34CarrierDown : Row
-refused34CarrierDown = record {
-  computed = gives 2 (on 100 2 carrierDown ∷ []);
+abbrev pub refused34Loses : Row
+refused34Loses = record {
+  computed = gives 2 (loses 100 2 ∷ []);
   expected = (34 ∷ 0 ∷ 0 ∷ []) ∷ [];
 }
 
 -- 34: take on no such slot
 abbrev pub refused34Takes : Row
 refused34Takes = record {
-  computed = gives 2 (on 100 2 takes ∷ []);
+  computed = gives 2 (reserves 100 2 ∷ []);
   expected = (34 ∷ 0 ∷ 0 ∷ []) ∷ [];
 }
 
 -- 34: give back on no such slot
-abbrev pub refused34GivesBack : Row
-refused34GivesBack = record {
-  computed = gives 2 (on 100 2 givesBack ∷ []);
+abbrev pub refused34Restores : Row
+refused34Restores = record {
+  computed = gives 2 (restores 100 2 ∷ []);
   expected = (34 ∷ 0 ∷ 0 ∷ []) ∷ [];
 }
 
 -- 11: no symbol on a working channel
 abbrev pub refused11OnSlot : Row
 refused11OnSlot = record {
-  computed = gives 1 (on 100 0 (heard []) ∷ []);
+  computed = gives 1 (saysOn 100 0 [] ∷ []);
   expected = (11 ∷ 0 ∷ 0 ∷ []) ∷ [];
 }
 
 -- 29 before 30: two slots on one channel, and no room
 abbrev pub order29 : Row
 order29 = record {
-  computed = lines (station 1) (step (station 1) (holding (free ∷ free ∷ []) []) (record { time = 1000; room = 0; what = tick }));
+  computed = lines (station 1) (step (station 1) (holding (free ∷ free ∷ []) []) (ticksIn 0 1000));
   expected = (29 ∷ 1000 ∷ 0 ∷ []) ∷ [];
 }
 
@@ -772,9 +772,9 @@ boundCases =
     firstDigitHigher ∷ lastDigitLower ∷ ringBackTwiceAsked ∷ sameShip ∷ ruleCDialled ∷ ruleCDialledPresent ∷
     ruleCDialledDuplex ∷ holdAsked ∷ requestWithChannel ∷ bqSimplex ∷ bqData ∷ bqAsRq ∷ bqAs127 ∷ bqUnnamed ∷ bqInSecondRing ∷
     bqOnSlot ∷ blankBqOnSlot ∷ workingSimplex ∷ workingData ∷ endAs127 ∷ endAsBq ∷ addressedBelow ∷ replyBeforeLoss ∷
-    tickOneEarlier ∷ slotBeforeQueue ∷ lowestFirst ∷ thirdDueFirst ∷ firstDueFirst ∷ oneTenthApart ∷ queueOf31 ∷ queueOf32 ∷
-    refused33Heard ∷ accepted33 ∷ refused34OffHook ∷ refused34CarrierUp ∷ refused34CarrierDown ∷ refused34Takes ∷
-    refused34GivesBack ∷ refused11OnSlot ∷ order29 ∷ blocksShown ∷ sentValid ∷ []
+    oneTenthEarlier ∷ slotBeforeQueue ∷ lowestFirst ∷ thirdDueFirst ∷ firstDueFirst ∷ oneTenthApart ∷ queueOf31 ∷ queueOf32 ∷
+    refused33Heard ∷ accepted33 ∷ refused34PicksUp ∷ refused34Regains ∷ refused34Loses ∷ refused34Takes ∷
+    refused34Restores ∷ refused11OnSlot ∷ order29 ∷ blocksShown ∷ sentValid ∷ []
 
 -- ── soundness and set-up ─────────────────────────────────────────────────────
 

@@ -17,7 +17,7 @@ use Rattle.sequence.specs.Refusals.{row, allHold}
 use Rattle.sequence.specs.Answers.{answerNumber, isDone}
 use Rattle.sequence.specs.Symbols.{allAtMost, exclusiveOr}
 use Rattle.sequence.specs.Identity.{isShip, isCoast, identitiesOk, identitySymbols, identityPairs, identityOf}
-use Rattle.sequence.specs.Field.{isCall, unableSecond, telecommandsOk, channelOk, durationOk, fieldOk}
+use Rattle.sequence.specs.Field.{isCall, telecommandsOk, channelOk, durationOk, fieldOk}
 use Rattle.sequence.specs.Number.{numberOk, parity}
 use Rattle.sequence.specs.Layout.{endOk, valid, layout}
 use Rattle.sequence.specs.Reading.{lengthIn, checkIn, blankSymbols, channelSymbols, fieldSymbols, parityOk, pairsOk, readingOf}

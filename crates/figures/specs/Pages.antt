@@ -5,8 +5,8 @@ use mathlib.Core.Option.{Option, none, some}
 use Prim.Native.Nat.{ℕ, _+_}
 use lib.ListN.{length, getD, take}
 use Rattle.units.specs.declared.Told.the-variants.{Nothing}
-use Rattle.sequence.specs.declared.Field.the-variants.{Blank, Channel}
-use Rattle.rules.specs.Words.{Party, simplex, duplex, modeNumber, Request, Config, offHook, onHook, carrierUp, carrierDown, takes, givesBack, onChannel70, onSlot, Event, Deed, carrierOn, carrierOff, acknowledge, ringBack, unable, dial, releaseLine}
+use Rattle.sequence.specs.declared.Field.the-variants.{Blank}
+use Rattle.rules.specs.Words.{Party, simplex, duplex, modeNumber, Request, Config, Event, Deed, carrierOn, carrierOff, acknowledge, ringBack, unable, dial, releaseLine}
 use Rattle.rules.specs.Heard.{Heard, callRequest, dataRequest, bq, workingCall, endOfCall, nothing}
 use Rattle.rules.specs.Actions.{theShip, Action, does, over, charge}
 use Rattle.rules.specs.Station.{offered, dialling, answered, free, taken}
@@ -16,7 +16,7 @@ use Rattle.rules.specs.Reading.{turn, numbered, counted, countedByCalls}
 use Rattle.rules.specs.ThreeWords.{Word, idle, ringing, since, wordHeard, wordsDone, wordAfter, wordOf}
 use Rattle.rules.specs.Statement.{deedsOf, chargesOf, charged, runOf, stationAfter, listOf, stopsOf, tenthsIn, heldTenths, eventsOf}
 use Rattle.rules.specs.Repeated.{toldToWait, lastAsked, switchedOn}
-use Rattle.rules.specs.Runs.{channel, station, seven, eight, nine, sends, at, usual, callsFor, calls, accepts, on, works, ends, ticks, paid, Run}
+use Rattle.rules.specs.Runs.{station, seven, eight, nine, sends, usual, callsFor, calls, accepts, works, ends, ticks, paid, Run, says, picksUp, hangs, regains, loses, reserves, restores}
 use Rattle.rules.specs.Cases.{Row}
 use Rattle.rules.specs.Requests.{same}
 use Rattle.rules.specs.SoundCases.{asking, from}
@@ -95,13 +95,13 @@ tenths n es =
 -- answered and dialled, hung up; another one asked afresh
 abbrev pub onSecond : List Event
 onSecond =
-    on 50 0 takes ∷ callsAs 100 usual 100 seven duplex ∷ callsAs 100 usual 110 seven duplex ∷
-    callsFor (4 ∷ 2 ∷ []) 120 seven duplex ∷ on 125 1 carrierUp ∷ accepts 126 27 seven ∷ on 127 1 offHook ∷ works 130 1 seven ∷
-    ends 135 1 eight ∷ on 140 1 carrierDown ∷ on 145 1 carrierDown ∷ on 150 1 carrierUp ∷ on 155 1 carrierDown ∷
-    on 160 1 offHook ∷ on 165 1 offHook ∷ works 168 1 seven ∷ on 170 1 carrierUp ∷ on 172 1 carrierDown ∷
-    on 173 1 carrierDown ∷ calls 180 eight duplex ∷ calls 190 nine simplex ∷ calls 195 eight simplex ∷ ends 196 1 eight ∷
+    reserves 50 0 ∷ callsAs 100 usual 100 seven duplex ∷ callsAs 100 usual 110 seven duplex ∷
+    callsFor (4 ∷ 2 ∷ []) 120 seven duplex ∷ regains 125 1 ∷ accepts 126 27 seven ∷ picksUp 127 1 ∷ works 130 1 seven ∷
+    ends 135 1 eight ∷ loses 140 1 ∷ loses 145 1 ∷ regains 150 1 ∷ loses 155 1 ∷
+    picksUp 160 1 ∷ picksUp 165 1 ∷ works 168 1 seven ∷ regains 170 1 ∷ loses 172 1 ∷
+    loses 173 1 ∷ calls 180 eight duplex ∷ calls 190 nine simplex ∷ calls 195 eight simplex ∷ ends 196 1 eight ∷
     ends 200 1 seven ∷ ends 210 1 seven ∷ ticks 241 ∷ ticks 292 ∷ accepts 299 27 nine ∷ accepts 300 27 eight ∷
-    accepts 301 27 eight ∷ works 310 1 eight ∷ on 320 1 onHook ∷ calls 330 nine simplex ∷ ticks 491 ∷ []
+    accepts 301 27 eight ∷ works 310 1 eight ∷ hangs 320 1 ∷ calls 330 nine simplex ∷ ticks 491 ∷ []
 
 abbrev pub onSecondPages : Row
 onSecondPages = record {
@@ -171,13 +171,13 @@ onSecondRun = record {
 -- while dialling
 abbrev pub again : List Event
 again =
-    on 50 0 takes ∷ calls 100 seven simplex ∷ works 110 1 seven ∷ on 120 1 offHook ∷ on 130 1 carrierDown ∷
+    reserves 50 0 ∷ calls 100 seven simplex ∷ works 110 1 seven ∷ picksUp 120 1 ∷ loses 130 1 ∷
     calls 135 eight simplex ∷ calls 140 seven simplex ∷ ticks 191 ∷ accepts 200 27 eight ∷ works 210 1 eight ∷
-    on 220 1 carrierDown ∷ calls 230 eight simplex ∷ accepts 240 27 seven ∷ works 245 1 seven ∷ ticks 846 ∷ ticks 897 ∷
-    ticks 948 ∷ calls 960 eight duplex ∷ works 970 1 eight ∷ on 980 1 offHook ∷ on 990 1 carrierDown ∷
-    calls 1000 eight duplex ∷ ticks 1100 ∷ calls 1110 seven simplex ∷ works 1120 1 seven ∷ on 1125 1 carrierUp ∷
-    on 1130 1 offHook ∷ calls 1135 seven simplex ∷ on 1140 1 carrierDown ∷ ticks 1600 ∷ calls 1610 nine duplex ∷
-    works 1620 1 nine ∷ on 1630 1 carrierDown ∷ ends 1640 1 nine ∷ ticks 1681 ∷ []
+    loses 220 1 ∷ calls 230 eight simplex ∷ accepts 240 27 seven ∷ works 245 1 seven ∷ ticks 846 ∷ ticks 897 ∷
+    ticks 948 ∷ calls 960 eight duplex ∷ works 970 1 eight ∷ picksUp 980 1 ∷ loses 990 1 ∷
+    calls 1000 eight duplex ∷ ticks 1100 ∷ calls 1110 seven simplex ∷ works 1120 1 seven ∷ regains 1125 1 ∷
+    picksUp 1130 1 ∷ calls 1135 seven simplex ∷ loses 1140 1 ∷ ticks 1600 ∷ calls 1610 nine duplex ∷
+    works 1620 1 nine ∷ loses 1630 1 ∷ ends 1640 1 nine ∷ ticks 1681 ∷ []
 
 abbrev pub againPages : Row
 againPages = record {
@@ -247,8 +247,8 @@ againRun = record {
 -- the queue: joined, asked again, due in its order, rung back and let go; data; a request to another station
 abbrev pub inQueue : List Event
 inQueue =
-    on 50 0 takes ∷ calls 100 seven duplex ∷ calls 110 eight duplex ∷ at 115 (onChannel70 (sends nine 106 117 Blank usual)) ∷
-    calls 120 nine duplex ∷ calls 130 eight simplex ∷ ticks 9101 ∷ on 9105 0 givesBack ∷ ticks 9150 ∷ ticks 9160 ∷ ticks 9170 ∷
+    reserves 50 0 ∷ calls 100 seven duplex ∷ calls 110 eight duplex ∷ says 115 (sends nine 106 117 Blank usual) ∷
+    calls 120 nine duplex ∷ calls 130 eight simplex ∷ ticks 9101 ∷ restores 9105 0 ∷ ticks 9150 ∷ ticks 9160 ∷ ticks 9170 ∷
     ticks 9211 ∷ ticks 9300 ∷ []
 
 abbrev pub inQueuePages : Row
@@ -295,9 +295,9 @@ inQueueRun = record {
 -- two calls at once, both answered; the later one lost, and begun again; then both hung up
 abbrev pub twoCalls : List Event
 twoCalls =
-    calls 100 seven simplex ∷ calls 101 eight duplex ∷ works 110 0 seven ∷ works 120 1 eight ∷ on 130 0 offHook ∷
-    on 140 1 offHook ∷ on 150 0 carrierDown ∷ on 160 1 carrierDown ∷ calls 165 eight duplex ∷ ticks 300 ∷
-    calls 310 eight duplex ∷ works 320 1 eight ∷ on 330 1 offHook ∷ on 340 0 onHook ∷ on 350 1 onHook ∷ []
+    calls 100 seven simplex ∷ calls 101 eight duplex ∷ works 110 0 seven ∷ works 120 1 eight ∷ picksUp 130 0 ∷
+    picksUp 140 1 ∷ loses 150 0 ∷ loses 160 1 ∷ calls 165 eight duplex ∷ ticks 300 ∷
+    calls 310 eight duplex ∷ works 320 1 eight ∷ picksUp 330 1 ∷ hangs 340 0 ∷ hangs 350 1 ∷ []
 
 abbrev pub twoCallsPages : Row
 twoCallsPages = record {
@@ -353,12 +353,12 @@ twoCallsRun = record {
 -- dialling
 abbrev pub onThird : List Event
 onThird =
-    on 50 0 takes ∷ on 51 1 takes ∷ calls 100 seven simplex ∷ works 110 2 seven ∷ ends 120 2 seven ∷ ticks 161 ∷
-    calls 170 seven simplex ∷ works 180 2 seven ∷ on 190 2 offHook ∷ on 200 2 carrierDown ∷ calls 210 seven simplex ∷
-    works 220 2 seven ∷ on 230 2 offHook ∷ on 250 2 onHook ∷ calls 260 eight duplex ∷ works 270 2 eight ∷
-    on 275 2 carrierDown ∷ on 280 2 onHook ∷ calls 290 eight duplex ∷ works 300 2 eight ∷ on 310 2 carrierDown ∷ ticks 361 ∷
-    calls 370 nine simplex ∷ works 380 2 nine ∷ on 900 2 carrierDown ∷ ticks 981 ∷ calls 990 nine simplex ∷ works 995 2 nine ∷
-    on 1000 2 onHook ∷ ticks 1010 ∷ []
+    reserves 50 0 ∷ reserves 51 1 ∷ calls 100 seven simplex ∷ works 110 2 seven ∷ ends 120 2 seven ∷ ticks 161 ∷
+    calls 170 seven simplex ∷ works 180 2 seven ∷ picksUp 190 2 ∷ loses 200 2 ∷ calls 210 seven simplex ∷
+    works 220 2 seven ∷ picksUp 230 2 ∷ hangs 250 2 ∷ calls 260 eight duplex ∷ works 270 2 eight ∷
+    loses 275 2 ∷ hangs 280 2 ∷ calls 290 eight duplex ∷ works 300 2 eight ∷ loses 310 2 ∷ ticks 361 ∷
+    calls 370 nine simplex ∷ works 380 2 nine ∷ loses 900 2 ∷ ticks 981 ∷ calls 990 nine simplex ∷ works 995 2 nine ∷
+    hangs 1000 2 ∷ ticks 1010 ∷ []
 
 abbrev pub onThirdPages : Row
 onThirdPages = record {
@@ -496,10 +496,10 @@ wordsByDeeds = record {
 }
 
 -- an off-hook on the slot itself, and on those beside it
-abbrev pub wordsByOffHook : Row
-wordsByOffHook = record {
-  computed = word (wordHeard 1 300 (onSlot 1 offHook) ringing) ∷ word (wordHeard 1 300 (onSlot 0 offHook) ringing) ∷
-      word (wordHeard 1 300 (onSlot 2 offHook) ringing) ∷ [];
+abbrev pub wordsPickedUp : Row
+wordsPickedUp = record {
+  computed = word (wordHeard 1 300 (picksUp 300 1 .what) ringing) ∷ word (wordHeard 1 300 (picksUp 300 0 .what) ringing) ∷
+      word (wordHeard 1 300 (picksUp 300 2 .what) ringing) ∷ [];
   expected = (2 ∷ 300 ∷ []) ∷ (1 ∷ []) ∷ (1 ∷ []) ∷ [];
 }
 
@@ -535,13 +535,13 @@ talksEight = talking (from eight duplex .who) duplex 150
 abbrev pub eventsAlone : Row
 eventsAlone = record {
   computed =
-      afterEvent (on 200 0 onHook) (filled (toldBQ (from seven duplex)) ringsEight) ∷
-      afterEvent (on 200 0 onHook) (filled (toldBQ (from seven duplex)) (dialled (from eight duplex .who) duplex)) ∷
-      afterEvent (on 200 0 onHook) (filled (toldBQ (from seven duplex)) talksEight) ∷
-      afterEvent (on 200 0 onHook) (filled (toldBQ (from seven duplex)) (talking (from eight simplex .who) simplex 150)) ∷
-      afterEvent (on 200 0 offHook) (filled (toldBQ (from seven duplex)) ringsEight) ∷
+      afterEvent (hangs 200 0) (filled (toldBQ (from seven duplex)) ringsEight) ∷
+      afterEvent (hangs 200 0) (filled (toldBQ (from seven duplex)) (dialled (from eight duplex .who) duplex)) ∷
+      afterEvent (hangs 200 0) (filled (toldBQ (from seven duplex)) talksEight) ∷
+      afterEvent (hangs 200 0) (filled (toldBQ (from seven duplex)) (talking (from eight simplex .who) simplex 150)) ∷
+      afterEvent (picksUp 200 0) (filled (toldBQ (from seven duplex)) ringsEight) ∷
       afterEvent (ends 200 0 eight) (filled (toldBQ (from seven duplex)) talksEight) ∷
-      afterEvent (on 200 0 takes) (heardWell (toldBQ (from seven duplex)) ringsEight) ∷
+      afterEvent (reserves 200 0) (heardWell (toldBQ (from seven duplex)) ringsEight) ∷
       afterEvent (accepts 200 26 seven) (filled (toldRQ (from seven duplex)) talksEight) ∷
       afterEvent (ticks 5000) (filled (toldBQ (from seven duplex)) ringsEight) ∷ [];
   expected =
@@ -589,7 +589,7 @@ deedsAlone = record {
 abbrev pub wordsAlone : Row
 wordsAlone = record {
   computed = word (wordsDone 1 (dial 1 usual ∷ []) ringing) ∷ word (wordsDone 1 (dial 1 usual ∷ []) (since 150)) ∷
-      word (wordHeard 1 300 (onSlot 1 onHook) ringing) ∷ [];
+      word (wordHeard 1 300 (hangs 300 1 .what) ringing) ∷ [];
   expected = (1 ∷ []) ∷ (1 ∷ []) ∷ (1 ∷ []) ∷ [];
 }
 
@@ -693,7 +693,7 @@ abbrev pub pageCases : List Row
 pageCases =
     onSecondPages ∷ onSecondWords ∷ onSecondTenths ∷ againPages ∷ againWords ∷ againTenths ∷ inQueuePages ∷ inQueueWords ∷
     inQueueTenths ∷ twoCallsPages ∷ twoCallsWords ∷ twoCallsWordsOfFirst ∷ twoCallsTenths ∷ onThirdPages ∷ onThirdWords ∷
-    onThirdTenths ∷ dialledOnly ∷ heldShown ∷ stopsNumbered ∷ eventsShown ∷ wordsByDeeds ∷ wordsByOffHook ∷ wordsAtOnce ∷
+    onThirdTenths ∷ dialledOnly ∷ heldShown ∷ stopsNumbered ∷ eventsShown ∷ wordsByDeeds ∷ wordsPickedUp ∷ wordsAtOnce ∷
     eventsAlone ∷ deedsAlone ∷ wordsAlone ∷ toldToWaitShown ∷ switchedOnShown ∷ lastAskedShown ∷ lastAskedNever ∷ chargesFound ∷ talkingOn ∷
     wordsOf ∷ blankPage ∷ told102 ∷ sameShown ∷ alikeShown ∷ []
 

@@ -55,12 +55,14 @@ impl Look {
     pub fn judge(self, size: usize, t: Tenths) -> Verdict
         ensures { λ r. ⌜ verdictOf r ≡ firstRefusal (askedAlways self size (t .0)) none ⌝ }
     {
-        let clock = self.clock;
-        let v = Verdict::Accepted;
-        v.and_then(self.sound, 29)
+        let sound = self.sound;
+        let clock = self.clock.0;
+        let time = t.0;
+        Verdict::Accepted
+            .and_then(sound, 29)
             .and_then(ROOM <= size, 30)
-            .and_then(t.0 <= LIMIT, 31)
-            .and_then(clock.0 <= t.0, 32)
+            .and_then(time <= LIMIT, 31)
+            .and_then(clock <= time, 32)
     }
 
     // Of every event but a tick: 33 besides.

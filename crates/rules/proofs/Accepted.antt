@@ -12,12 +12,13 @@ use Rattle.sequence.specs.Answers.{isDone}
 use Rattle.rules.specs.Places.{lowest, all, elem, distinct, isSome}
 use Rattle.rules.specs.Words.{Party, is, Config, Event}
 use Rattle.rules.specs.Waits.{Wait, loss, main, Due, running, queueTable}
-use Rattle.rules.specs.Station.{dialling, answered, Slot, free, taken, pending, busy, held, shipOf, Waiting, Station, dueAfter, kindWait, carrierWait, lossDue, mainDue, slotTable, table, replyWait, holdWait, queueWait, answeredAt}
-use Rattle.rules.specs.Sound.{configKeeps, oneSlotEach, slotKeeps, waitingKeeps, limit, queueRoom, listed, owners, noShipTwice, fits, stageFits, lossFits, slotFits, placeFits, storedKeeps, timesFit, sound}
+use Rattle.rules.specs.Station.{Slot, shipOf, Waiting, Station, dueAfter, lossDue, mainDue, slotTable, table, queueWait}
+use Rattle.rules.specs.Sound.{configKeeps, oneSlotEach, slotKeeps, waitingKeeps, limit, queueRoom, listed, owners, noShipTwice, slotFits, placeFits, storedKeeps, timesFit, sound}
 use Rattle.rules.specs.Requests.{owns, waitsFor}
 use Rattle.rules.specs.Verdict.{roomNeeded, overtaken, slotThere, readIn, refusals, verdict}
 use Rattle.rules.proofs.PlaceLaws.{or-false, and-true}
 use Rattle.rules.proofs.Asked.{owned, rest-distinct}
+use Rattle.rules.proofs.Base.{begunBy, fitting}
 
 -- ── what acceptance gives ────────────────────────────────────────────────────
 
@@ -89,28 +90,9 @@ pub is-sound : (cfg : Config) (st : Station) → Sound cfg st → sound cfg st �
 unfolding sound storedKeeps noShipTwice timesFit
 is-sound cfg st s = rw (s .config, s .one-each, s .slots-keep, s .queue-keeps, s .in-limit, s .room, s .no-twice, s .slots-fit, s .places-fit) refl
 
-abbrev pub begun : ℕ → Option ℕ → Bool
-begun t none = true
-begun t (some b) = leb b t
-
-abbrev pub begunBy : ℕ → Slot → Bool
-begunBy t free = true
-begunBy t taken = true
-begunBy t (pending k r d) = true
-begunBy t (busy r g c) = begun t (answeredAt g)
-begunBy t (held r n d) = true
-
-fits-begun : (c : ℕ) (s : Slot) → slotFits c s ≡ true → begunBy c s ≡ true
-fits-begun c free h = refl
-fits-begun c taken h = refl
-fits-begun c (pending k r d) h = refl
-fits-begun c (busy r (dialling d) l) h = refl
-fits-begun c (busy r (answered b) l) h = and-true (leb b c) (lossFits c (r .request .mode) l) h .0
-fits-begun c (held r n d) h = refl
-
 all-begun : (c : ℕ) (ss : List Slot) → all (slotFits c) ss ≡ true → all (begunBy c) ss ≡ true
 all-begun c [] h = refl
-all-begun c (s ∷ ss) h = let w = and-true (slotFits c s) (all (slotFits c) ss) h in rw (fits-begun c s (w .0), all-begun c ss (w .1)) refl
+all-begun c (s ∷ ss) h = let w = and-true (slotFits c s) (all (slotFits c) ss) h in rw (fitting c s (w .0) .started, all-begun c ss (w .1)) refl
 
 pub begun-all : (cfg : Config) (st : Station) → Sound cfg st → all (begunBy (st .clock)) (st .slots) ≡ true
 begun-all cfg st s = all-begun (st .clock) (st .slots) (s .slots-fit)
@@ -120,26 +102,10 @@ all-running : (p : Due → Bool) (w : Wait) (o : Option ℕ) (r : List Due) → 
 all-running p w none r f h = h
 all-running p w (some d) r f h = rw (f d refl) h
 
-slot-due : (c i d : ℕ) (s : Slot) → slotFits c s ≡ true → mainDue s ≡ some d → leb c d ≡ true
-slot-due c i d free h e = cc
-slot-due c i d taken h e = cc
-slot-due c i d (pending k r u) h e = let y : u ≡ d = cc in rw (← y) (and-true (leb c u) (leb u (dueAfter c (kindWait k))) h .0)
-slot-due c i d (busy r (dialling u) l) h e = let y : u ≡ d = cc in rw (← y) (and-true (leb c u) (leb u (dueAfter c replyWait)) (and-true (fits c replyWait u) (lossFits c (r .request .mode) l) h .0) .0)
-slot-due c i d (busy r (answered b) l) h e = cc
-slot-due c i d (held r n u) h e = let y : u ≡ d = cc in rw (← y) (and-true (leb c u) (leb u (dueAfter c holdWait)) h .0)
-
-slot-loss : (c i d : ℕ) (s : Slot) → slotFits c s ≡ true → lossDue s ≡ some d → leb c d ≡ true
-slot-loss c i d free h e = cc
-slot-loss c i d taken h e = cc
-slot-loss c i d (pending k r u) h e = cc
-slot-loss c i d (busy r g none) h e = cc
-slot-loss c i d (busy r g (some u)) h e = let y : u ≡ d = cc in rw (← y) (and-true (leb c u) (leb u (dueAfter c (carrierWait (r .request .mode)))) (and-true (stageFits c g) (fits c (carrierWait (r .request .mode)) u) h .1) .0)
-slot-loss c i d (held r n u) h e = cc
-
 slots-due : (c i : ℕ) (ss : List Slot) → all (slotFits c) ss ≡ true → all (λ p. leb c (p .at)) (slotTable i ss) ≡ true
 slots-due c i [] h = refl
 slots-due c i (s ∷ ss) h = let w = and-true (slotFits c s) (all (slotFits c) ss) h in
-    all-running (λ p. leb c (p .at)) (loss i) (lossDue s) _ (λ d. slot-loss c i d s (w .0)) (all-running (λ p. leb c (p .at)) (main i) (mainDue s) _ (λ d. slot-due c i d s (w .0)) (slots-due c (suc i) ss (w .1)))
+    all-running (λ p. leb c (p .at)) (loss i) (lossDue s) _ (fitting c s (w .0) .loss-from) (all-running (λ p. leb c (p .at)) (main i) (mainDue s) _ (fitting c s (w .0) .main-from) (slots-due c (suc i) ss (w .1)))
 
 queue-due : (c k : ℕ) (q : List Waiting) (r : List Due) → all (placeFits c) q ≡ true → all (λ p. leb c (p .at)) r ≡ true → all (λ p. leb c (p .at)) (queueTable k (map (λ w. w .due) q) r) ≡ true
 queue-due c k [] r h e = e
@@ -162,7 +128,7 @@ elem-waiting x [] h = refl
 elem-waiting x (w ∷ q) h = let v = or-false (is x (w .request .who)) (elem is x (map (λ z. z .request .who) q)) h in rw (v .0, elem-waiting x q (v .1)) refl
 
 -- the ship of a slot does not wait
-pub owner-apart : (x : Party) (ss : List Slot) (q : List Party) (i : ℕ) → distinct is (owners ss q) ≡ true → owns x (getD ss i free) ≡ true → elem is x q ≡ false
-owner-apart x [] q i d h = cc
-owner-apart x (s ∷ ss) q zero d h = elem-tail x ss q (owned x s (owners ss q) h d)
-owner-apart x (s ∷ ss) q (suc i) d h = owner-apart x ss q i (rest-distinct s (owners ss q) d) h
+pub owner-apart : (x : Party) (d : Slot) (ss : List Slot) (q : List Party) (i : ℕ) → distinct is (owners ss q) ≡ true → owns x (getD ss i d) ≡ true → owns x d ≡ false → elem is x q ≡ false
+owner-apart x d [] q i n h z = cc
+owner-apart x d (s ∷ ss) q zero n h z = elem-tail x ss q (owned x s (owners ss q) h n)
+owner-apart x d (s ∷ ss) q (suc i) n h z = owner-apart x d ss q i (rest-distinct s (owners ss q) n) h z

@@ -10,14 +10,14 @@ use borrow.Author.Tests.{not-true}
 use lib.ListN.{getD}
 use Rattle.rules.specs.Places.{modAt, shift, lowest, elem, distinct}
 use Rattle.rules.specs.Words.{Party, is, Request}
-use Rattle.rules.specs.Station.{Dealing, Stage, answeredAt, Slot, free, taken, pending, busy, held, shipOf, Waiting, Station, theSlot, setSlot, setQueue}
+use Rattle.rules.specs.Station.{Dealing, Stage, answeredAt, Slot, pending, busy, shipOf, Waiting, Station, theSlot, setSlot, setQueue, lossDue}
 use Rattle.rules.specs.Sound.{listed, owner, owners}
-use Rattle.rules.specs.Requests.{Out, rungBack, freedFor, freed, coastEnd, isOf, owns, slotOf, placeOf, standsAt, repeated, afresh, dToG, redial, requested}
-use Rattle.rules.specs.Book.{Stop, Line, Book, blank, atLine, stopOf, askedAgain, stopsAgain}
+use Rattle.rules.specs.Requests.{Out, rungBack, freedFor, freed, coastEnd, isOf, owns, slotOf, placeOf, standsAt, repeated, afresh, dToG, redial, requested, offerOf}
+use Rattle.rules.specs.Book.{Stop, Line, Book, blank, atLine, stopOf, askedAgain, stopsAgain, Call}
 use Rattle.rules.specs.Reading.{again, tell, letGo, hush, reads}
-use Rattle.rules.proofs.PlaceLaws.{or-false, and-true, lowest-is, shift-none}
-use Rattle.rules.proofs.Base.{callIn, view, seen, is-true, atLine², stay, moves}
-use Rattle.rules.proofs.Ruling.{offerOf, againOf, Ruling, passes, repeats, renews, redials, bOrC-ruling}
+use Rattle.rules.proofs.PlaceLaws.{or-false, and-true, shift-none}
+use Rattle.rules.proofs.Base.{callIn, view, seen, is-true, atLine², stay, moves, Calling, no-call, a-call, calling, slot-mapped, slot-lowest}
+use Rattle.rules.proofs.Ruling.{againOf, Ruling, passes, repeats, renews, redials, bOrC-ruling}
 use Rattle.rules.proofs.Pieces.{Good, good-also, coastEnd-good, newcomer-good, ruleD-good}
 
 -- ── no ship twice ────────────────────────────────────────────────────────────
@@ -28,11 +28,11 @@ asked-other x r (some b) c h = rw h refl
 
 -- a slot that is not the ship's is not stopped by its request
 others : (x : Party) (s : Slot) → owns x s ≡ false → askedAgain x (view s .call) (view s .gone) ≡ false
-others x free h = refl
-others x taken h = refl
-others x (pending k r d) h = refl
-others x (busy r g c) h = asked-other x (r .request) (answeredAt g) c h
-others x (held r n d) h = refl
+others x s h = go s (view s .call) (calling s) h
+  where
+    go : (s : Slot) (k : Call) → Calling s k → owns x s ≡ false → askedAgain x k (lossDue s) ≡ false
+    go _ _ (no-call s n) h = refl
+    go _ _ (a-call r g c) h = asked-other x (r .request) (answeredAt g) c h
 
 pub elem-none : (x : Party) (ss : List Slot) (q : List Party) → elem is x (owners ss q) ≡ false → lowest (owns x) ss ≡ none
 elem-none x [] q h = refl
@@ -56,7 +56,7 @@ untouched t x k (s ∷ ss) h = go (owns x s) refl (λ e. untouched t x (suc k) s
 
 record Touched (t : ℕ) (x : Party) (k i : ℕ) (ss : List Slot) : Type 0 where
   one-line : map (again x) (map view ss) ≡ modAt (again x) i (map view ss)
-  one-stop : stopsAgain t x k (map view ss) ≡ againOf t x (k + i) (view (getD ss i free))
+  one-stop : stopsAgain t x k (map view ss) ≡ againOf t x (k + i) (getD (map view ss) i blank)
 
 -- the first slot is the ship's, and the others' ships are others
 pub owned : (x : Party) (s : Slot) (r : List Party) → owns x s ≡ true → distinct is (owner s r) ≡ true → elem is x r ≡ false
@@ -131,4 +131,4 @@ pub request-good : (st : Station) (r : Request) (q : List Party) → distinct is
 unfolding requested seen B
 request-good st r q d none none h w = let u = untouched (st .clock) (r .who) 0 (st .slots) h in rw (u .lines-same, u .no-stop) (newcomer-good st r w)
 request-good st r q d none (some k) h w = let u = untouched (st .clock) (r .who) 0 (st .slots) h in rw (u .lines-same, u .no-stop) (ruleD-good k st r w)
-request-good st r q d (some i) k h w = let u = touched (st .clock) (r .who) 0 i (st .slots) q d h in rw (u .one-line, u .one-stop, zero-add i) (ruling-good i st r _ (theSlot st i) _ (bOrC-ruling i st r (theSlot st i)) refl (lowest-is free (owns (r .who)) (st .slots) i h))
+request-good st r q d (some i) k h w = let u = touched (st .clock) (r .who) 0 i (st .slots) q d h in rw (u .one-line, u .one-stop, zero-add i, slot-mapped st view i) (ruling-good i st r _ (theSlot st i) _ (bOrC-ruling i st r (theSlot st i)) refl (slot-lowest st (owns (r .who)) i h))

@@ -3,18 +3,21 @@ use mathlib.Core.Path.{_≡_, refl, ap, _∙_}
 use mathlib.Core.Option.{Option, none, some}
 use mathlib.Core.List.{List, [], _∷_, _++_, map}
 use mathlib.Core.Bool.{Bool, true, false, _&&_}
-use Prim.Native.Nat.{ℕ, suc, _*_}
-use lib.Dec.{eqb}
-use lib.ListN.{List·getD-map}
-use borrow.Author.Tests.{eq-eqb, eqb-true}
-use Rattle.rules.specs.Words.{Party, is, Mode, simplex, duplex, Request, Deed}
+use Prim.Native.Nat.{ℕ, suc, _*_, _+_, _≤_, zero, _<_}
+use lib.Dec.{eqb, leb}
+use lib.ListN.{List·getD-map, getD, length, replicate, length-replicate}
+use borrow.Author.Tests.{eq-eqb, eqb-true, leb-true, le-leb}
+use Rattle.rules.specs.Words.{Party, is, Mode, simplex, duplex, Request, Deed, Config}
 use Rattle.rules.specs.Actions.{Action, does, over, charge}
-use Rattle.rules.specs.Station.{Kind, offered, firstRing, secondRing, acknowledged, Slot, free, taken, pending, busy, held, Waiting, Station, theSlot, setSlot, carrierWait, lossDue, mainDue, slotTable, table, fires, answeredAt}
-use Rattle.rules.specs.Requests.{sameMode, sameNumber, same}
+use Rattle.rules.specs.Station.{Kind, offered, firstRing, secondRing, acknowledged, Slot, free, taken, pending, busy, held, Waiting, Station, theSlot, setSlot, carrierWait, lossDue, mainDue, slotTable, table, fires, answeredAt, answeredIn, Dealing, Stage, dialling, answered, fresh, dueAfter, kindWait, replyWait, holdWait}
+use Rattle.rules.specs.Requests.{sameMode, sameNumber, same, isFree, offerOf, ringOf}
 use Rattle.rules.specs.Book.{silence, alikeMode, alikeDigits, alike, Said, silent, toldBQ, toldRQ, settled, Call, quiet, dialled, talking, Line, Place, Book, atLine, line, lineTable, falls}
 use Rattle.rules.specs.Reading.{read, reads}
 use Rattle.rules.specs.Statement.{deedsOf, chargesOf}
-use Rattle.rules.proofs.PlaceLaws.{modAt-modAt, modAt-map, modAt-same}
+use Rattle.rules.specs.Places.{lowest, all, Each, modAt}
+use Rattle.rules.specs.Sound.{fits, stageFits, lossFits, slotFits}
+use Rattle.rules.proofs.PlaceLaws.{modAt-modAt, modAt-map, modAt-same, and-true, all-at, each-at, lowest-is}
+use native.Mathlib.Omega.{arith}
 
 abbrev pub saidOf : Kind → Request → Said
 saidOf offered r = toldBQ r
@@ -42,6 +45,18 @@ callOn (held r n d) = quiet
 
 abbrev pub view : Slot → Line
 view s = record { said = saidIn s; wait = mainDue s; call = callOn s; gone = lossDue s }
+
+-- the call of a slot: none, or that of its request
+pub data Calling : Slot → Call → Type 0 where
+  no-call : (s : Slot) → answeredIn s ≡ none → Calling s quiet
+  a-call : (r : Dealing) (g : Stage) (c : Option ℕ) → Calling (busy r g c) (callIn (r .request) (answeredAt g))
+
+pub calling : (s : Slot) → Calling s (view s .call)
+calling free = no-call free refl
+calling taken = no-call taken refl
+calling (pending k r d) = no-call (pending k r d) refl
+calling (busy r g c) = a-call r g c
+calling (held r n d) = no-call (held r n d) refl
 
 abbrev pub place : Waiting → Place
 place w = record { who = w .request .who; due = w .due }
@@ -137,3 +152,133 @@ places-due (w ∷ q) = ap (λ r. w .due ∷ r) (places-due q)
 pub falls-fires : (t : ℕ) (st : Station) → falls t (seen st) ≡ fires t st
 unfolding falls fires table seen
 falls-fires t st = simp (lines-table, places-due)
+
+-- ── a slot of a station, and the slots of a fresh one ────────────────────────
+
+module _ (st : Station) where
+  pub slot-all : (f : Slot → Bool) → f free ≡ true → (i : ℕ) → all f (st .slots) ≡ true → f (theSlot st i) ≡ true
+  slot-all f z i h = all-at f free z i (st .slots) h
+
+  pub slot-each : (F : Slot → Type 0) → F free → (i : ℕ) → Each F (st .slots) → F (theSlot st i)
+  slot-each F z i h = each-at F free z i (st .slots) h
+
+  pub slot-lowest : (f : Slot → Bool) (i : ℕ) → lowest f (st .slots) ≡ some i → f (theSlot st i) ≡ true
+  slot-lowest f i h = lowest-is free f (st .slots) i h
+
+  -- where a test is passed that no slot past the end passes
+  pub slot-there : (f : Slot → Bool) → f free ≡ false → (i : ℕ) → f (theSlot st i) ≡ true → i < length (st .slots)
+  slot-there f z i h = go i (st .slots) h
+    where
+      go : (i : ℕ) (ss : List Slot) → f (getD ss i free) ≡ true → i < length ss
+      go i [] h = let q : _≡_ {A = ℕ} 0 1 = cc in absurd (omega (arith, q))
+      go zero (s ∷ ss) h = omega arith
+      go (suc i) (s ∷ ss) h = let k = go i ss h in omega arith
+
+  -- a slot changed, as anything shows it
+  pub slot-set : {A : Type 0} (v : Slot → A) (g : A → A) (q : Slot) (i : ℕ) → g (v (theSlot st i)) ≡ v q → modAt g i (map v (st .slots)) ≡ map v (modAt (λ x. q) i (st .slots))
+  slot-set v g q i h = modAt-map v g q free i (st .slots) h
+
+  pub slot-stays : {A : Type 0} (v : Slot → A) (g : A → A) (i : ℕ) → g (v (theSlot st i)) ≡ v (theSlot st i) → modAt g i (map v (st .slots)) ≡ map v (st .slots)
+  slot-stays v g i h = modAt-same v g free i (st .slots) h
+
+  pub slot-mapped : {A : Type 0} (g : Slot → A) (i : ℕ) → getD (map g (st .slots)) i (g free) ≡ g (theSlot st i)
+  slot-mapped g i = List·getD-map g (st .slots) i free
+
+module _ (cfg : Config) where
+  pub fresh-all : (f : Slot → Bool) → f free ≡ true → all f (fresh cfg .slots) ≡ true
+  unfolding fresh
+  fresh-all f h = go (length (cfg .channels))
+    where
+      go : (n : ℕ) → all f (replicate n free) ≡ true
+      go zero = refl
+      go (suc n) = rw h (go n)
+
+  pub fresh-each : (F : Slot → Type 0) → F free → Each F (fresh cfg .slots)
+  unfolding fresh
+  fresh-each F h = go (length (cfg .channels))
+    where
+      go : (n : ℕ) → Each F (replicate n free)
+      go zero = tt
+      go (suc n) = (h, go n)
+
+  pub fresh-mapped : {A : Type 0} (g : Slot → A) → map g (fresh cfg .slots) ≡ replicate (length (cfg .channels)) (g free)
+  unfolding fresh
+  fresh-mapped g = go (length (cfg .channels))
+    where
+      go : (n : ℕ) → map g (replicate n free) ≡ replicate n (g free)
+      go zero = refl
+      go (suc n) = ap (λ l. g free ∷ l) (go n)
+
+  pub fresh-length : length (fresh cfg .slots) ≡ length (cfg .channels)
+  unfolding fresh
+  fresh-length = length-replicate (length (cfg .channels)) free
+
+-- the free slot
+pub free-is : (s : Slot) → isFree s ≡ true → s ≡ free
+free-is free h = refl
+free-is taken h = cc
+free-is (pending k r d) h = cc
+free-is (busy r g c) h = cc
+free-is (held r n d) h = cc
+
+-- ── the times of a slot that fit the clock c ─────────────────────────────────
+
+abbrev pub begun : ℕ → Option ℕ → Bool
+begun t none = true
+begun t (some b) = leb b t
+
+abbrev pub begunBy : ℕ → Slot → Bool
+begunBy t s = begun t (answeredIn s)
+
+-- its call has begun, its waits are due from the clock on, and it fits a later clock by which none is due
+pub record Fitting (c : ℕ) (s : Slot) : Type 0 where
+  pub started : begunBy c s ≡ true
+  pub main-from : (d : ℕ) → mainDue s ≡ some d → leb c d ≡ true
+  pub loss-from : (d : ℕ) → lossDue s ≡ some d → leb c d ≡ true
+  pub later : (t : ℕ) → c ≤ t → ((d : ℕ) → lossDue s ≡ some d → t ≤ d) → ((d : ℕ) → mainDue s ≡ some d → t ≤ d) → slotFits t s ≡ true
+
+pub within-later : (c t w d : ℕ) → c ≤ t → t ≤ d → fits c w d ≡ true → fits t w d ≡ true
+within-later c t w d h k e = let a = leb-true d (c + (w + 1)) (and-true (leb c d) (leb d (c + (w + 1))) e .1) in rw (le-leb t d k, le-leb d (t + (w + 1)) (omega arith)) refl
+
+module _ (c : ℕ) where
+  due-from : (w u : ℕ) → fits c w u ≡ true → (d : ℕ) → _≡_ {A = Option ℕ} (some u) (some d) → leb c d ≡ true
+  due-from w u h d e = let y : u ≡ d = cc in rw (← y) (and-true (leb c u) (leb u (dueAfter c w)) h .0)
+
+  loss-due : (m : Mode) (l : Option ℕ) → lossFits c m l ≡ true → (d : ℕ) → l ≡ some d → leb c d ≡ true
+  loss-due m none h d e = cc
+  loss-due m (some u) h d e = due-from (carrierWait m) u h d e
+
+  loss-later : (m : Mode) (l : Option ℕ) → lossFits c m l ≡ true → (t : ℕ) → c ≤ t → ((d : ℕ) → l ≡ some d → t ≤ d) → lossFits t m l ≡ true
+  loss-later m none h t k f = refl
+  loss-later m (some d) h t k f = within-later c t (carrierWait m) d k (f d refl) h
+
+  busy-fitting : (r : Dealing) (g : Stage) (l : Option ℕ) → stageFits c g ≡ true → lossFits c (r .request .mode) l ≡ true → Fitting c (busy r g l)
+  busy-fitting r (dialling d) l h k = record {
+    started = refl;
+    main-from = due-from replyWait d h;
+    loss-from = loss-due (r .request .mode) l k;
+    later = λ t u f g. rw (within-later c t replyWait d u (g d refl) h) (loss-later (r .request .mode) l k t u f);
+  }
+  busy-fitting r (answered b) l h k = record {
+    started = h;
+    main-from = λ d e. cc;
+    loss-from = loss-due (r .request .mode) l k;
+    later = λ t u f g. let a = leb-true b c h in rw (le-leb b t (omega arith)) (loss-later (r .request .mode) l k t u f);
+  }
+
+  pub fitting : (s : Slot) → slotFits c s ≡ true → Fitting c s
+  fitting free h = record { started = refl; main-from = λ d e. cc; loss-from = λ d e. cc; later = λ t u f g. refl }
+  fitting taken h = record { started = refl; main-from = λ d e. cc; loss-from = λ d e. cc; later = λ t u f g. refl }
+  fitting (pending k r d) h = record { started = refl; main-from = due-from (kindWait k) d h; loss-from = λ d e. cc; later = λ t u f g. within-later c t (kindWait k) d u (g d refl) h }
+  fitting (busy r g l) h = let w = and-true (stageFits c g) (lossFits c (r .request .mode) l) h in busy-fitting r g l (w .0) (w .1)
+  fitting (held r n d) h = record { started = refl; main-from = due-from holdWait d h; loss-from = λ d e. cc; later = λ t u f g. within-later c t holdWait d u (g d refl) h }
+
+-- a wait begun now fits, that of an offer or a ring-back too
+pub new-wait : (c w : ℕ) → fits c w (dueAfter c w) ≡ true
+new-wait c w = rw (le-leb c (c + (w + 1)) (omega arith), le-leb (c + (w + 1)) (c + (w + 1)) (omega arith)) refl
+
+pub offer-fits : (r : Request) (st : Station) → slotFits (st .clock) (offerOf r st) ≡ true
+offer-fits r st = new-wait (st .clock) (kindWait offered)
+
+pub ring-fits : (r : Request) (st : Station) → slotFits (st .clock) (ringOf r st) ≡ true
+ring-fits r st = new-wait (st .clock) (kindWait firstRing)

@@ -4,23 +4,20 @@ use mathlib.Core.List.{List, [], _∷_, _++_, map}
 use mathlib.Core.Bool.{Bool, true, false, _||_}
 use mathlib.Core.Option.{Option, none, some}
 use Prim.Native.Nat.{ℕ}
-use lib.ListN.{List·getD-map}
 use Rattle.rules.specs.Places.{dropAt, Each}
 use Rattle.rules.specs.Words.{Party, Request, Deed}
-use Rattle.rules.specs.Waits.{Wait, ofQueue, loss, main, Due}
 use Rattle.rules.specs.Heard.{Heard, callRequest}
 use Rattle.rules.specs.Actions.{Ender, theShip, theCoast, Action}
-use Rattle.rules.specs.Station.{Dealing, dealing, firstRing, Slot, free, pending, Waiting, Station, theSlot, setSlot, setClock, setQueue, dueAfter, kindWait, answeredAt}
-use Rattle.rules.specs.Requests.{Out, also, rungBack, freedFor, freed, endActs, coastEnd}
-use Rattle.rules.specs.Calls.{fire, ticked}
+use Rattle.rules.specs.Station.{Dealing, dealing, firstRing, Slot, pending, Waiting, Station, theSlot, setSlot, setClock, setQueue, answeredAt}
+use Rattle.rules.specs.Requests.{Out, also, rungBack, freedFor, freed, endActs, coastEnd, done, ringOf}
 use Rattle.rules.specs.Book.{silent, Stop, Line, Book, atLine, line}
 use Rattle.rules.specs.Reading.{letGo, hush, read, reads}
 use Rattle.rules.specs.Repeated.{putsOff, toldToWait, Repeats, switchedOn, RingsSame, DialsNamed, EachRead}
 use Rattle.rules.specs.ThreeWords.{Word}
 use Rattle.rules.specs.Statement.{deedsOf}
-use Rattle.rules.proofs.PlaceLaws.{each-set, each-at, each-dropped, each-append}
-use Rattle.rules.proofs.Base.{view, deeds-append}
-use Rattle.rules.proofs.Outcome.{Next, stays, becomes, frees, Move, to-dial, to-agree, to-ring, to-drop, to-answer, to-lose, to-regain, to-hold, to-end, to-repeat, to-run-out, to-take, to-give, played, Outcome, passed, moved, end-outcome, main-outcome}
+use Rattle.rules.proofs.PlaceLaws.{each-set, each-dropped, each-append}
+use Rattle.rules.proofs.Base.{view, deeds-append, slot-each, slot-mapped}
+use Rattle.rules.proofs.Outcome.{Next, stays, becomes, frees, Move, to-dial, to-agree, to-ring, to-drop, to-answer, to-lose, to-regain, to-hold, to-end, to-repeat, to-run-out, to-take, to-give, played, Outcome, passed, moved}
 use Rattle.rules.proofs.Laws.{there}
 
 -- ── what a station knows: a is what each ship last asked for that was told to wait ──
@@ -97,12 +94,12 @@ module _ (h : Heard) (a : Party → Heard) where
   -- the oldest is rung back with its request
   freedFor-calm : (b : Book) (i : ℕ) (st : Station) → line b i .said ≡ silent → Known a st → (q : List Waiting) → st .queue ≡ q → Calm h a b (freedFor i st q)
   unfolding freedFor rungBack
-  freedFor-calm b i st quiet k [] e = record { mild = record { repeats = tt; fits = λ t on. tt; untold = λ x. refl }; known = set-known a i free st (λ r d h. cc) k }
+  freedFor-calm b i st quiet k [] e = record { mild = record { repeats = tt; fits = λ t on. tt; untold = λ x. refl }; known = set-known a i _ st (λ r d h. cc) k }
   freedFor-calm b i st quiet k (w ∷ q) e =
       let p : Each (Asked a) (w ∷ q) = rw e at (k .waiting) in
       record {
         mild = record { repeats = (tt, (p .0, tt)); fits = λ t on. ((tt, tt), ((rw quiet refl, tt), tt)); untold = λ x. refl };
-        known = set-known a i (pending firstRing (dealing (w .request)) (dueAfter (st .clock) (kindWait firstRing))) (setQueue q st) (λ r d h. let y : dealing (w .request) ≡ r = cc in rw (← y) (p .0)) (queue-known a q st (p .1) k);
+        known = set-known a i (ringOf (w .request) st) (setQueue q st) (λ r d h. let y : dealing (w .request) ≡ r = cc in rw (← y) (p .0)) (queue-known a q st (p .1) k);
       }
 
   freed-calm : (b : Book) (i : ℕ) (st : Station) → line b i .said ≡ silent → Known a st → Calm h a b (freed i st)
@@ -163,15 +160,8 @@ module _ (h : Heard) (a : Party → Heard) where
 
       pub outcome-calm : b .lines ≡ map view (st .slots) → {f : Line → Line} {w : Word → Word} {cs : List Stop} {o : Out} → Outcome i st f w cs (theSlot st i) o → Calm h a b o
       outcome-calm v (passed x y z) = still 1 st k
-      outcome-calm v (moved {n} {acts} u x y z) = played-calm n acts (move-calm i (st .clock) _ n acts u (each-at (Rung a) free (λ r d x. cc) i (st .slots) (k .ringing)) (rw v (ap (λ (l : Line). l .said) (List·getD-map view (st .slots) i free))))
+      outcome-calm v (moved {n} {acts} u x y z) = played-calm n acts (move-calm i (st .clock) _ n acts u (slot-each st (Rung a) (λ r d x. cc) i (k .ringing)) (rw v (ap (λ (l : Line). l .said) (slot-mapped st view i))))
 
-    fire-calm : (st : Station) → b .lines ≡ map view (st .slots) → Known a st → (w : Wait) → Calm h a b (fire st w)
-    unfolding fire
-    fire-calm st v k (ofQueue j) = still 0 (setQueue (dropAt j (st .queue)) st) (queue-known a (dropAt j (st .queue)) st (each-dropped (Asked a) j (st .queue) (k .waiting)) k)
-    fire-calm st v k (loss i) = outcome-calm i st k v (end-outcome i st (theSlot st i))
-    fire-calm st v k (main i) = outcome-calm i st k v (main-outcome i st (theSlot st i))
-
-    pub tick-calm : (st : Station) → b .lines ≡ map view (st .slots) → Known a st → (t : ℕ) (o : Option Due) → Calm h a b (ticked st t o)
-    unfolding ticked setClock
-    tick-calm st v k t none = still 0 (setClock t st) (clock-known a t st k)
-    tick-calm st v k t (some p) = fire-calm (setClock (p .at) st) v (clock-known a (p .at) st k) (p .what)
+    -- the time of a waiting ship is over
+    pub drop-calm : (st : Station) → Known a st → (j : ℕ) → Calm h a b (done (setQueue (dropAt j (st .queue)) st))
+    drop-calm st k j = still 0 (setQueue (dropAt j (st .queue)) st) (queue-known a (dropAt j (st .queue)) st (each-dropped (Asked a) j (st .queue) (k .waiting)) k)

@@ -11,7 +11,7 @@ use Rattle.sequence.specs.Identity.{isShip}
 use Rattle.rules.specs.Places.{all, Each}
 use Rattle.rules.specs.Words.{Request, Config, Event}
 use Rattle.rules.specs.Actions.{Charge}
-use Rattle.rules.specs.Station.{Slot, free, taken, pending, busy, held, Station, answeredAt}
+use Rattle.rules.specs.Station.{Slot, Station, answeredAt}
 use Rattle.rules.specs.Sound.{requestKeeps, slotKeeps, limit}
 use Rattle.rules.specs.Calls.{act}
 use Rattle.rules.specs.Verdict.{verdict}
@@ -19,7 +19,7 @@ use Rattle.rules.specs.Book.{Stop, Call, quiet, dialled, talking, fallin
 use Rattle.rules.specs.Reading.{stopsIn}
 use Rattle.rules.specs.Statement.{owed, InOrder, ChargesFit}
 use Rattle.rules.proofs.PlaceLaws.{and-true}
-use Rattle.rules.proofs.Base.{callIn, view, seen}
+use Rattle.rules.proofs.Base.{callIn, view, seen, Calling, no-call, a-call, calling}
 use Rattle.rules.proofs.Accepted.{accepted, sounds}
 use Rattle.rules.proofs.Run.{noteOf, stops-are}
 use Rattle.rules.proofs.Stopped.{each-stop}
@@ -42,11 +42,11 @@ call-known c r none k = refl
 call-known c r (some b) k = ship-known c r k
 
 slot-known : (c : Config) (s : Slot) → slotKeeps c s ≡ true → aShips (view s .call) ≡ true
-slot-known c free k = refl
-slot-known c taken k = refl
-slot-known c (pending j r d) k = refl
-slot-known c (busy r g l) k = call-known c (r .request) (answeredAt g) k
-slot-known c (held r n d) k = refl
+slot-known c s k = go s (view s .call) (calling s) k
+  where
+    go : (s : Slot) (k : Call) → Calling s k → slotKeeps c s ≡ true → aShips k ≡ true
+    go _ _ (no-call s n) h = refl
+    go _ _ (a-call r g l) h = call-known c (r .request) (answeredAt g) h
 
 all-known : (c : Config) (ss : List Slot) → all (slotKeeps c) ss ≡ true → all (λ l. aShips (l .call)) (map view ss) ≡ true
 all-known c [] k = refl

@@ -8,22 +8,23 @@ use native.Mathlib.Omega.{arith}
 use lib.Dec.{ltb}
 use lib.ListN.{length, length-append}
 use Rattle.rules.specs.Places.{lowest, all, Each}
-use Rattle.rules.specs.Words.{Request, Config, What, tick, onChannel70, onSlot, Event, carrierOn}
-use Rattle.rules.specs.Waits.{Wait, ofQueue, loss, main, Due}
-use Rattle.rules.specs.Heard.{Heard, callRequest, dataRequest, bq, workingCall, endOfCall, nothing, meaning}
+use Rattle.rules.specs.Words.{Request, Config, What, Event, carrierOn}
+use Rattle.rules.specs.Heard.{Heard}
 use Rattle.rules.specs.Actions.{Ender, theShip, theCoast, Action, does}
-use Rattle.rules.specs.Station.{Slot, free, Waiting, Station, theSlot, setClock, fires, answeredAt}
+use Rattle.rules.specs.Station.{Slot, Waiting, Station, theSlot, setClock, answeredAt}
 use Rattle.rules.specs.Sound.{slotKeeps, sound}
 use Rattle.rules.specs.Requests.{Out, also, rungBack, freedFor, freed, bill, lasted, endActs, coastEnd, Standing, nowhere, holds, waits, placeOf, standing, ruleA, repeated, afresh, ruleD, offer, ruleF, ruleG, isFree, eToG, newcomer, dToG, redial, requested}
-use Rattle.rules.specs.Calls.{fire, ticked, heardOn70, actAt, act}
-use Rattle.rules.specs.Book.{Stop, Line}
+use Rattle.rules.specs.Calls.{actAt, act}
+use Rattle.rules.specs.Book.{Stop, Line, Book}
 use Rattle.rules.specs.ThreeWords.{Word}
 use Rattle.rules.specs.Statement.{AtMostEight}
-use Rattle.rules.proofs.PlaceLaws.{all-at, each-append}
-use Rattle.rules.proofs.Outcome.{Next, stays, becomes, frees, Move, to-dial, to-agree, to-ring, to-drop, to-answer, to-lose, to-regain, to-hold, to-end, to-repeat, to-run-out, to-take, to-give, played, Outcome, passed, moved, end-outcome, bq-outcome, main-outcome, happened-outcome}
+use Rattle.rules.proofs.PlaceLaws.{each-append}
+use Rattle.rules.proofs.Outcome.{Next, stays, becomes, frees, Move, to-dial, to-agree, to-ring, to-drop, to-answer, to-lose, to-regain, to-hold, to-end, to-repeat, to-run-out, to-take, to-give, played, Outcome, passed, moved}
 use Rattle.rules.proofs.Ruling.{Ruling, passes, repeats, renews, redials, bOrC-ruling}
 use Rattle.rules.proofs.Accepted.{sounds}
 use Rattle.rules.proofs.Payloads.{Slim, on-slim, off-slim, release-slim, acknowledge-slim, ringBack-slim, unable-slim, over-slim, bill-slim, dial-slim}
+use Rattle.rules.proofs.Effect.{Effect, rests, drops, data-asked, call-asked, to-slot, act-effect}
+use Rattle.rules.proofs.Base.{slot-all}
 
 record Few (cfg : Config) (n : ℕ) (o : Out) : Type 0 where
   many : length (o .acts) ≤ n
@@ -144,34 +145,17 @@ module _ (cfg : Config) where
 
   -- ── an event, of a station whose stored requests keep the rules ────────────
 
-  module _ (st : Station) (k : all (slotKeeps cfg) (st .slots) ≡ true) where
-    slot-few : (i : ℕ) {f : Line → Line} {w : Word → Word} {cs : List Stop} {o : Out} → Outcome i st f w cs (theSlot st i) o → Few cfg 8 o
-    slot-few i u = outcome-few i st (theSlot st i) u (all-at (slotKeeps cfg) free refl i (st .slots) k)
-
-    heard-few : (h : Heard) → Few cfg 8 (heardOn70 st h)
-    unfolding heardOn70 ruleA
-    heard-few (callRequest r) = request-few st r (standing st (r .who))
-    heard-few (dataRequest x n) = one-few 8 st _ (unable-slim cfg 109 x n) (omega arith)
-    heard-few (bq i x) = slot-few i (bq-outcome i st x (theSlot st i))
-    heard-few (workingCall x) = none-few 8 st
-    heard-few (endOfCall x) = none-few 8 st
-    heard-few nothing = none-few 8 st
-
-    fire-few : (w : Wait) → Few cfg 8 (fire st w)
-    unfolding fire
-    fire-few (ofQueue n) = zero-few 8 _
-    fire-few (loss i) = slot-few i (end-outcome i st (theSlot st i))
-    fire-few (main i) = slot-few i (main-outcome i st (theSlot st i))
+  effect-few : (st : Station) → all (slotKeeps cfg) (st .slots) ≡ true → (b : Book) (ws : List Word) (cs : List Stop) (m : Heard) (o : Out) → Effect st b ws cs m o → Few cfg 8 o
+  unfolding ruleA
+  effect-few st k _ _ _ _ _ (rests m n h) = record { many = omega arith; slim = tt; told = h }
+  effect-few st k _ _ _ _ _ (drops j) = zero-few 8 _
+  effect-few st k _ _ _ _ _ (data-asked x n) = one-few 8 st _ (unable-slim cfg 109 x n) (omega arith)
+  effect-few st k _ _ _ _ _ (call-asked r) = request-few st r (standing st (r .who))
+  effect-few st k _ _ _ _ _ (to-slot m i u e) = outcome-few i st (theSlot st i) u (slot-all st (slotKeeps cfg) refl i k)
 
   act-few : (st : Station) → all (slotKeeps cfg) (st .slots) ≡ true → (t : ℕ) (w : What) → Few cfg 8 (actAt cfg st t w)
-  unfolding actAt ticked setClock
-  act-few st k t tick = due (fires t st)
-    where
-      due : (o : Option Due) → Few cfg 8 (ticked st t o)
-      due none = zero-few 8 _
-      due (some p) = fire-few (setClock (p .at) st) k (p .what)
-  act-few st k t (onChannel70 m) = heard-few (setClock t st) k (meaning cfg m)
-  act-few st k t (onSlot i h) = slot-few (setClock t st) k i (happened-outcome i (setClock t st) cfg (theSlot st i) h)
+  unfolding setClock
+  act-few st k t w = effect-few _ k _ _ _ _ _ (act-effect cfg st t w)
 
 pub answers-few : (cfg : Config) (st : Station) (e : Event) → sound cfg st ≡ true → act cfg st e .answer ≤ 1
 answers-few cfg st e s = act-few cfg st (sounds cfg st s .slots-keep) (e .time) (e .what) .told

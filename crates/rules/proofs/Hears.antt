@@ -1,15 +1,16 @@
 -- What a deed and an event say on a line, as to who talks on it: nothing, or a call begins, or one stops. It speaks of the list alone.
 use mathlib.Core.Path.{_≡_, refl}
-use mathlib.Core.List.{List, []}
+use mathlib.Core.List.{List, [], map}
 use mathlib.Core.Bool.{Bool, true, false, cond}
 use mathlib.Core.Option.{Option, none, some}
 use Prim.Native.Nat.{ℕ}
 use lib.Dec.{eqb}
-use Rattle.rules.specs.Places.{modAt}
-use Rattle.rules.specs.Words.{Party, is, Mode, Request, Config, lineLifted, lineHung, carrierHeard, carrierLost, Happened, heard, signal, operator, offHook, What, onSlot, Deed, carrierOn, carrierOff, acknowledge, ringBack, unable, dial, releaseLine}
+use Rattle.rules.specs.Places.{modAt, dropAt}
+use Rattle.rules.specs.Words.{Party, is, Mode, Request, Config, lineLifted, lineHung, carrierHeard, carrierLost, Happened, heard, signal, operator, offHook, What, onSlot, Deed, carrierOn, carrierOff, acknowledge, ringBack, unable, dial, releaseLine, tick, onChannel70}
 use Rattle.rules.specs.Heard.{Heard, callRequest, dataRequest, bq, workingCall, endOfCall, nothing, meaning}
-use Rattle.rules.specs.Book.{Stop, after, offerTime, alike, Said, silent, toldBQ, toldRQ, settled, Call, quiet, dialled, talking, Line, Book, atPlaces, stopOf, callOf, stopsSaid, stopsOn}
-use Rattle.rules.specs.Reading.{close, withGone, pickUp, lose, signOff, hearSaid, hearLine, settle, told, tell, rungUp, beginCall, dialUp, letGo, hush, join, queued, read}
+use Rattle.rules.specs.Book.{Stop, after, offerTime, alike, Said, silent, toldBQ, toldRQ, settled, Call, quiet, dialled, talking, Line, Book, atPlaces, stopOf, callOf, stopsSaid, stopsOn, Place, line, stopsDue, stopsAgain, stopsHeard, stopsAt}
+use Rattle.rules.specs.Reading.{close, withGone, pickUp, lose, signOff, hearSaid, hearLine, settle, told, tell, rungUp, beginCall, dialUp, letGo, hush, join, queued, read, withWait, again, hearHeard, hearDue, hear, setNow}
+use Rattle.rules.specs.Waits.{Wait, ofQueue, loss, main, Due}
 
 abbrev pub line-of : Said → Option ℕ → Call → Option ℕ → Line
 line-of s w c g = record { said = s; wait = w; call = c; gone = g }
@@ -73,7 +74,7 @@ lose-same u l = go (l .call)
     go (dialled x m) = refl
     go (talking x m b) = refl
 
-pub settle-same : (u : ℕ) (x : Party) → Same (settle u x)
+settle-same : (u : ℕ) (x : Party) → Same (settle u x)
 settle-same u x l = go (l .said)
   where
     go : (s : Said) → talk (settle u x (line-of s (l .wait) (l .call) (l .gone)) .call) ≡ talk (l .call)
@@ -122,10 +123,41 @@ said-hears u i e (workingCall x) = says-nothing (λ l. l) (λ l. refl)
 said-hears u i e (endOfCall x) = says-end x
 said-hears u i e nothing = says-nothing (λ l. l) (λ l. refl)
 
-pub line-hears : (cfg : Config) (u i : ℕ) (h : Happened) → Hears u i (onSlot i h) (hearLine cfg u h) (λ k. stopsOn cfg u i k h)
+line-hears : (cfg : Config) (u i : ℕ) (h : Happened) → Hears u i (onSlot i h) (hearLine cfg u h) (λ k. stopsOn cfg u i k h)
 line-hears cfg u i (heard m) = said-hears u i (onSlot i (heard m)) (meaning cfg m)
 line-hears cfg u i (signal lineLifted) = says-begun refl
 line-hears cfg u i (signal lineHung) = says-over
 line-hears cfg u i (signal carrierHeard) = says-nothing (withGone none) (λ l. refl)
 line-hears cfg u i (signal carrierLost) = says-nothing (lose u) (lose-same u)
 line-hears cfg u i (operator h) = says-nothing (λ l. l) (λ l. refl)
+
+-- ── what an event says of the whole book b, at its moment u ──────────────────
+
+-- the book that it is read into, and the calls that it stops: no line is concerned, or one, or all are asked whether a call of x is over
+pub data Hearing (u : ℕ) (e : What) (b : Book) : Book → List Stop → Type 0 where
+  no-line : (ps : List Place) → Hearing u e b (record { now = u; lines = b .lines; places = ps }) []
+  one-line : (i : ℕ) (f : Line → Line) (s : Call → List Stop) → Hears u i e f s → Hearing u e b (record { now = u; lines = modAt f i (b .lines); places = b .places }) (s (line b i .call))
+  all-lines : (x : Party) → Hearing u e b (record { now = u; lines = map (again x) (b .lines); places = b .places }) (stopsAgain u x 0 (b .lines))
+
+module _ (u : ℕ) (e : What) (b : Book) where
+  wait-hearing : (w : Wait) (d : ℕ) → Hearing u e b (hearDue (setNow u b) (some record { what = w; at = d })) (stopsDue u b (some record { what = w; at = d }))
+  wait-hearing (ofQueue k) d = no-line (dropAt k (b .places))
+  wait-hearing (loss i) d = one-line i close (stopOf u i) says-over
+  wait-hearing (main i) d = one-line i (withWait none) (λ k. []) (says-nothing (withWait none) (λ l. refl))
+
+  due-hearing : (o : Option Due) → Hearing u e b (hearDue (setNow u b) o) (stopsDue u b o)
+  due-hearing none = no-line (b .places)
+  due-hearing (some p) = wait-hearing (p .what) (p .at)
+
+  heard-hearing : (m : Heard) → Hearing u e b (hearHeard u m (setNow u b)) (stopsHeard u (b .lines) m)
+  heard-hearing (callRequest r) = all-lines (r .who)
+  heard-hearing (dataRequest x n) = no-line (b .places)
+  heard-hearing (bq i x) = one-line i (settle u x) (λ k. []) (says-nothing (settle u x) (settle-same u x))
+  heard-hearing (workingCall x) = no-line (b .places)
+  heard-hearing (endOfCall x) = no-line (b .places)
+  heard-hearing nothing = no-line (b .places)
+
+pub event-hearing : (cfg : Config) (u : ℕ) (b : Book) (o : Option Due) (w : What) → Hearing u w b (hear cfg u o w (setNow u b)) (stopsAt cfg u b o w)
+event-hearing cfg u b o tick = due-hearing u tick b o
+event-hearing cfg u b o (onChannel70 m) = heard-hearing u (onChannel70 m) b (meaning cfg m)
+event-hearing cfg u b o (onSlot i h) = one-line i (hearLine cfg u h) (λ k. stopsOn cfg u i k h) (line-hears cfg u i h)

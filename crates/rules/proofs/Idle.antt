@@ -10,14 +10,13 @@ use Rattle.rules.specs.Places.{modAt, dropAt, lowest}
 use Rattle.rules.specs.Words.{Request, Config, Event}
 use Rattle.rules.specs.Actions.{Action}
 use Rattle.rules.specs.Station.{Slot, Waiting, Station, fresh, setSlot, setClock, setQueue}
-use Rattle.rules.specs.Requests.{rungBack, freedFor, freed, ruleD, ruleF, isFree}
+use Rattle.rules.specs.Requests.{rungBack, freedFor, freed, ruleD, ruleF, isFree, offerOf}
 use Rattle.rules.specs.Calls.{act}
 use Rattle.rules.specs.Verdict.{verdict, final}
 use Rattle.rules.specs.Statement.{NoChannelIdle}
 use Rattle.rules.proofs.PlaceLaws.{shift-none}
 use Rattle.rules.proofs.Run.{final-on, final-past}
 use Rattle.rules.proofs.Outcome.{becomes, Move, to-dial, to-agree, to-ring, to-answer, to-lose, to-regain, to-hold, to-take}
-use Rattle.rules.proofs.Ruling.{offerOf}
 use Rattle.rules.proofs.Walk.{Closed, act-kept}
 
 -- nobody waits, or no slot is free

@@ -1,81 +1,45 @@
 -- A sound station stays sound: no event of a run is answered with 29.
 use mathlib.Core.Path.{_≡_, refl, ap}
 use mathlib.Core.List.{List, [], _∷_}
-use mathlib.Core.Bool.{Bool, true, false, cond}
+use mathlib.Core.Bool.{true, not}
 use mathlib.Core.Option.{Option, none, some}
-use Prim.Native.Nat.{ℕ, zero, suc, _≤_}
+use Prim.Native.Nat.{ℕ, _≤_}
 use native.Mathlib.Omega.{arith}
 use lib.Dec.{leb}
-use lib.ListN.{length, replicate, length-replicate}
+use lib.ListN.{length}
 use borrow.Author.Tests.{leb-true, le-leb, eq-eqb, eqb-true}
 use Rattle.sequence.specs.Symbols.{within}
 use Rattle.rules.specs.Places.{all, distinct, isSome}
-use Rattle.rules.specs.Words.{is, Config, What, tick, onChannel70, onSlot, Event}
-use Rattle.rules.specs.Waits.{Due, earliest, ifDue}
-use Rattle.rules.specs.Station.{free, Station, fresh, setClock, table, fires}
-use Rattle.rules.specs.Sound.{identityKeeps, channelsKeep, configKeeps, oneSlotEach, slotKeeps, limit, queueRoom, owners, slotFits, sound}
+use Rattle.rules.specs.Words.{is, Config, Event, Party}
+use Rattle.rules.specs.Station.{Station, fresh, setClock, Slot, shipOf}
+use Rattle.rules.specs.Sound.{identityKeeps, channelsKeep, configKeeps, oneSlotEach, slotKeeps, limit, queueRoom, owners, slotFits, sound, listed}
 use Rattle.rules.specs.Calls.{act}
-use Rattle.rules.specs.Verdict.{unless, overtaken, verdict, setUpVerdict, final}
-use Rattle.rules.specs.Book.{Book, waitsIn, falls, fallsAt, momentOf, moment}
+use Rattle.rules.specs.Verdict.{unless, verdict, setUpVerdict, final}
+use Rattle.rules.specs.Book.{moment}
 use Rattle.rules.specs.Statement.{AlwaysSound, AlwaysFits}
 use Rattle.rules.proofs.PlaceLaws.{and-true}
-use Rattle.rules.proofs.Base.{seen, falls-fires}
-use Rattle.rules.proofs.Accepted.{none-held, Accepted, accepted, Sound, sounds, is-sound}
+use Rattle.rules.proofs.Base.{seen, fresh-all, fresh-length}
+use Rattle.rules.proofs.Accepted.{none-held, accepted, Sound, sounds, is-sound}
 use Rattle.rules.proofs.Run.{final-on, final-past}
-use Rattle.rules.proofs.Tenths.{tick-on, clock-is}
+use Rattle.rules.proofs.Tenths.{clock-is}
 use Rattle.rules.proofs.Once.{once-distinct}
 use Rattle.rules.proofs.Walk.{act-kept}
 use Rattle.rules.proofs.Whole.{Whole, whole, whole-closed}
-use Rattle.rules.proofs.WholeLater.{later-whole, earliest-least, fires-least}
+use Rattle.rules.proofs.WholeLater.{later-whole}
 use Rattle.rules.proofs.Stored.{Stored, clock-stored, stored-closed}
+use Rattle.rules.proofs.Moments.{moment-on, moment-by, moment-least}
 
 -- ── the clock moved to the moment of an accepted event ───────────────────────
 
-isSome-false : {A : Type 0} (o : Option A) → isSome o ≡ false → o ≡ none
-isSome-false none h = refl
-isSome-false (some a) h = cc
-
--- the station with its clock at the time of an event that is no tick
-now-whole : (cfg : Config) (st : Station) (t : ℕ) → Sound cfg st → leb (st .clock) t ≡ true → isSome (fires t st) ≡ false → Whole (setClock t st)
-unfolding fires
-now-whole cfg st t s h n = later-whole st t (whole cfg st s) (leb-true (st .clock) t h) (fires-least t (table st) (earliest (table st)) (earliest-least (table st)) none (isSome-false (fires t st) n))
-
 -- whatever the event, no wait is due before its moment
 moment-whole : (cfg : Config) (st : Station) (e : Event) → verdict cfg st e ≡ none → Whole (setClock (moment (seen st) e) st)
-unfolding fires
-moment-whole cfg st e v = go (e .what) (a .none-due)
-  where
-    a : Accepted cfg st e
-    a = accepted cfg st e v
-
-    s : Sound cfg st
-    s = sounds cfg st (a .is-sound)
-
-    go : (w : What) → overtaken st (e .time) w ≡ false → Whole (setClock (momentOf (e .time) (fallsAt (seen st) (e .time) w)) st)
-    go tick n = rw (falls-fires (e .time) st) (later-whole st (momentOf (e .time) (fires (e .time) st)) (whole cfg st s) (tick-on cfg st s (e .time) (leb-true (st .clock) (e .time) (a .in-time)) (fires (e .time) st) refl) (fires-least (e .time) (table st) (earliest (table st)) (earliest-least (table st)) (fires (e .time) st) refl))
-    go (onChannel70 m) n = now-whole cfg st (e .time) s (a .in-time) n
-    go (onSlot i h) n = now-whole cfg st (e .time) s (a .in-time) n
+moment-whole cfg st e v = later-whole st (moment (seen st) e) (whole cfg st (sounds cfg st (accepted cfg st e v .is-sound))) (moment-on cfg st e v) (moment-least cfg st e v)
 
 -- ── the next station ─────────────────────────────────────────────────────────
 
-stored : (cfg : Config) (st : Station) → Sound cfg st → Stored cfg st
+pub stored : (cfg : Config) (st : Station) → Sound cfg st → Stored cfg st
 unfolding oneSlotEach
 stored cfg st s = record { slots-keep = s .slots-keep; queue-keeps = s .queue-keeps; many = eqb-true (length (st .slots)) (length (cfg .channels)) (s .one-each) }
-
--- an entry's moment is never after the event's own time
-moment-by : (b : Book) (t : ℕ) (w : What) → momentOf t (fallsAt b t w) ≤ t
-unfolding falls
-moment-by b t tick = due (earliest (waitsIn b))
-  where
-    pick : (p : Due) (c : Bool) → leb (p .at) t ≡ c → momentOf t (cond c (some p) none) ≤ t
-    pick p true e = leb-true (p .at) t e
-    pick p false e = omega arith
-
-    due : (o : Option Due) → momentOf t (ifDue t o) ≤ t
-    due none = omega arith
-    due (some p) = pick p (leb (p .at) t) refl
-moment-by b t (onChannel70 m) = omega arith
-moment-by b t (onSlot i h) = omega arith
 
 within-limit : (a b c : ℕ) → a ≡ b → b ≤ c → leb c limit ≡ true → leb a limit ≡ true
 within-limit a b c e h k = let m = leb-true c limit k in le-leb a limit (omega arith)
@@ -93,7 +57,7 @@ next-sound cfg st e v =
       one-each = eq-eqb (length (act cfg st e .next .slots)) (length (cfg .channels)) (k .many);
       slots-keep = k .slots-keep;
       queue-keeps = k .queue-keeps;
-      in-limit = within-limit (act cfg st e .next .clock) (moment (seen st) e) (e .time) (clock-is cfg st e v) (moment-by (seen st) (e .time) (e .what)) (a .in-limit);
+      in-limit = within-limit (act cfg st e .next .clock) (moment (seen st) e) (e .time) (clock-is cfg st e v) (moment-by cfg st e v) (a .in-limit);
       room = le-leb (length (act cfg st e .next .queue)) queueRoom (w .room);
       no-twice = once-distinct (act cfg st e .next) (w .once);
       slots-fit = w .fit;
@@ -105,25 +69,25 @@ stays-sound cfg st e v = is-sound cfg (act cfg st e .next) (next-sound cfg st e 
 
 -- ── a run ────────────────────────────────────────────────────────────────────
 
-all-alike : {A : Type 0} (f : A → Bool) (x : A) → f x ≡ true → (n : ℕ) → all f (replicate n x) ≡ true
-all-alike f x h zero = refl
-all-alike f x h (suc n) = rw h (all-alike f x h n)
-
-no-owners : (n : ℕ) → owners (replicate n free) [] ≡ []
-no-owners zero = refl
-no-owners (suc n) = no-owners n
+no-owners : (ss : List Slot) → all (λ s. not (isSome (shipOf s))) ss ≡ true → owners ss [] ≡ []
+no-owners [] h = refl
+no-owners (s ∷ ss) h = let w = and-true (not (isSome (shipOf s))) _ h in go (shipOf s) (w .0) (no-owners ss (w .1))
+  where
+    go : (o : Option Party) → not (isSome o) ≡ true → owners ss [] ≡ [] → listed o (owners ss []) ≡ []
+    go none n h = h
+    go (some x) n h = cc
 
 fresh-sound : (cfg : Config) → setUpVerdict cfg ≡ none → sound cfg (fresh cfg) ≡ true
 unfolding setUpVerdict fresh oneSlotEach
 fresh-sound cfg set = is-sound cfg (fresh cfg) (record {
   config = and-true (configKeeps cfg) _ (none-held (unless (configKeeps cfg) 36 ∷ []) refl set) .0;
-  one-each = eq-eqb (length (fresh cfg .slots)) (length (cfg .channels)) (length-replicate (length (cfg .channels)) free);
-  slots-keep = all-alike (slotKeeps cfg) free refl (length (cfg .channels));
+  one-each = eq-eqb (length (fresh cfg .slots)) (length (cfg .channels)) (fresh-length cfg);
+  slots-keep = fresh-all cfg (slotKeeps cfg) refl;
   queue-keeps = refl;
   in-limit = refl;
   room = refl;
-  no-twice = ap (distinct is) (no-owners (length (cfg .channels)));
-  slots-fit = all-alike (slotFits 0) free refl (length (cfg .channels));
+  no-twice = ap (distinct is) (no-owners (fresh cfg .slots) (fresh-all cfg (λ s. not (isSome (shipOf s))) refl));
+  slots-fit = fresh-all cfg (slotFits 0) refl;
   places-fit = refl;
 })
 

@@ -11,13 +11,12 @@ use native.Mathlib.Nat.{add-zero, add-suc, suc-add, zero-add}
 use native.Mathlib.Omega.{arith}
 use lib.ListN.{getD}
 use Rattle.rules.specs.Places.{modAt}
-use Rattle.rules.specs.Words.{Party, is, Mode, Config, offHook, What, tick, onChannel70, onSlot, Deed}
-use Rattle.rules.specs.Waits.{Wait, ofQueue, loss, main, Due}
-use Rattle.rules.specs.Heard.{Heard, callRequest, dataRequest, bq, workingCall, endOfCall, nothing, meaning}
-use Rattle.rules.specs.Book.{Note, Stop, after, holdTime, Said, Call, quiet, dialled, talking, Line, Book, blank, line, falling, moment, stopOf, callOf, stopsOn, stopsDue, lost, askedAgain, stopsAgain, stopsHeard, stopsAt}
-use Rattle.rules.specs.Reading.{closed, close, withWait, pickUp, signOff, hearLine, settle, again, hearHeard, hearDue, hear, read, reads, setNow, turn, stopsIn}
+use Rattle.rules.specs.Words.{Party, is, Mode, Config, offHook, What, onSlot, Deed}
+use Rattle.rules.specs.Waits.{Due}
+use Rattle.rules.specs.Book.{Note, Stop, after, holdTime, Said, Call, quiet, dialled, talking, Line, Book, blank, line, falling, moment, stopOf, callOf, lost, askedAgain, stopsAgain, stopsAt}
+use Rattle.rules.specs.Reading.{closed, close, pickUp, signOff, again, hear, read, reads, setNow, turn, stopsIn}
 use Rattle.rules.specs.ReadingLaws.{In, stopAt, Begins, Lifts, Ends}
-use Rattle.rules.proofs.Hears.{line-of, talk, talk-is, Same, settle-same, Leaves, elsewhere, at-line, read-leaves, Hears, says-nothing, says-begun, says-over, says-end, line-hears}
+use Rattle.rules.proofs.Hears.{line-of, talk, talk-is, Same, Leaves, elsewhere, at-line, read-leaves, Hears, says-nothing, says-begun, says-over, says-end, Hearing, no-line, one-line, all-lines, event-hearing}
 
 -- ── no deed begins or stops an answered call ─────────────────────────────────
 
@@ -67,8 +66,8 @@ there f h (suc i) (l ∷ ls) = there f h i ls
 -- a reading of line i alone, seen from line j
 module _ (e : What) (u i j : ℕ) (cs : List Stop) (f : Line → Line) (fb : f blank ≡ blank) (ls : List Line)
     (at-i : After e u i cs (getD ls i blank .call) (f (getD ls i blank) .call)) where
-  one-line : After e u j cs (getD ls j blank .call) (getD (modAt f i ls) j blank .call)
-  one-line = go (aside f i j ls)
+  seen-from : After e u j cs (getD ls j blank .call) (getD (modAt f i ls) j blank .call)
+  seen-from = go (aside f i j ls)
     where
       go : (j ≡ i) ⊎ (getD (modAt f i ls) j blank ≡ getD ls j blank) → After e u j cs (getD ls j blank .call) (getD (modAt f i ls) j blank .call)
       go (inl p) = rw (p, there f fb i ls) at-i
@@ -127,31 +126,17 @@ again-after e u x k (suc j) (l ∷ ls) = rw (add-suc k j, ← (suc-add k j)) (mo
 
 hears-after : (u i j : ℕ) (e : What) (f : Line → Line) (s : Call → List Stop) → Hears u i e f s → (ls : List Line) → After e u j (s (getD ls i blank .call)) (getD ls j blank .call) (getD (modAt f i ls) j blank .call)
 hears-after u i j e _ _ (says-nothing f h) ls = goes-on (same-at f h i j ls)
-hears-after u i j e _ _ (says-begun h) ls = let l = getD ls i blank in one-line e u i j [] (pickUp u) refl ls (pickUp-after e u i [] h (l .said) (l .wait) (l .call) (l .gone))
-hears-after u i j e _ _ says-over ls = one-line e u i j (stopOf u i (getD ls i blank .call)) close refl ls (close-after e u i (getD ls i blank .call))
-hears-after u i j e _ _ (says-end x) ls = let l = getD ls i blank in one-line e u i j (cond (callOf x (l .call)) (stopOf u i (l .call)) []) (signOff u x) refl ls (signOff-after e u x i (l .said) (l .wait) (l .call) (l .gone))
+hears-after u i j e _ _ (says-begun h) ls = let l = getD ls i blank in seen-from e u i j [] (pickUp u) refl ls (pickUp-after e u i [] h (l .said) (l .wait) (l .call) (l .gone))
+hears-after u i j e _ _ says-over ls = seen-from e u i j (stopOf u i (getD ls i blank .call)) close refl ls (close-after e u i (getD ls i blank .call))
+hears-after u i j e _ _ (says-end x) ls = let l = getD ls i blank in seen-from e u i j (cond (callOf x (l .call)) (stopOf u i (l .call)) []) (signOff u x) refl ls (signOff-after e u x i (l .said) (l .wait) (l .call) (l .gone))
 
-due-after : (e : What) (u j : ℕ) (b : Book) (o : Option Due) → After e u j (stopsDue u b o) (line b j .call) (line (hearDue (setNow u b) o) j .call)
-due-after e u j b none = goes-on refl
-due-after e u j b (some p) = go (p .what)
-  where
-    go : (w : Wait) → After e u j (stopsDue u b (some record { what = w; at = p .at })) (line b j .call) (line (hearDue (setNow u b) (some record { what = w; at = p .at })) j .call)
-    go (ofQueue k) = goes-on refl
-    go (loss i) = hears-after u i j e close (stopOf u i) says-over (b .lines)
-    go (main i) = hears-after u i j e (withWait none) (λ k. []) (says-nothing (withWait none) (λ l. refl)) (b .lines)
-
-heard-after : (e : What) (b : Book) (u j : ℕ) (m : Heard) → After e u j (stopsHeard u (b .lines) m) (line b j .call) (line (hearHeard u m b) j .call)
-heard-after e b u j (callRequest r) = rw (zero-add j) at (again-after e u (r .who) 0 j (b .lines))
-heard-after e b u j (dataRequest x n) = goes-on refl
-heard-after e b u j (bq i x) = goes-on (same-at (settle u x) (settle-same u x) i j (b .lines))
-heard-after e b u j (workingCall x) = goes-on refl
-heard-after e b u j (endOfCall x) = goes-on refl
-heard-after e b u j nothing = goes-on refl
+hearing-after : (u j : ℕ) (e : What) (b k : Book) (cs : List Stop) → Hearing u e b k cs → After e u j cs (line b j .call) (line k j .call)
+hearing-after u j e b _ _ (no-line ps) = goes-on refl
+hearing-after u j e b _ _ (one-line i f s h) = hears-after u i j e f s h (b .lines)
+hearing-after u j e b _ _ (all-lines x) = rw (zero-add j) at (again-after e u x 0 j (b .lines))
 
 hear-after : (cfg : Config) (b : Book) (u : ℕ) (o : Option Due) (w : What) (j : ℕ) → After w u j (stopsAt cfg u b o w) (line b j .call) (line (hear cfg u o w (setNow u b)) j .call)
-hear-after cfg b u o tick j = due-after tick u j b o
-hear-after cfg b u o (onChannel70 m) j = heard-after (onChannel70 m) (setNow u b) u j (meaning cfg m)
-hear-after cfg b u o (onSlot i h) j = hears-after u i j (onSlot i h) (hearLine cfg u h) (λ k. stopsOn cfg u i k h) (line-hears cfg u i h) (b .lines)
+hear-after cfg b u o w j = hearing-after u j w b _ _ (event-hearing cfg u b o w)
 
 -- ── the two laws ─────────────────────────────────────────────────────────────
 

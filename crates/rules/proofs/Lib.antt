@@ -8,6 +8,10 @@ pub mod Pieces
 pub mod OneSlot
 pub mod Asked
 pub mod Accepted
+pub mod Spoken
+pub mod Effect
+pub mod Order
+pub mod Moments
 pub mod Run
 pub mod Hears
 pub mod Talked
@@ -18,11 +22,9 @@ pub mod Whole
 pub mod WholeLater
 pub mod Stored
 pub mod Kept
-pub mod Order
 pub mod Stopped
 pub mod Orderly
 pub mod Laws
-pub mod Spoken
 pub mod Literal
 pub mod Idle
 pub mod Calm

@@ -1,32 +1,28 @@
 -- `Literally`: the three words say of every slot what the book says of its line.
 use mathlib.Core.Path.{_≡_, refl, sym, ap, _∙_}
-use mathlib.Core.List.{List, [], _∷_, map}
-use mathlib.Core.Bool.{Bool, true, false, cond}
+use mathlib.Core.List.{List, [], _∷_}
 use mathlib.Core.Option.{Option, none, some}
 use Prim.Native.Nat.{ℕ, zero, suc, _<_}
-use native.Mathlib.Omega.{arith}
-use lib.Dec.{eqb, ltb}
-use lib.ListN.{getD, length, List·getD-map, length-map, replicate, length-replicate}
-use borrow.Author.Tests.{eqb-true, eqb-false}
-use Rattle.rules.specs.Places.{modAt, lowest}
-use Rattle.rules.specs.Words.{Request, Config, What, tick, onChannel70, onSlot, Event, Deed, carrierOn, carrierOff, acknowledge, ringBack, unable, dial, releaseLine}
-use Rattle.rules.specs.Waits.{Wait, ofQueue, loss, main, Due}
-use Rattle.rules.specs.Heard.{Heard, callRequest, dataRequest, bq, workingCall, endOfCall, nothing, meaning}
-use Rattle.rules.specs.Station.{dealing, offered, Slot, free, pending, Station, theSlot, fresh, setClock, setQueue, dueAfter, kindWait, fires, answeredAt}
-use Rattle.rules.specs.Requests.{Out, coastEnd, slotOf, placeOf, standsAt, standing, ruleA, repeated, afresh, ruleD, offer, ruleF, ruleG, isFree, eToG, newcomer, dToG, redial, requested}
-use Rattle.rules.specs.Calls.{fire, ticked, heardOn70, actAt, act}
+use lib.Dec.{ltb}
+use lib.ListN.{getD, length, length-map, replicate}
+use Rattle.rules.specs.Places.{lowest}
+use Rattle.rules.specs.Words.{Request, Config, What, Event, Deed, carrierOn, carrierOff, acknowledge, ringBack, unable, dial, releaseLine}
+use Rattle.rules.specs.Heard.{Heard}
+use Rattle.rules.specs.Station.{Slot, Station, theSlot, fresh, setClock, setQueue, answeredAt}
+use Rattle.rules.specs.Requests.{Out, coastEnd, slotOf, placeOf, standsAt, standing, ruleA, repeated, afresh, ruleD, offer, ruleF, ruleG, isFree, eToG, newcomer, dToG, redial, requested, offerOf}
+use Rattle.rules.specs.Calls.{actAt, act}
 use Rattle.rules.specs.Verdict.{verdict, play}
 use Rattle.rules.specs.Book.{Stop, Line, Book, line}
 use Rattle.rules.specs.Reading.{readAll}
-use Rattle.rules.specs.ThreeWords.{Word, idle, ringing, lifted, wordHeard, wordDone, wordsDone, wordAfter, wordOf}
+use Rattle.rules.specs.ThreeWords.{Word, idle, ringing, wordHeard, wordDone, wordsDone, wordAfter, wordOf}
 use Rattle.rules.specs.Statement.{deedsOf, notes, Literally}
-use Rattle.rules.proofs.PlaceLaws.{modAt-length, lowest-is}
-use Rattle.rules.proofs.Base.{view, seen}
-use Rattle.rules.proofs.Outcome.{word, end-outcome, bq-outcome, main-outcome, happened-outcome}
+use Rattle.rules.proofs.PlaceLaws.{modAt-length}
+use Rattle.rules.proofs.Base.{view, seen, slot-lowest, slot-mapped, fresh-mapped, fresh-length, free-is}
+use Rattle.rules.proofs.Outcome.{word}
 use Rattle.rules.proofs.Ruling.{Ruling, passes, repeats, renews, redials, bOrC-ruling}
-use Rattle.rules.proofs.Pieces.{free-is}
 use Rattle.rules.proofs.Run.{turn-is, play-on, play-past, fresh-seen}
-use Rattle.rules.proofs.Spoken.{words, speak, spoken, Spoken, told-also, told-if, told-next, told-ignored, keeps, coastEnd-told, outcome-told, calm-told}
+use Rattle.rules.proofs.Spoken.{words, speak, spoken, Spoken, told-also, told-if, told-ignored, keeps, coastEnd-told, outcome-told, one-of}
+use Rattle.rules.proofs.Effect.{Effect, rests, drops, data-asked, call-asked, to-slot, act-effect, heardBy, lifted-one, lifted-length}
 
 -- ── a request ────────────────────────────────────────────────────────────────
 
@@ -36,7 +32,7 @@ module _ (st : Station) (r : Request) where
   newcomer-told = go (lowest isFree (st .slots)) refl
     where
       go : (o : Option ℕ) → lowest isFree (st .slots) ≡ o → Spoken (words st) (eToG st r o)
-      go (some i) h = record { telling = keeps i st (pending offered (dealing r) (dueAfter (st .clock) (kindWait offered))) (ap word (free-is (theSlot st i) (lowest-is free isFree (st .slots) i h))) }
+      go (some i) h = record { telling = keeps i st (offerOf r st) (ap word (free-is (theSlot st i) (slot-lowest st isFree i h))) }
       go none h = told-if (words st) (ltb (length (st .queue)) 32) (ruleF st r) (ruleG st r) (record { telling = refl }) (record { telling = refl })
 
   ruleD-told : (k : ℕ) → Spoken (words st) (ruleD k st r)
@@ -51,7 +47,7 @@ module _ (st : Station) (r : Request) where
 module _ (i : ℕ) (st : Station) (r : Request) where
   afresh-told : word (theSlot st i) ≡ idle → Spoken (words st) (afresh i st r)
   unfolding afresh spoken
-  afresh-told h = record { telling = keeps i st (pending offered (dealing r) (dueAfter (st .clock) (kindWait offered))) h }
+  afresh-told h = record { telling = keeps i st (offerOf r st) h }
 
   repeat-told : Spoken (words st) (repeated i st r)
   unfolding repeated spoken
@@ -75,57 +71,19 @@ request-told st r (some i) k = ruling-told i st r _ (theSlot st i) _ (bOrC-rulin
 
 -- ── an event ─────────────────────────────────────────────────────────────────
 
-heard-told : (st : Station) (h : Heard) → Spoken (words st) (heardOn70 st h)
-unfolding heardOn70 ruleA standing spoken
-heard-told st (callRequest r) = request-told st r (slotOf (r .who) st) (placeOf (r .who) st)
-heard-told st (dataRequest x n) = record { telling = refl }
-heard-told st (bq i x) = calm-told i st (theSlot st i) (bq-outcome i st x (theSlot st i)) refl
-heard-told st (workingCall x) = told-ignored (words st) st refl
-heard-told st (endOfCall x) = told-ignored (words st) st refl
-heard-told st nothing = told-ignored (words st) st refl
-
-fire-told : (st : Station) (w : Wait) → Spoken (words st) (fire st w)
-unfolding fire setQueue
-fire-told st (ofQueue k) = told-next (words st) _ refl
-fire-told st (loss i) = calm-told i st (theSlot st i) (end-outcome i st (theSlot st i)) refl
-fire-told st (main i) = calm-told i st (theSlot st i) (main-outcome i st (theSlot st i)) refl
-
-tick-told : (st : Station) (t : ℕ) (o : Option Due) → Spoken (words st) (ticked st t o)
-unfolding ticked setClock
-tick-told st t none = told-next (words st) _ refl
-tick-told st t (some p) = fire-told (setClock (p .at) st) (p .what)
-
-abbrev heardBy : ℕ → What → List Word → List Word
-heardBy t tick ws = ws
-heardBy t (onChannel70 m) ws = ws
-heardBy t (onSlot j h) ws = modAt (lifted t h) j ws
+effect-told : (st : Station) (b : Book) (ws : List Word) (cs : List Stop) (m : Heard) (o : Out) → Effect st b ws cs m o → Spoken ws o
+unfolding ruleA standing spoken setQueue
+effect-told st _ _ _ _ _ (rests m n h) = record { telling = refl }
+effect-told st _ _ _ _ _ (drops k) = record { telling = refl }
+effect-told st _ _ _ _ _ (data-asked x n) = record { telling = refl }
+effect-told st _ _ _ _ _ (call-asked r) = request-told st r (slotOf (r .who) st) (placeOf (r .who) st)
+effect-told st _ _ _ _ _ (to-slot m i u e) = rw e (outcome-told i st (theSlot st i) u refl)
 
 act-told : (cfg : Config) (st : Station) (t : ℕ) (w : What) → Spoken (heardBy t w (words st)) (actAt cfg st t w)
-unfolding actAt setClock
-act-told cfg st t tick = tick-told st t (fires t st)
-act-told cfg st t (onChannel70 m) = heard-told (setClock t st) (meaning cfg m)
-act-told cfg st t (onSlot i h) = outcome-told i (setClock t st) (theSlot st i) (happened-outcome i (setClock t st) cfg (theSlot st i) h) refl
+unfolding setClock
+act-told cfg st t w = effect-told _ _ _ _ _ _ (act-effect cfg st t w)
 
 -- ── one slot of them ─────────────────────────────────────────────────────────
-
-at-place : (f : Word → Word) (i : ℕ) (ws : List Word) → i < length ws → getD (modAt f i ws) i idle ≡ f (getD ws i idle)
-at-place f i [] h = absurd (omega arith)
-at-place f zero (w ∷ ws) h = refl
-at-place f (suc i) (w ∷ ws) h = at-place f i ws (omega arith)
-
-elsewhere : (f : Word → Word) (i j : ℕ) (ws : List Word) → (i ≡ j → ⊥) → getD (modAt f j ws) i idle ≡ getD ws i idle
-elsewhere f i j [] h = refl
-elsewhere f zero zero (w ∷ ws) h = absurd (h refl)
-elsewhere f (suc i) zero (w ∷ ws) h = refl
-elsewhere f zero (suc j) (w ∷ ws) h = refl
-elsewhere f (suc i) (suc j) (w ∷ ws) h = elsewhere f i j ws (λ e. h (ap suc e))
-
-one-of : (f : Word → Word) (i j : ℕ) (ws : List Word) → i < length ws → cond (eqb i j) (f (getD ws i idle)) (getD ws i idle) ≡ getD (modAt f j ws) i idle
-one-of f i j ws h = go (eqb i j) refl
-  where
-    go : (b : Bool) → eqb i j ≡ b → cond b (f (getD ws i idle)) (getD ws i idle) ≡ getD (modAt f j ws) i idle
-    go true e = rw (← (eqb-true i j e)) (sym (at-place f i ws h))
-    go false e = sym (elsewhere f i j ws (eqb-false i j e))
 
 speak-length : (d : Deed) (ws : List Word) → length (speak d ws) ≡ length ws
 speak-length (carrierOn i) ws = refl
@@ -155,16 +113,6 @@ unfolding spoken
 spoken-length [] ws = refl
 spoken-length (d ∷ ds) ws = spoken-length ds (speak d ws) ∙ speak-length d ws
 
-lifted-one : (i t : ℕ) (w : What) (ws : List Word) → i < length ws → wordHeard i t w (getD ws i idle) ≡ getD (heardBy t w ws) i idle
-lifted-one i t tick ws h = refl
-lifted-one i t (onChannel70 x) ws h = refl
-lifted-one i t (onSlot j x) ws h = one-of (lifted t x) i j ws h
-
-lifted-length : (t : ℕ) (w : What) (ws : List Word) → length (heardBy t w ws) ≡ length ws
-lifted-length t tick ws = refl
-lifted-length t (onChannel70 x) ws = refl
-lifted-length t (onSlot j x) ws = modAt-length (lifted t x) j ws
-
 -- ── the run ──────────────────────────────────────────────────────────────────
 
 next-length : (cfg : Config) (st : Station) (e : Event) → length (words (act cfg st e .next)) ≡ length (words st)
@@ -175,7 +123,7 @@ next-word cfg i st e h = ap (wordsDone i (deedsOf (act cfg st e .acts))) (lifted
 
 word-seen : (i : ℕ) (st : Station) → getD (words st) i idle ≡ wordOf (line (seen st) i .call)
 unfolding seen
-word-seen i st = List·getD-map word (st .slots) i free ∙ ap (λ (l : Line). wordOf (l .call)) (sym (List·getD-map view (st .slots) i free))
+word-seen i st = slot-mapped st word i ∙ ap (λ (l : Line). wordOf (l .call)) (sym (slot-mapped st view i))
 
 run-words : (cfg : Config) (i : ℕ) (es : List Event) (st : Station) → i < length (words st) → wordAfter i (notes (play cfg es st)) (getD (words st) i idle) ≡ wordOf (line (readAll cfg (notes (play cfg es st)) (seen st)) i .call)
 unfolding play wordAfter readAll notes
@@ -187,15 +135,17 @@ run-words cfg i (e ∷ es) st h = go (verdict cfg st e) refl (λ s k. run-words 
     go none v ih = rw (play-on cfg e es st v) (ap (wordAfter i (notes (play cfg es (act cfg st e .next)))) (next-word cfg i st e h) ∙ ih (act cfg st e .next) (rw (next-length cfg st e) h) ∙ ap (λ (b : Book). wordOf (line (readAll cfg (notes (play cfg es (act cfg st e .next))) b) i .call)) (sym (turn-is cfg st e v)))
     go (some n) v ih = rw (play-past cfg e es st n v) (ih st h)
 
-blank-word : (n i : ℕ) → getD (map word (replicate n free)) i idle ≡ idle
+blank-word : (n i : ℕ) → getD (replicate n idle) i idle ≡ idle
 blank-word zero i = refl
 blank-word (suc n) zero = refl
 blank-word (suc n) (suc i) = blank-word n i
 
 fresh-words : (cfg : Config) → length (words (fresh cfg)) ≡ length (cfg .channels)
-unfolding fresh
-fresh-words cfg = length-map (replicate (length (cfg .channels)) free) word ∙ length-replicate (length (cfg .channels)) free
+fresh-words cfg = length-map (fresh cfg .slots) word ∙ fresh-length cfg
+
+fresh-word : (cfg : Config) (i : ℕ) → getD (words (fresh cfg)) i idle ≡ idle
+fresh-word cfg i = ap (λ (ws : List Word). getD ws i idle) (fresh-mapped cfg word) ∙ blank-word (length (cfg .channels)) i
 
 pub literally : Literally
 unfolding Literally fresh
-literally cfg set es i h = rw (← (fresh-seen cfg)) (ap (wordAfter i (notes (play cfg es (fresh cfg)))) (sym (blank-word (length (cfg .channels)) i)) ∙ run-words cfg i es (fresh cfg) (rw (fresh-words cfg) h))
+literally cfg set es i h = rw (← (fresh-seen cfg)) (ap (wordAfter i (notes (play cfg es (fresh cfg)))) (sym (fresh-word cfg i)) ∙ run-words cfg i es (fresh cfg) (rw (fresh-words cfg) h))

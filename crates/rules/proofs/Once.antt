@@ -5,13 +5,12 @@ use mathlib.Core.Bool.{Bool, true, false, not}
 use mathlib.Core.Option.{Option, none, some}
 use Prim.Native.Nat.{ℕ, zero, suc, _+_, _≤_}
 use native.Mathlib.Omega.{arith}
-use lib.ListN.{getD}
 use borrow.Author.Tests.{not-true}
 use Rattle.rules.specs.Places.{modAt, lowest, elem, distinct}
 use Rattle.rules.specs.Words.{Party, is, Request}
-use Rattle.rules.specs.Station.{dealing, firstRing, Slot, free, pending, shipOf, Waiting, Station, theSlot, setSlot, setQueue, dueAfter, kindWait}
+use Rattle.rules.specs.Station.{Slot, shipOf, Waiting, Station, theSlot, setSlot, setQueue}
 use Rattle.rules.specs.Sound.{listed, owners}
-use Rattle.rules.specs.Requests.{rungBack, freedFor, freed, coastEnd, isOf, owns, waitsFor}
+use Rattle.rules.specs.Requests.{rungBack, freedFor, freed, coastEnd, isOf, owns, waitsFor, ringOf}
 use Rattle.rules.proofs.PlaceLaws.{or-false, and-true, shift-none}
 use Rattle.rules.proofs.Base.{is-same, is-true}
 
@@ -82,10 +81,13 @@ once-distinct st o = occ-distinct (owners (st .slots) (map (λ q. q .request .wh
 
 -- ── a slot given to another, and a ship that stands nowhere ──────────────────
 
-pub count-set : (x : Party) (i : ℕ) (p : Slot) (ss : List Slot) → countS x (modAt (λ y. p) i ss) + bit (owns x (getD ss i free)) ≤ countS x ss + bit (owns x p)
-count-set x i p [] = omega arith
-count-set x zero p (s ∷ ss) = omega arith
-count-set x (suc i) p (s ∷ ss) = omega (arith, count-set x i p ss)
+pub count-set : (x : Party) (i : ℕ) (p : Slot) (st : Station) → countS x (modAt (λ y. p) i (st .slots)) + bit (owns x (theSlot st i)) ≤ countS x (st .slots) + bit (owns x p)
+count-set x i p st = go i (st .slots)
+  where
+    go : (i : ℕ) (ss : List Slot) → countS x (modAt (λ y. p) i ss) + bit (owns x (theSlot (record { clock = st .clock; slots = ss; queue = st .queue }) i)) ≤ countS x ss + bit (owns x p)
+    go i [] = omega arith
+    go zero (s ∷ ss) = omega arith
+    go (suc i) (s ∷ ss) = omega (arith, go i ss)
 
 pub none-count : (x : Party) (ss : List Slot) → lowest (owns x) ss ≡ none → countS x ss ≡ 0
 none-count x [] h = refl
@@ -103,14 +105,19 @@ waiting-count x (v ∷ q) h = go (is x (v .request .who)) refl (λ k. waiting-co
     go true e ih = let k : _≡_ {A = Option ℕ} (some zero) none = rw e at h in cc
     go false e ih = rw (e, ih (shift-none _ (rw e at h))) refl
 
--- the slot of the ship is freed: the ship stands nowhere
+-- the slot of the ship is given to another, or to nobody
+given-away : (i : ℕ) (x : Party) (st : Station) → owns x (theSlot st i) ≡ true → (q : Slot) → countS x (setSlot i q st .slots) + 1 ≤ countS x (st .slots) + bit (owns x q)
+unfolding setSlot
+given-away i x st h q = rw h at (count-set x i q st)
+
+-- it is freed: the ship stands nowhere
 freedFor-gone : (i : ℕ) (x : Party) (st : Station) → Once st → owns x (theSlot st i) ≡ true → (q : List Waiting) → st .queue ≡ q → countS x (freedFor i st q .next .slots) ≡ 0
 unfolding freedFor rungBack setSlot setQueue
-freedFor-gone i x st w h [] e = none-left (countS x (modAt (λ y. free) i (st .slots))) (countS x (st .slots)) (countQ x (st .queue)) (rw h at (count-set x i free (st .slots))) (w x)
+freedFor-gone i x st w h [] e = none-left _ (countS x (st .slots)) (countQ x (st .queue)) (given-away i x st h _) (w x)
   where
     none-left : (n s k : ℕ) → n + 1 ≤ s + 0 → s + k ≤ 1 → n ≡ 0
     none-left n s k a b = omega arith
-freedFor-gone i x st w h (v ∷ q) e = none-left (countS x (modAt (λ y. pending firstRing (dealing (v .request)) (dueAfter (st .clock) (kindWait firstRing))) i (st .slots))) (countS x (st .slots)) (bit (is x (v .request .who))) (countQ x q) (rw h at (count-set x i (pending firstRing (dealing (v .request)) (dueAfter (st .clock) (kindWait firstRing))) (st .slots))) (rw e at (w x))
+freedFor-gone i x st w h (v ∷ q) e = none-left _ (countS x (st .slots)) (bit (is x (v .request .who))) (countQ x q) (given-away i x st h (ringOf (v .request) st)) (rw e at (w x))
   where
     none-left : (n s b k : ℕ) → n + 1 ≤ s + b → s + (b + k) ≤ 1 → n ≡ 0
     none-left n s b k u v = omega arith

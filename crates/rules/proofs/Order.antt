@@ -54,7 +54,7 @@ earliest-first (q ∷ l) d h = go (earliest l) refl (λ z. earliest-first l z) h
     go (some z) eo ih k = pick (leb (q .at) (z .at)) z refl (ih z eo) k
 
 -- what is due at or before t is the earliest itself
-due-is : (t : ℕ) (o : Option Due) (d : Due) → ifDue t o ≡ some d → (o ≡ some d) × (d .at ≤ t)
+pub due-is : (t : ℕ) (o : Option Due) (d : Due) → ifDue t o ≡ some d → (o ≡ some d) × (d .at ≤ t)
 due-is t none d h = (cc, absurd (no-due h))
   where
     no-due : _≡_ {A = Option Due} none (some d) → ⊥

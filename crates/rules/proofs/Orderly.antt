@@ -16,11 +16,12 @@ use Rattle.rules.specs.Book.{Stop, Call, quiet, dialled, talking, Book, 
 use Rattle.rules.specs.Reading.{stopsIn, Numbered, stops, readAll, talkedBy, lengths, countedByCalls}
 use Rattle.rules.specs.Statement.{notes, owed, owedFor, ChargesAreStops, tenthsIn, heldTenths, TenthsAgree, CountsAgree, InOrder, ClockIsNow}
 use Rattle.rules.proofs.PlaceLaws.{and-true}
-use Rattle.rules.proofs.Base.{view, seen}
-use Rattle.rules.proofs.Accepted.{accepted, sounds, begunBy, begun-all}
+use Rattle.rules.proofs.Base.{view, seen, begunBy}
+use Rattle.rules.proofs.Accepted.{accepted, sounds, begun-all}
 use Rattle.rules.proofs.Run.{noteOf, turn-is, stops-are, play-on, play-past, final-on, final-past, fresh-seen, charges-are-stops}
 use Rattle.rules.proofs.Stopped.{each-stop}
-use Rattle.rules.proofs.Tenths.{since, since-slot, moment-on, held-seen, clock-is, tenths-agree}
+use Rattle.rules.proofs.Tenths.{since, since-slot, held-seen, clock-is, tenths-agree}
+use Rattle.rules.proofs.Moments.{moment-on}
 
 -- ── the order of times ───────────────────────────────────────────────────────
 

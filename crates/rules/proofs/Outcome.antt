@@ -1,15 +1,15 @@
 -- What an event does to a slot, said once: the one walk of events by phases. A law on every event goes by outcome.
 use mathlib.Core.Path.{_≡_, refl}
 use mathlib.Core.List.{List, [], _∷_, map}
-use mathlib.Core.Bool.{Bool, true, false, cond}
+use mathlib.Core.Bool.{Bool, true, false, cond, _&&_}
 use mathlib.Core.Option.{Option, none, some}
 use Prim.Native.Nat.{ℕ}
 use Rattle.units.specs.declared.Told.{Told}
 use Rattle.rules.specs.Places.{Each}
-use Rattle.rules.specs.Words.{Party, is, Request, Config, lineLifted, lineHung, carrierHeard, carrierLost, handTakes, handGives, Happened, heard, signal, operator, offHook, Deed, carrierOn, carrierOff, acknowledge, ringBack, unable, dial, releaseLine}
+use Rattle.rules.specs.Words.{Party, is, Request, Config, lineLifted, lineHung, carrierHeard, carrierLost, handTakes, handGives, Happened, heard, signal, operator, offHook, Deed, carrierOn, carrierOff, acknowledge, ringBack, unable, dial, releaseLine, Mode}
 use Rattle.rules.specs.Heard.{Heard, callRequest, dataRequest, bq, workingCall, endOfCall, nothing, meaning}
 use Rattle.rules.specs.Actions.{Action, does, over, Ender, theShip, theCoast}
-use Rattle.rules.specs.Station.{Kind, offered, firstRing, secondRing, acknowledged, Stage, answeredAt, dialling, answered, Dealing, Slot, free, taken, pending, busy, held, Station, setSlot, dueAfter, kindWait, replyWait, holdWait}
+use Rattle.rules.specs.Station.{Kind, offered, firstRing, secondRing, acknowledged, Stage, answeredAt, dialling, answered, Dealing, Slot, free, taken, pending, busy, held, Station, setSlot, dueAfter, kindWait, replyWait, holdWait, carrierWait}
 use Rattle.rules.specs.Requests.{Out, ignored, also, freed, lasted, endActs, coastEnd}
 use Rattle.rules.specs.Calls.{dialNow, workingKind, workingOn, agreed, bqKind, bqFor, offHookStage, offHookOn, startLoss, downOn, upOn, shipEnd, sayAgain, shipEndOn, endOn, takeOn, giveOn, offerDue, ringAgain, pendingDue, replyDue, mainOn, heardOn, happenedOn}
 use Rattle.rules.specs.Book.{Stop, Line, Place, stopOf, callOf, stopsSaid, stopsOn}
@@ -17,7 +17,11 @@ use Rattle.rules.specs.Reading.{close, withWait, withGone, pickUp, lose,
 use Rattle.rules.specs.Repeated.{Dials}
 use Rattle.rules.specs.ThreeWords.{Word, idle, ringing, lifted, wordOf}
 use Rattle.rules.specs.Statement.{deedsOf, chargesOf, owed}
-use Rattle.rules.proofs.Base.{saidOf, view, silence-is}
+use Rattle.rules.specs.Sound.{fits, stageFits, lossFits, slotFits}
+use Rattle.rules.proofs.Base.{saidOf, view, silence-is, new-wait}
+use Rattle.rules.proofs.PlaceLaws.{and-true}
+use borrow.Author.Tests.{le-leb}
+use native.Mathlib.Omega.{arith}
 
 -- ── what a slot can do, and the actions with it, at the time t ───────────────
 
@@ -128,6 +132,21 @@ move-about ps i t _ _ _ (to-repeat r n d) h = (refl, (refl, tt))
 move-about ps i t _ _ _ (to-run-out r n d) h = tt
 move-about ps i t _ _ _ to-take h = tt
 move-about ps i t _ _ _ to-give h = tt
+
+down-fits : (t : ℕ) (g : Stage) (m : Mode) (c : Option ℕ) → stageFits t g ≡ true → lossFits t m c ≡ true → (stageFits t g && lossFits t m (startLoss t m c)) ≡ true
+down-fits t g m none h k = rw h (new-wait t (carrierWait m))
+down-fits t g m (some d) h k = rw h k
+
+-- what the slot becomes fits the clock
+pub turned-fits : (i t : ℕ) (p q : Slot) (acts : List Action) → Move i t p (becomes q) acts → slotFits t p ≡ true → slotFits t q ≡ true
+turned-fits i t _ _ _ (to-dial k r d z) h = rw (new-wait t replyWait) refl
+turned-fits i t _ _ _ (to-agree k r d) h = new-wait t (kindWait acknowledged)
+turned-fits i t _ _ _ (to-ring r d) h = new-wait t (kindWait secondRing)
+turned-fits i t _ _ _ (to-answer r d c) h = rw (le-leb t t (omega arith)) (and-true (fits t replyWait d) (lossFits t (r .request .mode) c) h .1)
+turned-fits i t _ _ _ (to-lose r g c) h = let f = and-true (stageFits t g) (lossFits t (r .request .mode) c) h in down-fits t g (r .request .mode) c (f .0) (f .1)
+turned-fits i t _ _ _ (to-regain r g c) h = rw (and-true (stageFits t g) (lossFits t (r .request .mode) c) h .0) refl
+turned-fits i t _ _ _ (to-hold r g c) h = new-wait t holdWait
+turned-fits i t _ _ _ to-take h = refl
 
 -- ── the outcome ──────────────────────────────────────────────────────────────
 

@@ -10,13 +10,13 @@ use native.Mathlib.Omega.{arith}
 use Rattle.rules.specs.Places.{modAt, shift, lowest}
 use Rattle.rules.specs.Words.{Party, is, Request}
 use Rattle.rules.specs.Actions.{theCoast, Action}
-use Rattle.rules.specs.Station.{dealing, offered, firstRing, Slot, free, taken, pending, busy, held, Waiting, Station, theSlot, setSlot, setQueue, dueAfter, queueWait, kindWait}
-use Rattle.rules.specs.Requests.{Out, done, ignored, also, rungBack, freedFor, freed, endActs, coastEnd, waitsFor, afresh, ruleD, offer, ruleF, ruleG, isFree, eToG, newcomer}
+use Rattle.rules.specs.Station.{Slot, Waiting, Station, theSlot, setSlot, setQueue, dueAfter, queueWait}
+use Rattle.rules.specs.Requests.{Out, done, ignored, also, rungBack, freedFor, freed, endActs, coastEnd, waitsFor, afresh, ruleD, offer, ruleF, ruleG, isFree, eToG, newcomer, ringOf, offerOf}
 use Rattle.rules.specs.Book.{Stop, Line, Place, Book, blank, atLine, stopOf}
 use Rattle.rules.specs.Reading.{tell, rungUp, letGo, hush, leave, join, reads}
 use Rattle.rules.specs.Statement.{deedsOf, chargesOf, owed}
-use Rattle.rules.proofs.PlaceLaws.{modAt-modAt, modAt-map, lowest-is, shift-some, shift-none}
-use Rattle.rules.proofs.Base.{callIn, view, place, seen, is-same, is-true, deeds-append, charges-append, reads-append, atLine², moves}
+use Rattle.rules.proofs.PlaceLaws.{modAt-modAt, shift-some, shift-none}
+use Rattle.rules.proofs.Base.{callIn, view, place, seen, is-same, is-true, deeds-append, charges-append, reads-append, atLine², moves, free-is, slot-set, slot-lowest}
 use Rattle.rules.specs.Sound.{queueRoom}
 
 -- ── what is shown of a piece ─────────────────────────────────────────────────
@@ -54,7 +54,7 @@ book-is p q r = λ k. record { now = p k; lines = q k; places = r k }
 -- two readings of one slot, one after the other
 pub lines² : (i : ℕ) (st : Station) (p : Slot) → theSlot st i ≡ p → (f g : Line → Line) (q : Slot) → g (f (view p)) ≡ view q
     → modAt g i (modAt f i (map view (st .slots))) ≡ map view (modAt (λ x. q) i (st .slots))
-lines² i st p e f g q h = modAt-modAt f g i (map view (st .slots)) ∙ modAt-map view (λ l. g (f l)) q free i (st .slots) (rw e h)
+lines² i st p e f g q h = modAt-modAt f g i (map view (st .slots)) ∙ slot-set st view (λ l. g (f l)) q i (rw e h)
 
 pub atLine³ : (i : ℕ) (f g h : Line → Line) (b : Book) → atLine i h (atLine i g (atLine i f b)) ≡ atLine i (λ l. h (g (f l))) b
 atLine³ i f g h b = ap (atLine i h) (atLine² i f g b) ∙ atLine² i (λ l. g (f l)) h b
@@ -67,9 +67,9 @@ leave-first x p ps h = rw (is-same x (p .who) (sym h))
 freedFor-good : (i : ℕ) (st : Station) (p : Slot) → theSlot st i ≡ p → (q : List Waiting) → st .queue ≡ q
     → (f : Line → Line) → f (view p) ≡ blank → Good (st .clock) (atLine i f (seen st)) [] (freedFor i st q)
 unfolding freedFor rungBack reads seen setSlot setQueue
-freedFor-good i st p e [] eq f h = record { reading = moves i st p e f free h; charging = refl }
+freedFor-good i st p e [] eq f h = record { reading = moves i st p e f _ h; charging = refl }
 freedFor-good i st p e (w ∷ q) eq f h = record {
-  reading = book-is refl (lines² i st p e f (rungUp (st .clock) (w .request)) (pending firstRing (dealing (w .request)) (dueAfter (st .clock) (kindWait firstRing))) (ap (rungUp (st .clock) (w .request)) h)) (rw eq (leave-first (w .request .who) (place w) (map place q) refl));
+  reading = book-is refl (lines² i st p e f (rungUp (st .clock) (w .request)) (ringOf (w .request) st) (ap (rungUp (st .clock) (w .request)) h)) (rw eq (leave-first (w .request .who) (place w) (map place q) refl));
   charging = refl;
 }
 
@@ -86,13 +86,6 @@ coastEnd-good i r none st p e f h = good-also (st .clock) (atLine i f (seen st))
 coastEnd-good i r (some b) st p e f h = good-also (st .clock) (atLine i f (seen st)) (atLine i (λ l. hush (letGo (f l))) (seen st)) (stopOf (st .clock) i (callIn r (some b))) [] (endActs i theCoast r (some b) (st .clock)) (freed i st) (atLine³ i f letGo hush (seen st)) refl (freed-good i st p e (λ l. hush (letGo (f l))) h)
 
 -- ── rules d to g ─────────────────────────────────────────────────────────────
-
-pub free-is : (s : Slot) → isFree s ≡ true → s ≡ free
-free-is free h = refl
-free-is taken h = cc
-free-is (pending k r d) h = cc
-free-is (busy r g c) h = cc
-free-is (held r n d) h = cc
 
 abbrev renewed : Request → Waiting → Waiting
 renewed r w = record { request = r; due = w .due }
@@ -122,7 +115,7 @@ join-new t r (w ∷ q) h = go (is (r .who) (w .request .who)) refl (λ e. join-n
 
 eToG-good : (st : Station) (r : Request) (o : Option ℕ) → lowest isFree (st .slots) ≡ o → lowest (waitsFor (r .who)) (st .queue) ≡ none → Good (st .clock) (seen st) [] (eToG st r o)
 unfolding eToG offer afresh ruleF ruleG reads seen setQueue setSlot
-eToG-good st r (some i) h w = record { reading = moves i st free (free-is _ (lowest-is free isFree (st .slots) i h)) (tell (st .clock) r) (pending offered (dealing r) (dueAfter (st .clock) (kindWait offered))) refl; charging = refl }
+eToG-good st r (some i) h w = record { reading = moves i st _ (free-is _ (slot-lowest st isFree i h)) (tell (st .clock) r) (offerOf r st) refl; charging = refl }
 eToG-good st r none h w = good-if _ _ _ (ltb (length (st .queue)) queueRoom) (ruleF st r) (ruleG st r) (λ e. record { reading = book-is refl refl (join-new (st .clock) r (st .queue) w); charging = refl }) (λ e. record { reading = refl; charging = refl })
 
 pub newcomer-good : (st : Station) (r : Request) → lowest (waitsFor (r .who)) (st .queue) ≡ none → Good (st .clock) (seen st) [] (newcomer st r)

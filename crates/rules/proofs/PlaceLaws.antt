@@ -3,7 +3,7 @@ use mathlib.Core.Path.{_≡_, refl, ap}
 use mathlib.Core.List.{List, [], _∷_, _++_, map}
 use mathlib.Core.Bool.{Bool, true, false, cond, _&&_, _||_}
 use mathlib.Core.Option.{Option, none, some}
-use Prim.Native.Nat.{ℕ, zero, suc, _≤_}
+use Prim.Native.Nat.{ℕ, zero, suc, _≤_, _<_}
 use native.Mathlib.Omega.{arith}
 use lib.Dec.{eqb}
 use lib.ListN.{getD, length}
@@ -37,6 +37,11 @@ modAt-same v g d i [] h = refl
 modAt-same v g d zero (x ∷ xs) h = ap (λ y. y ∷ map v xs) h
 modAt-same v g d (suc i) (x ∷ xs) h = ap (λ r. v x ∷ r) (modAt-same v g d i xs h)
 
+pub modAt-none : {A : Type 0} (i : ℕ) (l : List A) → l ≡ modAt (λ x. x) i l
+modAt-none i [] = refl
+modAt-none zero (x ∷ l) = refl
+modAt-none (suc i) (x ∷ l) = ap (λ r. x ∷ r) (modAt-none i l)
+
 pub modAt-length : {A : Type 0} (f : A → A) (i : ℕ) (l : List A) → length (modAt f i l) ≡ length l
 modAt-length f i [] = refl
 modAt-length f zero (x ∷ l) = refl
@@ -52,6 +57,15 @@ lowest-is d p (s ∷ ss) i h = go (p s) refl (lowest p ss) refl (λ j. lowest-is
     go true e o eo ih k = let z : zero ≡ i = cc in rw (← z) e
     go false e none eo ih k = cc
     go false e (some j) eo ih k = let z : suc j ≡ i = cc in rw (← z) (ih j eo)
+
+pub lowest-there : {A : Type 0} (p : A → Bool) (l : List A) (i : ℕ) → lowest p l ≡ some i → i < length l
+lowest-there p [] i h = let q : _≡_ {A = ℕ} 0 1 = cc in absurd (omega (arith, q))
+lowest-there p (x ∷ l) i h = go (p x) (lowest p l) refl (λ j. lowest-there p l j) h
+  where
+    go : (b : Bool) (o : Option ℕ) → lowest p l ≡ o → ((j : ℕ) → lowest p l ≡ some j → j < length l) → cond b (some zero) (shift o) ≡ some i → i < suc (length l)
+    go true o e ih k = let y : zero ≡ i = cc in omega arith
+    go false none e ih k = let q : _≡_ {A = ℕ} 0 1 = cc in absurd (omega (arith, q))
+    go false (some j) e ih k = let y : suc j ≡ i = cc in let z = ih j e in omega arith
 
 pub shift-some : (o : Option ℕ) (k : ℕ) → shift o ≡ some (suc k) → o ≡ some k
 shift-some none k h = cc

@@ -6,26 +6,27 @@ use mathlib.Core.Option.{Option, none, some}
 use Prim.Native.Nat.{ℕ, zero, suc, _+_, _≤_}
 use native.Mathlib.Omega.{arith}
 use lib.Dec.{ltb}
-use lib.ListN.{length, replicate}
+use lib.ListN.{length}
 use Rattle.rules.specs.Places.{modAt, shift, lowest, Each}
-use Rattle.rules.specs.Words.{Party, is, Request, Config, What, tick, onChannel70, onSlot, Event, Deed}
-use Rattle.rules.specs.Heard.{Heard, callRequest, dataRequest, bq, workingCall, endOfCall, nothing, meaning}
-use Rattle.rules.specs.Station.{Slot, free, Waiting, Station, theSlot, fresh, setSlot, setClock, setQueue, dueAfter, queueWait, fires, answeredAt}
-use Rattle.rules.specs.Requests.{Out, also, rungBack, freedFor, freed, coastEnd, owns, waitsFor, slotOf, placeOf, standsAt, standing, ruleA, repeated, afresh, ruleD, offer, ruleF, ruleG, isFree, eToG, newcomer, dToG, redial, requested}
-use Rattle.rules.specs.Calls.{heardOn70, actAt, act}
+use Rattle.rules.specs.Words.{Party, is, Request, Config, What, Event, Deed}
+use Rattle.rules.specs.Heard.{Heard, callRequest, nothing}
+use Rattle.rules.specs.Station.{Slot, Waiting, Station, theSlot, fresh, setSlot, setClock, setQueue, dueAfter, queueWait, answeredAt}
+use Rattle.rules.specs.Requests.{Out, also, rungBack, freedFor, freed, coastEnd, owns, waitsFor, slotOf, placeOf, standsAt, standing, ruleA, repeated, afresh, ruleD, offer, ruleF, ruleG, isFree, eToG, newcomer, dToG, redial, requested, offerOf}
+use Rattle.rules.specs.Calls.{actAt, act}
 use Rattle.rules.specs.Verdict.{verdict, play}
 use Rattle.rules.specs.Book.{Note, Stop, Book, blankBook}
 use Rattle.rules.specs.Reading.{read, reads, turn, readAll}
 use Rattle.rules.specs.Repeated.{heardAt, heardIn, toldToWait, lastAsked, Repeats, switchedOn, EachRead}
 use Rattle.rules.specs.Statement.{deedsOf, notes, AnswersRepeat, SecondRingRepeats, DialsAsked}
-use Rattle.rules.proofs.PlaceLaws.{shift-some, lowest-is, each-append}
-use Rattle.rules.proofs.Base.{view, seen, is-same, deeds-append}
+use Rattle.rules.specs.ThreeWords.{Word}
+use Rattle.rules.proofs.PlaceLaws.{shift-some, each-append}
+use Rattle.rules.proofs.Base.{view, seen, is-same, deeds-append, slot-lowest, fresh-each}
 use Rattle.rules.proofs.Accepted.{accepted, sounds}
 use Rattle.rules.proofs.Run.{noteOf, turn-is, play-on, play-past, fresh-seen}
 use Rattle.rules.proofs.Once.{bit, countS, countQ, Once, distinct-once, none-count, waiting-count, coastEnd-gone}
-use Rattle.rules.proofs.Outcome.{bq-outcome, happened-outcome}
-use Rattle.rules.proofs.Ruling.{offerOf, Ruling, passes, repeats, renews, redials, bOrC-ruling}
-use Rattle.rules.proofs.Calm.{Asked, Rung, Known, Fits, Calm, still, set-known, told-append, fits-append, coastEnd-calm, outcome-calm, clock-known, tick-calm}
+use Rattle.rules.proofs.Ruling.{Ruling, passes, repeats, renews, redials, bOrC-ruling}
+use Rattle.rules.proofs.Calm.{Asked, Rung, Known, Fits, Calm, still, set-known, told-append, fits-append, coastEnd-calm, outcome-calm, clock-known, drop-calm}
+use Rattle.rules.proofs.Effect.{Effect, rests, drops, data-asked, call-asked, to-slot, act-effect}
 
 -- what each ship last asked for, once the deeds are done
 abbrev told : Heard → (Party → Heard) → List Deed → Party → Heard
@@ -163,25 +164,22 @@ module _ (r : Request) (a : Party → Heard) (b : Book) (st : Station) (k : Know
   unfolding requested
   request-said none none e h = newcomer-said r a b st k (none-count (r .who) (st .slots) e) h
   request-said none (some j) e h = ruleD-said r a b st k (none-count (r .who) (st .slots) e) j h waits-once
-  request-said (some i) q e h = ruling-said i _ (theSlot st i) _ (bOrC-ruling i st r (theSlot st i)) refl (lowest-is free (owns (r .who)) (st .slots) i e)
+  request-said (some i) q e h = ruling-said i _ (theSlot st i) _ (bOrC-ruling i st r (theSlot st i)) refl (slot-lowest st (owns (r .who)) i e)
 
 -- ── any event ────────────────────────────────────────────────────────────────
 
 module _ (a : Party → Heard) where
-  heard-said : (b : Book) (st : Station) → b .lines ≡ map view (st .slots) → Known a st → Once st → (m : Heard) → Said m a b (heardOn70 st m)
-  unfolding heardOn70 ruleA standing
-  heard-said b st v k once (callRequest r) = request-said r a b st k once (slotOf (r .who) st) (placeOf (r .who) st) refl refl
-  heard-said b st v k once (dataRequest x n) = calm-said _ a b _ (record { mild = record { repeats = ((refl, refl), tt); fits = λ t on. ((tt, tt), tt); untold = λ x. refl }; known = k })
-  heard-said b st v k once (bq i x) = calm-said _ a b _ (outcome-calm (bq i x) a b i st k v (bq-outcome i st x (theSlot st i)))
-  heard-said b st v k once (workingCall x) = calm-said _ a b _ (still (workingCall x) a b 1 st k)
-  heard-said b st v k once (endOfCall x) = calm-said _ a b _ (still (endOfCall x) a b 1 st k)
-  heard-said b st v k once nothing = calm-said _ a b _ (still nothing a b 1 st k)
+  effect-said : (k : Book) (st : Station) → k .lines ≡ map view (st .slots) → Known a st → Once st → (b : Book) (ws : List Word) (cs : List Stop) (m : Heard) (o : Out) → Effect st b ws cs m o → Said m a k o
+  unfolding ruleA standing
+  effect-said k st v n once _ _ _ _ _ (rests m j h) = calm-said _ a k _ (still m a k j st n)
+  effect-said k st v n once _ _ _ _ _ (drops j) = calm-said _ a k _ (drop-calm nothing a k st n j)
+  effect-said k st v n once _ _ _ _ _ (data-asked x d) = calm-said _ a k _ (record { mild = record { repeats = ((refl, refl), tt); fits = λ t on. ((tt, tt), tt); untold = λ x. refl }; known = n })
+  effect-said k st v n once _ _ _ _ _ (call-asked r) = request-said r a k st n once (slotOf (r .who) st) (placeOf (r .who) st) refl refl
+  effect-said k st v n once _ _ _ _ _ (to-slot m i u e) = calm-said _ a k _ (outcome-calm m a k i st n v u)
 
   act-said : (cfg : Config) (st : Station) → Known a st → Once st → (t : ℕ) (w : What) → Said (heardAt cfg w) a (seen st) (actAt cfg st t w)
-  unfolding actAt setClock seen
-  act-said cfg st k once t tick = calm-said _ a (seen st) _ (tick-calm nothing a (seen st) st refl k t (fires t st))
-  act-said cfg st k once t (onChannel70 m) = heard-said (seen st) (setClock t st) refl (clock-known a t st k) once (meaning cfg m)
-  act-said cfg st k once t (onSlot i h) = calm-said _ a (seen st) _ (outcome-calm nothing a (seen st) i (setClock t st) (clock-known a t st k) refl (happened-outcome i (setClock t st) cfg (theSlot st i) h))
+  unfolding setClock seen
+  act-said cfg st k once t w = effect-said (seen st) _ refl (clock-known a _ st k) once _ _ _ _ _ (act-effect cfg st t w)
 
 -- ── the run ──────────────────────────────────────────────────────────────────
 
@@ -219,13 +217,9 @@ run-answered cfg (e ∷ es) a st k = go (verdict cfg st e) refl (λ c s. run-ans
         rw (play-on cfg e es st v) (one-more cfg a (seen st) n rest (record { repeats = s .repeats; fits = s .fits }) (rw (turn-is cfg st e v) (ih (told (heardIn cfg n) a (n .deeds)) (act cfg st e .next) (s .known))))
     go (some n) v ih = rw (play-past cfg e es st n v) (ih a st k)
 
-no-rings : (a : Party → Heard) (n : ℕ) → Each (Rung a) (replicate n free)
-no-rings a zero = tt
-no-rings a (suc n) = (λ r d x. cc, no-rings a n)
-
 all-answered : (cfg : Config) (es : List Event) → AllAnswered cfg (λ x. nothing) (blankBook cfg) (notes (play cfg es (fresh cfg)))
 unfolding fresh
-all-answered cfg es = rw (← (fresh-seen cfg)) (run-answered cfg es (λ x. nothing) (fresh cfg) (record { waiting = tt; ringing = no-rings (λ x. nothing) (length (cfg .channels)) }))
+all-answered cfg es = rw (← (fresh-seen cfg)) (run-answered cfg es (λ x. nothing) (fresh cfg) (record { waiting = tt; ringing = fresh-each cfg (Rung (λ x. nothing)) (λ r d x. cc) }))
 
 -- every acknowledgement and every ring-back repeats what was asked
 pub answers-repeat : AnswersRepeat

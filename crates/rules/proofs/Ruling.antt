@@ -5,16 +5,12 @@ use mathlib.Core.Bool.{Bool, true, false, cond}
 use mathlib.Core.Option.{Option, none, some}
 use Prim.Native.Nat.{ℕ}
 use Rattle.rules.specs.Words.{Party, Mode, simplex, duplex, Request}
-use Rattle.rules.specs.Station.{Kind, offered, firstRing, secondRing, acknowledged, Stage, answeredAt, dialling, answered, Dealing, dealing, Slot, free, taken, pending, busy, held, Station, dueAfter, kindWait}
-use Rattle.rules.specs.Requests.{Out, ignored, owns, repeated, afresh, same, ruleB, redial, ruleC, bOrC}
+use Rattle.rules.specs.Station.{Kind, offered, firstRing, secondRing, acknowledged, Stage, answeredAt, dialling, answered, Dealing, Slot, free, taken, pending, busy, held, Station}
+use Rattle.rules.specs.Requests.{Out, ignored, owns, repeated, afresh, same, ruleB, redial, ruleC, bOrC, offerOf}
 use Rattle.rules.specs.Book.{Stop, Line, blank, stopOf, askedAgain}
 use Rattle.rules.specs.Reading.{again, tell, letGo, hush}
 use Rattle.rules.specs.Statement.{owed}
 use Rattle.rules.proofs.Base.{callIn, view, alike-same}
-
--- the slot of an offer
-abbrev pub offerOf : Request → Station → Slot
-offerOf r st = pending offered (dealing r) (dueAfter (st .clock) (kindWait offered))
 
 -- what the request stops on the slot's line
 abbrev pub againOf : ℕ → Party → ℕ → Line → List Stop

@@ -4,73 +4,58 @@ use mathlib.Core.List.{List, [], _∷_, map}
 use mathlib.Core.Bool.{true}
 use mathlib.Core.Option.{Option, none, some}
 use Prim.Native.Nat.{ℕ, zero, suc}
-use lib.ListN.{length, replicate}
 use Rattle.rules.specs.Places.{dropAt, distinct}
-use Rattle.rules.specs.Words.{is, Config, What, tick, onChannel70, onSlot, Event}
-use Rattle.rules.specs.Waits.{Wait, ofQueue, loss, main, Due}
-use Rattle.rules.specs.Heard.{Heard, callRequest, dataRequest, bq, workingCall, endOfCall, nothing, meaning}
+use Rattle.rules.specs.Words.{is, Config, What, Event}
+use Rattle.rules.specs.Heard.{Heard}
 use Rattle.rules.specs.Actions.{Action}
-use Rattle.rules.specs.Station.{free, Waiting, Station, theSlot, fresh, setClock, setQueue, fires}
+use Rattle.rules.specs.Station.{Waiting, Station, theSlot, fresh, setClock, setQueue}
 use Rattle.rules.specs.Sound.{owners}
-use Rattle.rules.specs.Requests.{Out, slotOf, placeOf, standing, ruleA}
-use Rattle.rules.specs.Calls.{fire, ticked, heardOn70, actAt, act}
+use Rattle.rules.specs.Requests.{Out, slotOf, placeOf, standing, ruleA, owns}
+use Rattle.rules.specs.Calls.{actAt, act}
 use Rattle.rules.specs.Verdict.{verdict, step, play, final}
-use Rattle.rules.specs.Book.{Note, Stop, Line, Place, atLine, blank, blankBook, fallsAt, momentOf, stopsDue, stopsHeard, stopsAt}
-use Rattle.rules.specs.Reading.{hearHeard, hearDue, hear, reads, setNow, turn, stopsIn, Numbered, numbered, stops}
+use Rattle.rules.specs.Book.{Note, Stop, Line, Place, atLine, blankBook, fallsAt, momentOf, stopsAt, Book}
+use Rattle.rules.specs.Reading.{hear, reads, setNow, turn, stopsIn, Numbered, numbered, stops}
 use Rattle.rules.specs.ThreeWords.{Word}
 use Rattle.rules.specs.Statement.{deedsOf, chargesOf, notes, charged, owed, owedFor, ChargesAreStops, RefusedLeavesAll, Accepts, eventsOf, AllPlayed}
-use Rattle.rules.proofs.Base.{view, place, seen, is-same, falls-fires, line-is}
-use Rattle.rules.proofs.Pieces.{Good, good-ignored, good-done}
-use Rattle.rules.proofs.Outcome.{Apart, Outcome, end-outcome, bq-outcome, main-outcome, happened-outcome}
+use Rattle.rules.proofs.Base.{view, place, seen, is-same, fresh-mapped}
+use Rattle.rules.proofs.Pieces.{Good, good-done}
+use Rattle.rules.proofs.Outcome.{Apart, Outcome}
 use Rattle.rules.proofs.OneSlot.{leave-none, outcome-good}
 use Rattle.rules.proofs.Asked.{request-good}
 use Rattle.rules.proofs.Accepted.{accepted, Sound, sounds, elem-waiting, owner-apart}
+use Rattle.rules.proofs.Effect.{Effect, rests, drops, data-asked, call-asked, to-slot, act-effect}
 
 -- ── a slot of a station in which no ship stands twice ─────────────────────────
 
 module _ (st : Station) (once : distinct is (owners (st .slots) (map (λ w. w .request .who) (st .queue))) ≡ true) (i : ℕ) where
   apart : Apart (map place (st .queue)) (theSlot st i)
-  apart k r d e = leave-none (r .request .who) (st .queue) (elem-waiting (r .request .who) (st .queue) (owner-apart (r .request .who) (st .slots) (map (λ w. w .request .who) (st .queue)) i once (rw e (is-same (r .request .who) (r .request .who) refl))))
+  apart k r d e =
+      let x = r .request .who in
+      let h : owns x (theSlot st i) ≡ true = rw e (is-same x x refl) in
+      leave-none x (st .queue) (elem-waiting x (st .queue) (owner-apart x _ (st .slots) (map (λ w. w .request .who) (st .queue)) i once h refl))
 
   slot-good : {f : Line → Line} {w : Word → Word} {cs : List Stop} {o : Out} → Outcome i st f w cs (theSlot st i) o → Good (st .clock) (atLine i f (seen st)) cs o
   slot-good u = outcome-good i st (theSlot st i) refl u apart
-
--- ── a tick ───────────────────────────────────────────────────────────────────
 
 dropAt-map : (k : ℕ) (q : List Waiting) → dropAt k (map place q) ≡ map place (dropAt k q)
 dropAt-map k [] = refl
 dropAt-map zero (w ∷ q) = refl
 dropAt-map (suc k) (w ∷ q) = ap (λ z. place w ∷ z) (dropAt-map k q)
 
-fire-good : (cfg : Config) (st : Station) → Sound cfg st → (w : Wait) (d : ℕ)
-    → Good d (hearDue (setNow d (seen st)) (some record { what = w; at = d })) (stopsDue d (seen st) (some record { what = w; at = d })) (fire (setClock d st) w)
-unfolding fire setClock setQueue seen
-fire-good cfg st s (ofQueue k) d = good-done (setQueue (dropAt k (st .queue)) (setClock d st)) _ (ap (λ (z : List Place). record { now = d; lines = map view (st .slots); places = z }) (dropAt-map k (st .queue)))
-fire-good cfg st s (loss i) d = rw (line-is i st (theSlot st i) refl) (slot-good (setClock d st) (s .no-twice) i (end-outcome i (setClock d st) (theSlot st i)))
-fire-good cfg st s (main i) d = slot-good (setClock d st) (s .no-twice) i (main-outcome i (setClock d st) (theSlot st i))
-
-tick-good : (cfg : Config) (st : Station) → Sound cfg st → (t : ℕ) (o : Option Due) → Good (momentOf t o) (hearDue (setNow (momentOf t o) (seen st)) o) (stopsDue (momentOf t o) (seen st) o) (ticked st t o)
-unfolding ticked setClock seen
-tick-good cfg st s t none = good-done (setClock t st) _ refl
-tick-good cfg st s t (some p) = fire-good cfg st s (p .what) (p .at)
-
 -- ── any event ────────────────────────────────────────────────────────────────
 
-heard-good : (st : Station) → distinct is (owners (st .slots) (map (λ w. w .request .who) (st .queue))) ≡ true → (h : Heard) → Good (st .clock) (hearHeard (st .clock) h (seen st)) (stopsHeard (st .clock) (seen st .lines) h) (heardOn70 st h)
-unfolding heardOn70 ruleA standing seen reads
-heard-good st s (callRequest r) = request-good st r (map (λ w. w .request .who) (st .queue)) s (slotOf (r .who) st) (placeOf (r .who) st) refl refl
-heard-good st s (dataRequest x n) = record { reading = refl; charging = refl }
-heard-good st s (bq i x) = slot-good st s i (bq-outcome i st x (theSlot st i))
-heard-good st s (workingCall x) = good-ignored st _ refl
-heard-good st s (endOfCall x) = good-ignored st _ refl
-heard-good st s nothing = good-ignored st _ refl
+effect-good : (st : Station) → distinct is (owners (st .slots) (map (λ w. w .request .who) (st .queue))) ≡ true → (b : Book) (ws : List Word) (cs : List Stop) (m : Heard) (o : Out) → Effect st b ws cs m o → Good (st .clock) b cs o
+unfolding ruleA standing seen setQueue reads
+effect-good st s _ _ _ _ _ (rests m n h) = record { reading = refl; charging = refl }
+effect-good st s _ _ _ _ _ (drops k) = good-done (setQueue (dropAt k (st .queue)) st) _ (ap (λ (z : List Place). record { now = st .clock; lines = map view (st .slots); places = z }) (dropAt-map k (st .queue)))
+effect-good st s _ _ _ _ _ (data-asked x n) = record { reading = refl; charging = refl }
+effect-good st s _ _ _ _ _ (call-asked r) = request-good st r (map (λ w. w .request .who) (st .queue)) s (slotOf (r .who) st) (placeOf (r .who) st) refl refl
+effect-good st s _ _ _ _ _ (to-slot m i u e) = slot-good st s i u
 
 pub event-good : (cfg : Config) (st : Station) → Sound cfg st → (t : ℕ) (w : What)
     → Good (momentOf t (fallsAt (seen st) t w)) (hear cfg (momentOf t (fallsAt (seen st) t w)) (fallsAt (seen st) t w) w (setNow (momentOf t (fallsAt (seen st) t w)) (seen st))) (stopsAt cfg (momentOf t (fallsAt (seen st) t w)) (seen st) (fallsAt (seen st) t w) w) (actAt cfg st t w)
-unfolding actAt seen setClock
-event-good cfg st s t tick = rw (falls-fires t st) (tick-good cfg st s t (fires t st))
-event-good cfg st s t (onChannel70 m) = heard-good (setClock t st) (s .no-twice) (meaning cfg m)
-event-good cfg st s t (onSlot i h) = rw (line-is i st (theSlot st i) refl) (slot-good (setClock t st) (s .no-twice) i (happened-outcome i (setClock t st) cfg (theSlot st i) h))
+unfolding seen setClock
+event-good cfg st s t w = effect-good (setClock (momentOf t (fallsAt (seen st) t w)) st) (s .no-twice) _ _ _ _ _ (act-effect cfg st t w)
 
 -- ── the run ──────────────────────────────────────────────────────────────────
 
@@ -114,13 +99,9 @@ run-charges cfg (e ∷ es) k st = go (verdict cfg st e) refl (λ k s. run-charge
     go none h ih = rw (play-on cfg e es st h, turn-is cfg st e h, stops-are cfg st e h, ih (suc k) (act cfg st e .next)) (owed-numbered k (stopsIn cfg (seen st) (noteOf e (act cfg st e .acts))) (stops cfg (suc k) (notes (play cfg es (act cfg st e .next))) (seen (act cfg st e .next))))
     go (some n) h ih = rw (play-past cfg e es st n h) (ih k st)
 
-fresh-lines : (n : ℕ) → map view (replicate n free) ≡ replicate n blank
-fresh-lines zero = refl
-fresh-lines (suc n) = ap (λ z. blank ∷ z) (fresh-lines n)
-
 pub fresh-seen : (cfg : Config) → seen (fresh cfg) ≡ blankBook cfg
 unfolding seen fresh blankBook
-fresh-seen cfg = ap (λ (z : List Line). record { now = 0; lines = z; places = [] }) (fresh-lines (length (cfg .channels)))
+fresh-seen cfg = ap (λ (z : List Line). record { now = 0; lines = z; places = [] }) (fresh-mapped cfg view)
 
 -- the charges given are the stops that the list shows, in order, each in its entry
 pub charges-are-stops : ChargesAreStops

@@ -3,19 +3,22 @@ use mathlib.Core.Path.{_≡_, refl, sym, ap, _∙_}
 use mathlib.Core.Option.{Option, none, some}
 use mathlib.Core.List.{List, [], _∷_, _++_, map}
 use mathlib.Core.Bool.{Bool, true, false, cond}
-use Prim.Native.Nat.{ℕ, zero, suc}
-use lib.ListN.{getD}
+use Prim.Native.Nat.{ℕ, zero, suc, _<_}
+use lib.ListN.{getD, length}
+use lib.Dec.{eqb}
 use Rattle.rules.specs.Places.{modAt, Each}
 use Rattle.rules.specs.Words.{Request, Deed, carrierOn, carrierOff, acknowledge, ringBack, unable, dial, releaseLine}
 use Rattle.rules.specs.Actions.{theCoast, Action}
-use Rattle.rules.specs.Station.{dealing, firstRing, Slot, free, pending, Waiting, Station, theSlot, setSlot, setQueue, dueAfter, kindWait}
-use Rattle.rules.specs.Requests.{Out, done, ignored, also, rungBack, freedFor, freed, endActs, coastEnd}
+use Rattle.rules.specs.Station.{Slot, Waiting, Station, theSlot, setSlot, setQueue}
+use Rattle.rules.specs.Requests.{Out, done, ignored, also, rungBack, freedFor, freed, endActs, coastEnd, ringOf}
 use Rattle.rules.specs.Book.{Stop, Line}
 use Rattle.rules.specs.ThreeWords.{Word, idle, ringing}
 use Rattle.rules.specs.Statement.{deedsOf}
-use Rattle.rules.proofs.PlaceLaws.{modAt-modAt, modAt-map, modAt-same}
-use Rattle.rules.proofs.Base.{deeds-append}
+use Rattle.rules.proofs.PlaceLaws.{modAt-modAt, modAt-none}
+use Rattle.rules.proofs.Base.{deeds-append, slot-set, slot-stays}
 use Rattle.rules.proofs.Outcome.{Next, stays, becomes, frees, played, leaves, word, allDone, About, move-about, Outcome, passed, moved}
+use borrow.Author.Tests.{eqb-true, eqb-false}
+use native.Mathlib.Omega.{arith}
 
 -- ── all slots at once ────────────────────────────────────────────────────────
 
@@ -64,10 +67,25 @@ same-word a b i [] h = refl
 same-word a b zero (s ∷ l) h = ap (λ w. w ∷ map word l) h
 same-word a b (suc i) (s ∷ l) h = ap (λ r. word s ∷ r) (same-word a b i l h)
 
-keep-word : (q : Slot) (i : ℕ) (l : List Slot) → word (getD l i free) ≡ word q → map word l ≡ map word (modAt (λ x. q) i l)
-keep-word q i [] h = refl
-keep-word q zero (s ∷ l) h = ap (λ w. w ∷ map word l) h
-keep-word q (suc i) (s ∷ l) h = ap (λ r. word s ∷ r) (keep-word q i l h)
+-- one of them
+at-place : (f : Word → Word) (i : ℕ) (ws : List Word) → i < length ws → getD (modAt f i ws) i idle ≡ f (getD ws i idle)
+at-place f i [] h = absurd (omega arith)
+at-place f zero (w ∷ ws) h = refl
+at-place f (suc i) (w ∷ ws) h = at-place f i ws (omega arith)
+
+elsewhere : (f : Word → Word) (i j : ℕ) (ws : List Word) → (i ≡ j → ⊥) → getD (modAt f j ws) i idle ≡ getD ws i idle
+elsewhere f i j [] h = refl
+elsewhere f zero zero (w ∷ ws) h = absurd (h refl)
+elsewhere f (suc i) zero (w ∷ ws) h = refl
+elsewhere f zero (suc j) (w ∷ ws) h = refl
+elsewhere f (suc i) (suc j) (w ∷ ws) h = elsewhere f i j ws (λ e. h (ap suc e))
+
+pub one-of : (f : Word → Word) (i j : ℕ) (ws : List Word) → i < length ws → cond (eqb i j) (f (getD ws i idle)) (getD ws i idle) ≡ getD (modAt f j ws) i idle
+one-of f i j ws h = go (eqb i j) refl
+  where
+    go : (b : Bool) → eqb i j ≡ b → cond b (f (getD ws i idle)) (getD ws i idle) ≡ getD (modAt f j ws) i idle
+    go true e = rw (← (eqb-true i j e)) (sym (at-place f i ws h))
+    go false e = sym (elsewhere f i j ws (eqb-false i j e))
 
 -- ── the pieces ───────────────────────────────────────────────────────────────
 
@@ -75,29 +93,29 @@ module _ (i : ℕ) (st : Station) where
   -- the slot's word becomes that of q
   turns-to : (f : Word → Word) (q : Slot) → f (word (theSlot st i)) ≡ word q → modAt f i (words st) ≡ words (setSlot i q st)
   unfolding setSlot
-  turns-to f q h = modAt-map word f q free i (st .slots) h
+  turns-to f q h = slot-set st word f q i h
 
   pub keeps : (q : Slot) → word (theSlot st i) ≡ word q → words st ≡ words (setSlot i q st)
   unfolding setSlot
-  keeps q h = keep-word q i (st .slots) h
+  keeps q h = modAt-none i (words st) ∙ turns-to (λ w. w) q h
 
   rests : (f : Word → Word) → f (word (theSlot st i)) ≡ word (theSlot st i) → modAt f i (words st) ≡ words st
-  rests f h = modAt-same word f free i (st .slots) h
+  rests f h = slot-stays st word f i h
 
-  freedFor-told : (ws : List Word) → ws ≡ words (setSlot i free st) → (q : List Waiting) → Spoken ws (freedFor i st q)
+  freedFor-told : (ws : List Word) → ws ≡ words (setSlot i (leaves (theSlot st i) frees) st) → (q : List Waiting) → Spoken ws (freedFor i st q)
   unfolding freedFor rungBack spoken setSlot setQueue
   freedFor-told ws h [] = record { telling = h }
-  freedFor-told ws h (w ∷ q) = record { telling = h ∙ same-word free (pending firstRing (dealing (w .request)) (dueAfter (st .clock) (kindWait firstRing))) i (st .slots) refl }
+  freedFor-told ws h (w ∷ q) = record { telling = h ∙ same-word (leaves (theSlot st i) frees) (ringOf (w .request) st) i (st .slots) refl }
 
-  freed-told : (ws : List Word) → ws ≡ words (setSlot i free st) → Spoken ws (freed i st)
+  freed-told : (ws : List Word) → ws ≡ words (setSlot i (leaves (theSlot st i) frees) st) → Spoken ws (freed i st)
   unfolding freed
   freed-told ws h = freedFor-told ws h (st .queue)
 
   -- the line is released
   pub coastEnd-told : (r : Request) (g : Option ℕ) → Spoken (words st) (coastEnd i r g st)
   unfolding coastEnd spoken
-  coastEnd-told r none = told-also (words st) (modAt (λ w. idle) i (words st)) (endActs i theCoast r none (st .clock)) (freed i st) refl (freed-told (modAt (λ w. idle) i (words st)) (turns-to (λ w. idle) free refl))
-  coastEnd-told r (some b) = told-also (words st) (modAt (λ w. idle) i (words st)) (endActs i theCoast r (some b) (st .clock)) (freed i st) refl (freed-told (modAt (λ w. idle) i (words st)) (turns-to (λ w. idle) free refl))
+  coastEnd-told r none = told-also (words st) (modAt (λ w. idle) i (words st)) (endActs i theCoast r none (st .clock)) (freed i st) refl (freed-told (modAt (λ w. idle) i (words st)) (turns-to (λ w. idle) _ refl))
+  coastEnd-told r (some b) = told-also (words st) (modAt (λ w. idle) i (words st)) (endActs i theCoast r (some b) (st .clock)) (freed i st) refl (freed-told (modAt (λ w. idle) i (words st)) (turns-to (λ w. idle) _ refl))
 
   -- ── whatever happens to the slot ──
   spoken-here : (ds : List Deed) (f : Word → Word) (ws : List Word) → Each (About i []) ds → spoken ds (modAt f i ws) ≡ modAt (λ w. allDone ds (f w)) i ws
@@ -114,12 +132,8 @@ module _ (i : ℕ) (st : Station) where
   played-told : (f : Word → Word) (p : Slot) (n : Next) (acts : List Action) → theSlot st i ≡ p → Each (About i []) (deedsOf acts) → allDone (deedsOf acts) (f (word p)) ≡ word (leaves p n) → Spoken (modAt f i (words st)) (played i st n acts)
   played-told f p stays acts e a h = record { telling = spoken-here (deedsOf acts) f (words st) a ∙ rests (λ w. allDone (deedsOf acts) (f w)) (rw e h) }
   played-told f p (becomes q) acts e a h = record { telling = spoken-here (deedsOf acts) f (words st) a ∙ turns-to (λ w. allDone (deedsOf acts) (f w)) q (rw e h) }
-  played-told f p frees acts e a h = told-also (modAt f i (words st)) (modAt (λ w. allDone (deedsOf acts) (f w)) i (words st)) acts (freed i st) (spoken-here (deedsOf acts) f (words st) a) (freed-told _ (turns-to (λ w. allDone (deedsOf acts) (f w)) free (rw e h)))
+  played-told f p frees acts e a h = told-also (modAt f i (words st)) (modAt (λ w. allDone (deedsOf acts) (f w)) i (words st)) acts (freed i st) (spoken-here (deedsOf acts) f (words st) a) (freed-told _ (turns-to (λ w. allDone (deedsOf acts) (f w)) _ (rw e h)))
 
   pub outcome-told : {f : Line → Line} {w : Word → Word} {cs : List Stop} {o : Out} (p : Slot) → Outcome i st f w cs p o → theSlot st i ≡ p → Spoken (modAt w i (words st)) o
   outcome-told {w = w} p (passed a b c) e = told-ignored (modAt w i (words st)) st (rests w (rw e b))
   outcome-told {w = w} p (moved {n} {acts} u a b c) e = played-told w p n acts e (move-about [] i (st .clock) p n acts u (λ k r d h. refl)) b
-
-  -- where no line is lifted
-  pub calm-told : {f : Line → Line} {cs : List Stop} {o : Out} (p : Slot) → Outcome i st f (λ w. w) cs p o → theSlot st i ≡ p → Spoken (words st) o
-  calm-told p u e = record { telling = ap (spoken _) (sym (rests (λ w. w) refl)) ∙ outcome-told p u e .telling }

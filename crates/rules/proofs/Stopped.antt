@@ -2,16 +2,14 @@
 use mathlib.Core.Path.{_≡_}
 use mathlib.Core.List.{List, [], _∷_}
 use mathlib.Core.Bool.{Bool, true, false, cond}
-use mathlib.Core.Option.{Option, none, some}
+use mathlib.Core.Option.{Option}
 use Prim.Native.Nat.{ℕ, zero, suc}
 use lib.ListN.{getD}
 use Rattle.rules.specs.Places.{all, Each}
-use Rattle.rules.specs.Words.{Party, Config, What, tick, onChannel70, onSlot}
-use Rattle.rules.specs.Waits.{Wait, ofQueue, loss, main, Due}
-use Rattle.rules.specs.Heard.{Heard, callRequest, dataRequest, bq, workingCall, endOfCall, nothing, meaning}
-use Rattle.rules.specs.Book.{Stop, Call, quiet, Line, Book, blank, line, stopOf, callOf, stopsOn, stopsDue, askedAgain, stopsAgain, stopsHeard, stopsAt}
-use Rattle.rules.specs.Reading.{hearLine}
-use Rattle.rules.proofs.Hears.{Hears, says-nothing, says-begun, says-over, says-end, line-hears}
+use Rattle.rules.specs.Words.{Party, Config, What}
+use Rattle.rules.specs.Waits.{Due}
+use Rattle.rules.specs.Book.{Stop, Call, quiet, Line, Book, blank, line, stopOf, callOf, askedAgain, stopsAgain, stopsAt}
+use Rattle.rules.proofs.Hears.{Hears, says-nothing, says-begun, says-over, says-end, Hearing, no-line, one-line, all-lines, event-hearing}
 use Rattle.rules.proofs.PlaceLaws.{and-true, each-append}
 
 -- of a stop that a call gives where it passes a test
@@ -35,21 +33,10 @@ module _ (cfg : Config) (t : ℕ) (P : Stop → Type 0) (fine : Call → Bool) (
   hears-stops i e _ _ says-over k g = one i k g
   hears-stops i e _ _ (says-end x) k g = stop-if (callOf x k) (stopOf t i k) (one i k g)
 
-  heard-stops : (ls : List Line) → all (λ l. fine (l .call)) ls ≡ true → (m : Heard) → Each P (stopsHeard t ls m)
-  heard-stops ls e (callRequest r) = again-stops (r .who) 0 ls e
-  heard-stops ls e (dataRequest x n) = tt
-  heard-stops ls e (bq i x) = tt
-  heard-stops ls e (workingCall x) = tt
-  heard-stops ls e (endOfCall x) = tt
-  heard-stops ls e nothing = tt
+  hearing-stops : (b : Book) → all (λ l. fine (l .call)) (b .lines) ≡ true → (e : What) (k : Book) (ss : List Stop) → Hearing t e b k ss → Each P ss
+  hearing-stops b a e _ _ (no-line ps) = tt
+  hearing-stops b a e _ _ (one-line i f s h) = hears-stops i e f s h (line b i .call) (at-line i (b .lines) a)
+  hearing-stops b a e _ _ (all-lines x) = again-stops x 0 (b .lines) a
 
   pub each-stop : (b : Book) → all (λ l. fine (l .call)) (b .lines) ≡ true → (o : Option Due) (w : What) → Each P (stopsAt cfg t b o w)
-  each-stop b e none tick = tt
-  each-stop b e (some p) tick = go (p .what)
-    where
-      go : (w : Wait) → Each P (stopsDue t b (some record { what = w; at = p .at }))
-      go (ofQueue k) = tt
-      go (loss i) = one i (line b i .call) (at-line i (b .lines) e)
-      go (main i) = tt
-  each-stop b e o (onChannel70 m) = heard-stops (b .lines) e (meaning cfg m)
-  each-stop b e o (onSlot i x) = hears-stops i (onSlot i x) (hearLine cfg t x) (λ k. stopsOn cfg t i k x) (line-hears cfg t i x) (line b i .call) (at-line i (b .lines) e)
+  each-stop b e o w = hearing-stops b e w _ _ (event-hearing cfg t b o w)

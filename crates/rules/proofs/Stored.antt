@@ -15,13 +15,13 @@ use Rattle.sequence.specs.Field.{durationOk}
 use Rattle.rules.specs.Places.{modAt, dropAt, all}
 use Rattle.rules.specs.Words.{Request, Config}
 use Rattle.rules.specs.Actions.{Action}
-use Rattle.rules.specs.Station.{dealing, firstRing, Slot, free, pending, Waiting, Station, theSlot, setSlot, setClock, setQueue, dueAfter, kindWait, answeredAt}
+use Rattle.rules.specs.Station.{Slot, Waiting, Station, theSlot, setSlot, setClock, setQueue, answeredAt}
 use Rattle.rules.specs.Sound.{requestKeeps, durationKeeps, slotKeeps, waitingKeeps}
-use Rattle.rules.specs.Requests.{rungBack, freedFor, freed, lasted, ruleD, ruleF}
-use Rattle.rules.proofs.PlaceLaws.{and-true, modAt-length, all-set, all-at, all-end, all-dropped}
+use Rattle.rules.specs.Requests.{rungBack, freedFor, freed, lasted, ruleD, ruleF, ringOf, offerOf}
+use Rattle.rules.proofs.PlaceLaws.{and-true, modAt-length, all-set, all-end, all-dropped}
 use Rattle.rules.proofs.Outcome.{becomes, Move, to-dial, to-agree, to-ring, to-answer, to-lose, to-regain, to-hold, to-take}
-use Rattle.rules.proofs.Ruling.{offerOf}
 use Rattle.rules.proofs.Walk.{Closed}
+use Rattle.rules.proofs.Base.{slot-all}
 
 pub record Stored (cfg : Config) (st : Station) : Type 0 where
   pub slots-keep : all (slotKeeps cfg) (st .slots) ≡ true
@@ -74,14 +74,14 @@ module _ (cfg : Config) where
   turned-keeps i t _ _ _ to-take h = refl
 
   turned-stored : (i : ℕ) (st : Station) (p q : Slot) (acts : List Action) → theSlot st i ≡ p → Move i (st .clock) p (becomes q) acts → Stored cfg st → Stored cfg (setSlot i q st)
-  turned-stored i st p q acts e t s = set-stored i q st (turned-keeps i (st .clock) p q acts t (rw e at (all-at (slotKeeps cfg) free refl i (st .slots) (s .slots-keep)))) s
+  turned-stored i st p q acts e t s = set-stored i q st (turned-keeps i (st .clock) p q acts t (rw e at (slot-all st (slotKeeps cfg) refl i (s .slots-keep)))) s
 
   freedFor-stored : (i : ℕ) (st : Station) → Stored cfg st → (q : List Waiting) → st .queue ≡ q → Stored cfg (freedFor i st q .next)
   unfolding freedFor rungBack
-  freedFor-stored i st s [] e = set-stored i free st refl s
+  freedFor-stored i st s [] e = set-stored i _ st refl s
   freedFor-stored i st s (w ∷ q) e =
       let k = and-true (waitingKeeps cfg w) (all (waitingKeeps cfg) q) (rw e at (s .queue-keeps)) in
-      set-stored i (pending firstRing (dealing (w .request)) (dueAfter (st .clock) (kindWait firstRing))) (setQueue q st) (k .0) (queue-stored q st (k .1) s)
+      set-stored i (ringOf (w .request) st) (setQueue q st) (k .0) (queue-stored q st (k .1) s)
 
   freed-stored : (i : ℕ) (st : Station) → Stored cfg st → Stored cfg (freed i st .next)
   unfolding freed

@@ -2,17 +2,15 @@
 use mathlib.Core.Path.{_≡_, refl, sym, ap, _∙_}
 use mathlib.Core.List.{List, [], _∷_, _++_, map}
 use mathlib.Core.Bool.{Bool, true, false, cond}
-use mathlib.Core.Option.{Option, none, some}
+use mathlib.Core.Option.{none, some}
 use Prim.Native.Nat.{ℕ, zero, suc, _+_, _-_}
 use native.Mathlib.Omega.{arith}
 use lib.ListN.{getD}
 use Rattle.rules.specs.Places.{modAt}
-use Rattle.rules.specs.Words.{Party, is, Mode, Config, What, tick, onChannel70, onSlot, Deed}
-use Rattle.rules.specs.Waits.{Wait, ofQueue, loss, main, Due}
-use Rattle.rules.specs.Heard.{Heard, callRequest, dataRequest, bq, workingCall, endOfCall, nothing, meaning}
-use Rattle.rules.specs.Book.{Note, Stop, after, holdTime, Call, quiet, dialled, talking, Line, Book, blank, falling, moment, stopOf, callOf, stopsOn, stopsDue, askedAgain, stopsAgain, stopsHeard, stopsAt}
-use Rattle.rules.specs.Reading.{closed, close, withWait, pickUp, signOff, hearLine, settle, again, hearHeard, hearDue, hear, read, reads, setNow, turn, stopsIn, talked, talkedBy}
-use Rattle.rules.proofs.Hears.{line-of, talk, Same, settle-same, Leaves, elsewhere, at-line, read-leaves, Hears, says-nothing, says-begun, says-over, says-end, line-hears}
+use Rattle.rules.specs.Words.{Party, is, Mode, Config, What, Deed}
+use Rattle.rules.specs.Book.{Note, Stop, after, holdTime, Call, quiet, dialled, talking, Line, Book, blank, falling, moment, stopOf, callOf, askedAgain, stopsAgain}
+use Rattle.rules.specs.Reading.{closed, close, pickUp, signOff, again, hear, read, reads, setNow, turn, stopsIn, talked, talkedBy}
+use Rattle.rules.proofs.Hears.{line-of, talk, Same, Leaves, elsewhere, at-line, read-leaves, Hears, says-nothing, says-begun, says-over, says-end, Hearing, no-line, one-line, all-lines, event-hearing}
 
 -- ── the answered calls of a list of lines, up to a time ──────────────────────
 
@@ -109,29 +107,12 @@ hears-takes t i e _ _ (says-begun h) ls = omega (arith, pickUp-takes t i ls)
 hears-takes t i e _ _ says-over ls = close-takes t i i ls
 hears-takes t i e _ _ (says-end x) ls = signOff-takes t t x i i ls
 
-due-takes : (t : ℕ) (b : Book) (o : Option Due) → sum (stopsDue t b o) + talkedBy t (hearDue (setNow t b) o .lines) ≡ talkedBy t (b .lines)
-due-takes t b none = omega arith
-due-takes t b (some p) = go (p .what)
-  where
-    go : (w : Wait) → sum (stopsDue t b (some record { what = w; at = p .at })) + talkedBy t (hearDue (setNow t b) (some record { what = w; at = p .at }) .lines) ≡ talkedBy t (b .lines)
-    go (ofQueue k) = omega arith
-    go (loss i) = hears-takes t i tick close (stopOf t i) says-over (b .lines)
-    go (main i) = hears-takes t i tick (withWait none) (λ k. []) (says-nothing (withWait none) (λ l. refl)) (b .lines)
-
-heard-takes : (t : ℕ) (b : Book) (h : Heard) → sum (stopsHeard t (b .lines) h) + talkedBy t (hearHeard t h b .lines) ≡ talkedBy t (b .lines)
-heard-takes t b (callRequest r) = again-takes t (r .who) 0 (b .lines)
-heard-takes t b (dataRequest x n) = omega arith
-heard-takes t b (bq i x) = omega (arith, keeps-at t (settle t x) (settle-same t x) i (b .lines))
-heard-takes t b (workingCall x) = omega arith
-heard-takes t b (endOfCall x) = omega arith
-heard-takes t b nothing = omega arith
-
-hear-takes : (cfg : Config) (b : Book) (t : ℕ) (o : Option Due) (w : What) → sum (stopsAt cfg t b o w) + talkedBy t (hear cfg t o w (setNow t b) .lines) ≡ talkedBy t (b .lines)
-hear-takes cfg b t o tick = due-takes t b o
-hear-takes cfg b t o (onChannel70 m) = heard-takes t (setNow t b) (meaning cfg m)
-hear-takes cfg b t o (onSlot i h) = hears-takes t i (onSlot i h) (hearLine cfg t h) (λ k. stopsOn cfg t i k h) (line-hears cfg t i h) (b .lines)
+hearing-takes : (t : ℕ) (e : What) (b k : Book) (cs : List Stop) → Hearing t e b k cs → sum cs + talkedBy t (k .lines) ≡ talkedBy t (b .lines)
+hearing-takes t e b _ _ (no-line ps) = omega arith
+hearing-takes t e b _ _ (one-line i f s h) = hears-takes t i e f s h (b .lines)
+hearing-takes t e b _ _ (all-lines x) = again-takes t x 0 (b .lines)
 
 -- a law of the list alone: what an entry stops is taken from what runs, and nothing else is
 pub turn-takes : (cfg : Config) (b : Book) (n : Note) → sum (stopsIn cfg b n) + talkedBy (moment b (n .event)) (turn cfg b n .lines) ≡ talkedBy (moment b (n .event)) (b .lines)
 unfolding turn stopsIn
-turn-takes cfg b n = rw (reads-keeps (moment b (n .event)) (moment b (n .event)) (n .deeds) (hear cfg (moment b (n .event)) (falling b (n .event)) (n .event .what) (setNow (moment b (n .event)) b))) (hear-takes cfg b (moment b (n .event)) (falling b (n .event)) (n .event .what))
+turn-takes cfg b n = rw (reads-keeps (moment b (n .event)) (moment b (n .event)) (n .deeds) (hear cfg (moment b (n .event)) (falling b (n .event)) (n .event .what) (setNow (moment b (n .event)) b))) (hearing-takes (moment b (n .event)) (n .event .what) b _ _ (event-hearing cfg (moment b (n .event)) b (falling b (n .event)) (n .event .what)))

@@ -5,54 +5,58 @@ use mathlib.Core.Bool.{Bool, true, false, cond}
 use mathlib.Core.Option.{Option, none, some}
 use Prim.Native.Nat.{ℕ, zero, suc, _+_, _-_, _*_, _≤_}
 use native.Mathlib.Omega.{arith}
-use lib.Dec.{eqb, leb}
+use lib.Dec.{eqb}
 use lib.ListN.{length, replicate}
 use borrow.Author.Tests.{leb-true}
 use Rattle.rules.specs.Places.{all}
-use Rattle.rules.specs.Words.{Party, Request, Config, What, tick, onChannel70, onSlot, Event, Deed, carrierOn, carrierOff, acknowledge, ringBack, unable, dial, releaseLine}
-use Rattle.rules.specs.Waits.{Wait, ofQueue, loss, main, Due, sooner, earliest, ifDue}
-use Rattle.rules.specs.Heard.{Heard, callRequest, dataRequest, bq, workingCall, endOfCall, nothing, meaning}
+use Rattle.rules.specs.Words.{Party, Request, Config, What, Event, Deed, carrierOn, carrierOff, acknowledge, ringBack, unable, dial, releaseLine}
 use Rattle.rules.specs.Actions.{Charge}
-use Rattle.rules.specs.Station.{Slot, free, taken, pending, busy, held, Station, fresh, table, fires, answeredAt}
+use Rattle.rules.specs.Station.{Slot, Station, fresh, answeredAt, answeredIn}
 use Rattle.rules.specs.Calls.{act}
 use Rattle.rules.specs.Verdict.{verdict, play, final}
-use Rattle.rules.specs.Book.{Note, Stop, after, Call, quiet, dialled, talking, Book, atPlaces, fallsAt, falling, momentOf, moment}
-use Rattle.rules.specs.Reading.{hearHeard, hearDue, hear, join, read, reads, setNow, turn, stopsIn, Numbered, numbered, isTalking, talkers, counted, talked, talkedBy}
+use Rattle.rules.specs.Book.{Note, Stop, after, Call, quiet, dialled, talking, Book, atPlaces, falling, moment, blank}
+use Rattle.rules.specs.Reading.{join, read, reads, turn, stopsIn, Numbered, numbered, isTalking, talkers, counted, talked, talkedBy}
 use Rattle.rules.specs.Statement.{notes, charged, owed, tenthsIn, heldFrom, heldSlot, heldSlots, heldTenths, TenthsAgree}
 use Rattle.rules.proofs.PlaceLaws.{and-true}
-use Rattle.rules.proofs.Base.{callIn, view, seen, falls-fires}
-use Rattle.rules.proofs.Accepted.{accepted, Sound, sounds, begun, begunBy, begun-all, due-all}
+use Rattle.rules.proofs.Base.{callIn, view, seen, Calling, no-call, a-call, calling, fresh-mapped, begun, begunBy}
+use Rattle.rules.proofs.Accepted.{accepted, sounds, begun-all}
 use Rattle.rules.proofs.Run.{noteOf, turn-is, stops-are, play-on, play-past, final-on, final-past, fresh-seen}
 use Rattle.rules.proofs.Talked.{sum, turn-takes}
+use Rattle.rules.proofs.Moments.{moment-on}
+use Rattle.rules.proofs.Hears.{Hearing, no-line, one-line, all-lines, event-hearing}
 
 -- ── the time moves on ────────────────────────────────────────────────────────
 
-abbrev pub since : ℕ → Call → Bool
-since t quiet = true
-since t (dialled x m) = true
-since t (talking x m b) = leb b t
+-- since when a call is answered, if it is
+abbrev answeredOf : Call → Option ℕ
+answeredOf quiet = none
+answeredOf (dialled x m) = none
+answeredOf (talking x m b) = some b
 
-since-call : (t : ℕ) (r : Request) (b : Option ℕ) → since t (callIn r b) ≡ begun t b
-since-call t r none = refl
-since-call t r (some b) = refl
+abbrev pub since : ℕ → Call → Bool
+since t k = begun t (answeredOf k)
+
+call-answered : (r : Request) (b : Option ℕ) → answeredOf (callIn r b) ≡ b
+call-answered r none = refl
+call-answered r (some b) = refl
+
+slot-answered : (s : Slot) → answeredOf (view s .call) ≡ answeredIn s
+slot-answered s = go s (view s .call) (calling s)
+  where
+    go : (s : Slot) (k : Call) → Calling s k → answeredOf k ≡ answeredIn s
+    go _ _ (no-call s n) = sym n
+    go _ _ (a-call r g c) = call-answered (r .request) (answeredAt g)
 
 pub since-slot : (t : ℕ) (s : Slot) → since t (view s .call) ≡ begunBy t s
-since-slot t free = refl
-since-slot t taken = refl
-since-slot t (pending k r d) = refl
-since-slot t (busy r g c) = since-call t (r .request) (answeredAt g)
-since-slot t (held r n d) = refl
+since-slot t s = ap (begun t) (slot-answered s)
 
-held-call : (t : ℕ) (r : Request) (b : Option ℕ) → talked t (callIn r b) ≡ heldFrom t b
-held-call t r none = refl
-held-call t r (some b) = refl
+talked-from : (t : ℕ) (k : Call) → talked t k ≡ heldFrom t (answeredOf k)
+talked-from t quiet = refl
+talked-from t (dialled x m) = refl
+talked-from t (talking x m b) = refl
 
 held-slot : (t : ℕ) (s : Slot) → talked t (view s .call) ≡ heldSlot t s
-held-slot t free = refl
-held-slot t taken = refl
-held-slot t (pending k r d) = refl
-held-slot t (busy r g c) = held-call t (r .request) (answeredAt g)
-held-slot t (held r n d) = refl
+held-slot t s = talked-from t (view s .call) ∙ ap (heldFrom t) (slot-answered s)
 
 held-slots : (t : ℕ) (ss : List Slot) → talkedBy t (map view ss) ≡ heldSlots t ss
 held-slots t [] = refl
@@ -73,43 +77,6 @@ advance c t h (s ∷ ss) e =
     let a = advance-one c t h (view s .call) (since-slot c s ∙ w .0) in
     let r = advance c t h ss (w .1) in
     add-both (t - c) (talked c (view s .call)) (talkedBy c (map view ss)) (isTalking (view s .call)) (talkers (map view ss)) (talked t (view s .call)) (talkedBy t (map view ss)) a r
-
--- an accepted entry never goes back: its own time is not before the clock, and no wait is due before it
-earliest-all : (p : Due → Bool) (l : List Due) (d : Due) → all p l ≡ true → earliest l ≡ some d → p d ≡ true
-earliest-all p [] d h e = cc
-earliest-all p (q ∷ l) d h e = let w = and-true (p q) (all p l) h in go (earliest l) refl (λ z. earliest-all p l z (w .1)) (w .0) e
-  where
-    pick : (b : Bool) (z : Due) → p q ≡ true → p z ≡ true → cond b (some q) (some z) ≡ some d → p d ≡ true
-    pick true z hq hz k = let y : q ≡ d = cc in rw (← y) hq
-    pick false z hq hz k = let y : z ≡ d = cc in rw (← y) hz
-
-    go : (o : Option Due) → earliest l ≡ o → ((z : Due) → earliest l ≡ some z → p z ≡ true) → p q ≡ true → sooner q o ≡ some d → p d ≡ true
-    go none eo ih hq k = let y : q ≡ d = cc in rw (← y) hq
-    go (some z) eo ih hq k = pick (leb (q .at) (z .at)) z hq (ih z eo) k
-
-ifDue-some : (t : ℕ) (o : Option Due) (d : Due) → ifDue t o ≡ some d → o ≡ some d
-ifDue-some t none d h = cc
-ifDue-some t (some p) d h = pick (leb (p .at) t) h
-  where
-    pick : (b : Bool) → cond b (some p) none ≡ some d → some p ≡ some d
-    pick true k = k
-    pick false k = cc
-
-pub tick-on : (cfg : Config) (st : Station) → Sound cfg st → (t : ℕ) → st .clock ≤ t → (o : Option Due) → fires t st ≡ o → st .clock ≤ momentOf t o
-unfolding fires
-tick-on cfg st s t h none e = h
-tick-on cfg st s t h (some p) e = leb-true (st .clock) (p .at) (earliest-all (λ q. leb (st .clock) (q .at)) (table st) p (due-all cfg st s) (ifDue-some t (earliest (table st)) p e))
-
-pub moment-on : (cfg : Config) (st : Station) (e : Event) → verdict cfg st e ≡ none → st .clock ≤ moment (seen st) e
-moment-on cfg st e v = go (e .what)
-  where
-    in-order : st .clock ≤ e .time
-    in-order = leb-true (st .clock) (e .time) (accepted cfg st e v .in-time)
-
-    go : (w : What) → st .clock ≤ momentOf (e .time) (fallsAt (seen st) (e .time) w)
-    go tick = rw (falls-fires (e .time) st) (tick-on cfg st (sounds cfg st (accepted cfg st e v .is-sound)) (e .time) in-order (fires (e .time) st) refl)
-    go (onChannel70 h) = in-order
-    go (onSlot i h) = in-order
 
 -- ── the run ──────────────────────────────────────────────────────────────────
 
@@ -139,28 +106,14 @@ reads-now u (d ∷ ds) b = reads-now u ds (read u d b) ∙ one d
     one (dial i n) = refl
     one (releaseLine i) = refl
 
-hear-now : (cfg : Config) (u : ℕ) (b : Book) (o : Option Due) (w : What) → hear cfg u o w b .now ≡ b .now
-hear-now cfg u b none tick = refl
-hear-now cfg u b (some p) tick = go (p .what)
-  where
-    go : (w : Wait) → hearDue b (some record { what = w; at = p .at }) .now ≡ b .now
-    go (ofQueue k) = refl
-    go (loss i) = refl
-    go (main i) = refl
-hear-now cfg u b o (onChannel70 m) = heard-now (meaning cfg m)
-  where
-    heard-now : (h : Heard) → hearHeard u h b .now ≡ b .now
-    heard-now (callRequest r) = refl
-    heard-now (dataRequest x n) = refl
-    heard-now (bq i x) = refl
-    heard-now (workingCall x) = refl
-    heard-now (endOfCall x) = refl
-    heard-now nothing = refl
-hear-now cfg u b o (onSlot i h) = refl
+hearing-now : (u : ℕ) (e : What) (b k : Book) (cs : List Stop) → Hearing u e b k cs → k .now ≡ u
+hearing-now u e b _ _ (no-line ps) = refl
+hearing-now u e b _ _ (one-line i f s h) = refl
+hearing-now u e b _ _ (all-lines x) = refl
 
 pub turn-now : (cfg : Config) (b : Book) (n : Note) → turn cfg b n .now ≡ moment b (n .event)
 unfolding turn
-turn-now cfg b n = reads-now _ (n .deeds) _ ∙ hear-now cfg _ (setNow (moment b (n .event)) b) (falling b (n .event)) (n .event .what)
+turn-now cfg b n = reads-now _ (n .deeds) _ ∙ hearing-now _ _ b _ _ (event-hearing cfg (moment b (n .event)) b (falling b (n .event)) (n .event .what))
 
 -- the clock of the next station is the entry's moment
 pub clock-is : (cfg : Config) (st : Station) (e : Event) → verdict cfg st e ≡ none → act cfg st e .next .clock ≡ moment (seen st) e
@@ -196,13 +149,13 @@ run-tenths cfg (e ∷ es) k st = go (verdict cfg st e) refl (λ k s. run-tenths 
     go none h ih = rw (play-on cfg e es st h, final-on cfg e es st h, turn-is cfg st e h, stops-are cfg st e h, tenths-numbered k (stopsIn cfg (seen st) (noteOf e (act cfg st e .acts))) (charged (suc k) (play cfg es (act cfg st e .next)))) (carry (sum (stopsIn cfg (seen st) (noteOf e (act cfg st e .acts)))) (tenthsIn (charged (suc k) (play cfg es (act cfg st e .next)))) (heldTenths (final cfg es (act cfg st e .next))) (heldTenths st) ((moment (seen st) e - st .clock) * talkers (seen st .lines)) (heldTenths (act cfg st e .next)) (counted cfg (notes (play cfg es (act cfg st e .next))) (seen (act cfg st e .next))) (entry-tenths cfg st e h) (ih (suc k) (act cfg st e .next)))
     go (some n) h ih = rw (play-past cfg e es st n h, final-past cfg e es st n h) (ih k st)
 
+none-held : (n : ℕ) → talkedBy 0 (replicate n blank) ≡ 0
+none-held zero = refl
+none-held (suc n) = omega (arith, none-held n)
+
 fresh-held : (cfg : Config) → heldTenths (fresh cfg) ≡ 0
 unfolding heldTenths fresh
-fresh-held cfg = go (length (cfg .channels))
-  where
-    go : (n : ℕ) → heldSlots 0 (replicate n free) ≡ 0
-    go zero = refl
-    go (suc n) = omega (arith, go n)
+fresh-held cfg = sym (held-slots 0 (fresh cfg .slots)) ∙ ap (talkedBy 0) (fresh-mapped cfg view) ∙ none-held (length (cfg .channels))
 
 zero-left : (a b c : ℕ) → a ≡ 0 → b ≡ a + c → b ≡ c
 zero-left a b c p q = omega arith

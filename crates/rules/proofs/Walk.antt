@@ -7,25 +7,24 @@ use Prim.Native.Nat.{ℕ}
 use lib.Dec.{ltb}
 use lib.ListN.{length}
 use Rattle.rules.specs.Places.{dropAt, lowest}
-use Rattle.rules.specs.Words.{is, Request, Config, What, tick, onChannel70, onSlot, Event}
-use Rattle.rules.specs.Waits.{Wait, ofQueue, loss, main, Due}
-use Rattle.rules.specs.Heard.{Heard, callRequest, dataRequest, bq, workingCall, endOfCall, nothing, meaning}
-use Rattle.rules.specs.Station.{Dealing, Kind, Slot, free, pending, Station, theSlot, setSlot, setClock, setQueue, fires, answeredAt}
+use Rattle.rules.specs.Words.{is, Request, Config, Event}
+use Rattle.rules.specs.Heard.{Heard, callRequest}
+use Rattle.rules.specs.Station.{Dealing, Kind, Slot, pending, Station, theSlot, setSlot, setClock, setQueue, answeredAt}
 use Rattle.rules.specs.Sound.{requestKeeps, queueRoom}
-use Rattle.rules.specs.Requests.{Out, freed, coastEnd, owns, slotOf, placeOf, standsAt, standing, ruleA, repeated, afresh, ruleD, offer, ruleF, ruleG, isFree, eToG, newcomer, dToG, redial, requested}
-use Rattle.rules.specs.Calls.{fire, ticked, heardOn70, actAt, act}
+use Rattle.rules.specs.Requests.{Out, freed, coastEnd, owns, slotOf, placeOf, standsAt, standing, ruleA, repeated, afresh, ruleD, offer, ruleF, ruleG, isFree, eToG, newcomer, dToG, redial, requested, offerOf}
+use Rattle.rules.specs.Calls.{act}
 use Rattle.rules.specs.Verdict.{verdict}
 use Rattle.rules.specs.Actions.{Action}
-use Rattle.rules.specs.Book.{Stop, Line, fallsAt, momentOf, moment}
+use Rattle.rules.specs.Book.{Stop, Line, moment, Book}
 use Rattle.rules.specs.Reading.{closed}
 use Rattle.rules.specs.ThreeWords.{Word}
-use Rattle.rules.proofs.PlaceLaws.{lowest-is}
 use Rattle.rules.proofs.Readable.{heard-keeps}
-use Rattle.rules.proofs.Base.{seen, falls-fires}
-use Rattle.rules.proofs.Outcome.{stays, becomes, frees, Move, Outcome, passed, moved, end-outcome, bq-outcome, main-outcome, happened-outcome}
-use Rattle.rules.proofs.Ruling.{offerOf, Ruling, passes, repeats, renews, redials, bOrC-ruling}
-use Rattle.rules.proofs.Accepted.{accepted, Sound, sounds}
+use Rattle.rules.proofs.Base.{seen, slot-lowest}
+use Rattle.rules.proofs.Outcome.{stays, becomes, frees, Move, Outcome, passed, moved}
+use Rattle.rules.proofs.Ruling.{Ruling, passes, repeats, renews, redials, bOrC-ruling}
+use Rattle.rules.proofs.Accepted.{accepted, sounds}
 use Rattle.rules.proofs.Once.{countS, Once, distinct-once, none-count, coastEnd-gone}
+use Rattle.rules.proofs.Effect.{Effect, rests, drops, data-asked, call-asked, to-slot, act-effect, heard-at}
 
 -- ── the changes ──────────────────────────────────────────────────────────────
 
@@ -51,12 +50,6 @@ module _ (cfg : Config) (P : Station → Type 0) (closed : Closed cfg P) where
   outcome-kept i st p (moved {n = stays} u a b c) e s = s
   outcome-kept i st p (moved {n = becomes q} u a b c) e s = closed .turning i st p q _ e u s
   outcome-kept i st p (moved {n = frees} u a b c) e s = closed .freeing i st s
-
-  fire-kept : (st : Station) → P st → (w : Wait) → P (fire st w .next)
-  unfolding fire
-  fire-kept st s (ofQueue k) = closed .dropping k st s
-  fire-kept st s (loss i) = outcome-kept i st (theSlot st i) (end-outcome i st (theSlot st i)) refl s
-  fire-kept st s (main i) = outcome-kept i st (theSlot st i) (main-outcome i st (theSlot st i)) refl s
 
   -- ── a request ──────────────────────────────────────────────────────────────
 
@@ -91,37 +84,22 @@ module _ (cfg : Config) (P : Station → Type 0) (closed : Closed cfg P) where
     unfolding requested
     request-kept st s once none none e h = newcomer-kept st s (none-count (r .who) (st .slots) e) h
     request-kept st s once none (some k) e h = closed .replacing k st r keeps h s
-    request-kept st s once (some i) k e h = ruling-kept i st s once _ (theSlot st i) _ (bOrC-ruling i st r (theSlot st i)) refl (lowest-is free (owns (r .who)) (st .slots) i e)
-
-  heard-kept : (st : Station) → P st → Once st → (m : Heard) → ((r : Request) → m ≡ callRequest r → requestKeeps cfg r ≡ true) → P (heardOn70 st m .next)
-  unfolding heardOn70 ruleA standing
-  heard-kept st s once (callRequest r) k = request-kept r (k r refl) st s once (slotOf (r .who) st) (placeOf (r .who) st) refl refl
-  heard-kept st s once (dataRequest x n) k = s
-  heard-kept st s once (bq i x) k = outcome-kept i st (theSlot st i) (bq-outcome i st x (theSlot st i)) refl s
-  heard-kept st s once (workingCall x) k = s
-  heard-kept st s once (endOfCall x) k = s
-  heard-kept st s once nothing k = s
+    request-kept st s once (some i) k e h = ruling-kept i st s once _ (theSlot st i) _ (bOrC-ruling i st r (theSlot st i)) refl (slot-lowest st (owns (r .who)) i e)
 
   -- ── an accepted event: where the property holds once the clock has moved ───
 
+  effect-kept : (st : Station) → P st → Once st → (b : Book) (ws : List Word) (cs : List Stop) (m : Heard) (o : Out) → Effect st b ws cs m o → ((r : Request) → m ≡ callRequest r → requestKeeps cfg r ≡ true) → P (o .next)
+  unfolding ruleA standing
+  effect-kept st s once _ _ _ _ _ (rests m n h) k = s
+  effect-kept st s once _ _ _ _ _ (drops j) k = closed .dropping j st s
+  effect-kept st s once _ _ _ _ _ (data-asked x n) k = s
+  effect-kept st s once _ _ _ _ _ (call-asked r) k = request-kept r (k r refl) st s once (slotOf (r .who) st) (placeOf (r .who) st) refl refl
+  effect-kept st s once _ _ _ _ _ (to-slot m i u e) k = outcome-kept i st (theSlot st i) u refl s
+
   pub act-kept : (st : Station) (e : Event) → verdict cfg st e ≡ none → P (setClock (moment (seen st) e) st) → P (act cfg st e .next)
-  unfolding actAt ticked setClock
-  act-kept st e v s = go (e .what) refl s
-    where
-      from : Sound cfg st
-      from = sounds cfg st (accepted cfg st e v .is-sound)
-
-      once : Once st
-      once = distinct-once st (from .no-twice)
-
-      readable : (m : List ℕ) → e .what ≡ onChannel70 m → (r : Request) → meaning cfg m ≡ callRequest r → requestKeeps cfg r ≡ true
-      readable m x r y = heard-keeps cfg (from .config) m (rw x at (accepted cfg st e v .readable)) r y
-
-      fired : (o : Option Due) → P (setClock (momentOf (e .time) o) st) → P (ticked st (e .time) o .next)
-      fired none k = k
-      fired (some p) k = fire-kept (setClock (p .at) st) k (p .what)
-
-      go : (w : What) → e .what ≡ w → P (setClock (momentOf (e .time) (fallsAt (seen st) (e .time) w)) st) → P (actAt cfg st (e .time) w .next)
-      go tick x k = fired (fires (e .time) st) (rw (falls-fires (e .time) st) at k)
-      go (onChannel70 m) x k = heard-kept (setClock (e .time) st) k once (meaning cfg m) (readable m x)
-      go (onSlot i h) x k = outcome-kept i (setClock (e .time) st) (theSlot st i) (happened-outcome i (setClock (e .time) st) cfg (theSlot st i) h) refl k
+  unfolding setClock
+  act-kept st e v s =
+      let a = accepted cfg st e v in
+      let from = sounds cfg st (a .is-sound) in
+      effect-kept (setClock (moment (seen st) e) st) s (distinct-once st (from .no-twice)) _ _ _ _ _ (act-effect cfg st (e .time) (e .what))
+      (heard-at cfg (λ m. (r : Request) → m ≡ callRequest r → requestKeeps cfg r ≡ true) (e .what) (a .readable) (λ r y. cc) (λ m d r y. heard-keeps cfg (from .config) m d r y))

@@ -1,26 +1,24 @@
 -- No ship stands twice, every time fits, the queue has room: what every event keeps of it.
 use mathlib.Core.Path.{_≡_, refl, ap}
 use mathlib.Core.List.{List, [], _∷_, _++_}
-use mathlib.Core.Bool.{Bool, true, false, _&&_}
-use mathlib.Core.Option.{Option, none, some}
+use mathlib.Core.Bool.{Bool, true, false}
+use mathlib.Core.Option.{none, some}
 use Prim.Native.Nat.{ℕ, zero, suc, _+_, _≤_, _<_}
 use native.Mathlib.Omega.{arith}
 use lib.Dec.{ltb}
 use lib.ListN.{getD, length, length-append}
-use borrow.Author.Tests.{leb-true, ltb-true, le-leb}
+use borrow.Author.Tests.{leb-true, ltb-true}
 use Rattle.rules.specs.Places.{modAt, dropAt, all}
-use Rattle.rules.specs.Words.{Party, is, Mode, Request, Config}
+use Rattle.rules.specs.Words.{Party, is, Request, Config}
 use Rattle.rules.specs.Actions.{Action}
-use Rattle.rules.specs.Station.{Dealing, dealing, Kind, offered, firstRing, secondRing, acknowledged, Stage, Slot, free, pending, Waiting, Station, theSlot, setSlot, setQueue, dueAfter, kindWait, carrierWait, replyWait, holdWait, queueWait}
-use Rattle.rules.specs.Sound.{queueRoom, fits, stageFits, lossFits, slotFits, placeFits}
-use Rattle.rules.specs.Requests.{rungBack, freedFor, freed, owns, waitsFor, placeOf, ruleD, ruleF}
-use Rattle.rules.specs.Calls.{startLoss}
-use Rattle.rules.proofs.PlaceLaws.{and-true, lowest-is, all-set, all-at, all-end, all-dropped, dropped-length}
-use Rattle.rules.proofs.Base.{is-true}
+use Rattle.rules.specs.Station.{Dealing, Kind, Slot, pending, Waiting, Station, theSlot, setSlot, setQueue, dueAfter, queueWait}
+use Rattle.rules.specs.Sound.{queueRoom, slotFits, placeFits}
+use Rattle.rules.specs.Requests.{rungBack, freedFor, freed, owns, waitsFor, placeOf, ruleD, ruleF, ringOf, offerOf}
+use Rattle.rules.proofs.PlaceLaws.{and-true, lowest-is, all-set, all-end, all-dropped, dropped-length}
+use Rattle.rules.proofs.Base.{is-true, slot-all, offer-fits, ring-fits, new-wait}
 use Rattle.rules.proofs.Accepted.{Sound}
 use Rattle.rules.proofs.Once.{bit, countS, countQ, Once, distinct-once, count-set, waiting-count}
-use Rattle.rules.proofs.Outcome.{becomes, Move, to-dial, to-agree, to-ring, to-answer, to-lose, to-regain, to-hold, to-take}
-use Rattle.rules.proofs.Ruling.{offerOf}
+use Rattle.rules.proofs.Outcome.{becomes, Move, to-dial, to-agree, to-ring, to-answer, to-lose, to-regain, to-hold, to-take, turned-fits}
 use Rattle.rules.proofs.Walk.{Closed}
 
 pub record Whole (st : Station) : Type 0 where
@@ -34,14 +32,11 @@ whole cfg st s = record { once = distinct-once st (s .no-twice); fit = s .slots-
 
 -- ── a slot changed ───────────────────────────────────────────────────────────
 
-new-wait : (c w : ℕ) → fits c w (dueAfter c w) ≡ true
-new-wait c w = rw (le-leb c (c + (w + 1)) (omega arith), le-leb (c + (w + 1)) (c + (w + 1)) (omega arith)) refl
-
 set-whole : (i : ℕ) (q : Slot) (st : Station) → Whole st → slotFits (st .clock) q ≡ true
     → ((x : Party) → countS x (st .slots) + countQ x (st .queue) + bit (owns x q) ≤ 1 + bit (owns x (theSlot st i))) → Whole (setSlot i q st)
 unfolding setSlot
 set-whole i q st w f h = record {
-  once = λ x. less (countS x (modAt (λ y. q) i (st .slots))) (bit (owns x (theSlot st i))) (countS x (st .slots)) (bit (owns x q)) (countQ x (st .queue)) (count-set x i q (st .slots)) (h x);
+  once = λ x. less (countS x (modAt (λ y. q) i (st .slots))) (bit (owns x (theSlot st i))) (countS x (st .slots)) (bit (owns x q)) (countQ x (st .queue)) (count-set x i q st) (h x);
   fit = all-set (slotFits (st .clock)) i q (st .slots) (w .fit) f;
   placed = w .placed;
   room = w .room;
@@ -57,21 +52,7 @@ turn-whole i st p e w q f h = set-whole i q st w f (λ x. rw e (sum3 (countS x (
     sum3 : (a b c d : ℕ) → a + b ≤ 1 → c ≤ d → a + b + c ≤ 1 + d
     sum3 a b c d u v = omega arith
 
-down-fits : (t : ℕ) (g : Stage) (m : Mode) (c : Option ℕ) → stageFits t g ≡ true → lossFits t m c ≡ true → (stageFits t g && lossFits t m (startLoss t m c)) ≡ true
-down-fits t g m none h k = rw h (new-wait t (carrierWait m))
-down-fits t g m (some d) h k = rw h k
-
--- what the slot becomes fits the clock, and is no other ship's
-turned-fits : (i t : ℕ) (p q : Slot) (acts : List Action) → Move i t p (becomes q) acts → slotFits t p ≡ true → slotFits t q ≡ true
-turned-fits i t _ _ _ (to-dial k r d z) h = rw (new-wait t replyWait) refl
-turned-fits i t _ _ _ (to-agree k r d) h = new-wait t (kindWait acknowledged)
-turned-fits i t _ _ _ (to-ring r d) h = new-wait t (kindWait secondRing)
-turned-fits i t _ _ _ (to-answer r d c) h = rw (le-leb t t (omega arith)) (and-true (fits t replyWait d) (lossFits t (r .request .mode) c) h .1)
-turned-fits i t _ _ _ (to-lose r g c) h = let f = and-true (stageFits t g) (lossFits t (r .request .mode) c) h in down-fits t g (r .request .mode) c (f .0) (f .1)
-turned-fits i t _ _ _ (to-regain r g c) h = rw (and-true (stageFits t g) (lossFits t (r .request .mode) c) h .0) refl
-turned-fits i t _ _ _ (to-hold r g c) h = new-wait t holdWait
-turned-fits i t _ _ _ to-take h = refl
-
+-- and is no other ship's
 turned-owner : (i t : ℕ) (p q : Slot) (acts : List Action) → Move i t p (becomes q) acts → (x : Party) → bit (owns x q) ≤ bit (owns x p)
 turned-owner i t _ _ _ (to-dial k r d z) x = omega arith
 turned-owner i t _ _ _ (to-agree k r d) x = omega arith
@@ -83,16 +64,16 @@ turned-owner i t _ _ _ (to-hold r g c) x = omega arith
 turned-owner i t _ _ _ to-take x = omega arith
 
 turned-whole : (i : ℕ) (st : Station) (p q : Slot) (acts : List Action) → theSlot st i ≡ p → Move i (st .clock) p (becomes q) acts → Whole st → Whole (setSlot i q st)
-turned-whole i st p q acts e t w = turn-whole i st p e w q (turned-fits i (st .clock) p q acts t (rw e at (all-at (slotFits (st .clock)) free refl i (st .slots) (w .fit)))) (turned-owner i (st .clock) p q acts t)
+turned-whole i st p q acts e t w = turn-whole i st p e w q (turned-fits i (st .clock) p q acts t (rw e at (slot-all st (slotFits (st .clock)) refl i (w .fit)))) (turned-owner i (st .clock) p q acts t)
 
 -- ── a slot freed ─────────────────────────────────────────────────────────────
 
 freedFor-whole : (i : ℕ) (st : Station) → Whole st → (q : List Waiting) → st .queue ≡ q → Whole (freedFor i st q .next)
 unfolding freedFor rungBack setSlot setQueue
-freedFor-whole i st w [] e = turn-whole i st (theSlot st i) refl w free refl (λ x. omega arith)
+freedFor-whole i st w [] e = turn-whole i st (theSlot st i) refl w _ refl (λ x. omega arith)
 freedFor-whole i st w (v ∷ q) e = record {
-  once = λ x. less (countS x (modAt (λ y. pending firstRing (dealing (v .request)) (dueAfter (st .clock) (kindWait firstRing))) i (st .slots))) (bit (owns x (theSlot st i))) (countS x (st .slots)) (bit (is x (v .request .who))) (countQ x q) (count-set x i (pending firstRing (dealing (v .request)) (dueAfter (st .clock) (kindWait firstRing))) (st .slots)) (rw e at (w .once x));
-  fit = all-set (slotFits (st .clock)) i (pending firstRing (dealing (v .request)) (dueAfter (st .clock) (kindWait firstRing))) (st .slots) (w .fit) (new-wait (st .clock) (kindWait firstRing));
+  once = λ x. less (countS x (modAt (λ y. ringOf (v .request) st) i (st .slots))) (bit (owns x (theSlot st i))) (countS x (st .slots)) (bit (is x (v .request .who))) (countQ x q) (count-set x i (ringOf (v .request) st) st) (rw e at (w .once x));
+  fit = all-set (slotFits (st .clock)) i (ringOf (v .request) st) (st .slots) (w .fit) (ring-fits (v .request) st);
   placed = and-true (placeFits (st .clock) v) (all (placeFits (st .clock)) q) (rw e at (w .placed)) .1;
   room = shorter (length q) (rw e at (w .room));
 }
@@ -160,13 +141,13 @@ module _ (st : Station) (r : Request) (here : countS (r .who) (st .slots) ≡ 0)
       more n h = omega arith
 
   offer-whole : (i : ℕ) → Whole (setSlot i (offerOf r st) st)
-  offer-whole i = set-whole i (offerOf r st) st w (new-wait (st .clock) (kindWait offered)) (λ x. weaker (bit (owns x (theSlot st i))) (countS x (st .slots) + countQ x (st .queue) + bit (is x (r .who))) (once-more x))
+  offer-whole i = set-whole i (offerOf r st) st w (offer-fits r st) (λ x. weaker (bit (owns x (theSlot st i))) (countS x (st .slots) + countQ x (st .queue) + bit (is x (r .who))) (once-more x))
     where
       weaker : (b n : ℕ) → n ≤ 1 → n ≤ 1 + b
       weaker b n h = omega arith
 
 renewed-whole : (i : ℕ) (st : Station) (r : Request) (k : Kind) (o : Dealing) (d : ℕ) → theSlot st i ≡ pending k o d → is (r .who) (o .request .who) ≡ true → Whole st → Whole (setSlot i (offerOf r st) st)
-renewed-whole i st r k o d e h w = turn-whole i st (pending k o d) e w (offerOf r st) (new-wait (st .clock) (kindWait offered)) (λ x. rw (is-true (r .who) (o .request .who) h) (omega arith))
+renewed-whole i st r k o d e h w = turn-whole i st (pending k o d) e w (offerOf r st) (offer-fits r st) (λ x. rw (is-true (r .who) (o .request .who) h) (omega arith))
 
 -- ── the queue ────────────────────────────────────────────────────────────────
 

@@ -1,56 +1,56 @@
 -- A case for each other event, and for ticks: what the last event of a short script prints.
 use mathlib.Core.List.{List, [], _∷_}
 use Rattle.sequence.specs.Reading.{readingOf}
-use Rattle.rules.specs.Words.{simplex, duplex, heard, offHook, onHook, carrierUp, carrierDown, takes, givesBack, carrierOn, dial}
+use Rattle.rules.specs.Words.{simplex, duplex, carrierOn, dial}
 use Rattle.rules.specs.Actions.{does, charge}
 use Rattle.rules.specs.Verdict.{step}
 use Rattle.rules.specs.Bytes.{payloadOf, blockOf}
 use Rattle.rules.specs.Printed.{lines}
-use Rattle.rules.specs.Runs.{station, seven, eight, usual, calls, on, works, ends, ticks}
+use Rattle.rules.specs.Runs.{station, seven, eight, usual, calls, works, ends, ticks, saysOn, picksUp, hangs, regains, loses, reserves, restores}
 use Rattle.rules.specs.Cases.{Row}
 use Rattle.rules.specs.Scripts.{gives, ninety, fieldTold, charges, crossed, overSevenByCoast15, ringEight26, unable103Seven, unable103Eight, overSeven411, overSeven, overSevenByCoast411, overSevenByCoast, overSevenByCoast0, ringSeven26}
 
 -- ── off-hook and carrier ──────────────────────────────────────────────────────
 
 -- off-hook while dialling: the reply wait ends, a carrier wait runs on
-abbrev pub offHookAnswers : Row
-offHookAnswers = record {
-  computed = gives 1 (calls 100 seven simplex ∷ works 200 0 seven ∷ on 300 0 carrierDown ∷ on 310 0 offHook ∷ []);
+abbrev pub picksUpAnswers : Row
+picksUpAnswers = record {
+  computed = gives 1 (calls 100 seven simplex ∷ works 200 0 seven ∷ loses 300 0 ∷ picksUp 310 0 ∷ []);
   expected = (0 ∷ 310 ∷ 0 ∷ 751 ∷ []) ∷ [];
 }
 
 -- a second off-hook: ignored
-abbrev pub offHookSecond : Row
-offHookSecond = record {
-  computed = gives 1 (calls 100 seven duplex ∷ works 200 0 seven ∷ on 300 0 offHook ∷ on 310 0 offHook ∷ []);
+abbrev pub picksUpSecond : Row
+picksUpSecond = record {
+  computed = gives 1 (calls 100 seven duplex ∷ works 200 0 seven ∷ picksUp 300 0 ∷ picksUp 310 0 ∷ []);
   expected = (1 ∷ 310 ∷ 0 ∷ []) ∷ [];
 }
 
 -- a second carrier down does not restart the wait, and answers 0
 abbrev pub downSecond : Row
 downSecond = record {
-  computed = gives 1 (calls 100 seven duplex ∷ works 200 0 seven ∷ on 300 0 carrierDown ∷ on 320 0 carrierDown ∷ []);
+  computed = gives 1 (calls 100 seven duplex ∷ works 200 0 seven ∷ loses 300 0 ∷ loses 320 0 ∷ []);
   expected = (0 ∷ 320 ∷ 0 ∷ 351 ∷ []) ∷ [];
 }
 
 -- carrier up ends it
 abbrev pub upEnds : Row
 upEnds = record {
-  computed = gives 1 (calls 100 seven duplex ∷ works 200 0 seven ∷ on 300 0 carrierDown ∷ on 320 0 carrierUp ∷ []);
+  computed = gives 1 (calls 100 seven duplex ∷ works 200 0 seven ∷ loses 300 0 ∷ regains 320 0 ∷ []);
   expected = (0 ∷ 320 ∷ 0 ∷ 801 ∷ []) ∷ [];
 }
 
 -- carrier up where none was awaited answers 0
 abbrev pub upUnneeded : Row
 upUnneeded = record {
-  computed = gives 1 (calls 100 seven duplex ∷ works 200 0 seven ∷ on 300 0 carrierUp ∷ []);
+  computed = gives 1 (calls 100 seven duplex ∷ works 200 0 seven ∷ regains 300 0 ∷ []);
   expected = (0 ∷ 300 ∷ 0 ∷ 801 ∷ []) ∷ [];
 }
 
 -- a carrier event in another phase: ignored
 abbrev pub carrierElsewhere : Row
 carrierElsewhere = record {
-  computed = gives 1 (calls 100 seven duplex ∷ on 110 0 carrierDown ∷ []);
+  computed = gives 1 (calls 100 seven duplex ∷ loses 110 0 ∷ []);
   expected = (1 ∷ 110 ∷ 0 ∷ 261 ∷ []) ∷ [];
 }
 
@@ -59,7 +59,7 @@ carrierElsewhere = record {
 -- charge, line released, answer with BQ, carrier off, hold for 40
 abbrev pub shipEndAnswered : Row
 shipEndAnswered = record {
-  computed = gives 1 (calls 100 seven duplex ∷ works 200 0 seven ∷ on 300 0 offHook ∷ ends 4410 0 seven ∷ []);
+  computed = gives 1 (calls 100 seven duplex ∷ works 200 0 seven ∷ picksUp 300 0 ∷ ends 4410 0 seven ∷ []);
   expected = (0 ∷ 4410 ∷ 4 ∷ 4451 ∷ []) ∷ (charges 0 seven 300 4410 411) ∷ (6 ∷ 0 ∷ []) ∷ (4 ∷ 0 ∷ overSeven411) ∷ (2 ∷ 0 ∷ []) ∷ [];
 }
 
@@ -80,7 +80,7 @@ shipEndStranger = record {
 -- 90 0 26 in an end of call: ninety hours and 26 seconds, no channel; and with a field it is no end of a ship's call
 abbrev pub ninetyHours : Row
 ninetyHours = record {
-  computed = fieldTold (readingOf ninety .meaning .field) ∷ gives 1 (calls 100 seven duplex ∷ works 200 0 seven ∷ on 300 0 (heard ninety) ∷ []);
+  computed = fieldTold (readingOf ninety .meaning .field) ∷ gives 1 (calls 100 seven duplex ∷ works 200 0 seven ∷ saysOn 300 0 ninety ∷ []);
   expected = (90 ∷ 0 ∷ 26 ∷ []) ∷ (1 ∷ 300 ∷ 0 ∷ 801 ∷ []) ∷ [];
 }
 
@@ -115,16 +115,16 @@ holdThenFreed = record {
 -- ── coast's end ───────────────────────────────────────────────────────────────
 
 -- on-hook: charge, line released, 127 with the duration, carrier off, slot freed at once
-abbrev pub onHookAnswered : Row
-onHookAnswered = record {
-  computed = gives 1 (calls 100 seven duplex ∷ works 200 0 seven ∷ on 300 0 offHook ∷ on 4410 0 onHook ∷ []);
+abbrev pub hangsAnswered : Row
+hangsAnswered = record {
+  computed = gives 1 (calls 100 seven duplex ∷ works 200 0 seven ∷ picksUp 300 0 ∷ hangs 4410 0 ∷ []);
   expected = (0 ∷ 4410 ∷ 4 ∷ []) ∷ (charges 0 seven 300 4410 411) ∷ (6 ∷ 0 ∷ []) ∷ (4 ∷ 0 ∷ overSevenByCoast411) ∷ (2 ∷ 0 ∷ []) ∷ [];
 }
 
 -- on-hook while dialling: no charge, 126s
-abbrev pub onHookDialling : Row
-onHookDialling = record {
-  computed = gives 1 (calls 100 seven duplex ∷ works 200 0 seven ∷ on 300 0 onHook ∷ []);
+abbrev pub hangsDialling : Row
+hangsDialling = record {
+  computed = gives 1 (calls 100 seven duplex ∷ works 200 0 seven ∷ hangs 300 0 ∷ []);
   expected = (0 ∷ 300 ∷ 3 ∷ []) ∷ (6 ∷ 0 ∷ []) ∷ (4 ∷ 0 ∷ overSevenByCoast) ∷ (2 ∷ 0 ∷ []) ∷ [];
 }
 
@@ -138,14 +138,14 @@ noReplyDue = record {
 -- carrier loss: charged to the due time, however late the tick
 abbrev pub carrierLossDue : Row
 carrierLossDue = record {
-  computed = gives 1 (calls 100 seven duplex ∷ works 200 0 seven ∷ on 300 0 offHook ∷ on 400 0 carrierDown ∷ ticks 9999 ∷ []);
+  computed = gives 1 (calls 100 seven duplex ∷ works 200 0 seven ∷ picksUp 300 0 ∷ loses 400 0 ∷ ticks 9999 ∷ []);
   expected = (0 ∷ 451 ∷ 4 ∷ []) ∷ (charges 0 seven 300 451 15) ∷ (6 ∷ 0 ∷ []) ∷ (4 ∷ 0 ∷ overSevenByCoast15) ∷ (2 ∷ 0 ∷ []) ∷ [];
 }
 
 -- a call answered for less than a second is charged 0 seconds, and its field is 0 0 0
 abbrev pub secondUnderOne : Row
 secondUnderOne = record {
-  computed = gives 1 (calls 100 seven duplex ∷ works 200 0 seven ∷ on 300 0 offHook ∷ on 309 0 onHook ∷ []);
+  computed = gives 1 (calls 100 seven duplex ∷ works 200 0 seven ∷ picksUp 300 0 ∷ hangs 309 0 ∷ []);
   expected = (0 ∷ 309 ∷ 4 ∷ []) ∷ (charges 0 seven 300 309 0) ∷ (6 ∷ 0 ∷ []) ∷ (4 ∷ 0 ∷ overSevenByCoast0) ∷ (2 ∷ 0 ∷ []) ∷ [];
 }
 
@@ -154,51 +154,51 @@ secondUnderOne = record {
 -- a free slot is taken: done, and no action
 abbrev pub operatorTook : Row
 operatorTook = record {
-  computed = gives 1 (on 50 0 takes ∷ []);
+  computed = gives 1 (reserves 50 0 ∷ []);
   expected = (0 ∷ 50 ∷ 0 ∷ []) ∷ [];
 }
 
 -- a free slot is taken, and a request then finds no slot free
-abbrev pub operatorTakes : Row
-operatorTakes = record {
-  computed = gives 1 (on 50 0 takes ∷ calls 100 seven duplex ∷ []);
+abbrev pub operatorReserves : Row
+operatorReserves = record {
+  computed = gives 1 (reserves 50 0 ∷ calls 100 seven duplex ∷ []);
   expected = (0 ∷ 100 ∷ 1 ∷ 9101 ∷ []) ∷ (3 ∷ 255 ∷ unable103Seven) ∷ [];
 }
 
 -- it is given back, freed: the oldest waiting ship is rung back
-abbrev pub operatorGives : Row
-operatorGives = record {
-  computed = gives 1 (on 50 0 takes ∷ calls 100 seven duplex ∷ on 200 0 givesBack ∷ []);
+abbrev pub operatorRestores : Row
+operatorRestores = record {
+  computed = gives 1 (reserves 50 0 ∷ calls 100 seven duplex ∷ restores 200 0 ∷ []);
   expected = (0 ∷ 200 ∷ 2 ∷ 251 ∷ []) ∷ (1 ∷ 0 ∷ []) ∷ (3 ∷ 0 ∷ ringSeven26) ∷ [];
 }
 
 -- ── ticks ─────────────────────────────────────────────────────────────────────
 
 -- a tick with nothing due: the clock becomes its time
-abbrev pub tickIdle : Row
-tickIdle = record {
+abbrev pub idleTicks : Row
+idleTicks = record {
   computed = gives 1 (calls 100 seven duplex ∷ ticks 200 ∷ []);
   expected = (0 ∷ 200 ∷ 0 ∷ 261 ∷ []) ∷ [];
 }
 
 -- one wait a tick: of two due, the queue entry before the slot
-abbrev pub tickOnce : Row
-tickOnce = record {
-  computed = gives 2 (calls 100 seven duplex ∷ on 110 1 takes ∷ calls 150 eight duplex ∷ works 200 0 seven ∷ on 300 0 offHook ∷ on 9100 0 carrierDown ∷ ticks 9999 ∷ []);
+abbrev pub oneWaitDue : Row
+oneWaitDue = record {
+  computed = gives 2 (calls 100 seven duplex ∷ reserves 110 1 ∷ calls 150 eight duplex ∷ works 200 0 seven ∷ picksUp 300 0 ∷ loses 9100 0 ∷ ticks 9999 ∷ []);
   expected = (0 ∷ 9151 ∷ 0 ∷ 9151 ∷ []) ∷ [];
 }
 
 -- of two queue entries the one due first, here the younger
-abbrev pub tickYounger : Row
-tickYounger = record {
+abbrev pub youngerDue : Row
+youngerDue = record {
   computed = lines (station 1) (step (station 1) crossed (ticks 2500));
   expected = (0 ∷ 2000 ∷ 0 ∷ 3000 ∷ []) ∷ [];
 }
 
 -- in one slot carrier loss before no reply: both due at 801, one end
-abbrev pub tickInSlot : Row
-tickInSlot = record {
-  computed = gives 1 (calls 100 seven duplex ∷ works 200 0 seven ∷ on 750 0 carrierDown ∷ ticks 801 ∷ []);
+abbrev pub lossBeforeReply : Row
+lossBeforeReply = record {
+  computed = gives 1 (calls 100 seven duplex ∷ works 200 0 seven ∷ loses 750 0 ∷ ticks 801 ∷ []);
   expected = (0 ∷ 801 ∷ 3 ∷ []) ∷ (6 ∷ 0 ∷ []) ∷ (4 ∷ 0 ∷ overSevenByCoast) ∷ (2 ∷ 0 ∷ []) ∷ [];
 }
 
@@ -221,4 +221,4 @@ fourShown = record {
 -- ── all of them ──────────────────────────────────────────────────────────────
 
 abbrev pub callCases : List Row
-callCases = offHookAnswers ∷ offHookSecond ∷ downSecond ∷ upEnds ∷ upUnneeded ∷ carrierElsewhere ∷ shipEndAnswered ∷ shipEndUnanswered ∷ shipEndStranger ∷ ninetyHours ∷ holdRepeats ∷ holdStranger ∷ holdNotGiven ∷ holdThenFreed ∷ onHookAnswered ∷ onHookDialling ∷ noReplyDue ∷ carrierLossDue ∷ secondUnderOne ∷ operatorTook ∷ operatorTakes ∷ operatorGives ∷ tickIdle ∷ tickOnce ∷ tickYounger ∷ tickInSlot ∷ blockShown ∷ fourShown ∷ []
+callCases = picksUpAnswers ∷ picksUpSecond ∷ downSecond ∷ upEnds ∷ upUnneeded ∷ carrierElsewhere ∷ shipEndAnswered ∷ shipEndUnanswered ∷ shipEndStranger ∷ ninetyHours ∷ holdRepeats ∷ holdStranger ∷ holdNotGiven ∷ holdThenFreed ∷ hangsAnswered ∷ hangsDialling ∷ noReplyDue ∷ carrierLossDue ∷ secondUnderOne ∷ operatorTook ∷ operatorReserves ∷ operatorRestores ∷ idleTicks ∷ oneWaitDue ∷ youngerDue ∷ lossBeforeReply ∷ blockShown ∷ fourShown ∷ []

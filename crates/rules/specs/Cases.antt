@@ -3,11 +3,11 @@ use mathlib.Core.List.{List, [], _∷_}
 use Prim.Native.Nat.{ℕ}
 use Rattle.sequence.specs.declared.Field.the-variants.{Blank}
 use Rattle.sequence.specs.Layout.{layout}
-use Rattle.rules.specs.Words.{heard, offHook, onHook, carrierUp, carrierDown, takes, onChannel70, Event}
+use Rattle.rules.specs.Words.{Event}
 use Rattle.rules.specs.Station.{fresh}
 use Rattle.rules.specs.Bytes.{numberOf}
 use Rattle.rules.specs.Printed.{lastPrinted}
-use Rattle.rules.specs.Runs.{at, on, ticks, station, usual}
+use Rattle.rules.specs.Runs.{ticks, station, usual, says, saysOn, picksUp, hangs, regains, loses, reserves}
 
 -- ── the sequences ────────────────────────────────────────────────────────────
 
@@ -43,21 +43,21 @@ p6 = 123 ∷ 20 ∷ 0 ∷ 56 ∷ 78 ∷ 90 ∷ 100 ∷ 0 ∷ 20 ∷ 1 ∷ 23 ∷
 -- ── what leads to a case ─────────────────────────────────────────────────────
 
 abbrev pub asks : ℕ → Event
-asks t = at t (onChannel70 p1)
+asks t = says t p1
 
 abbrev pub works : ℕ → Event
-works t = on t 0 (heard p4)
+works t = saysOn t 0 p4
 
 abbrev pub ends : ℕ → Event
-ends t = on t 0 (heard p5)
+ends t = saysOn t 0 p5
 
 -- a call that is answered at 1000
 abbrev pub answeredAt1000 : List Event → List Event
-answeredAt1000 es = asks 900 ∷ works 950 ∷ on 1000 0 offHook ∷ es
+answeredAt1000 es = asks 900 ∷ works 950 ∷ picksUp 1000 0 ∷ es
 
 -- the same in simplex
 abbrev pub simplexAt900 : List Event → List Event
-simplexAt900 es = at 900 (onChannel70 (fromShip 100 117 usual)) ∷ works 950 ∷ es
+simplexAt900 es = says 900 (fromShip 100 117 usual) ∷ works 950 ∷ es
 
 -- what the last event prints, on a fresh station with channel 26
 abbrev pub gives : List Event → List (List ℕ)
@@ -83,7 +83,7 @@ cases =
     }
     -- P3: the slot being taken: "104 103, 126s, 122"
     ∷ record {
-      computed = gives (on 50 0 takes ∷ asks 100 ∷ []);
+      computed = gives (reserves 50 0 ∷ asks 100 ∷ []);
       expected = (0 ∷ 100 ∷ 1 ∷ 9101 ∷ []) ∷ (3 ∷ 255 ∷ p3) ∷ [];
     }
     -- P4: by the layout; and it dials
@@ -128,17 +128,17 @@ cases =
     }
     -- P11: "carrier down at 1000: due 1051 duplex"
     ∷ record {
-      computed = gives (asks 900 ∷ works 950 ∷ on 1000 0 carrierDown ∷ []);
+      computed = gives (asks 900 ∷ works 950 ∷ loses 1000 0 ∷ []);
       expected = (0 ∷ 1000 ∷ 0 ∷ 1051 ∷ []) ∷ [];
     }
     -- P11: "1451 simplex"
     ∷ record {
-      computed = gives (simplexAt900 (on 1000 0 carrierDown ∷ []));
+      computed = gives (simplexAt900 (loses 1000 0 ∷ []));
       expected = (0 ∷ 1000 ∷ 0 ∷ 1451 ∷ []) ∷ [];
     }
     -- P12: "queued at 2000: due 11001"
     ∷ record {
-      computed = gives (on 50 0 takes ∷ asks 2000 ∷ []);
+      computed = gives (reserves 50 0 ∷ asks 2000 ∷ []);
       expected = (0 ∷ 2000 ∷ 1 ∷ 11001 ∷ []) ∷ (3 ∷ 255 ∷ p3) ∷ [];
     }
     -- Hold begun at 6000: "repeat at 6040 answered, due 6041"
@@ -148,7 +148,7 @@ cases =
     }
     -- Number 7: "105 7"
     ∷ record {
-      computed = gives (at 100 (onChannel70 (fromShip 101 117 (7 ∷ []))) ∷ []);
+      computed = gives (says 100 (fromShip 101 117 (7 ∷ [])) ∷ []);
       expected = (0 ∷ 100 ∷ 2 ∷ 261 ∷ []) ∷ (1 ∷ 0 ∷ []) ∷ (3 ∷ 0 ∷ 123 ∷ 20 ∷ 0 ∷ 56 ∷ 78 ∷ 90 ∷ 100 ∷ 0 ∷ 20 ∷ 1 ∷ 23 ∷ 40 ∷ 101 ∷ 126 ∷ 90 ∷ 0 ∷ 26 ∷ 105 ∷ 7 ∷ 122 ∷ 66 ∷ []) ∷ [];
     }
     ∷ []
@@ -157,7 +157,7 @@ cases =
 
 -- Q 100 (P1), H 90 0, U 261 0, T 261, after S 002001234 26
 abbrev pub sample : List Event
-sample = asks 100 ∷ on 90 0 onHook ∷ on 261 0 carrierUp ∷ ticks 261 ∷ []
+sample = asks 100 ∷ hangs 90 0 ∷ regains 261 0 ∷ ticks 261 ∷ []
 
 abbrev pub sampleShows : List (List (List ℕ))
 sampleShows =

@@ -2,8 +2,8 @@
 use mathlib.Core.List.{List, [], _∷_}
 use lib.ListN.{take}
 use Rattle.rules.specs.Places.{modAt}
-use Rattle.rules.specs.Words.{duplex, heard, onHook, takes, givesBack, tick, onChannel70}
-use Rattle.rules.specs.Runs.{seven, at, calls, on, ticks}
+use Rattle.rules.specs.Words.{duplex}
+use Rattle.rules.specs.Runs.{seven, calls, ticks, says, saysOn, hangs, reserves, restores, ticksIn}
 use Rattle.rules.specs.Cases.{Row}
 use Rattle.rules.specs.Scripts.{gives, call7, rechecked}
 
@@ -12,84 +12,84 @@ use Rattle.rules.specs.Scripts.{gives, call7, rechecked}
 -- 11: a length of 20
 abbrev pub refused11 : Row
 refused11 = record {
-  computed = gives 1 (at 100 (onChannel70 (take 20 call7)) ∷ []);
+  computed = gives 1 (says 100 (take 20 call7) ∷ []);
   expected = (11 ∷ 0 ∷ 0 ∷ []) ∷ [];
 }
 
 -- 12: a symbol over 127
 abbrev pub refused12 : Row
 refused12 = record {
-  computed = gives 1 (at 100 (onChannel70 (modAt (λ x. 128) 3 call7)) ∷ []);
+  computed = gives 1 (says 100 (modAt (λ x. 128) 3 call7) ∷ []);
   expected = (12 ∷ 0 ∷ 0 ∷ []) ∷ [];
 }
 
 -- 13: the check differs
 abbrev pub refused13 : Row
 refused13 = record {
-  computed = gives 1 (at 100 (onChannel70 (modAt (λ x. 0) 23 call7)) ∷ []);
+  computed = gives 1 (says 100 (modAt (λ x. 0) 23 call7) ∷ []);
   expected = (13 ∷ 0 ∷ 0 ∷ []) ∷ [];
 }
 
 -- 14: format; here 112, distress, which is not handled
 abbrev pub refused14 : Row
 refused14 = record {
-  computed = gives 1 (at 100 (onChannel70 (rechecked (modAt (λ x. 112) 0 call7))) ∷ []);
+  computed = gives 1 (says 100 (rechecked (modAt (λ x. 112) 0 call7)) ∷ []);
   expected = (14 ∷ 0 ∷ 0 ∷ []) ∷ [];
 }
 
 -- 15: identities; here two coast stations
 abbrev pub refused15 : Row
 refused15 = record {
-  computed = gives 1 (at 100 (onChannel70 (rechecked (modAt (λ x. 0) 7 call7))) ∷ []);
+  computed = gives 1 (says 100 (rechecked (modAt (λ x. 0) 7 call7)) ∷ []);
   expected = (15 ∷ 0 ∷ 0 ∷ []) ∷ [];
 }
 
 -- 16: category; here 108, safety
 abbrev pub refused16 : Row
 refused16 = record {
-  computed = gives 1 (at 100 (onChannel70 (rechecked (modAt (λ x. 108) 6 call7))) ∷ []);
+  computed = gives 1 (says 100 (rechecked (modAt (λ x. 108) 6 call7)) ∷ []);
   expected = (16 ∷ 0 ∷ 0 ∷ []) ∷ [];
 }
 
 -- 17: telecommands; here 110
 abbrev pub refused17 : Row
 refused17 = record {
-  computed = gives 1 (at 100 (onChannel70 (rechecked (modAt (λ x. 110) 12 call7))) ∷ []);
+  computed = gives 1 (says 100 (rechecked (modAt (λ x. 110) 12 call7)) ∷ []);
   expected = (17 ∷ 0 ∷ 0 ∷ []) ∷ [];
 }
 
 -- 18: channel field; here one 126 missing
 abbrev pub refused18 : Row
 refused18 = record {
-  computed = gives 1 (at 100 (onChannel70 (rechecked (modAt (λ x. 90) 14 call7))) ∷ []);
+  computed = gives 1 (says 100 (rechecked (modAt (λ x. 90) 14 call7)) ∷ []);
   expected = (18 ∷ 0 ∷ 0 ∷ []) ∷ [];
 }
 
 -- 19: number; here neither odd nor even
 abbrev pub refused19 : Row
 refused19 = record {
-  computed = gives 1 (at 100 (onChannel70 (rechecked (modAt (λ x. 107) 17 call7))) ∷ []);
+  computed = gives 1 (says 100 (rechecked (modAt (λ x. 107) 17 call7)) ∷ []);
   expected = (19 ∷ 0 ∷ 0 ∷ []) ∷ [];
 }
 
 -- 20: end of sequence; here 118
 abbrev pub refused20 : Row
 refused20 = record {
-  computed = gives 1 (at 100 (onChannel70 (rechecked (modAt (λ x. 118) 22 call7))) ∷ []);
+  computed = gives 1 (says 100 (rechecked (modAt (λ x. 118) 22 call7)) ∷ []);
   expected = (20 ∷ 0 ∷ 0 ∷ []) ∷ [];
 }
 
 -- 30: a room of 319 bytes
 abbrev pub refused30 : Row
 refused30 = record {
-  computed = gives 1 (record { time = 100; room = 319; what = tick } ∷ []);
+  computed = gives 1 (ticksIn 319 100 ∷ []);
   expected = (30 ∷ 0 ∷ 0 ∷ []) ∷ [];
 }
 
 -- and 320 are enough
 abbrev pub accepted320 : Row
 accepted320 = record {
-  computed = gives 1 (record { time = 100; room = 320; what = tick } ∷ []);
+  computed = gives 1 (ticksIn 320 100 ∷ []);
   expected = (0 ∷ 100 ∷ 0 ∷ []) ∷ [];
 }
 
@@ -117,28 +117,28 @@ refused32 = record {
 -- 33: not a tick, and a wait is due at its time
 abbrev pub refused33 : Row
 refused33 = record {
-  computed = gives 1 (calls 100 seven duplex ∷ on 261 0 onHook ∷ []);
+  computed = gives 1 (calls 100 seven duplex ∷ hangs 261 0 ∷ []);
   expected = (33 ∷ 100 ∷ 0 ∷ 261 ∷ []) ∷ [];
 }
 
 -- 34: no such slot
 abbrev pub refused34 : Row
 refused34 = record {
-  computed = gives 1 (on 100 1 onHook ∷ []);
+  computed = gives 1 (hangs 100 1 ∷ []);
   expected = (34 ∷ 0 ∷ 0 ∷ []) ∷ [];
 }
 
 -- 35: the operator takes what is not free
 abbrev pub refused35 : Row
 refused35 = record {
-  computed = gives 1 (on 100 0 takes ∷ on 110 0 takes ∷ []);
+  computed = gives 1 (reserves 100 0 ∷ reserves 110 0 ∷ []);
   expected = (35 ∷ 100 ∷ 0 ∷ []) ∷ [];
 }
 
 -- 35: or gives back what is not taken
 abbrev pub refused35Back : Row
 refused35Back = record {
-  computed = gives 1 (on 100 0 givesBack ∷ []);
+  computed = gives 1 (restores 100 0 ∷ []);
   expected = (35 ∷ 0 ∷ 0 ∷ []) ∷ [];
 }
 
@@ -147,28 +147,28 @@ refused35Back = record {
 -- 30 before 31
 abbrev pub order30 : Row
 order30 = record {
-  computed = gives 1 (record { time = 4000000001; room = 0; what = tick } ∷ []);
+  computed = gives 1 (ticksIn 0 4000000001 ∷ []);
   expected = (30 ∷ 0 ∷ 0 ∷ []) ∷ [];
 }
 
 -- 33 before 34
 abbrev pub order33 : Row
 order33 = record {
-  computed = gives 1 (calls 100 seven duplex ∷ on 300 5 onHook ∷ []);
+  computed = gives 1 (calls 100 seven duplex ∷ hangs 300 5 ∷ []);
   expected = (33 ∷ 100 ∷ 0 ∷ 261 ∷ []) ∷ [];
 }
 
 -- 34 before 11
 abbrev pub order34 : Row
 order34 = record {
-  computed = gives 1 (on 100 1 (heard []) ∷ []);
+  computed = gives 1 (saysOn 100 1 [] ∷ []);
   expected = (34 ∷ 0 ∷ 0 ∷ []) ∷ [];
 }
 
 -- 11 before 12
 abbrev pub order11 : Row
 order11 = record {
-  computed = gives 1 (at 100 (onChannel70 (255 ∷ [])) ∷ []);
+  computed = gives 1 (says 100 (255 ∷ []) ∷ []);
   expected = (11 ∷ 0 ∷ 0 ∷ []) ∷ [];
 }
 

@@ -1,10 +1,10 @@
 -- A case for each rule of a request, of the working call and of ring-back: what the last event of a short script prints.
 use mathlib.Core.List.{List, [], _∷_}
 use Rattle.sequence.specs.declared.Field.the-variants.{Blank}
-use Rattle.rules.specs.Words.{simplex, duplex, heard, offHook, onHook, carrierDown, takes, givesBack, onChannel70}
+use Rattle.rules.specs.Words.{simplex, duplex}
 use Rattle.rules.specs.Verdict.{step}
 use Rattle.rules.specs.Printed.{lines}
-use Rattle.rules.specs.Runs.{station, seven, eight, nine, sends, at, usual, callsFor, calls, accepts, on, works, ticks, asksAnew, fades}
+use Rattle.rules.specs.Runs.{station, seven, eight, nine, sends, usual, callsFor, calls, accepts, works, ticks, asksAnew, fades, says, saysOn, picksUp, hangs, loses, reserves, restores}
 use Rattle.rules.specs.Cases.{Row}
 use Rattle.rules.specs.Scripts.{gives, dataCalls, elsewhere, crowded, charges, unable109Seven, ackSeven26, ackSeven26Again, ackSeven26Simplex, ackEight26, overSevenByCoast15, overSevenByCoast55, ringEight26, unable103Seven, ringSeven26, ringSeven26Again, ringSeven26Simplex, ackSeven27, unable103Eight, unable102Nine, ringNine26}
 
@@ -13,21 +13,21 @@ use Rattle.rules.specs.Scripts.{gives, dataCalls, elsewhere, crowded, ch
 -- an event not named for the phase: accepted, no action, clock moved
 abbrev pub ignoredPhase : Row
 ignoredPhase = record {
-  computed = gives 1 (on 100 0 onHook ∷ []);
+  computed = gives 1 (hangs 100 0 ∷ []);
   expected = (1 ∷ 100 ∷ 0 ∷ []) ∷ [];
 }
 
 -- a call request to another station
 abbrev pub ignoredAddress : Row
 ignoredAddress = record {
-  computed = gives 1 (at 100 (onChannel70 (elsewhere 117)) ∷ []);
+  computed = gives 1 (says 100 (elsewhere 117) ∷ []);
   expected = (1 ∷ 100 ∷ 0 ∷ []) ∷ [];
 }
 
 -- a working call on channel 70, and a call request on a working channel
 abbrev pub ignoredChannel : Row
 ignoredChannel = record {
-  computed = gives 1 (calls 100 seven duplex ∷ at 110 (onChannel70 (sends seven 101 127 Blank usual)) ∷ on 120 0 (heard (sends eight 101 117 Blank usual)) ∷ []);
+  computed = gives 1 (calls 100 seven duplex ∷ says 110 (sends seven 101 127 Blank usual) ∷ saysOn 120 0 (sends eight 101 117 Blank usual) ∷ []);
   expected = (1 ∷ 120 ∷ 0 ∷ 261 ∷ []) ∷ [];
 }
 
@@ -78,42 +78,42 @@ ruleBAcknowledged = record {
 -- c. a duplex call is not touched, carrier or not
 abbrev pub ruleCDuplex : Row
 ruleCDuplex = record {
-  computed = gives 1 (calls 100 seven duplex ∷ works 200 0 seven ∷ on 300 0 carrierDown ∷ calls 310 seven duplex ∷ []);
+  computed = gives 1 (calls 100 seven duplex ∷ works 200 0 seven ∷ loses 300 0 ∷ calls 310 seven duplex ∷ []);
   expected = (1 ∷ 310 ∷ 0 ∷ 351 ∷ []) ∷ [];
 }
 
 -- c. nor a simplex call whose carrier is present
 abbrev pub ruleCPresent : Row
 ruleCPresent = record {
-  computed = gives 1 (calls 100 seven simplex ∷ works 200 0 seven ∷ on 300 0 offHook ∷ calls 310 seven simplex ∷ []);
+  computed = gives 1 (calls 100 seven simplex ∷ works 200 0 seven ∷ picksUp 300 0 ∷ calls 310 seven simplex ∷ []);
   expected = (1 ∷ 310 ∷ 0 ∷ []) ∷ [];
 }
 
 -- c. simplex with carrier absent: the coast ends that call, and rule e offers the slot again
 abbrev pub ruleCAbsent : Row
 ruleCAbsent = record {
-  computed = gives 1 (calls 100 seven simplex ∷ works 200 0 seven ∷ on 300 0 offHook ∷ on 400 0 carrierDown ∷ calls 450 seven simplex ∷ []);
+  computed = gives 1 (calls 100 seven simplex ∷ works 200 0 seven ∷ picksUp 300 0 ∷ loses 400 0 ∷ calls 450 seven simplex ∷ []);
   expected = (0 ∷ 450 ∷ 6 ∷ 611 ∷ []) ∷ (charges 0 seven 300 450 15) ∷ (6 ∷ 0 ∷ []) ∷ (4 ∷ 0 ∷ overSevenByCoast15) ∷ (2 ∷ 0 ∷ []) ∷ (1 ∷ 0 ∷ []) ∷ (3 ∷ 0 ∷ ackSeven26Simplex) ∷ [];
 }
 
 -- c. with a ship waiting: it is rung back first, and the asker joins the queue
 abbrev pub ruleCRingsBack : Row
 ruleCRingsBack = record {
-  computed = gives 1 (calls 100 seven simplex ∷ works 200 0 seven ∷ calls 210 eight duplex ∷ on 300 0 offHook ∷ on 400 0 carrierDown ∷ calls 450 seven simplex ∷ []);
+  computed = gives 1 (calls 100 seven simplex ∷ works 200 0 seven ∷ calls 210 eight duplex ∷ picksUp 300 0 ∷ loses 400 0 ∷ calls 450 seven simplex ∷ []);
   expected = (0 ∷ 450 ∷ 7 ∷ 501 ∷ []) ∷ (charges 0 seven 300 450 15) ∷ (6 ∷ 0 ∷ []) ∷ (4 ∷ 0 ∷ overSevenByCoast15) ∷ (2 ∷ 0 ∷ []) ∷ (1 ∷ 0 ∷ []) ∷ (3 ∷ 0 ∷ ringEight26) ∷ (3 ∷ 255 ∷ unable103Seven) ∷ [];
 }
 
 -- d. a waiting ship asks again: its place and due time stay
 abbrev pub ruleDShown : Row
 ruleDShown = record {
-  computed = gives 1 (on 50 0 takes ∷ calls 100 seven duplex ∷ calls 200 seven simplex ∷ []);
+  computed = gives 1 (reserves 50 0 ∷ calls 100 seven duplex ∷ calls 200 seven simplex ∷ []);
   expected = (0 ∷ 200 ∷ 1 ∷ 9101 ∷ []) ∷ (3 ∷ 255 ∷ unable103Seven) ∷ [];
 }
 
 -- d. and its new request is the one that is rung back
 abbrev pub ruleDReplaced : Row
 ruleDReplaced = record {
-  computed = gives 1 (on 50 0 takes ∷ calls 100 seven duplex ∷ callsFor (4 ∷ 2 ∷ []) 200 seven duplex ∷ on 300 0 givesBack ∷ []);
+  computed = gives 1 (reserves 50 0 ∷ calls 100 seven duplex ∷ callsFor (4 ∷ 2 ∷ []) 200 seven duplex ∷ restores 300 0 ∷ []);
   expected = (0 ∷ 300 ∷ 2 ∷ 351 ∷ []) ∷ (1 ∷ 0 ∷ []) ∷ (3 ∷ 0 ∷ ringSeven26Again) ∷ [];
 }
 
@@ -159,7 +159,7 @@ ruleDDuplexLost = record {
 -- e. the lowest free slot
 abbrev pub ruleELowest : Row
 ruleELowest = record {
-  computed = gives 3 (on 50 0 takes ∷ calls 100 seven duplex ∷ []);
+  computed = gives 3 (reserves 50 0 ∷ calls 100 seven duplex ∷ []);
   expected = (0 ∷ 100 ∷ 2 ∷ 261 ∷ []) ∷ (1 ∷ 1 ∷ []) ∷ (3 ∷ 1 ∷ ackSeven27) ∷ [];
 }
 
@@ -182,14 +182,14 @@ ruleGShown = record {
 -- on an offered slot: the stored number, whatever the working call's own number and mode
 abbrev pub workingDials : Row
 workingDials = record {
-  computed = gives 1 (calls 100 seven duplex ∷ on 200 0 (heard (sends seven 100 127 Blank (4 ∷ 2 ∷ []))) ∷ []);
+  computed = gives 1 (calls 100 seven duplex ∷ saysOn 200 0 (sends seven 100 127 Blank (4 ∷ 2 ∷ [])) ∷ []);
   expected = (0 ∷ 200 ∷ 1 ∷ 801 ∷ []) ∷ (5 ∷ 0 ∷ usual) ∷ [];
 }
 
 -- and the stored mode holds for the call: duplex, 5 s of silence
 abbrev pub workingMode : Row
 workingMode = record {
-  computed = gives 1 (calls 100 seven duplex ∷ on 200 0 (heard (sends seven 100 127 Blank usual)) ∷ on 300 0 carrierDown ∷ []);
+  computed = gives 1 (calls 100 seven duplex ∷ saysOn 200 0 (sends seven 100 127 Blank usual) ∷ loses 300 0 ∷ []);
   expected = (0 ∷ 300 ∷ 0 ∷ 351 ∷ []) ∷ [];
 }
 
@@ -275,7 +275,7 @@ acknowledgedDue = record {
 -- a queue entry due is dropped
 abbrev pub queueEntryDue : Row
 queueEntryDue = record {
-  computed = gives 1 (on 50 0 takes ∷ calls 100 seven duplex ∷ ticks 9101 ∷ []);
+  computed = gives 1 (reserves 50 0 ∷ calls 100 seven duplex ∷ ticks 9101 ∷ []);
   expected = (0 ∷ 9101 ∷ 0 ∷ []) ∷ [];
 }
 

@@ -38,12 +38,16 @@ also a o = record { answer = o .answer; next = o .next; acts = a ++ o .acts }
 
 -- ── a slot is freed: ring-back ───────────────────────────────────────────────
 
+-- the slot in ring-back, from now on
+abbrev pub ringOf : Request → Station → Slot
+ringOf r st = pending firstRing (dealing r) (dueAfter (st .clock) (kindWait firstRing))
+
 -- "carrier on, the able answer but with RQ; wait 50"
 unfoldable pub rungBack : ℕ → Station → Waiting → List Waiting → Out
 rungBack i st w q =
     record {
       answer = 0;
-      next = setSlot i (pending firstRing (dealing (w .request)) (dueAfter (st .clock) (kindWait firstRing))) (setQueue q st);
+      next = setSlot i (ringOf (w .request) st) (setQueue q st);
       acts = does (carrierOn i) ∷ does (ringBack i (w .request)) ∷ [];
     }
 
@@ -125,12 +129,16 @@ ruleA st x n = saying (unable 109 x n) st
 unfoldable pub repeated : ℕ → Station → Request → Out
 repeated i st r = saying (acknowledge i r) st
 
+-- the slot offered, from now on
+abbrev pub offerOf : Request → Station → Slot
+offerOf r st = pending offered (dealing r) (dueAfter (st .clock) (kindWait offered))
+
 -- b. "that slot is offered afresh: new request stored, acknowledgement sent, no carrier action, wait 160 from now" (house)
 unfoldable pub afresh : ℕ → Station → Request → Out
 afresh i st r =
     record {
       answer = 0;
-      next = setSlot i (pending offered (dealing r) (dueAfter (st .clock) (kindWait offered))) st;
+      next = setSlot i (offerOf r st) st;
       acts = does (acknowledge i r) ∷ [];
     }
 
@@ -189,6 +197,13 @@ isFree taken = false
 isFree (pending k r d) = false
 isFree (busy r g c) = false
 isFree (held r n d) = false
+
+abbrev pub isTaken : Slot → Bool
+isTaken free = false
+isTaken taken = true
+isTaken (pending k r d) = false
+isTaken (busy r g c) = false
+isTaken (held r n d) = false
 
 -- e. "A slot is free: offer the lowest"; f. "The queue has room"; g.
 unfoldable pub eToG : Station → Request → Option ℕ → Out

@@ -41,8 +41,12 @@ at t w = record { time = t; room = 320; what = w }
 abbrev pub usual : List ℕ
 usual = 5 ∷ 5 ∷ 5 ∷ 1 ∷ 2 ∷ 3 ∷ 4 ∷ []
 
+-- symbols on channel 70
+abbrev pub says : ℕ → List ℕ → Event
+says t m = at t (onChannel70 m)
+
 abbrev pub callsFor : List ℕ → ℕ → ℕ → Mode → Event
-callsFor digits t x m = at t (onChannel70 (sends x (modeNumber m) 117 Blank digits))
+callsFor digits t x m = says t (sends x (modeNumber m) 117 Blank digits)
 
 -- a call request
 abbrev pub calls : ℕ → ℕ → Mode → Event
@@ -50,28 +54,54 @@ calls t x m = callsFor usual t x m
 
 -- a BQ that names a channel
 abbrev pub accepts : ℕ → ℕ → ℕ → Event
-accepts t n x = at t (onChannel70 (sends x 101 122 (Channel (channel n)) usual))
+accepts t n x = says t (sends x 101 122 (Channel (channel n)) usual)
 
+-- what happens on a slot: symbols on its working channel, a signal, the operator's hand
 abbrev pub on : ℕ → ℕ → Happened → Event
 on t i h = at t (onSlot i h)
 
+abbrev pub saysOn : ℕ → ℕ → List ℕ → Event
+saysOn t i m = on t i (heard m)
+
+abbrev pub picksUp : ℕ → ℕ → Event
+picksUp t i = on t i offHook
+
+abbrev pub hangs : ℕ → ℕ → Event
+hangs t i = on t i onHook
+
+abbrev pub regains : ℕ → ℕ → Event
+regains t i = on t i carrierUp
+
+abbrev pub loses : ℕ → ℕ → Event
+loses t i = on t i carrierDown
+
+abbrev pub reserves : ℕ → ℕ → Event
+reserves t i = on t i takes
+
+abbrev pub restores : ℕ → ℕ → Event
+restores t i = on t i givesBack
+
 -- a working call, an end of call
 abbrev pub works : ℕ → ℕ → ℕ → Event
-works t i x = on t i (heard (sends x 101 127 Blank usual))
+works t i x = saysOn t i (sends x 101 127 Blank usual)
 
 abbrev pub ends : ℕ → ℕ → ℕ → Event
-ends t i x = on t i (heard (sends x 105 117 Blank usual))
+ends t i x = saysOn t i (sends x 105 117 Blank usual)
+
+-- with a room of so many bytes
+abbrev pub ticksIn : ℕ → ℕ → Event
+ticksIn room t = record { time = t; room = room; what = tick }
 
 abbrev pub ticks : ℕ → Event
 ticks t = at t tick
 
 -- a waiting ship asks again in another mode, and is rung back
 abbrev pub asksAnew : Mode → Mode → List Event → List Event
-asksAnew o m es = on 50 0 takes ∷ calls 100 seven o ∷ calls 200 seven m ∷ on 300 0 givesBack ∷ es
+asksAnew o m es = reserves 50 0 ∷ calls 100 seven o ∷ calls 200 seven m ∷ restores 300 0 ∷ es
 
 -- it agrees, is dialled, is answered at 500, and loses its carrier at 600
 abbrev pub fades : List Event → List Event
-fades es = accepts 310 26 seven ∷ works 400 0 seven ∷ on 500 0 offHook ∷ on 600 0 carrierDown ∷ es
+fades es = accepts 310 26 seven ∷ works 400 0 seven ∷ picksUp 500 0 ∷ loses 600 0 ∷ es
 
 -- entry, slot, ship, beginning, end, seconds
 abbrev pub paid : ℕ → ℕ → ℕ → ℕ → ℕ → ℕ → Numbered Charge
@@ -88,7 +118,7 @@ pub record Run : Type 0 where
 abbrev pub shipEnded : Run
 shipEnded = record {
   slots = 1;
-  events = calls 100 seven simplex ∷ works 200 0 seven ∷ on 300 0 offHook ∷ on 310 0 offHook ∷ ends 320 0 eight ∷ ends 330 0 seven ∷ ends 340 0 seven ∷ ticks 371 ∷ [];
+  events = calls 100 seven simplex ∷ works 200 0 seven ∷ picksUp 300 0 ∷ picksUp 310 0 ∷ ends 320 0 eight ∷ ends 330 0 seven ∷ ends 340 0 seven ∷ ticks 371 ∷ [];
   owing = paid 5 0 seven 300 330 3 ∷ [];
 }
 
@@ -96,7 +126,7 @@ shipEnded = record {
 abbrev pub hungUp : Run
 hungUp = record {
   slots = 1;
-  events = calls 100 seven duplex ∷ works 200 0 seven ∷ on 300 0 offHook ∷ on 400 0 carrierDown ∷ calls 410 seven duplex ∷ on 420 0 carrierUp ∷ on 500 0 onHook ∷ [];
+  events = calls 100 seven duplex ∷ works 200 0 seven ∷ picksUp 300 0 ∷ loses 400 0 ∷ calls 410 seven duplex ∷ regains 420 0 ∷ hangs 500 0 ∷ [];
   owing = paid 6 0 seven 300 500 20 ∷ [];
 }
 
@@ -104,7 +134,7 @@ hungUp = record {
 abbrev pub silent : Run
 silent = record {
   slots = 1;
-  events = calls 100 seven simplex ∷ works 200 0 seven ∷ on 300 0 offHook ∷ on 400 0 carrierDown ∷ on 500 0 carrierDown ∷ ticks 851 ∷ [];
+  events = calls 100 seven simplex ∷ works 200 0 seven ∷ picksUp 300 0 ∷ loses 400 0 ∷ loses 500 0 ∷ ticks 851 ∷ [];
   owing = paid 5 0 seven 300 851 55 ∷ [];
 }
 
@@ -112,7 +142,7 @@ silent = record {
 abbrev pub redialled : Run
 redialled = record {
   slots = 1;
-  events = calls 100 seven simplex ∷ works 200 0 seven ∷ calls 210 eight duplex ∷ on 300 0 offHook ∷ on 400 0 carrierDown ∷ calls 450 seven simplex ∷ accepts 460 26 eight ∷ works 470 0 eight ∷ on 480 0 offHook ∷ on 600 0 onHook ∷ [];
+  events = calls 100 seven simplex ∷ works 200 0 seven ∷ calls 210 eight duplex ∷ picksUp 300 0 ∷ loses 400 0 ∷ calls 450 seven simplex ∷ accepts 460 26 eight ∷ works 470 0 eight ∷ picksUp 480 0 ∷ hangs 600 0 ∷ [];
   owing = paid 5 0 seven 300 450 15 ∷ paid 9 0 eight 480 600 12 ∷ [];
 }
 
@@ -122,7 +152,7 @@ redialled = record {
 abbrev pub late : Run
 late = record {
   slots = 2;
-  events = calls 100 seven duplex ∷ works 200 0 seven ∷ on 700 0 offHook ∷ on 2000 0 carrierDown ∷ ticks 9999 ∷ ticks 9999 ∷ [];
+  events = calls 100 seven duplex ∷ works 200 0 seven ∷ picksUp 700 0 ∷ loses 2000 0 ∷ ticks 9999 ∷ ticks 9999 ∷ [];
   owing = paid 4 0 seven 700 2051 135 ∷ [];
 }
 
@@ -145,7 +175,7 @@ anewDuplex = record {
 abbrev pub together : Run
 together = record {
   slots = 2;
-  events = calls 100 seven duplex ∷ calls 101 eight duplex ∷ works 200 0 seven ∷ works 200 1 eight ∷ on 300 1 offHook ∷ on 310 0 offHook ∷ on 400 1 carrierDown ∷ on 400 0 carrierDown ∷ ticks 500 ∷ ticks 500 ∷ [];
+  events = calls 100 seven duplex ∷ calls 101 eight duplex ∷ works 200 0 seven ∷ works 200 1 eight ∷ picksUp 300 1 ∷ picksUp 310 0 ∷ loses 400 1 ∷ loses 400 0 ∷ ticks 500 ∷ ticks 500 ∷ [];
   owing = paid 8 0 seven 310 451 14 ∷ paid 9 1 eight 300 451 15 ∷ [];
 }
 
@@ -153,7 +183,7 @@ together = record {
 abbrev pub hurried : Run
 hurried = record {
   slots = 1;
-  events = calls 100 seven duplex ∷ works 200 0 seven ∷ on 750 0 carrierDown ∷ ticks 900 ∷ [];
+  events = calls 100 seven duplex ∷ works 200 0 seven ∷ loses 750 0 ∷ ticks 900 ∷ [];
   owing = [];
 }
 
@@ -174,7 +204,7 @@ unanswered = record {
 abbrev pub repeated : Run
 repeated = record {
   slots = 3;
-  events = calls 100 seven duplex ∷ calls 110 eight duplex ∷ works 115 1 eight ∷ on 120 1 offHook ∷ calls 150 seven duplex ∷ on 210 1 carrierDown ∷ ticks 300 ∷ ticks 300 ∷ [];
+  events = calls 100 seven duplex ∷ calls 110 eight duplex ∷ works 115 1 eight ∷ picksUp 120 1 ∷ calls 150 seven duplex ∷ loses 210 1 ∷ ticks 300 ∷ ticks 300 ∷ [];
   owing = paid 7 1 eight 120 261 14 ∷ [];
 }
 
@@ -182,7 +212,7 @@ repeated = record {
 abbrev pub renumbered : Run
 renumbered = record {
   slots = 3;
-  events = calls 100 seven duplex ∷ calls 110 eight duplex ∷ works 115 1 eight ∷ on 120 1 offHook ∷ callsFor (4 ∷ 2 ∷ []) 150 seven duplex ∷ on 210 1 carrierDown ∷ ticks 300 ∷ ticks 300 ∷ [];
+  events = calls 100 seven duplex ∷ calls 110 eight duplex ∷ works 115 1 eight ∷ picksUp 120 1 ∷ callsFor (4 ∷ 2 ∷ []) 150 seven duplex ∷ loses 210 1 ∷ ticks 300 ∷ ticks 300 ∷ [];
   owing = paid 6 1 eight 120 261 14 ∷ [];
 }
 
@@ -190,7 +220,7 @@ renumbered = record {
 abbrev pub holding : Run
 holding = record {
   slots = 2;
-  events = calls 100 seven duplex ∷ calls 101 eight duplex ∷ works 110 0 seven ∷ works 111 1 eight ∷ on 120 1 offHook ∷ on 121 0 offHook ∷ on 195 1 carrierDown ∷ ends 200 0 seven ∷ ticks 300 ∷ ticks 300 ∷ [];
+  events = calls 100 seven duplex ∷ calls 101 eight duplex ∷ works 110 0 seven ∷ works 111 1 eight ∷ picksUp 120 1 ∷ picksUp 121 0 ∷ loses 195 1 ∷ ends 200 0 seven ∷ ticks 300 ∷ ticks 300 ∷ [];
   owing = paid 7 0 seven 121 200 7 ∷ paid 9 1 eight 120 246 12 ∷ [];
 }
 
@@ -198,7 +228,7 @@ holding = record {
 abbrev pub replying : Run
 replying = record {
   slots = 2;
-  events = calls 100 seven duplex ∷ calls 101 eight duplex ∷ works 200 0 seven ∷ works 201 1 eight ∷ on 210 1 offHook ∷ on 755 1 carrierDown ∷ ticks 900 ∷ ticks 900 ∷ [];
+  events = calls 100 seven duplex ∷ calls 101 eight duplex ∷ works 200 0 seven ∷ works 201 1 eight ∷ picksUp 210 1 ∷ loses 755 1 ∷ ticks 900 ∷ ticks 900 ∷ [];
   owing = paid 7 1 eight 210 806 59 ∷ [];
 }
 
@@ -206,7 +236,7 @@ replying = record {
 abbrev pub queueing : Run
 queueing = record {
   slots = 1;
-  events = calls 100 seven duplex ∷ works 110 0 seven ∷ on 120 0 offHook ∷ calls 200 eight duplex ∷ on 9155 0 carrierDown ∷ ticks 9300 ∷ ticks 9300 ∷ [];
+  events = calls 100 seven duplex ∷ works 110 0 seven ∷ picksUp 120 0 ∷ calls 200 eight duplex ∷ loses 9155 0 ∷ ticks 9300 ∷ ticks 9300 ∷ [];
   owing = paid 6 0 seven 120 9206 908 ∷ [];
 }
 
@@ -214,7 +244,7 @@ queueing = record {
 abbrev pub ringing : Run
 ringing = record {
   slots = 2;
-  events = calls 100 seven duplex ∷ calls 101 eight duplex ∷ works 110 0 seven ∷ works 111 1 eight ∷ on 120 0 offHook ∷ on 121 1 offHook ∷ calls 130 nine duplex ∷ on 300 0 onHook ∷ on 305 1 carrierDown ∷ ticks 400 ∷ ticks 400 ∷ [];
+  events = calls 100 seven duplex ∷ calls 101 eight duplex ∷ works 110 0 seven ∷ works 111 1 eight ∷ picksUp 120 0 ∷ picksUp 121 1 ∷ calls 130 nine duplex ∷ hangs 300 0 ∷ loses 305 1 ∷ ticks 400 ∷ ticks 400 ∷ [];
   owing = paid 7 0 seven 120 300 18 ∷ paid 10 1 eight 121 356 23 ∷ [];
 }
 
@@ -224,7 +254,7 @@ ringing = record {
 abbrev pub hundredHours : Run
 hundredHours = record {
   slots = 1;
-  events = calls 100 seven duplex ∷ works 200 0 seven ∷ on 300 0 offHook ∷ ends 3600300 0 seven ∷ [];
+  events = calls 100 seven duplex ∷ works 200 0 seven ∷ picksUp 300 0 ∷ ends 3600300 0 seven ∷ [];
   owing = paid 3 0 seven 300 3600300 360000 ∷ [];
 }
 

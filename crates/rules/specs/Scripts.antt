@@ -7,11 +7,11 @@ use Rattle.sequence.specs.declared.Field.the-variants.{Blank, Channel, Duration
 use Rattle.sequence.specs.Symbols.{exclusiveOr}
 use Rattle.sequence.specs.Layout.{layout}
 use Rattle.rules.specs.Places.{modAt}
-use Rattle.rules.specs.Words.{duplex, onChannel70, Event}
+use Rattle.rules.specs.Words.{duplex, Event}
 use Rattle.rules.specs.Station.{taken, Waiting, Station, fresh}
 use Rattle.rules.specs.Bytes.{numberOf, four}
 use Rattle.rules.specs.Printed.{lastPrinted}
-use Rattle.rules.specs.Runs.{station, seven, eight, sends, at, usual}
+use Rattle.rules.specs.Runs.{station, seven, eight, sends, usual, says}
 
 -- ── how a case is written ────────────────────────────────────────────────────
 
@@ -21,7 +21,7 @@ gives n es = lastPrinted (station n) es (fresh (station n))
 
 -- a data request
 abbrev pub dataCalls : ℕ → ℕ → Event
-dataCalls t x = at t (onChannel70 (sends x 106 117 Blank usual))
+dataCalls t x = says t (sends x 106 117 Blank usual)
 
 -- a call request to another station
 abbrev pub elsewhere : ℕ → List ℕ

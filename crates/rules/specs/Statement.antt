@@ -9,7 +9,7 @@ use Rattle.units.specs.declared.Seconds.{Seconds}
 use Rattle.rules.specs.Places.{lowest, Each}
 use Rattle.rules.specs.Words.{Config, Event, Deed}
 use Rattle.rules.specs.Actions.{Charge, Action, does, over, charge}
-use Rattle.rules.specs.Station.{Slot, free, taken, pending, busy, held, Waiting, Station, fresh, answeredAt}
+use Rattle.rules.specs.Station.{Slot, Waiting, Station, fresh, answeredIn}
 use Rattle.rules.specs.Sound.{sound}
 use Rattle.rules.specs.Requests.{isFree}
 use Rattle.rules.specs.Calls.{act}
@@ -94,11 +94,7 @@ heldFrom t none = 0
 heldFrom t (some b) = t - b
 
 abbrev pub heldSlot : ℕ → Slot → ℕ
-heldSlot t free = 0
-heldSlot t taken = 0
-heldSlot t (pending k r d) = 0
-heldSlot t (busy r g c) = heldFrom t (answeredAt g)
-heldSlot t (held r n d) = 0
+heldSlot t s = heldFrom t (answeredIn s)
 
 abbrev pub heldSlots : ℕ → List Slot → ℕ
 heldSlots t [] = 0

@@ -45,6 +45,14 @@ shipOf (pending k r d) = some (r .request .who)
 shipOf (busy r g c) = some (r .request .who)
 shipOf (held r n d) = none
 
+-- since when its call is answered, if it is
+abbrev pub answeredIn : Slot → Option ℕ
+answeredIn free = none
+answeredIn taken = none
+answeredIn (pending k r d) = none
+answeredIn (busy r g c) = answeredAt g
+answeredIn (held r n d) = none
+
 pub record Waiting : Type 0 where
   pub request : Request
   pub due : ℕ

@@ -4,7 +4,7 @@ use mathlib.Core.Bool.{Bool, true, false, not}
 use mathlib.Core.Option.{Option, none, some}
 use Prim.Native.Nat.{ℕ, _*_}
 use lib.Dec.{leb, ltb}
-use lib.ListN.{length, getD}
+use lib.ListN.{length}
 use Rattle.sequence.specs.declared.Answer.{Answer}
 use Rattle.sequence.specs.declared.Answer.the-variants.{Done}
 use Rattle.sequence.specs.Refusals.{Row, row, firstRefusal}
@@ -14,9 +14,9 @@ use Rattle.rules.specs.Places.{isSome}
 use Rattle.rules.specs.Words.{Config, Hand, handTakes, handGives, Happened, heard, signal, operator, What, tick, onChannel70, onSlot, Event}
 use Rattle.rules.specs.Actions.{Action}
 use Rattle.rules.specs.Bytes.{mostActions, blockSize}
-use Rattle.rules.specs.Station.{Slot, free, taken, pending, busy, held, Station, fires}
+use Rattle.rules.specs.Station.{Slot, Station, fires, theSlot}
 use Rattle.rules.specs.Sound.{configKeeps, limit, sound}
-use Rattle.rules.specs.Requests.{Out, isFree}
+use Rattle.rules.specs.Requests.{Out, isFree, isTaken}
 use Rattle.rules.specs.Calls.{act}
 
 -- a test, and the number given where it fails
@@ -53,13 +53,6 @@ readIn tick = Done
 readIn (onChannel70 m) = readerSays m
 readIn (onSlot i h) = readOn h
 
-abbrev pub isTaken : Slot → Bool
-isTaken free = false
-isTaken taken = true
-isTaken (pending k r d) = false
-isTaken (busy r g c) = false
-isTaken (held r n d) = false
-
 abbrev pub barredHand : Slot → Hand → Bool
 barredHand s handTakes = not (isFree s)
 barredHand s handGives = not (isTaken s)
@@ -70,10 +63,10 @@ barredOn s (signal g) = false
 barredOn s (operator h) = barredHand s h
 
 -- 35: "operator takes a slot not free, or gives back one not taken"
-abbrev pub barred : List Slot → What → Bool
-barred ss tick = false
-barred ss (onChannel70 m) = false
-barred ss (onSlot i h) = barredOn (getD ss i free) h
+abbrev pub barred : Station → What → Bool
+barred st tick = false
+barred st (onChannel70 m) = false
+barred st (onSlot i h) = barredOn (theSlot st i) h
 
 -- "Refusals, in this order"
 unfoldable pub refusals : Config → Station → Event → List (Row (Option ℕ))
@@ -85,7 +78,7 @@ refusals c st e =
     ∷ unless (not (overtaken st (e .time) (e .what))) 33
     ∷ unless (slotThere (length (st .slots)) (e .what)) 34
     ∷ unless (isDone (readIn (e .what))) (answerNumber (readIn (e .what)))
-    ∷ unless (not (barred (st .slots) (e .what))) 35
+    ∷ unless (not (barred st (e .what))) 35
     ∷ []
 
 -- the number of the refusal, if the event is refused: the first that fits

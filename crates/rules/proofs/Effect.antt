@@ -1,0 +1,112 @@
+-- What an event comes to, said once: the one walk of the kinds of events. A law on every event goes by effect.
+use mathlib.Core.Path.{_≡_, refl, ap}
+use mathlib.Core.List.{List, []}
+use mathlib.Core.Bool.{true, false}
+use mathlib.Core.Option.{Option, none, some}
+use Prim.Native.Nat.{ℕ, _≤_, _<_}
+use native.Mathlib.Omega.{arith}
+use lib.ListN.{getD, length}
+use Rattle.sequence.specs.Answers.{isDone}
+use Rattle.sequence.specs.Reading.{readingOf}
+use Rattle.rules.specs.Places.{modAt, dropAt, isSome}
+use Rattle.rules.specs.Words.{Party, Request, Config, What, tick, onChannel70, onSlot, Event}
+use Rattle.rules.specs.Waits.{Wait, ofQueue, loss, main, Due}
+use Rattle.rules.specs.Heard.{Heard, callRequest, dataRequest, bq, workingCall, endOfCall, nothing, meaning}
+use Rattle.rules.specs.Station.{Station, theSlot, setClock, setQueue, fires}
+use Rattle.rules.specs.Requests.{Out, done, standing, ruleA, requested}
+use Rattle.rules.specs.Calls.{fire, ticked, heardOn70, actAt}
+use Rattle.rules.specs.Verdict.{overtaken, readIn, verdict}
+use Rattle.rules.specs.Book.{Stop, Line, Book, atLine, atPlaces, fallsAt, momentOf, moment, stopsDue, stopsAgain, stopsHeard, stopsAt}
+use Rattle.rules.specs.Reading.{hearHeard, hearDue, hear, setNow}
+use Rattle.rules.specs.Repeated.{heardAt}
+use Rattle.rules.specs.ThreeWords.{Word, idle, lifted, wordHeard}
+use Rattle.rules.proofs.PlaceLaws.{modAt-length, modAt-none}
+use Rattle.rules.proofs.Base.{seen, falls-fires, line-is}
+use Rattle.rules.proofs.Outcome.{Outcome, end-outcome, bq-outcome, main-outcome, happened-outcome}
+use Rattle.rules.proofs.Spoken.{words, one-of}
+use Rattle.rules.proofs.Accepted.{accepted}
+
+-- ── the effect ───────────────────────────────────────────────────────────────
+
+-- st stands at the event's moment; the event is read into a book and the words of all slots, stops calls, and is heard on channel 70
+pub data Effect (st : Station) : Book → List Word → List Stop → Heard → Out → Type 0 where
+  -- nothing but the clock moves
+  rests : (m : Heard) (n : ℕ) → n ≤ 1 → Effect st (seen st) (words st) [] m (record { answer = n; next = st; acts = [] })
+  -- the time of a waiting ship is over
+  drops : (k : ℕ) → Effect st (atPlaces (dropAt k) (seen st)) (words st) [] nothing (done (setQueue (dropAt k (st .queue)) st))
+  -- a request on channel 70
+  data-asked : (x : Party) (n : List ℕ) → Effect st (seen st) (words st) [] (dataRequest x n) (ruleA st x n)
+  call-asked : (r : Request) → Effect st (hearHeard (st .clock) (callRequest r) (seen st)) (words st) (stopsAgain (st .clock) (r .who) 0 (seen st .lines)) (callRequest r) (requested st r (standing st (r .who)))
+  -- whatever happens to a slot
+  to-slot : (m : Heard) (i : ℕ) {f : Line → Line} {w : Word → Word} {ws : List Word} {cs : List Stop} {o : Out} → Outcome i st f w cs (theSlot st i) o → ws ≡ modAt w i (words st)
+      → Effect st (atLine i f (seen st)) ws cs m o
+
+-- ── an event of each kind ────────────────────────────────────────────────────
+
+heard-effect : (st : Station) (m : Heard) → Effect st (hearHeard (st .clock) m (seen st)) (words st) (stopsHeard (st .clock) (seen st .lines) m) m (heardOn70 st m)
+unfolding heardOn70
+heard-effect st (callRequest r) = call-asked r
+heard-effect st (dataRequest x n) = data-asked x n
+heard-effect st (bq i x) = to-slot (bq i x) i (bq-outcome i st x (theSlot st i)) (modAt-none i (words st))
+heard-effect st (workingCall x) = rests (workingCall x) 1 (omega arith)
+heard-effect st (endOfCall x) = rests (endOfCall x) 1 (omega arith)
+heard-effect st nothing = rests nothing 1 (omega arith)
+
+fire-effect : (st : Station) (w : Wait) (d : ℕ)
+    → Effect (setClock d st) (hearDue (setNow d (seen st)) (some record { what = w; at = d })) (words st) (stopsDue d (seen st) (some record { what = w; at = d })) nothing (fire (setClock d st) w)
+unfolding fire setClock seen
+fire-effect st (ofQueue k) d = drops k
+fire-effect st (loss i) d = rw (line-is i st (theSlot st i) refl) (to-slot nothing i (end-outcome i (setClock d st) (theSlot st i)) (modAt-none i (words st)))
+fire-effect st (main i) d = to-slot nothing i (main-outcome i (setClock d st) (theSlot st i)) (modAt-none i (words st))
+
+tick-effect : (st : Station) (t : ℕ) (o : Option Due)
+    → Effect (setClock (momentOf t o) st) (hearDue (setNow (momentOf t o) (seen st)) o) (words st) (stopsDue (momentOf t o) (seen st) o) nothing (ticked st t o)
+unfolding ticked setClock seen
+tick-effect st t none = rests nothing 0 (omega arith)
+tick-effect st t (some p) = fire-effect st (p .what) (p .at)
+
+-- the words of all slots, an off-hook on one of them being heard
+abbrev pub heardBy : ℕ → What → List Word → List Word
+heardBy t tick ws = ws
+heardBy t (onChannel70 m) ws = ws
+heardBy t (onSlot j h) ws = modAt (lifted t h) j ws
+
+abbrev pub EffectOf : Config → Station → ℕ → What → ℕ → Option Due → Type 0
+EffectOf cfg st t w u f = Effect (setClock u st) (hear cfg u f w (setNow u (seen st))) (heardBy t w (words st)) (stopsAt cfg u (seen st) f w) (heardAt cfg w) (actAt cfg st t w)
+
+pub act-effect : (cfg : Config) (st : Station) (t : ℕ) (w : What) → EffectOf cfg st t w (momentOf t (fallsAt (seen st) t w)) (fallsAt (seen st) t w)
+unfolding actAt seen setClock
+act-effect cfg st t tick = rw (falls-fires t st) (tick-effect st t (fires t st))
+act-effect cfg st t (onChannel70 m) = heard-effect (setClock t st) (meaning cfg m)
+act-effect cfg st t (onSlot i h) = rw (line-is i st (theSlot st i) refl) (to-slot nothing i (happened-outcome i (setClock t st) cfg (theSlot st i) h) refl)
+
+-- ── what else is told of an event by its kind ────────────────────────────────
+
+-- what channel 70 says is the meaning of symbols that the reader accepts, or nothing
+pub heard-at : (cfg : Config) (P : Heard → Type 0) (w : What) → isDone (readIn w) ≡ true → P nothing → ((m : List ℕ) → isDone (readingOf m .answer) ≡ true → P (meaning cfg m)) → P (heardAt cfg w)
+heard-at cfg P tick d z f = z
+heard-at cfg P (onChannel70 m) d z f = f m d
+heard-at cfg P (onSlot i h) d z f = z
+
+-- its moment is its own time, or the due time of the wait that it fires: where it is no tick, none is due
+pub moment-is : (cfg : Config) (st : Station) (e : Event) → verdict cfg st e ≡ none → moment (seen st) e ≡ momentOf (e .time) (fires (e .time) st)
+moment-is cfg st e v = go (e .what) (accepted cfg st e v .none-due)
+  where
+    none-fired : (o : Option Due) → isSome o ≡ false → e .time ≡ momentOf (e .time) o
+    none-fired none h = refl
+    none-fired (some p) h = cc
+
+    go : (w : What) → overtaken st (e .time) w ≡ false → momentOf (e .time) (fallsAt (seen st) (e .time) w) ≡ momentOf (e .time) (fires (e .time) st)
+    go tick h = ap (momentOf (e .time)) (falls-fires (e .time) st)
+    go (onChannel70 m) h = none-fired (fires (e .time) st) h
+    go (onSlot i x) h = none-fired (fires (e .time) st) h
+
+pub lifted-one : (i t : ℕ) (w : What) (ws : List Word) → i < length ws → wordHeard i t w (getD ws i idle) ≡ getD (heardBy t w ws) i idle
+lifted-one i t tick ws h = refl
+lifted-one i t (onChannel70 x) ws h = refl
+lifted-one i t (onSlot j x) ws h = one-of (lifted t x) i j ws h
+
+pub lifted-length : (t : ℕ) (w : What) (ws : List Word) → length (heardBy t w ws) ≡ length ws
+lifted-length t tick ws = refl
+lifted-length t (onChannel70 x) ws = refl
+lifted-length t (onSlot j x) ws = modAt-length (lifted t x) j ws
