@@ -17,7 +17,7 @@ use Rattle.sequence.specs.Layout.{valid}
 use Rattle.sequence.specs.Reading.{readingOf}
 use Rattle.writing.proofs.Valid.{parts}
 use Rattle.writing.proofs.EvenedLaws.{fit, all-take}
-use Rattle.rules.specs.Words.{Party, Request, Config, Event, unable}
+use Rattle.rules.specs.Words.{Party, Request, Config, Event, unable, Ours}
 use Rattle.rules.specs.Heard.{Heard, callRequest, dataRequest, digitsIn, sentBy, addressed, meaning}
 use Rattle.rules.specs.Kinds.{Means, asCallRequest, asDataRequest, asWorkingCall, asEndOfCall, asBq, asNothing, OnlyThese}
 use Rattle.rules.specs.Actions.{does}
@@ -52,11 +52,11 @@ number-keeps n h =
     rw (e, le-leb 1 (n .count) (f .some), le-leb (n .count) 16 (f .most), all-take 9 (n .count) (n .digits) (f .each))
 
 module _ (c : Config) (good : configKeeps c ≡ true) where
-  pub data-speaks : (m : Meaning) → valid m ≡ true → m .address ≡ c .identity → Speaks c (does (unable 109 (sentBy m) (digitsIn (m .number))))
+  pub data-speaks : (m : Meaning) → valid m ≡ true → Ours c (m .address) → Speaks c (does (unable 109 (sentBy m) (digitsIn (m .number))))
   unfolding unableSecond
   data-speaks m v e =
       let p = parts m v in
-      let k : isCoast (m .address) ≡ true = rw e (coast c good) in
+      let k : isCoast (m .address) ≡ true = coast c good (m .address) e in
       (unable-valid 109 (sentBy m) (digitsIn (m .number)) (from-ship (m .address) (m .sender) k (p .identities)) k refl (number-keeps (m .number) (p .number)), omega arith)
 
   heard-data : (s : List ℕ) → valid (readingOf s .meaning) ≡ true → (x : Party) (n : List ℕ) → meaning c s ≡ dataRequest x n → Speaks c (does (unable 109 x n))

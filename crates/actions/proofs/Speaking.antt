@@ -5,7 +5,7 @@ use mathlib.Core.Bool.{Bool, true}
 use mathlib.Core.List.{List, [], _∷_, map}
 use native.Mathlib.Nat.{le-of-suc-le-suc, not-suc-le-zero}
 use native.Mathlib.Omega.{arith}
-use lib.Dec.{leb, eqb}
+use lib.Dec.{leb}
 use lib.ListN.{length, getD}
 use borrow.Author.Tests.{leb-true, eqb-true}
 use Rattle.units.specs.declared.Told.{Told}
@@ -15,7 +15,7 @@ use Rattle.sequence.specs.Field.{unableSecond, channelOk}
 use Rattle.sequence.specs.Layout.{endOk}
 use Rattle.sequence.proofs.Tests.{both-true}
 use Rattle.rules.specs.Places.{all, Each}
-use Rattle.rules.specs.Words.{Request, Config, carrierOn, carrierOff, acknowledge, ringBack, unable, dial, releaseLine}
+use Rattle.rules.specs.Words.{Request, Config, carrierOn, carrierOff, acknowledge, ringBack, unable, dial, releaseLine, ours, Ours}
 use Rattle.rules.specs.Actions.{Ender, Action, does, over, charge}
 use Rattle.rules.specs.Bytes.{channelAt, kindNumber, slotNumber, payloadOf, block, blockOf, blocks}
 use Rattle.rules.specs.Sound.{identityKeeps, channelsKeep, configKeeps, numberKeeps, requestKeeps, durationKeeps}
@@ -61,9 +61,9 @@ all-in p (x ∷ l) zero d h e = both-true (p x) (all p l) e .0
 all-in p (x ∷ l) (suc i) d h e = all-in p l i d (le-of-suc-le-suc h) (both-true (p x) (all p l) e .1)
 
 module _ (c : Config) (keeps : configKeeps c ≡ true) where
-  pub coast : isCoast (c .identity) ≡ true
+  pub coast : (n : ℕ) → Ours c n → isCoast n ≡ true
   unfolding configKeeps identityKeeps
-  coast = both-true (isCoast (c .identity)) (channelsKeep (c .channels)) keeps .0
+  coast n e = rw e (both-true _ (channelsKeep (c .channels)) keeps .0)
 
   pub channel-good : (i : ℕ) → i < length (c .channels) → channelOk (channelAt c i) ≡ true
   unfolding configKeeps channelsKeep
@@ -94,9 +94,9 @@ module _ (c : Config) (keeps : configKeeps c ≡ true) where
     unfolding requestKeeps
     unable-speaks second u =
         let a = both-true (isShip (r .who .ship)) _ kept in
-        let b = both-true (eqb (r .who .station) (c .identity)) _ (a .1) in
+        let b = both-true (ours c (r .who .station)) _ (a .1) in
         let d = both-true (within 100 126 (r .second)) (numberKeeps (r .number)) (b .1) in
-        (unable-valid second (r .who) (r .number) (a .0) (rw (eqb-true (r .who .station) (c .identity) (b .0)) coast) u (d .1), omega arith)
+        (unable-valid second (r .who) (r .number) (a .0) (coast (r .who .station) (eqb-true _ _ (b .0))) u (d .1), omega arith)
 
     pub over-speaks : (i : ℕ) → i < length (c .channels) → (e : Ender) (n : Told) → durationKeeps n ≡ true → Speaks c (over i e (r .who) (r .number) n)
     over-speaks i l e n h = (over-valid c coast r kept e n h, small i l)

@@ -8,11 +8,10 @@ use Rattle.sequence.specs.Figures.{endRq, endBq}
 use Rattle.sequence.specs.Layout.{valid, layout}
 use Rattle.rules.specs.Words.{Party, Config, carrierOn, carrierOff, acknowledge, ringBack, unable, dial, releaseLine}
 use Rattle.rules.specs.Actions as R
-use Rattle.rules.specs.Actions.{theShip, theCoast, does, over, charge}
-use Rattle.rules.specs.Bytes.{ableSaid, unableSaid, overSaid, channelAt, kindNumber, slotNumber, block}
+use Rattle.rules.specs.Actions.{theShip, theCoast, does, over, charge, chargeNumbers}
+use Rattle.rules.specs.Bytes.{ableSaid, unableSaid, overSaid, channelAt, kindNumber, slotNumber, block, fours}
 use Rattle.actions.specs.declared.Ender.{Ender}
 use Rattle.actions.specs.declared.Ender.the-variants.{Ship, Coast}
-use Rattle.actions.specs.Blocks.{fourEach}
 
 unfoldable pub sent : Meaning → List ℕ
 sent m = cond (valid m) (layout m) []
@@ -34,7 +33,7 @@ sentPayload channel (does (unable n x digits)) = sent (unableSaid n x digits)
 sentPayload channel (does (dial i digits)) = digits
 sentPayload channel (does (releaseLine i)) = []
 sentPayload channel (over i e x digits n) = sent (overSaid e x digits n)
-sentPayload channel (charge h) = fourEach (h .ship) (h .start .0) (h .stop .0) (h .seconds .0)
+sentPayload channel (charge h) = fours (chargeNumbers h)
 
 unfoldable pub sentOn : Channel → R.Action → List ℕ
 sentOn channel a = block (kindNumber a) (slotNumber a) (sentPayload channel a)

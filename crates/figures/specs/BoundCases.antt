@@ -15,7 +15,7 @@ use Rattle.rules.specs.Slots.{pending, busy, held}
 use Rattle.rules.specs.Verdict.{step}
 use Rattle.rules.specs.Bytes.{numberOf, ableSaid, unableSaid, overSaid, blocks}
 use Rattle.rules.specs.Printed.{lines}
-use Rattle.rules.specs.Runs.{channel, station, seven, eight, nine, sends, usual, callsFor, calls, accepts, works, ends, ticks, paid, says, saysOn, picksUp, hangs, regains, loses, reserves, restores, ticksIn}
+use Rattle.rules.specs.Runs.{channel, station, seven, eight, nine, sends, usual, callsFor, calls, accepts, works, ends, ticks, paid, says, saysOn, picksUp, hangs, regains, loses, reserves, restores, ticksIn, stationOf}
 use Rattle.rules.specs.Cases.{Row}
 use Rattle.rules.specs.Scripts.{gives, waits, waitingShips, charges, ackEight26, ackSeven26, ackSeven26Again, ackSeven26Simplex, ackSeven27, overSeven, overSevenByCoast, ringEight26, ringNine26, ringSeven26, unable102Nine, unable103Eight, unable103Seven}
 use Rattle.rules.specs.SoundCases.{asking, from, lasting, holding, asked, with, queued, setUp, Judged, sounds, unsound, refused36}
@@ -46,7 +46,7 @@ waitingWith q e = lines (station 1) (step (station 1) (record { clock = 100; slo
 
 -- another station, on the channels 60 and 88
 abbrev pub other : Config
-other = record { identity = 7999999; channels = channel 60 ∷ channel 88 ∷ [] }
+other = stationOf 7999999 (60 ∷ 88 ∷ [])
 
 -- 1 where a test holds, 0 where it fails
 abbrev pub told : Bool → ℕ

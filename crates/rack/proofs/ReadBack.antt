@@ -19,10 +19,10 @@ use Rattle.writing.proofs.EvenedLaws.{fit}
 use Rattle.meanings.proofs.RoundTrip.{reads-back}
 use Rattle.rules.specs.Places.{Each}
 use Rattle.rules.specs.Words.{Party, Mode, simplex, duplex, modeNumber, Request, Config, carrierOn, carrierOff, acknowledge, ringBack, unable, dial, releaseLine}
-use Rattle.rules.specs.Actions.{Charge, Ender, theShip, theCoast, Action, does, over, charge}
-use Rattle.rules.specs.Bytes.{padded, numberOf, answerTo, ableSaid, unableSaid, toldField, endSymbol, overSaid, block, four, channelAt, kindNumber, slotNumber, payloadOf, blockOf, blocks}
+use Rattle.rules.specs.Actions.{Charge, Ender, theShip, theCoast, Action, does, over, charge, chargeNumbers}
+use Rattle.rules.specs.Bytes.{padded, numberOf, answerTo, ableSaid, unableSaid, toldField, endSymbol, overSaid, block, channelAt, kindNumber, slotNumber, payloadOf, blockOf, blocks, fours}
 use Rattle.rules.specs.Printed.{shown}
-use Rattle.rules.specs.Statement.{chargesOf}
+use Rattle.rules.specs.Statement.{chargesOf, FourBytes}
 use Rattle.rules.proofs.Payloads.{block-length, Slim}
 use Rattle.requests.proofs.ArrayLaws.{padded-front}
 use Rattle.actions.specs.Sent.{speaks}
@@ -73,9 +73,6 @@ over-back i e x l n v = rw (ender-back e, told-back n, digits-back (overSaid e x
 
 -- ── a charge ─────────────────────────────────────────────────────────────────
 
-abbrev pub FourBytes : Charge → Type 0
-FourBytes h = (h .ship < 4294967296) × ((h .start .0 < 4294967296) × ((h .stop .0 < 4294967296) × (h .seconds .0 < 4294967296)))
-
 sum : (n a b c d q r : ℕ) → n ≡ q * 256 + a → q ≡ r * 256 + b → r ≡ d * 256 + c → a + b * 256 + c * 65536 + d * 16777216 ≡ n
 sum n a b c d q r e f g = omega arith
 
@@ -91,9 +88,14 @@ high-split n h = omega arith
 four-back : (n : ℕ) → n < 4294967296 → n % 256 + n / 256 % 256 * 256 + n / 65536 % 256 * 65536 + n / 16777216 % 256 * 16777216 ≡ n
 four-back n h = sum n _ _ _ _ (n / 256) (n / 65536) (low-split n) (next-split n) (high-split n h)
 
-charge-back : (h : Charge) → FourBytes h → chargeIn (h .slot) (four (h .ship) (four (h .start .0) (four (h .stop .0) (four (h .seconds .0) [])))) ≡ h
+charge-back : (h : Charge) → FourBytes h → chargeIn (h .slot) (fours (chargeNumbers h)) ≡ h
 unfolding chargeIn fourAt
-charge-back h f = rw (four-back (h .ship) (f .0), four-back (h .start .0) (f .1 .0), four-back (h .stop .0) (f .1 .1 .0), four-back (h .seconds .0) (f .1 .1 .1))
+charge-back h f =
+    let a = four-back _ (f .0) in
+    let b = four-back _ (f .1 .0) in
+    let c = four-back _ (f .1 .1 .0) in
+    let d = four-back _ (f .1 .1 .1) in
+    rw (a, b, c, d)
 
 -- ── a block ──────────────────────────────────────────────────────────────────
 

@@ -6,60 +6,17 @@ use mathlib.Core.Option.{none}
 use lib.ListN.{length, replicate, length-replicate}
 use native.Mathlib.Omega.{arith}
 use borrow.Author.Tests.{le-leb}
-use contract.Lifetimes.{Lfts}
-use denote.Ref.{RefT}
 use Rattle.units.specs.declared.Channel.{Channel}
-use Rattle.units.specs.declared.Tenths.{Tenths}
-use Rattle.units.specs.declared.SlotNumber.{SlotNumber}
-use Rattle.rules.specs.Words.{Config, Happened, lineLifted, lineHung, carrierHeard, carrierLost, handTakes, handGives, heard, signal, operator, What, tick, onChannel70, onSlot, Event}
+use Rattle.rules.specs.Words.{Config, Event}
 use Rattle.rules.specs.Verdict.{setUpVerdict}
 use Rattle.rules.specs.Bytes.{padded}
 use Rattle.requests.proofs.ArrayLaws.{padded-front}
 use Rattle.station.proofs.ImageLaws.{run-fits}
 use Rattle.station.specs.declared.Station.{Station}
-use Rattle.station.specs.Step.{channelNumber, chosen, steppedBy, roomAfter, setUpFor}
-use Rattle.rack.specs.Steps.{Step, stepOf, Allowed, by-heard-on-channel-70, by-heard-on-slot, by-off-hook, by-on-hook, by-carrier-up, by-carrier-down, by-take-slot, by-give-back, by-tick, SetUpAs, by-set-up, HandsOn, eventsIn}
+use Rattle.station.specs.Step.{channelNumber, chosen, setUpFor}
+use Rattle.rack.specs.Steps.{Step, SetUpAs, by-set-up, HandsOn, eventsIn}
 use Rattle.rack.specs.Scripts.{EveryScriptIsTraced}
-
--- lifetimes, and a slice of numbers lent for one
-life : Lfts 1
-life = ([], tt)
-
-pub lives : Lfts 2
-lives = ([], life)
-
-abbrev pub lent : List ℕ → RefT (List ℕ)
-lent l = record { ptr = (0, 0); name = 0; now = l }
-
--- ── a step ───────────────────────────────────────────────────────────────────
-
-module _ (s : Station) (room : List ℕ) (time : ℕ) where
-  abbrev eventOf : What → Event
-  eventOf w = record { time = time; room = length room; what = w }
-
-  abbrev timed : Tenths
-  timed = record { 0 = time }
-
-  -- the parameters of an event on a slot
-  abbrev onto : ℕ → List ℕ → Station × (Tenths × (SlotNumber × (RefT (List ℕ) × Unit {0})))
-  onto i l = (s, (timed, (record { 0 = i }, (lent l, tt))))
-
-  abbrev pub stepFor : What → Step
-  stepFor w = stepOf (eventOf w) s room (steppedBy s (eventOf w)) (roomAfter s room (eventOf w))
-
-  on-slot : (i : ℕ) (h : Happened) → Allowed (stepFor (onSlot i h))
-  on-slot i (signal lineLifted) = by-off-hook life (onto i room) _ (onto i _) (refl, refl)
-  on-slot i (signal lineHung) = by-on-hook life (onto i room) _ (onto i _) (refl, refl)
-  on-slot i (signal carrierHeard) = by-carrier-up life (onto i room) _ (onto i _) (refl, refl)
-  on-slot i (signal carrierLost) = by-carrier-down life (onto i room) _ (onto i _) (refl, refl)
-  on-slot i (operator handTakes) = by-take-slot life (onto i room) _ (onto i _) (refl, refl)
-  on-slot i (operator handGives) = by-give-back life (onto i room) _ (onto i _) (refl, refl)
-  on-slot i (heard m) = by-heard-on-slot lives (s, (timed, (record { 0 = i }, (lent m, (lent room, tt))))) _ (s, (timed, (record { 0 = i }, (lent m, (lent _, tt))))) (refl, refl)
-
-  pub step-allowed : (w : What) → Allowed (stepFor w)
-  step-allowed tick = by-tick life (s, (timed, (lent room, tt))) _ (s, (timed, (lent _, tt))) (refl, refl)
-  step-allowed (onChannel70 m) = by-heard-on-channel-70 lives (s, (timed, (lent m, (lent room, tt)))) _ (s, (timed, (lent m, (lent _, tt)))) (refl, refl)
-  step-allowed (onSlot i h) = on-slot i h
+pub use Rattle.rack.proofs.Steps.{lives, lent, stepFor, step-allowed}
 
 -- ── a script ─────────────────────────────────────────────────────────────────
 

@@ -1,12 +1,12 @@
--- What a step hands back, from its contract: the refusal, or what the rules say.
+-- What a step hands back, from its contract: the refusal, or what the rules say; and that there is one for every event.
 use Prim.Native.Nat.{ℕ, _*_, _≤_}
 use mathlib.Core.Path.{_≡_, refl, sym, ap}
-use mathlib.Core.List.{List, _++_}
+use mathlib.Core.List.{List, _++_, []}
 use mathlib.Core.Option.{Option, none, some}
 use native.Mathlib.Omega.{arith}
 use lib.ListN.{length, drop}
 use borrow.Author.Tests.{leb-false}
-use Rattle.rules.specs.Words.{Config, Event}
+use Rattle.rules.specs.Words.{Config, Event, Happened, lineLifted, lineHung, carrierHeard, carrierLost, handTakes, handGives, heard, signal, operator, What, tick, onChannel70, onSlot}
 use Rattle.rules.specs.Station as R
 use Rattle.rules.specs.Calls.{act}
 use Rattle.rules.specs.Verdict.{verdict}
@@ -18,14 +18,19 @@ use Rattle.rules.proofs.Answered.{zero-or-one}
 use Rattle.rules.proofs.Charged.{charges-fit}
 use Rattle.actions.proofs.Handed.{act-says}
 use Rattle.station.specs.declared.Stepped.{Stepped}
+use Rattle.station.specs.declared.Station.{Station}
 use Rattle.station.specs.Model.{modelOf, configOf}
 use Rattle.station.specs.Step.{refusal, steppedFor, steppedBy, roomFor, roomAfter}
 use Rattle.station.proofs.GateLaws.{passed}
 use Rattle.station.proofs.StepLaws.{reads}
 use Rattle.rack.specs.Rooms.{actionsIn, shownIn}
-use Rattle.rack.specs.Steps.{Step, Allowed, by-heard-on-channel-70, by-heard-on-slot, by-off-hook, by-on-hook, by-carrier-up, by-carrier-down, by-take-slot, by-give-back, by-tick}
+use Rattle.rack.specs.Steps.{Step, Allowed, by-heard-on-channel-70, by-heard-on-slot, by-off-hook, by-on-hook, by-carrier-up, by-carrier-down, by-take-slot, by-give-back, by-tick, stepOf}
 use Rattle.rack.specs.Statement.{laidOut, RefusalsLeaveAll, RoomsStay}
 use Rattle.rack.proofs.ReadBack.{actions-back, shown-back, laid-back}
+use contract.Lifetimes.{Lfts}
+use denote.Ref.{RefT}
+use Rattle.units.specs.declared.Tenths.{Tenths}
+use Rattle.units.specs.declared.SlotNumber.{SlotNumber}
 
 -- ── the contracts ────────────────────────────────────────────────────────────
 
@@ -43,6 +48,46 @@ allowed-does _ (by-carrier-down κs a r s p) = record { back-is = p .0; left-is 
 allowed-does _ (by-take-slot κs a r s p) = record { back-is = p .0; left-is = p .1 }
 allowed-does _ (by-give-back κs a r s p) = record { back-is = p .0; left-is = p .1 }
 allowed-does _ (by-tick κs a r s p) = record { back-is = p .0; left-is = p .1 }
+
+-- lifetimes, and a slice of numbers lent for one
+life : Lfts 1
+life = ([], tt)
+
+pub lives : Lfts 2
+lives = ([], life)
+
+abbrev pub lent : List ℕ → RefT (List ℕ)
+lent l = record { ptr = (0, 0); name = 0; now = l }
+
+-- and one for every event on every station
+
+module _ (s : Station) (room : List ℕ) (time : ℕ) where
+  abbrev eventOf : What → Event
+  eventOf w = record { time = time; room = length room; what = w }
+
+  abbrev timed : Tenths
+  timed = record { 0 = time }
+
+  -- the parameters of an event on a slot
+  abbrev onto : ℕ → List ℕ → Station × (Tenths × (SlotNumber × (RefT (List ℕ) × Unit {0})))
+  onto i l = (s, (timed, (record { 0 = i }, (lent l, tt))))
+
+  abbrev pub stepFor : What → Step
+  stepFor w = stepOf (eventOf w) s room (steppedBy s (eventOf w)) (roomAfter s room (eventOf w))
+
+  on-slot : (i : ℕ) (h : Happened) → Allowed (stepFor (onSlot i h))
+  on-slot i (signal lineLifted) = by-off-hook life (onto i room) _ (onto i _) (refl, refl)
+  on-slot i (signal lineHung) = by-on-hook life (onto i room) _ (onto i _) (refl, refl)
+  on-slot i (signal carrierHeard) = by-carrier-up life (onto i room) _ (onto i _) (refl, refl)
+  on-slot i (signal carrierLost) = by-carrier-down life (onto i room) _ (onto i _) (refl, refl)
+  on-slot i (operator handTakes) = by-take-slot life (onto i room) _ (onto i _) (refl, refl)
+  on-slot i (operator handGives) = by-give-back life (onto i room) _ (onto i _) (refl, refl)
+  on-slot i (heard m) = by-heard-on-slot lives (s, (timed, (record { 0 = i }, (lent m, (lent room, tt))))) _ (s, (timed, (record { 0 = i }, (lent m, (lent _, tt))))) (refl, refl)
+
+  pub step-allowed : (w : What) → Allowed (stepFor w)
+  step-allowed tick = by-tick life (s, (timed, (lent room, tt))) _ (s, (timed, (lent _, tt))) (refl, refl)
+  step-allowed (onChannel70 m) = by-heard-on-channel-70 lives (s, (timed, (lent m, (lent room, tt)))) _ (s, (timed, (lent m, (lent _, tt)))) (refl, refl)
+  step-allowed (onSlot i h) = on-slot i h
 
 -- a refusal given or none, by what the step then is
 module _ (x : Step) (d : Does x) (o : Option ℕ) (e : refusal (x .before) (x .event) ≡ o) where

@@ -13,7 +13,7 @@ use Rattle.sequence.specs.Figures.{firstSimplex, firstUnable, endRq, endBq}
 use Rattle.sequence.specs.Reading.{readingOf}
 use Rattle.rules.specs.Words.{Party, Mode, simplex, duplex, Request, Deed, carrierOn, carrierOff, acknowledge, ringBack, unable, dial, releaseLine}
 use Rattle.rules.specs.Heard.{digitsIn}
-use Rattle.rules.specs.Actions.{Charge, Ender, theShip, theCoast, Action, does, over, charge}
+use Rattle.rules.specs.Actions.{Charge, Ender, theShip, theCoast, Action, does, over, charge, chargeOf}
 use Rattle.rules.specs.Bytes.{blockSize}
 
 -- ── what a sequence says that the station sent ───────────────────────────────
@@ -55,14 +55,7 @@ fourAt i p = getD p i 0 + getD p (i + 1) 0 * 256 + getD p (i + 2) 0 * 65536 + ge
 
 -- "ship, start, stop, seconds"
 unfoldable pub chargeIn : ℕ → List ℕ → Charge
-chargeIn slot p =
-    record {
-      slot = slot;
-      ship = fourAt 0 p;
-      start = record { 0 = fourAt 4 p };
-      stop = record { 0 = fourAt 8 p };
-      seconds = record { 0 = fourAt 12 p };
-    }
+chargeIn slot p = chargeOf slot (fourAt 0 p) (fourAt 4 p) (fourAt 8 p) (fourAt 12 p)
 
 -- "kind, slot, payload length, 0, payload"
 abbrev pub kindIn : List ℕ → ℕ

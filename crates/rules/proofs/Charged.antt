@@ -3,21 +3,20 @@ use mathlib.Core.Path.{_≡_, refl}
 use mathlib.Core.Bool.{Bool, true}
 use mathlib.Core.List.{List, [], _∷_, map}
 use mathlib.Core.Option.{Option, none, some}
-use Prim.Native.Nat.{ℕ, _≤_, _<_}
+use Prim.Native.Nat.{ℕ, _≤_}
 use native.Mathlib.Omega.{arith}
 use lib.Dec.{leb}
 use borrow.Author.Tests.{leb-true}
 use Rattle.sequence.specs.Identity.{isShip}
 use Rattle.rules.specs.Places.{all, Each}
 use Rattle.rules.specs.Words.{Request, Config, Event}
-use Rattle.rules.specs.Actions.{Charge}
 use Rattle.rules.specs.Station.{Slot, Station, answeredAt}
 use Rattle.rules.specs.Sound.{requestKeeps, slotKeeps, limit}
 use Rattle.rules.specs.Calls.{act}
 use Rattle.rules.specs.Verdict.{verdict}
 use Rattle.rules.specs.Book.{Stop, Call, quiet, dialled, talking, falling, moment, stopOf}
 use Rattle.rules.specs.Reading.{stopsIn}
-use Rattle.rules.specs.Statement.{owed, InOrder, ChargesFit}
+use Rattle.rules.specs.Statement.{owed, InOrder, ChargesFit, FourBytes, EndsAt}
 use Rattle.rules.proofs.PlaceLaws.{and-true}
 use Rattle.rules.proofs.Base.{callIn, view, seen, Calling, no-call, a-call, calling}
 use Rattle.rules.proofs.Accepted.{accepted, sounds}
@@ -68,10 +67,7 @@ stops-known c st e v =
 
 -- ── the four numbers ─────────────────────────────────────────────────────────
 
-abbrev FourBytes : Charge → Type 0
-FourBytes h = (h .ship < 4294967296) × ((h .start .0 < 4294967296) × ((h .stop .0 < 4294967296) × (h .seconds .0 < 4294967296)))
-
-owed-fits : (t : ℕ) → t ≤ limit → (ss : List Stop) → Each FromShip ss → Each (λ h. (h .start .0 ≤ h .stop .0) × (h .stop .0 ≡ t)) (map owed ss) → Each FourBytes (map owed ss)
+owed-fits : (t : ℕ) → t ≤ limit → (ss : List Stop) → Each FromShip ss → Each (EndsAt t) (map owed ss) → Each FourBytes (map owed ss)
 owed-fits t m [] f g = tt
 owed-fits t m (s ∷ ss) f g =
     let a = f .0 in

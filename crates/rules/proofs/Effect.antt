@@ -1,15 +1,16 @@
 -- What an event comes to, said once: the one walk of the kinds of events. A law on every event goes by effect.
-use mathlib.Core.Path.{_≡_, refl, ap}
+use mathlib.Core.Path.{_≡_, refl, ap, _∙_}
 use mathlib.Core.List.{List, []}
-use mathlib.Core.Bool.{true, false}
+use mathlib.Core.Bool.{true, false, _&&_, cond, Bool}
 use mathlib.Core.Option.{Option, none, some}
 use Prim.Native.Nat.{ℕ, _≤_, _<_}
 use native.Mathlib.Omega.{arith}
 use lib.ListN.{getD, length}
+use lib.Dec.{eqb}
 use Rattle.sequence.specs.Answers.{isDone}
 use Rattle.sequence.specs.Reading.{readingOf}
 use Rattle.rules.specs.Places.{modAt, dropAt, isSome}
-use Rattle.rules.specs.Words.{Party, Request, Config, What, tick, onChannel70, onSlot, Event}
+use Rattle.rules.specs.Words.{Party, Request, Config, What, tick, onChannel70, onSlot, Event, isOffHook}
 use Rattle.rules.specs.Waits.{Wait, ofQueue, loss, main, Due}
 use Rattle.rules.specs.Heard.{Heard, callRequest, dataRequest, bq, workingCall, endOfCall, nothing, meaning}
 use Rattle.rules.specs.Station.{Station, theSlot, setClock, setQueue, fires}
@@ -19,7 +20,7 @@ use Rattle.rules.specs.Verdict.{overtaken, readIn, verdict}
 use Rattle.rules.specs.Book.{Stop, Line, Book, atLine, atPlaces, fallsAt, momentOf, moment, stopsDue, stopsAgain, stopsHeard, stopsAt}
 use Rattle.rules.specs.Reading.{hearHeard, hearDue, hear, setNow}
 use Rattle.rules.specs.Repeated.{heardAt}
-use Rattle.rules.specs.ThreeWords.{Word, idle, lifted, wordHeard}
+use Rattle.rules.specs.ThreeWords.{Word, idle, lifted, wordHeard, answer}
 use Rattle.rules.proofs.PlaceLaws.{modAt-length, modAt-none}
 use Rattle.rules.proofs.Base.{seen, falls-fires, line-is}
 use Rattle.rules.proofs.Outcome.{Outcome, end-outcome, bq-outcome, main-outcome, happened-outcome}
@@ -104,7 +105,11 @@ moment-is cfg st e v = go (e .what) (accepted cfg st e v .none-due)
 pub lifted-one : (i t : ℕ) (w : What) (ws : List Word) → i < length ws → wordHeard i t w (getD ws i idle) ≡ getD (heardBy t w ws) i idle
 lifted-one i t tick ws h = refl
 lifted-one i t (onChannel70 x) ws h = refl
-lifted-one i t (onSlot j x) ws h = one-of (lifted t x) i j ws h
+lifted-one i t (onSlot j x) ws h = both (eqb i j) ∙ one-of (lifted t x) i j ws h
+  where
+    both : (b : Bool) → cond (b && isOffHook x) (answer t (getD ws i idle)) (getD ws i idle) ≡ cond b (lifted t x (getD ws i idle)) (getD ws i idle)
+    both true = refl
+    both false = refl
 
 pub lifted-length : (t : ℕ) (w : What) (ws : List Word) → length (heardBy t w ws) ≡ length ws
 lifted-length t tick ws = refl

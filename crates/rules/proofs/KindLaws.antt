@@ -9,7 +9,7 @@ use Rattle.sequence.specs.declared.Field.{Field}
 use Rattle.sequence.specs.declared.Field.the-variants.{Blank, Channel, Duration}
 use Rattle.sequence.specs.declared.Meaning.{Meaning}
 use Rattle.rules.specs.Places.{lowest}
-use Rattle.rules.specs.Words.{Mode, simplex, duplex, modeNumber, Config}
+use Rattle.rules.specs.Words.{Mode, simplex, duplex, modeNumber, Config, ours, Ours}
 use Rattle.rules.specs.Heard.{Heard, nothing, sentBy, isBlank, says, sameChannel, slotNamed, bqOn, agrees, kindOf, addressed}
 use Rattle.rules.specs.Kinds.{Plain, Means, asCallRequest, asDataRequest, asWorkingCall, asEndOfCall, asBq, asNothing, OnlyThese, AllThese}
 use Rattle.rules.proofs.PlaceLaws.{and-true}
@@ -24,7 +24,7 @@ or-true true b h G p q = p refl
 or-true false b h G p q = q h
 
 module _ (c : Config) (m : Meaning) where
-  plain : (e f : ℕ) → m .address ≡ c .identity → says e f m ≡ true → Plain c e f m
+  plain : (e f : ℕ) → Ours c (m .address) → says e f m ≡ true → Plain c e f m
   plain e f a h =
       let p = and-true (eqb (m .end) e && eqb (m .first) f) (isBlank (m .field)) h in
       let q = and-true (eqb (m .end) e) (eqb (m .first) f) (p .0) in
@@ -34,7 +34,7 @@ module _ (c : Config) (m : Meaning) where
   means-if true x y p q = p refl
   means-if false x y p q = q
 
-  bq-means : m .address ≡ c .identity → m .end ≡ 122 → (w : Mode) → m .first ≡ modeNumber w → (f : Field) → m .field ≡ f → Means c m (bqOn (sentBy m) (slotNamed c f))
+  bq-means : Ours c (m .address) → m .end ≡ 122 → (w : Mode) → m .first ≡ modeNumber w → (f : Field) → m .field ≡ f → Means c m (bqOn (sentBy m) (slotNamed c f))
   bq-means a e w g Blank h = asNothing
   bq-means a e w g (Duration d) h = asNothing
   bq-means a e w g (Channel n) h = go (lowest (sameChannel n) (c .channels)) refl
@@ -43,7 +43,7 @@ module _ (c : Config) (m : Meaning) where
       go none k = asNothing
       go (some i) k = asBq w n i a e g h k
 
-  kind-means : m .address ≡ c .identity → Means c m (kindOf c m)
+  kind-means : Ours c (m .address) → Means c m (kindOf c m)
   unfolding kindOf
   kind-means a =
       means-if (says 117 100 m) _ _ (λ h. asCallRequest simplex (plain 117 100 a h))
@@ -61,21 +61,21 @@ module _ (c : Config) (m : Meaning) where
 -- what is heard as a kind is of that kind
 pub only-these : OnlyThese
 unfolding OnlyThese addressed
-only-these c m = go (eqb (m .address) (c .identity)) refl
+only-these c m = go (ours c (m .address)) refl
   where
-    go : (b : Bool) → eqb (m .address) (c .identity) ≡ b → Means c m (cond b (kindOf c m) nothing)
-    go true e = kind-means c m (eqb-true (m .address) (c .identity) e)
+    go : (b : Bool) → ours c (m .address) ≡ b → Means c m (cond b (kindOf c m) nothing)
+    go true e = kind-means c m (eqb-true _ _ e)
     go false e = asNothing
 
 -- what is of a kind is heard as that kind
 pub all-these : AllThese
 unfolding AllThese addressed kindOf
-all-these c m _ (asCallRequest simplex p) k = rw (eq-eqb (m .address) (c .identity) (p .to-this), p .ends, p .begins, p .empty) refl
-all-these c m _ (asCallRequest duplex p) k = rw (eq-eqb (m .address) (c .identity) (p .to-this), p .ends, p .begins, p .empty) refl
-all-these c m _ (asDataRequest p) k = rw (eq-eqb (m .address) (c .identity) (p .to-this), p .ends, p .begins, p .empty) refl
-all-these c m _ (asWorkingCall simplex p) k = rw (eq-eqb (m .address) (c .identity) (p .to-this), p .ends, p .begins, p .empty) refl
-all-these c m _ (asWorkingCall duplex p) k = rw (eq-eqb (m .address) (c .identity) (p .to-this), p .ends, p .begins, p .empty) refl
-all-these c m _ (asEndOfCall p) k = rw (eq-eqb (m .address) (c .identity) (p .to-this), p .ends, p .begins, p .empty) refl
-all-these c m _ (asBq simplex n i a e g h l) k = rw (eq-eqb (m .address) (c .identity) a, e, g, h, l) refl
-all-these c m _ (asBq duplex n i a e g h l) k = rw (eq-eqb (m .address) (c .identity) a, e, g, h, l) refl
+all-these c m _ (asCallRequest simplex p) k = rw (eq-eqb _ _ (p .to-this), p .ends, p .begins, p .empty) refl
+all-these c m _ (asCallRequest duplex p) k = rw (eq-eqb _ _ (p .to-this), p .ends, p .begins, p .empty) refl
+all-these c m _ (asDataRequest p) k = rw (eq-eqb _ _ (p .to-this), p .ends, p .begins, p .empty) refl
+all-these c m _ (asWorkingCall simplex p) k = rw (eq-eqb _ _ (p .to-this), p .ends, p .begins, p .empty) refl
+all-these c m _ (asWorkingCall duplex p) k = rw (eq-eqb _ _ (p .to-this), p .ends, p .begins, p .empty) refl
+all-these c m _ (asEndOfCall p) k = rw (eq-eqb _ _ (p .to-this), p .ends, p .begins, p .empty) refl
+all-these c m _ (asBq simplex n i a e g h l) k = rw (eq-eqb _ _ a, e, g, h, l) refl
+all-these c m _ (asBq duplex n i a e g h l) k = rw (eq-eqb _ _ a, e, g, h, l) refl
 all-these c m _ asNothing k = absurd (k refl)

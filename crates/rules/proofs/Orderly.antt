@@ -14,7 +14,7 @@ use Rattle.rules.specs.Calls.{act}
 use Rattle.rules.specs.Verdict.{verdict, play, final}
 use Rattle.rules.specs.Book.{Stop, Call, quiet, dialled, talking, Book, blankBook, falling, moment, stopOf, stopsAt}
 use Rattle.rules.specs.Reading.{stopsIn, Numbered, stops, readAll, talkedBy, lengths, countedByCalls}
-use Rattle.rules.specs.Statement.{notes, owed, owedFor, ChargesAreStops, tenthsIn, heldTenths, TenthsAgree, CountsAgree, InOrder, ClockIsNow}
+use Rattle.rules.specs.Statement.{notes, owed, owedFor, ChargesAreStops, tenthsIn, heldTenths, TenthsAgree, CountsAgree, InOrder, ClockIsNow, EndsAt}
 use Rattle.rules.proofs.PlaceLaws.{and-true}
 use Rattle.rules.proofs.Base.{view, seen, begunBy}
 use Rattle.rules.proofs.Accepted.{accepted, sounds, begun-all}
@@ -26,24 +26,24 @@ use Rattle.rules.proofs.Moments.{moment-on}
 -- ── the order of times ───────────────────────────────────────────────────────
 
 module _ (cfg : Config) (c t : ℕ) (h : c ≤ t) where
-  one-good : (i : ℕ) (k : Call) → since c k ≡ true → Each (λ s. (s .start .0 ≤ s .stop .0) × (s .stop .0 ≡ t)) (stopOf t i k)
+  one-good : (i : ℕ) (k : Call) → since c k ≡ true → Each (λ s. EndsAt t (owed s)) (stopOf t i k)
   one-good i quiet e = tt
   one-good i (dialled x m) e = tt
   one-good i (talking x m b) e = let a = leb-true b c e in ((omega arith, refl), tt)
 
   all-good : (b : Book) → all (λ l. since c (l .call)) (b .lines) ≡ true → (o : Option Due) (w : What)
-      → Each (λ s. (s .start .0 ≤ s .stop .0) × (s .stop .0 ≡ t)) (stopsAt cfg t b o w)
-  all-good b e o w = each-stop cfg t (λ s. (s .start .0 ≤ s .stop .0) × (s .stop .0 ≡ t)) (since c) refl one-good b e o w
+      → Each (λ s. EndsAt t (owed s)) (stopsAt cfg t b o w)
+  all-good b e o w = each-stop cfg t (λ s. EndsAt t (owed s)) (since c) refl one-good b e o w
 
 all-since : (c : ℕ) (ss : List Slot) → all (begunBy c) ss ≡ true → all (λ l. since c (l .call)) (map view ss) ≡ true
 all-since c [] h = refl
 all-since c (s ∷ ss) h = let w = and-true (begunBy c s) (all (begunBy c) ss) h in rw (since-slot c s, w .0) (all-since c ss (w .1))
 
-owed-each : (t : ℕ) (ss : List Stop) → Each (λ s. (s .start .0 ≤ s .stop .0) × (s .stop .0 ≡ t)) ss → Each (λ c. (c .start .0 ≤ c .stop .0) × (c .stop .0 ≡ t)) (map owed ss)
+owed-each : (t : ℕ) (ss : List Stop) → Each (λ s. EndsAt t (owed s)) ss → Each (EndsAt t) (map owed ss)
 owed-each t [] g = tt
 owed-each t (s ∷ ss) g = (g .0, owed-each t ss (g .1))
 
-stops-good : (cfg : Config) (st : Station) (e : Event) → verdict cfg st e ≡ none → Each (λ s. (s .start .0 ≤ s .stop .0) × (s .stop .0 ≡ moment (seen st) e)) (stopsIn cfg (seen st) (noteOf e (act cfg st e .acts)))
+stops-good : (cfg : Config) (st : Station) (e : Event) → verdict cfg st e ≡ none → Each (λ s. EndsAt (moment (seen st) e) (owed s)) (stopsIn cfg (seen st) (noteOf e (act cfg st e .acts)))
 unfolding stopsIn seen
 stops-good cfg st e v = all-good cfg (st .clock) (moment (seen st) e) (moment-on cfg st e v) (seen st) (all-since (st .clock) (st .slots) (begun-all cfg st (sounds cfg st (accepted cfg st e v .is-sound)))) (falling (seen st) e) (e .what)
 
@@ -64,7 +64,7 @@ read-final cfg (e ∷ es) st = go (verdict cfg st e) refl (λ s. read-final cfg 
 
 owed-lengths : (ss : List (Numbered Stop)) → tenthsIn (owedFor ss) ≡ lengths ss
 owed-lengths [] = refl
-owed-lengths (s ∷ ss) = ap (λ n. (s .it .stop .0 - s .it .start .0) + n) (owed-lengths ss)
+owed-lengths (s ∷ ss) = rw (owed-lengths ss) refl
 
 held-read : (cfg : Config) (es : List Event) → talkedBy (readAll cfg (notes (play cfg es (fresh cfg))) (blankBook cfg) .now) (readAll cfg (notes (play cfg es (fresh cfg))) (blankBook cfg) .lines) ≡ heldTenths (final cfg es (fresh cfg))
 unfolding seen

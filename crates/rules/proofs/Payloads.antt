@@ -15,7 +15,7 @@ use Rattle.sequence.specs.declared.Meaning.{Meaning}
 use Rattle.sequence.specs.Number.{evened, pairsOf}
 use Rattle.sequence.specs.Layout.{front, body, layout}
 use Rattle.rules.specs.Places.{Each}
-use Rattle.rules.specs.Words.{Party, Request, Config, carrierOn, carrierOff, acknowledge, ringBack, unable, dial, releaseLine}
+use Rattle.rules.specs.Words.{Party, Request, Config, carrierOn, carrierOff, acknowledge, ringBack, unable, dial, releaseLine, ours}
 use Rattle.rules.specs.Actions.{Ender, Action, does, over}
 use Rattle.rules.specs.Sound.{numberKeeps, requestKeeps}
 use Rattle.rules.specs.Requests.{bill}
@@ -104,7 +104,7 @@ module _ (cfg : Config) where
   unfolding payloadOf requestKeeps numberKeeps
   dial-slim i r k =
       let a = and-true (isShip (r .who .ship)) _ k in
-      let b = and-true (eqb (r .who .station) (cfg .identity)) _ (a .1) in
+      let b = and-true (ours cfg (r .who .station)) _ (a .1) in
       let c = and-true (within 100 126 (r .second)) _ (b .1) in
       let n = and-true (within 1 16 (length (r .number))) _ (c .1) in
       let l = leb-true (length (r .number)) 16 (and-true (leb 1 (length (r .number))) _ (n .0) .1) in

@@ -14,7 +14,7 @@ use Rattle.sequence.specs.Identity.{isShip, isCoast, identitiesOk}
 use Rattle.sequence.specs.Field.{isCall, telecommandsOk}
 use Rattle.sequence.specs.Reading as S
 use Rattle.sequence.proofs.RefusalLaws.{done-held}
-use Rattle.rules.specs.Words.{Mode, simplex, duplex, modeNumber, Request, Config}
+use Rattle.rules.specs.Words.{Mode, simplex, duplex, modeNumber, Request, Config, Ours}
 use Rattle.rules.specs.Heard.{Heard, callRequest, digitsIn, requestIn, addressed, meaning}
 use Rattle.rules.specs.Kinds.{Plain, Means, asCallRequest, asDataRequest, asWorkingCall, asEndOfCall, asBq, asNothing, OnlyThese}
 use Rattle.rules.specs.Sound.{identityKeeps, configKeeps, numberKeeps, requestKeeps}
@@ -130,15 +130,15 @@ module _ (cfg : Config) (keeps : configKeeps cfg ≡ true) (s : List ℕ) (done 
   unfolding requestKeeps configKeeps identityKeeps S.identitiesIn S.telecommandsIn S.numberIn S.pairsOk S.meaningOf
   kept w plain =
       let p = passed s done in
-      let to : S.identityAt s 1 ≡ cfg .identity = rw (p .meant) at (plain .to-this) in
+      let to : Ours cfg (S.identityAt s 1) = rw (p .meant) at (plain .to-this) in
       let first : getD s 12 0 ≡ modeNumber w = rw (p .meant) at (plain .begins) in
-      let coast = and-true (isCoast (cfg .identity)) _ keeps .0 in
+      let coast = and-true _ _ keeps .0 in
       let ids = and-true (S.identityPairsAt s 7) _ (and-true (S.identityPairsAt s 1) _ (p .named) .1) .1 in
       let ship : isShip (S.identityAt s 7) ≡ true = from-ship (S.identityAt s 1) (S.identityAt s 7) (rw to coast) ids in
       let second : within 100 126 (getD s 13 0) ≡ true = second-in w (getD s 13 0) (rw first at (p .ordered)) in
       let few = pairs-few s (p .sized) in
       let small = and-true (S.parityOk (getD s 17 0) (getD (S.pairsIn s) 0 0)) (allAtMost 99 (S.pairsIn s)) (p .numbered) .1 in
-      rw (p .meant, ship, eq-eqb (S.identityAt s 1) (cfg .identity) to, second) (number-keeps (getD s 17 0) (S.pairsIn s) (few .0) (few .1) small)
+      rw (p .meant, ship, eq-eqb _ _ to, second) (number-keeps (getD s 17 0) (S.pairsIn s) (few .0) (few .1) small)
 
   pub heard-keeps : (r : Request) → meaning cfg s ≡ callRequest r → requestKeeps cfg r ≡ true
   unfolding meaning OnlyThese

@@ -3,7 +3,7 @@ use mathlib.Core.Path.{_≡_, refl}
 use mathlib.Core.List.{List, [], _∷_}
 use mathlib.Core.Bool.{true}
 use Prim.Native.Nat.{ℕ, zero, suc}
-use lib.Dec.{eqb, leb, leb·zero}
+use lib.Dec.{leb, leb·zero}
 use lib.ListN.{length, drop}
 use borrow.Author.Tests.{eqb-true}
 use Rattle.units.specs.declared.Channel.{Channel as ChannelNumber}
@@ -16,7 +16,7 @@ use Rattle.sequence.specs.Identity.{isShip, isCoast, identitiesOk}
 use Rattle.sequence.specs.Field.{isCall, unableSecond, telecommandsOk, channelOk, fieldOk}
 use Rattle.sequence.specs.Number.{numberOk}
 use Rattle.sequence.specs.Layout.{endOk, valid}
-use Rattle.rules.specs.Words.{Party, Mode, simplex, duplex, modeNumber, Request, Config}
+use Rattle.rules.specs.Words.{Party, Mode, simplex, duplex, modeNumber, Request, Config, ours, Ours}
 use Rattle.rules.specs.Actions.{Ender, theShip, theCoast}
 use Rattle.rules.specs.Sound.{numberKeeps, requestKeeps, durationKeeps}
 use Rattle.rules.specs.Bytes.{padded, numberOf, answerTo, ableSaid, unableSaid, toldField, endSymbol, overSaid}
@@ -87,14 +87,14 @@ record Parts (r : Request) : Type 0 where
   second : within 100 126 (r .second) ≡ true
   number : numberKeeps (r .number) ≡ true
 
-module _ (cfg : Config) (coast : isCoast (cfg .identity) ≡ true) (r : Request) (keeps : requestKeeps cfg r ≡ true) where
+module _ (cfg : Config) (coast : (n : ℕ) → Ours cfg n → isCoast n ≡ true) (r : Request) (keeps : requestKeeps cfg r ≡ true) where
   parts : Parts r
   unfolding requestKeeps
   parts =
       let a = and-true (isShip (r .who .ship)) _ keeps in
-      let b = and-true (eqb (r .who .station) (cfg .identity)) _ (a .1) in
+      let b = and-true (ours cfg (r .who .station)) _ (a .1) in
       let c = and-true (within 100 126 (r .second)) _ (b .1) in
-      record { ship = a .0; station = rw (eqb-true (r .who .station) (cfg .identity) (b .0)) coast; second = c .0; number = c .1 }
+      record { ship = a .0; station = coast (r .who .station) (eqb-true _ _ (b .0)); second = c .0; number = c .1 }
 
   -- the acknowledgement, and the ring-back
   pub able-valid : (n : ChannelNumber) → channelOk n ≡ true → (end : ℕ) → endOk end ≡ true → valid (ableSaid n end r) ≡ true

@@ -1,6 +1,6 @@
 -- The actions handed out: the deeds, the end of a call with its duration, and the charge.
 use Prim.Native.Nat.{ℕ}
-use mathlib.Core.List.{List}
+use mathlib.Core.List.{List, [], _∷_}
 use Rattle.units.specs.declared.Tenths.{Tenths}
 use Rattle.units.specs.declared.Seconds.{Seconds}
 use Rattle.units.specs.declared.Told.{Told}
@@ -13,6 +13,14 @@ pub record Charge : Type 0 where
   pub start : Tenths
   pub stop : Tenths
   pub seconds : Seconds
+
+-- of a slot: its ship, the tenths from which and to which, the seconds
+abbrev pub chargeOf : ℕ → ℕ → ℕ → ℕ → ℕ → Charge
+chargeOf i x b e s = record { slot = i; ship = x; start = record { 0 = b }; stop = record { 0 = e }; seconds = record { 0 = s } }
+
+-- "ship, start, stop, seconds"
+abbrev pub chargeNumbers : Charge → List ℕ
+chargeNumbers h = h .ship ∷ h .start .0 ∷ h .stop .0 ∷ h .seconds .0 ∷ []
 
 pub data Ender : Type 0 where
   theShip theCoast : Ender

@@ -7,7 +7,7 @@ use lib.Dec.{eqb}
 use lib.ListN.{getD, length, replicate}
 use Rattle.units.specs.declared.Tenths.{Tenths}
 use Rattle.rules.specs.Places.{modAt}
-use Rattle.rules.specs.Words.{Party, is, Mode, simplex, duplex, Request, Config, Signal, lineLifted, lineHung, carrierHeard, carrierLost, Happened, heard, signal, operator, What, tick, onChannel70, onSlot, Event, Deed}
+use Rattle.rules.specs.Words.{Party, is, Mode, simplex, duplex, Request, Config, Happened, heard, signal, operator, What, tick, onChannel70, onSlot, Event, Deed, isOnHook}
 use Rattle.rules.specs.Waits.{ofQueue, loss, main, Due, running, earliest, ifDue, queueTable}
 use Rattle.rules.specs.Heard.{Heard, callRequest, dataRequest, bq, workingCall, endOfCall, nothing, meaning}
 
@@ -162,16 +162,10 @@ stopsSaid t i k (workingCall x) = []
 stopsSaid t i k (endOfCall x) = cond (callOf x k) (stopOf t i k) []
 stopsSaid t i k nothing = []
 
--- "on-hook"
-abbrev pub stopsSignal : ℕ → ℕ → Call → Signal → List Stop
-stopsSignal t i k lineLifted = []
-stopsSignal t i k lineHung = stopOf t i k
-stopsSignal t i k carrierHeard = []
-stopsSignal t i k carrierLost = []
-
+-- and "on-hook"
 abbrev pub stopsOn : Config → ℕ → ℕ → Call → Happened → List Stop
 stopsOn c t i k (heard m) = stopsSaid t i k (meaning c m)
-stopsOn c t i k (signal g) = stopsSignal t i k g
+stopsOn c t i k (signal g) = cond (isOnHook (signal g)) (stopOf t i k) []
 stopsOn c t i k (operator h) = []
 
 -- "carrier absent until a tick fires its wait"

@@ -12,7 +12,7 @@ use Rattle.sequence.specs.declared.Meaning.{Meaning}
 use Rattle.sequence.specs.Figures.{firstUnable, firstOver, untold, mostDigits, endRq, endBq, endLast}
 use Rattle.sequence.specs.Layout.{layout}
 use Rattle.rules.specs.Words.{Party, Request, modeNumber, Config, carrierOn, carrierOff, acknowledge, ringBack, unable, dial, releaseLine}
-use Rattle.rules.specs.Actions.{Ender, theShip, theCoast, Action, does, over, charge}
+use Rattle.rules.specs.Actions.{Ender, theShip, theCoast, Action, does, over, charge, chargeNumbers}
 
 -- ── the sequences ────────────────────────────────────────────────────────────
 
@@ -72,6 +72,10 @@ block kind slot payload = kind ∷ slot ∷ length payload ∷ 0 ∷ padded 0 pa
 abbrev pub four : ℕ → List ℕ → List ℕ
 four n l = n % 256 ∷ n / 256 % 256 ∷ n / 65536 % 256 ∷ n / 16777216 % 256 ∷ l
 
+abbrev pub fours : List ℕ → List ℕ
+fours [] = []
+fours (n ∷ l) = four n (fours l)
+
 -- the channel of a slot
 abbrev pub channelAt : Config → ℕ → ChannelNumber
 channelAt c i = getD (c .channels) i (record { 0 = 0 })
@@ -103,7 +107,7 @@ slotNumber (does (releaseLine i)) = i
 slotNumber (over i e x digits n) = i
 slotNumber (charge h) = h .slot
 
--- sequences; "digits, one a byte"; "ship, start, stop, seconds"
+-- sequences; "digits, one a byte"; the numbers of a charge
 unfoldable pub payloadOf : Config → Action → List ℕ
 payloadOf c (does (carrierOn i)) = []
 payloadOf c (does (carrierOff i)) = []
@@ -113,7 +117,7 @@ payloadOf c (does (unable n x digits)) = layout (unableSaid n x digits)
 payloadOf c (does (dial i digits)) = digits
 payloadOf c (does (releaseLine i)) = []
 payloadOf c (over i e x digits n) = layout (overSaid e x digits n)
-payloadOf c (charge h) = four (h .ship) (four (h .start .0) (four (h .stop .0) (four (h .seconds .0) [])))
+payloadOf c (charge h) = fours (chargeNumbers h)
 
 unfoldable pub blockOf : Config → Action → List ℕ
 blockOf c a = block (kindNumber a) (slotNumber a) (payloadOf c a)

@@ -2,7 +2,7 @@
 use mathlib.Core.List.{List, [], _∷_}
 use Rattle.sequence.specs.Reading.{readingOf}
 use Rattle.rules.specs.Words.{simplex, duplex, carrierOn, dial}
-use Rattle.rules.specs.Actions.{does, charge}
+use Rattle.rules.specs.Actions.{does, charge, chargeOf}
 use Rattle.rules.specs.Verdict.{step}
 use Rattle.rules.specs.Bytes.{payloadOf, blockOf}
 use Rattle.rules.specs.Printed.{lines}
@@ -214,7 +214,7 @@ blockShown = record {
 -- four bytes each, low first
 abbrev pub fourShown : Row
 fourShown = record {
-  computed = payloadOf (station 1) (charge record { slot = 1; ship = 67305985; start = record { 0 = 65536 }; stop = record { 0 = 16777216 }; seconds = record { 0 = 4294967295 } }) ∷ [];
+  computed = payloadOf (station 1) (charge (chargeOf 1 67305985 65536 16777216 4294967295)) ∷ [];
   expected = (1 ∷ 2 ∷ 3 ∷ 4 ∷ 0 ∷ 0 ∷ 1 ∷ 0 ∷ 0 ∷ 0 ∷ 0 ∷ 1 ∷ 255 ∷ 255 ∷ 255 ∷ 255 ∷ []) ∷ [];
 }
 

@@ -13,7 +13,7 @@ use Rattle.sequence.specs.declared.Meaning.{Meaning}
 use Rattle.sequence.specs.Figures.{firstSimplex, firstDuplex, firstData, firstOver, endRq, endBq, endLast}
 use Rattle.sequence.specs.Reading.{readingOf}
 use Rattle.rules.specs.Places.{lowest}
-use Rattle.rules.specs.Words.{Party, Mode, simplex, duplex, Request, Config}
+use Rattle.rules.specs.Words.{Party, Mode, simplex, duplex, Request, Config, ours}
 
 pub data Heard : Type 0 where
   callRequest : Request → Heard  -- simplex or duplex
@@ -76,7 +76,7 @@ kindOf c m =
 
 -- "a sequence not addressed to this station" is nothing
 unfoldable pub addressed : Config → Meaning → Heard
-addressed c m = cond (eqb (m .address) (c .identity)) (kindOf c m) nothing
+addressed c m = cond (ours c (m .address)) (kindOf c m) nothing
 
 -- what symbols say that the reader accepts
 unfoldable pub meaning : Config → List ℕ → Heard

@@ -6,12 +6,12 @@ use Rattle.units.specs.declared.Channel.{Channel as ChannelNumber}
 use Rattle.sequence.specs.declared.Field.the-variants.{Blank, Channel}
 use Rattle.sequence.specs.declared.Meaning.{Meaning}
 use Rattle.rules.specs.Places.{lowest}
-use Rattle.rules.specs.Words.{Mode, Config, modeNumber}
+use Rattle.rules.specs.Words.{Mode, Config, modeNumber, Ours}
 use Rattle.rules.specs.Heard.{Heard, callRequest, dataRequest, bq, workingCall, endOfCall, nothing, digitsIn, sentBy, requestIn, sameChannel, addressed}
 
 -- to this station, with an end of sequence and a first telecommand, the field 126s
 pub record Plain (c : Config) (end first : ℕ) (m : Meaning) : Type 0 where
-  pub to-this : m .address ≡ c .identity
+  pub to-this : Ours c (m .address)
   pub ends : m .end ≡ end
   pub begins : m .first ≡ first
   pub empty : m .field ≡ Blank
@@ -26,7 +26,7 @@ pub data Means (c : Config) (m : Meaning) : Heard → Type 0 where
   -- "Ship's end of call (117, 105, field 126s)"
   asEndOfCall : Plain c 117 105 m → Means c m (endOfCall (sentBy m))
   -- "BQ .., telecommand 100 or 101, naming that channel"
-  asBq : (w : Mode) (n : ChannelNumber) (i : ℕ) → m .address ≡ c .identity → m .end ≡ 122 → m .first ≡ modeNumber w → m .field ≡ Channel n
+  asBq : (w : Mode) (n : ChannelNumber) (i : ℕ) → Ours c (m .address) → m .end ≡ 122 → m .first ≡ modeNumber w → m .field ≡ Channel n
       → lowest (sameChannel n) (c .channels) ≡ some i → Means c m (bq i (sentBy m))
   -- anything else
   asNothing : Means c m nothing

@@ -10,7 +10,7 @@ use Rattle.units.specs.declared.Told.{Told}
 use Rattle.units.specs.declared.Told.the-variants.{Nothing}
 use Rattle.rules.specs.Places.{modAt, lowest}
 use Rattle.rules.specs.Words.{Party, is, Mode, simplex, duplex, Request, Deed, carrierOn, carrierOff, acknowledge, ringBack, unable, releaseLine}
-use Rattle.rules.specs.Actions.{Action, does, over, charge, Ender, theCoast}
+use Rattle.rules.specs.Actions.{Action, does, over, charge, Ender, theCoast, chargeOf}
 use Rattle.rules.specs.Station.{Kind, offered, firstRing, secondRing, acknowledged, answeredAt, Slot, free, taken, pending, busy, held, dealing, shipOf, Waiting, Station, theSlot, setSlot, setQueue, dueAfter, kindWait, queueWait}
 use Rattle.rules.specs.Sound.{queueRoom}
 
@@ -64,14 +64,7 @@ freed i st = freedFor i st (st .queue)
 -- "charge if answered": the one place where a charge is made
 abbrev pub bill : ℕ → Party → Option ℕ → ℕ → List Action
 bill i x none t = []
-bill i x (some b) t =
-    charge record {
-      slot = i;
-      ship = x .ship;
-      start = record { 0 = b };
-      stop = record { 0 = t };
-      seconds = wholeSeconds (record { 0 = t - b });
-    } ∷ []
+bill i x (some b) t = charge (chargeOf i (x .ship) b t (wholeSeconds (record { 0 = t - b }) .0)) ∷ []
 
 -- "Duration: whole seconds, rounded down; unanswered, or 100 hours and over: 126s"
 abbrev pub lasted : Option ℕ → ℕ → Told

@@ -1,5 +1,5 @@
 -- Runs that a class can follow: what happens, and what is to be charged for it.
-use mathlib.Core.List.{List, [], _∷_}
+use mathlib.Core.List.{List, [], _∷_, map}
 use Prim.Native.Nat.{ℕ}
 use lib.ListN.{take}
 use Rattle.units.specs.declared.Channel.{Channel as ChannelNumber}
@@ -7,7 +7,7 @@ use Rattle.sequence.specs.declared.Field.{Field}
 use Rattle.sequence.specs.declared.Field.the-variants.{Blank, Channel}
 use Rattle.sequence.specs.Layout.{layout}
 use Rattle.rules.specs.Words.{Mode, simplex, duplex, modeNumber, Config, Happened, heard, offHook, onHook, carrierUp, carrierDown, takes, givesBack, tick, onChannel70, onSlot, What, Event}
-use Rattle.rules.specs.Actions.{Charge}
+use Rattle.rules.specs.Actions.{Charge, chargeOf}
 use Rattle.rules.specs.Bytes.{numberOf}
 use Rattle.rules.specs.Reading.{Numbered}
 
@@ -16,9 +16,13 @@ use Rattle.rules.specs.Reading.{Numbered}
 abbrev pub channel : ℕ → ChannelNumber
 channel n = record { 0 = n }
 
--- a station with the first n of three channels
+-- a station with its identity and its channels
+abbrev pub stationOf : ℕ → List ℕ → Config
+stationOf n l = record { identity = n; channels = map channel l }
+
+-- with the first n of three channels
 abbrev pub station : ℕ → Config
-station n = record { identity = 2001234; channels = take n (channel 26 ∷ channel 27 ∷ channel 28 ∷ []) }
+station n = stationOf 2001234 (take n (26 ∷ 27 ∷ 28 ∷ []))
 
 -- three ships
 abbrev pub seven : ℕ
@@ -105,7 +109,7 @@ fades es = accepts 310 26 seven ∷ works 400 0 seven ∷ picksUp 500 0 ∷ lose
 
 -- entry, slot, ship, beginning, end, seconds
 abbrev pub paid : ℕ → ℕ → ℕ → ℕ → ℕ → ℕ → Numbered Charge
-paid k i x b e s = record { entry = k; it = record { slot = i; ship = x; start = record { 0 = b }; stop = record { 0 = e }; seconds = record { 0 = s } } }
+paid k i x b e s = record { entry = k; it = chargeOf i x b e s }
 
 pub record Run : Type 0 where
   pub slots : ℕ

@@ -9,9 +9,10 @@ use Rattle.sequence.specs.Layout.{layout}
 use Rattle.rules.specs.Places.{modAt}
 use Rattle.rules.specs.Words.{duplex, Event}
 use Rattle.rules.specs.Station.{taken, Waiting, Station, fresh}
-use Rattle.rules.specs.Bytes.{numberOf, four}
+use Rattle.rules.specs.Bytes.{numberOf, fours}
 use Rattle.rules.specs.Printed.{lastPrinted}
 use Rattle.rules.specs.Runs.{station, seven, eight, sends, usual, says}
+use Rattle.rules.specs.Actions.{chargeOf, chargeNumbers}
 
 -- ── how a case is written ────────────────────────────────────────────────────
 
@@ -53,7 +54,7 @@ rechecked s = take (length s - 1) s ++ exclusiveOr 0 (take (length s - 1) s) ∷
 
 -- a charge as it is printed: slot, ship, start, stop, seconds
 abbrev pub charges : ℕ → ℕ → ℕ → ℕ → ℕ → List ℕ
-charges i x start stop seconds = 7 ∷ i ∷ four x (four start (four stop (four seconds [])))
+charges i x b e s = 7 ∷ i ∷ fours (chargeNumbers (chargeOf i x b e s))
 
 -- an end of call with 90 0 26 in its channel field
 abbrev pub ninety : List ℕ

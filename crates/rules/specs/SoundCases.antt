@@ -1,5 +1,5 @@
 -- Which station is sound and which is not: a case for each part of 01's sentence, and for each bound on both its sides.
-use mathlib.Core.List.{List, [], _∷_, map}
+use mathlib.Core.List.{List, [], _∷_}
 use mathlib.Core.Option.{Option, none, some}
 use Prim.Native.Nat.{ℕ}
 use lib.ListN.{replicate}
@@ -9,7 +9,7 @@ use Rattle.rules.specs.Words.{Mode, simplex, duplex, Request, Config}
 use Rattle.rules.specs.Station.{offered, firstRing, secondRing, acknowledged, dialling, answered, Slot, free, Waiting, Station}
 use Rattle.rules.specs.Slots.{pending, busy, held}
 use Rattle.rules.specs.Verdict.{verdict, setUpVerdict}
-use Rattle.rules.specs.Runs.{channel, station, seven, usual, ticks}
+use Rattle.rules.specs.Runs.{station, seven, usual, ticks, stationOf}
 use Rattle.rules.specs.Scripts.{waits, waitingShips}
 
 -- ── how a case is written ────────────────────────────────────────────────────
@@ -40,7 +40,7 @@ abbrev pub queued : List Waiting → Option ℕ
 queued q = asked (station 2) (holding (free ∷ free ∷ []) q)
 
 abbrev pub setUp : ℕ → List ℕ → Option ℕ
-setUp identity channels = setUpVerdict (record { identity = identity; channels = map channel channels })
+setUp n l = setUpVerdict (stationOf n l)
 
 pub record Judged : Type 0 where
   pub given : Option ℕ
@@ -88,7 +88,7 @@ storedCases =
     -- a station of two channels with nothing on them
     sounds (queued [])
     -- the identity is not a coast station's
-    ∷ unsound (asked (record { identity = 200000007; channels = station 2 .channels }) (holding (free ∷ free ∷ []) []))
+    ∷ unsound (asked (stationOf 200000007 (26 ∷ 27 ∷ [])) (holding (free ∷ free ∷ []) []))
     -- more slots than channels
     ∷ unsound (asked (station 2) (holding (free ∷ free ∷ free ∷ []) []))
     -- a request to this station

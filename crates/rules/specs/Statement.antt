@@ -113,10 +113,14 @@ TenthsAgree = OfEveryRun (λ c es. tenthsIn (charged 0 (runOf c es)) + heldTenth
 unfoldable pub CountsAgree : Type 0
 CountsAgree = OfEveryRun (λ c es. countedByCalls c (listOf c es) (blankBook c) ≡ counted c (listOf c es) (blankBook c))
 
+-- its beginning is not after its end, and its end is t
+abbrev pub EndsAt : ℕ → Charge → Type 0
+EndsAt t h = (h .start .0 ≤ h .stop .0) × (h .stop .0 ≡ t)
+
 -- the clock never goes back; a charge's beginning is not after its end, and its end is the clock
 unfoldable pub InOrder : Type 0
 InOrder = (c : Config) (st : Station) (e : Event) → verdict c st e ≡ none
-    → (st .clock ≤ act c st e .next .clock) × Each (λ h. (h .start .0 ≤ h .stop .0) × (h .stop .0 ≡ act c st e .next .clock)) (chargesOf (act c st e .acts))
+    → (st .clock ≤ act c st e .next .clock) × Each (EndsAt (act c st e .next .clock)) (chargesOf (act c st e .acts))
 
 -- the station's clock is the moment of the last entry
 unfoldable pub ClockIsNow : Type 0
@@ -177,10 +181,13 @@ unfoldable pub ZeroOrOne : Type 0
 ZeroOrOne = (c : Config) (st : Station) (e : Event)
     → (verdict c st e ≡ none → act c st e .answer ≤ 1) × ((n : ℕ) → verdict c st e ≡ some n → 11 ≤ n)
 
+abbrev pub FourBytes : Charge → Type 0
+FourBytes h = (h .ship < 4294967296) × ((h .start .0 < 4294967296) × ((h .stop .0 < 4294967296) × (h .seconds .0 < 4294967296)))
+
 -- "four bytes each": every number of a charge fits them
 unfoldable pub ChargesFit : Type 0
 ChargesFit = (c : Config) (st : Station) (e : Event) → verdict c st e ≡ none
-    → Each (λ h. (h .ship < 4294967296) × ((h .start .0 < 4294967296) × ((h .stop .0 < 4294967296) × (h .seconds .0 < 4294967296)))) (chargesOf (act c st e .acts))
+    → Each FourBytes (chargesOf (act c st e .acts))
 
 -- a refused event changes nothing, and leaves no entry
 unfoldable pub RefusedLeavesAll : Type 0

@@ -3,7 +3,7 @@ use mathlib.Core.List.{List, [], _∷_}
 use mathlib.Core.Bool.{cond}
 use Prim.Native.Nat.{ℕ}
 use lib.Dec.{eqb}
-use Rattle.rules.specs.Words.{Signal, lineLifted, lineHung, carrierHeard, carrierLost, Happened, heard, signal, operator, What, tick, onChannel70, onSlot, Deed, carrierOn, carrierOff, acknowledge, ringBack, unable, dial, releaseLine}
+use Rattle.rules.specs.Words.{Happened, What, Deed, carrierOn, carrierOff, acknowledge, ringBack, unable, dial, releaseLine, isOffHook, isOffHookOn}
 use Rattle.rules.specs.Book.{Note, Call, quiet, dialled, talking}
 
 pub data Word : Type 0 where
@@ -16,22 +16,12 @@ answer t idle = idle
 answer t ringing = since t
 answer t (since b) = since b
 
-abbrev pub liftedBy : ℕ → Signal → Word → Word
-liftedBy t lineLifted w = answer t w
-liftedBy t lineHung w = w
-liftedBy t carrierHeard w = w
-liftedBy t carrierLost w = w
-
 abbrev pub lifted : ℕ → Happened → Word → Word
-lifted t (heard m) w = w
-lifted t (signal g) w = liftedBy t g w
-lifted t (operator h) w = w
+lifted t h w = cond (isOffHook h) (answer t w) w
 
 -- an off-hook on slot i
 abbrev pub wordHeard : ℕ → ℕ → What → Word → Word
-wordHeard i t tick w = w
-wordHeard i t (onChannel70 m) w = w
-wordHeard i t (onSlot j h) w = cond (eqb i j) (lifted t h w) w
+wordHeard i t e w = cond (isOffHookOn i e) (answer t w) w
 
 -- "dial" on slot i; "release line" on slot i
 abbrev pub wordDone : ℕ → Deed → Word → Word

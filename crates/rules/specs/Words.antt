@@ -1,6 +1,7 @@
 -- The words of document 01: who asks for what, what comes in, what is done. Nothing here decides, and no wait has its figure here.
 use mathlib.Core.List.{List}
-use mathlib.Core.Bool.{Bool, _&&_}
+use mathlib.Core.Bool.{Bool, true, false, _&&_}
+use mathlib.Core.Path.{_≡_}
 use Prim.Native.Nat.{ℕ}
 use lib.Dec.{eqb}
 use Rattle.units.specs.declared.Channel.{Channel}
@@ -37,6 +38,13 @@ pub record Config : Type 0 where
   pub identity : ℕ
   pub channels : List Channel
 
+-- an identity is this station's
+abbrev pub ours : Config → ℕ → Bool
+ours c n = eqb n (c .identity)
+
+abbrev pub Ours : Config → ℕ → Type 0
+Ours c n = n ≡ c .identity
+
 -- ── an event: a time and what ────────────────────────────────────────────────
 
 -- from the line and from the receiver
@@ -72,10 +80,32 @@ takes = operator handTakes
 abbrev pub givesBack : Happened
 givesBack = operator handGives
 
+abbrev pub isOffHook : Happened → Bool
+isOffHook (heard m) = false
+isOffHook (signal lineLifted) = true
+isOffHook (signal lineHung) = false
+isOffHook (signal carrierHeard) = false
+isOffHook (signal carrierLost) = false
+isOffHook (operator h) = false
+
+abbrev pub isOnHook : Happened → Bool
+isOnHook (heard m) = false
+isOnHook (signal lineLifted) = false
+isOnHook (signal lineHung) = true
+isOnHook (signal carrierHeard) = false
+isOnHook (signal carrierLost) = false
+isOnHook (operator h) = false
+
 pub data What : Type 0 where
   tick : What
   onChannel70 : List ℕ → What  -- symbols
   onSlot : ℕ → Happened → What
+
+-- an off-hook on the slot i
+abbrev pub isOffHookOn : ℕ → What → Bool
+isOffHookOn i tick = false
+isOffHookOn i (onChannel70 m) = false
+isOffHookOn i (onSlot j h) = eqb i j && isOffHook h
 
 pub record Event : Type 0 where
   pub time : ℕ  -- in tenths

@@ -3,6 +3,7 @@
 #include <stdio.h>
 #include <string.h>
 #include "lent.h"
+#include "../host/event.h"
 
 #define SIZE 1722u
 #define ROOM 320u
@@ -11,6 +12,8 @@
 
 static uint8_t station[SIZE + 1u], wanted[SIZE + 1u], room[ROOM];
 static int failures;
+
+extern const struct entries second; /* of ../stations/second.c */
 
 static const uint8_t request[24] = {123, 0, 20, 1, 23, 40, 100, 20, 0, 56, 78, 90,
     101, 126, 126, 126, 126, 105, 5, 55, 12, 34, 117, 104};
@@ -35,6 +38,29 @@ static void want(const char *what, uint64_t got, uint64_t answer) {
     for (size_t i = 0; i < sizeof station; i++)
         if (station[i] != wanted[i])
             printf("  byte %zu: got %d, wanted %d\n", i, station[i], wanted[i]);
+}
+
+static const struct lent_bytes whole = {station, SIZE, room, ROOM};
+
+/* Hands in a line of a script, the symbols of a sequence behind it where there are any. */
+static uint64_t hand_in_line(const char *text, const uint8_t *symbols, const struct lent_bytes *lent) {
+    struct line line = {.length = strlen(text)};
+    struct event event;
+    uint8_t list[LIST_MOST];
+    memcpy(line.text, text, line.length);
+    if (!read_event(&line, &event, list))
+        return UINT64_MAX;
+    event.list = symbols;
+    event.count = symbols == NULL ? 0u : 24u;
+    return hand_in(&second, &event, lent);
+}
+
+static uint64_t heard(const char *line, const uint8_t *symbols) {
+    return hand_in_line(line, symbols, &whole);
+}
+
+static uint64_t happens(const char *line) {
+    return hand_in_line(line, NULL, &whole);
 }
 
 static void want_request(size_t at, const uint8_t *from, uint8_t mode) {
@@ -70,18 +96,19 @@ static void set_up(void) {
 }
 
 static void offer(void) {
+    static const struct lent_bytes small_room = {station, SIZE, room, ROOM - 1u}, cut_off = {station, SIZE - 1u, room, ROOM};
     want_time(0, 100, 0);
     wanted[SLOT] = 1;
     want_time(SLOT + 1, 5, 1); /* 261 */
     want_request(SLOT + 18, ship, 1);
-    want("request", second_heard_on_channel_70_bytes(station, SIZE, 100, request, 24, room, ROOM), told(0, 2, 261));
+    want("request", heard("Q 100", request), told(0, 2, 261));
     want("next due", second_next_due_bytes(station, SIZE), told(0, 0, 261));
-    want("before the clock", second_on_hook_bytes(station, SIZE, 90, 0, room, ROOM), told(32, 0, 261));
-    want("due", second_carrier_up_bytes(station, SIZE, 261, 0, room, ROOM), told(33, 0, 261));
-    want("no slot", second_take_bytes(station, SIZE, 260, 1, room, ROOM), told(34, 0, 261));
-    want("not free", second_take_bytes(station, SIZE, 260, 0, room, ROOM), told(35, 0, 261));
-    want("room", second_tick_bytes(station, SIZE, 261, room, ROOM - 1u), told(30, 0, 261));
-    want("1721 bytes", second_tick_bytes(station, SIZE - 1u, 261, room, ROOM), 29);
+    want("before the clock", happens("H 90 0"), told(32, 0, 261));
+    want("due", happens("U 261 0"), told(33, 0, 261));
+    want("no slot", happens("M 260 1"), told(34, 0, 261));
+    want("not free", happens("M 260 0"), told(35, 0, 261));
+    want("room", hand_in_line("T 261", NULL, &small_room), told(30, 0, 261));
+    want("1721 bytes", hand_in_line("T 261", NULL, &cut_off), 29);
 }
 
 static void call_and_wait(void) {
@@ -89,7 +116,7 @@ static void call_and_wait(void) {
     wanted[SLOT] = 5;
     want_time(0, 4, 1);        /* 260 */
     want_time(SLOT + 1, 93, 3); /* 861 */
-    want("working call", second_heard_on_slot_bytes(station, SIZE, 260, 0, working_call, 24, room, ROOM), told(0, 1, 861));
+    want("working call", heard("W 260 0", working_call), told(0, 1, 861));
     memcpy(another, request, 24);
     another[11] = 0;   /* ship 200056780 */
     another[12] = 100; /* simplex */
@@ -98,15 +125,15 @@ static void call_and_wait(void) {
     want_time(0, 44, 1);       /* 300 */
     want_time(QUEUE, 85, 36);  /* 9301 */
     want_request(QUEUE + 4, other, 0);
-    want("another request", second_heard_on_channel_70_bytes(station, SIZE, 300, another, 24, room, ROOM), told(0, 1, 861));
+    want("another request", heard("Q 300", another), told(0, 1, 861));
     wanted[SLOT] = 6;
     want_time(0, 144, 1); /* 400 */
     want_time(SLOT + 1, 144, 1);
-    want("off-hook", second_off_hook_bytes(station, SIZE, 400, 0, room, ROOM), told(0, 0, 9301));
+    want("off-hook", happens("O 400 0"), told(0, 0, 9301));
     want_time(0, 244, 1); /* 500 */
     wanted[SLOT + 5] = 1;
     want_time(SLOT + 6, 39, 2); /* 551 */
-    want("carrier down", second_carrier_down_bytes(station, SIZE, 500, 0, room, ROOM), told(0, 0, 551));
+    want("carrier down", happens("D 500 0"), told(0, 0, 551));
 }
 
 static void end_and_ring_back(void) {
@@ -116,7 +143,7 @@ static void end_and_ring_back(void) {
     wanted[SLOT + 5] = wanted[SLOT + 6] = wanted[SLOT + 7] = 0;
     wanted[SLOT + 10] = 1;
     wanted[SLOT + 13] = 15;
-    want("end", second_heard_on_slot_bytes(station, SIZE, 550, 0, end_of_call, 24, room, ROOM), told(0, 4, 591));
+    want("end", heard("W 550 0", end_of_call), told(0, 4, 591));
     memset(wanted + SLOT + 1, 0, 13);
     memset(wanted + QUEUE, 0, 31);
     want_time(0, 79, 2);
@@ -124,7 +151,7 @@ static void end_and_ring_back(void) {
     wanted[SLOT] = 2;
     want_time(SLOT + 1, 130, 2); /* 642 */
     want_request(SLOT + 18, other, 0);
-    want("hold's tick", second_tick_bytes(station, SIZE, 4000000000u, room, ROOM), told(0, 2, 642));
+    want("hold's tick", happens("T 4000000000"), told(0, 2, 642));
 }
 
 int main(void) {
