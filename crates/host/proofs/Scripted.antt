@@ -1,4 +1,4 @@
--- A call for every event on any bytes, and so a host's run for every script.
+-- A host's run for every script.
 use Prim.Native.Nat.{ℕ}
 use mathlib.Core.Path.{_≡_, refl, ap, _∙_}
 use mathlib.Core.List.{List, [], _∷_, map}
@@ -6,47 +6,16 @@ use mathlib.Core.Option.{none}
 use native.Mathlib.Omega.{arith}
 use lib.ListN.{length, replicate, length-replicate}
 use borrow.Author.Tests.{eq-eqb}
-use contract.Lifetimes.{Lfts}
-use denote.Ref.{RefT}
 use Rattle.units.specs.declared.Channel.{Channel}
-use Rattle.rules.specs.Words.{Happened, heard, signal, operator, lineLifted, lineHung, carrierHeard, carrierLost, handTakes, handGives, What, tick, onChannel70, onSlot, Event}
+use Rattle.rules.specs.Words.{Event}
 use Rattle.rules.specs.Verdict.{setUpVerdict}
 use Rattle.station.specs.Step.{channelNumber, given, setUpBy}
 use Rattle.lent.specs.Layout.{stationSize}
-use Rattle.exchange.specs.Events.{returned, stationAfter, roomLeft, setUpReturned, stationSetUp}
+use Rattle.exchange.specs.Events.{setUpReturned, stationSetUp}
 use Rattle.rack.proofs.Scripted.{lives, lent}
-use Rattle.host.specs.Calls.{Call, callOf, Entered, by-tick, by-heard-on-channel-70, by-heard-on-slot, by-carrier-up, by-carrier-down, by-off-hook, by-on-hook, by-take-slot, by-give-back, SetUpIn, by-set-up, HandsOn}
+use Rattle.host.specs.Calls.{Call, SetUpIn, by-set-up, HandsOn}
 use Rattle.host.specs.Scripts.{EveryScriptIsHosted}
-
--- ── a call ───────────────────────────────────────────────────────────────────
-
-more-lives : Lfts 3
-more-lives = ([], lives)
-
-module _ (b room : List ℕ) (time : ℕ) where
-  abbrev eventOf : What → Event
-  eventOf w = record { time = time; room = length room; what = w }
-
-  abbrev callFor : What → Call
-  callFor w = callOf (eventOf w) b room (returned b (eventOf w)) (stationAfter b (eventOf w)) (roomLeft b room (eventOf w))
-
-  -- the parameters of an event on a slot
-  abbrev onto : ℕ → List ℕ → List ℕ → RefT (List ℕ) × (ℕ × (ℕ × (RefT (List ℕ) × Unit {0})))
-  onto i bytes l = (lent bytes, (time, (i, (lent l, tt))))
-
-  on-slot : (i : ℕ) (h : Happened) → Entered (callFor (onSlot i h))
-  on-slot i (signal lineLifted) = by-off-hook lives (onto i b room) _ (onto i _ _) (refl, (refl, refl))
-  on-slot i (signal lineHung) = by-on-hook lives (onto i b room) _ (onto i _ _) (refl, (refl, refl))
-  on-slot i (signal carrierHeard) = by-carrier-up lives (onto i b room) _ (onto i _ _) (refl, (refl, refl))
-  on-slot i (signal carrierLost) = by-carrier-down lives (onto i b room) _ (onto i _ _) (refl, (refl, refl))
-  on-slot i (operator handTakes) = by-take-slot lives (onto i b room) _ (onto i _ _) (refl, (refl, refl))
-  on-slot i (operator handGives) = by-give-back lives (onto i b room) _ (onto i _ _) (refl, (refl, refl))
-  on-slot i (heard m) = by-heard-on-slot more-lives (lent b, (time, (i, (lent m, (lent room, tt))))) _ (lent _, (time, (i, (lent m, (lent _, tt))))) (refl, (refl, refl))
-
-  call-entered : (w : What) → Entered (callFor w)
-  call-entered tick = by-tick lives (lent b, (time, (lent room, tt))) _ (lent _, (time, (lent _, tt))) (refl, (refl, refl))
-  call-entered (onChannel70 m) = by-heard-on-channel-70 more-lives (lent b, (time, (lent m, (lent room, tt)))) _ (lent _, (time, (lent m, (lent _, tt)))) (refl, (refl, refl))
-  call-entered (onSlot i h) = on-slot i h
+use Rattle.host.proofs.Calls.{callFor, call-entered}
 
 -- ── a script ─────────────────────────────────────────────────────────────────
 

@@ -1,9 +1,11 @@
 -- Whatever is handed out is found again in its bytes.
-use Prim.Native.Nat.{ℕ, zero, suc, _*_}
+use Prim.Native.Nat.{ℕ, zero, suc, _*_, _≤_}
 use mathlib.Core.Path.{_≡_, refl, sym, ap, _∙_}
 use mathlib.Core.List.{List, [], _∷_, _++_, map, flatMap, append-nil}
 use mathlib.Core.Option.{Option, none, some}
-use lib.ListN.{length, drop}
+use native.Mathlib.Omega.{arith}
+use native.Mathlib.Nat.{le-of-suc-le-suc, not-suc-le-zero}
+use lib.ListN.{length, drop, length-map}
 use lib.Seq.{drop-at}
 use borrow.Author.Tests.{eq-eqb, ne-eqb}
 use Rattle.units.specs.declared.Channel.{Channel}
@@ -40,11 +42,11 @@ use Rattle.layouts.specs.Records.{recordsIn}
 use Rattle.layouts.proofs.FieldLaws.{there-and-back}
 use Rattle.layouts.proofs.RecordLaws.{records-told}
 use Rattle.lent.specs.Layout.{slotFields, waitingFields, headFields, stationFields, stationSize}
-use Rattle.lent.specs.Numbers.{requestNumbers, requestFrom, carrierFields, toldFields, carrierFrom, toldFrom, phaseFields, phaseFrom, slotNumbers, waitingNumbers, stationNumbers, slotFrom, waitingFrom, stationIn}
+use Rattle.lent.specs.Numbers.{requestNumbers, requestFrom, carrierFields, toldFields, carrierFrom, toldFrom, phaseFields, phaseFrom, slotNumbers, waitingNumbers, stationNumbers, slotFrom, waitingFrom, inUse, stationIn}
 use Rattle.lent.specs.Stations.{stationBytes, stationFrom}
 use Rattle.lent.specs.Statement.{FoundAgain, HandedOutIsFoundAgain, WrongSizeIsNotSound}
 use Rattle.lent.proofs.LayLaws.{sixteen}
-use Rattle.lent.proofs.StationLaws.{slot-numbers, waiting-numbers, slots-numbers, fields-filled, station-numbers, station-size}
+use Rattle.lent.proofs.StationLaws.{slot-numbers, waiting-numbers, usedSlots, usedQueue, slots16, queue32, slots-numbers, fields-filled, station-numbers, station-size}
 
 -- ── one record ───────────────────────────────────────────────────────────────
 
@@ -89,11 +91,11 @@ waiting-back : (w : Waiting) → Wide (w .request) → waitingFrom (waitingNumbe
 unfolding waitingFrom waitingNumbers
 waiting-back w h = rw (request-back (w .request) h)
 
--- ── a station whose arrays are as long as their types say ────────────────────
+-- ── a station whose unused places are blank ──────────────────────────────────
 
 record Whole (s : Station) : Type 0 where
-  slots16 : length (s .slots) ≡ 16
-  queue32 : length (s .queue) ≡ 32
+  slotsBlank : usedSlots s ≡ s .slots
+  queueBlank : usedQueue s ≡ s .queue
   slotsWide : Each (λ x. Wide (x .request)) (s .slots)
   queueWide : Each (λ x. Wide (x .request)) (s .queue)
 
@@ -102,33 +104,35 @@ same f P h [] e = refl
 same f P h (x ∷ l) e = rw (h x (e .0), same f P h l (e .1))
 
 module _ (s : Station) (w : Whole s) where
-  slots-back : (rest : List ℕ) → recordsIn slotFrom 16 (length slotFields) (flatMap slotNumbers (s .slots) ++ rest) ≡ s .slots
+  slots-back : (rest : List ℕ) → recordsIn slotFrom 16 (length slotFields) (flatMap slotNumbers (usedSlots s) ++ rest) ≡ s .slots
   slots-back rest =
-      (rw (w .slots16) at (records-told slotNumbers slotFields slot-numbers slotFrom (s .slots) rest))
+      (rw (slots16 s) at (records-told slotNumbers slotFields slot-numbers slotFrom (usedSlots s) rest))
+      ∙ ap (map (λ x. slotFrom (slotNumbers x))) (w .slotsBlank)
       ∙ same (λ x. slotFrom (slotNumbers x)) (λ x. Wide (x .request)) slot-back (s .slots) (w .slotsWide)
 
-  queue-back : recordsIn waitingFrom 32 (length waitingFields) (flatMap waitingNumbers (s .queue)) ≡ s .queue
+  queue-back : recordsIn waitingFrom 32 (length waitingFields) (flatMap waitingNumbers (usedQueue s)) ≡ s .queue
   queue-back =
-      ap (recordsIn waitingFrom 32 (length waitingFields)) (sym (append-nil (flatMap waitingNumbers (s .queue))))
-      ∙ (rw (w .queue32) at (records-told waitingNumbers waitingFields waiting-numbers waitingFrom (s .queue) []))
+      ap (recordsIn waitingFrom 32 (length waitingFields)) (sym (append-nil (flatMap waitingNumbers (usedQueue s))))
+      ∙ (rw (queue32 s) at (records-told waitingNumbers waitingFields waiting-numbers waitingFrom (usedQueue s) []))
+      ∙ ap (map (λ x. waitingFrom (waitingNumbers x))) (w .queueBlank)
       ∙ same (λ x. waitingFrom (waitingNumbers x)) (λ x. Wide (x .request)) waiting-back (s .queue) (w .queueWide)
 
   numbers-back : stationIn (stationNumbers s) ≡ s
   unfolding stationIn stationNumbers headFields
   numbers-back =
-      let first = flatMap slotNumbers (s .slots) in
-      let second = flatMap waitingNumbers (s .queue) in
-      let behind : drop (length slotFields * 16) (first ++ second) ≡ second = drop-at first second (length slotFields * 16) (slots-numbers s (w .slots16) (w .queue32)) in
-      rw (behind, slots-back second, queue-back)
+      let first = flatMap slotNumbers (usedSlots s) in
+      let second = flatMap waitingNumbers (usedQueue s) in
+      let behind : drop (length slotFields * 16) (first ++ second) ≡ second = drop-at first second (length slotFields * 16) (slots-numbers s) in
+      rw (behind, slots-back second, queue-back, w .slotsBlank, w .queueBlank)
 
   found-again : FoundAgain s
   unfolding stationFrom
   found-again =
-      let long = station-size s (w .slots16) (w .queue32) in
+      let long = station-size s in
       let decoded : decode stationFields (stationBytes s) 0 ≡ stationNumbers s =
       unfold stationBytes in
       ap (λ b. decode stationFields b 0) (sym (append-nil (encode stationFields (stationNumbers s))))
-      ∙ there-and-back stationFields (stationNumbers s) [] [] 0 0 (station-numbers s (w .slots16) (w .queue32)) fields-filled refl in
+      ∙ there-and-back stationFields (stationNumbers s) [] [] 0 0 (station-numbers s) fields-filled refl in
       (long, rw (eq-eqb _ _ long, decoded) numbers-back)
 
 -- ── what is handed out ───────────────────────────────────────────────────────
@@ -138,6 +142,14 @@ unfolding padded
 each-padded P b h zero l e = tt
 each-padded P b h (suc n) [] e = (h, each-padded P b h n [] tt)
 each-padded P b h (suc n) (x ∷ l) e = (e .0, each-padded P b h n l (e .1))
+
+padded-again : {A : Type 0} (b : A) (m n : ℕ) (l : List A) → length l ≤ n → inUse b m n (padded b m l) ≡ padded b m l
+unfolding inUse padded
+padded-again b zero n l h = refl
+padded-again b (suc m) zero [] h = ap (λ r. b ∷ r) (padded-again b m zero [] h)
+padded-again b (suc m) (suc n) [] h = ap (λ r. b ∷ r) (padded-again b m n [] (omega arith))
+padded-again b (suc m) zero (x ∷ l) h = absurd (not-suc-le-zero h)
+padded-again b (suc m) (suc n) (x ∷ l) h = ap (λ r. x ∷ r) (padded-again b m n l (le-of-suc-le-suc h))
 
 request-wide : (r : W.Request) → Wide (requestImage r)
 unfolding requestImage
@@ -165,12 +177,17 @@ unfolding waitingImage
 queue-wide [] = tt
 queue-wide (w ∷ q) = (request-wide (w .request), queue-wide q)
 
+few-images : (cs : List Channel) (ss : List R.Slot) → length (slotImages cs ss) ≤ length ss
+few-images [] ss = omega arith
+few-images (c ∷ cs) [] = omega arith
+few-images (c ∷ cs) (s ∷ ss) = omega (arith, few-images cs ss)
+
 image-whole : (c : Config) (m : R.Station) → Whole (imageOf c m)
 unfolding imageOf blankSlot blankWaiting
 image-whole c m =
     record {
-      slots16 = padded-length blankSlot 16 (slotImages (c .channels) (m .slots));
-      queue32 = padded-length blankWaiting 32 (map waitingImage (m .queue));
+      slotsBlank = padded-again blankSlot 16 (length (m .slots)) (slotImages (c .channels) (m .slots)) (few-images (c .channels) (m .slots));
+      queueBlank = padded-again blankWaiting 32 (length (m .queue)) (map waitingImage (m .queue)) (omega (arith, length-map (m .queue) waitingImage));
       slotsWide = each-padded (λ x. Wide (x .request)) blankSlot (slot-wide _ free) 16 (slotImages (c .channels) (m .slots)) (slots-wide (c .channels) (m .slots));
       queueWide = each-padded (λ x. Wide (x .request)) blankWaiting blank-wide 32 (map waitingImage (m .queue)) (queue-wide (m .queue));
     }

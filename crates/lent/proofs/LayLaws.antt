@@ -1,17 +1,21 @@
 -- What the pieces of a record leave in a room, and what its bytes are read as.
-use Prim.Native.Nat.{ℕ, zero, suc, _+_, _*_, _≤_}
+use Prim.Native.Nat.{ℕ, zero, suc, _+_, _-_, _*_, _≤_, min}
 use Prim.Native.String.{String}
 use mathlib.Core.Path.{_≡_, refl, sym, ap, _∙_}
-use mathlib.Core.List.{List, [], _∷_, _++_, flatMap, flatten, append-nil}
+use mathlib.Core.List.{List, [], _∷_, _++_, flatMap, flatten, append-nil, append-assoc}
 use native.Mathlib.Omega.{arith}
-use native.Mathlib.Nat.{add-zero}
+use native.Mathlib.Nat.{add-zero, mul-suc, le-of-suc-le-suc, not-suc-le-zero}
 use native.Mathlib.Numerals.{add-one}
-use lib.ListN.{length, getD, set, take, drop}
+use lib.ListN.{length, getD, set, take, drop, replicate, length-take, replicate-append-replicate}
 use lib.Seq.{drop-cons, drop-length, length-take-le, take-suc, take-suc-set}
 use Rattle.sequence.specs.declared.Meaning.{Meaning}
+use Rattle.rules.specs.Bytes.{padded}
 use Rattle.requests.specs.declared.Request.{Request}
+use Rattle.requests.specs.Images.{blankRequest}
+use Rattle.requests.proofs.ArrayLaws.{padded-snoc}
 use Rattle.slots.specs.declared.Slot.{Slot}
 use Rattle.slots.specs.declared.Waiting.{Waiting}
+use Rattle.slots.specs.Images.{slotImage, blankSlot, blankWaiting}
 use Rattle.layouts.specs.Fields.{size, lowFirst, numberAt, encode, decodeFrom, decode, laid}
 use Rattle.layouts.specs.Records.{recordsAt}
 use Rattle.layouts.proofs.FieldLaws.{laidAll, laid-all, laid-next}
@@ -19,7 +23,7 @@ use Rattle.layouts.proofs.RecordLaws.{recordsAt-more, flatMap-more, flatMap-len
 use Rattle.lent.specs.declared.phases.PhaseFields.{PhaseFields}
 use Rattle.lent.specs.declared.said.FieldBytes.{FieldBytes}
 use Rattle.lent.specs.Layout.{run, requestFields, slotFields, waitingFields, slotSize, waitingSize}
-use Rattle.lent.specs.Numbers.{numbersFrom, modeMark, requestNumbers, phaseFields, phaseNumbers, slotNumbers, waitingNumbers}
+use Rattle.lent.specs.Numbers.{numbersFrom, modeMark, requestNumbers, phaseFields, phaseNumbers, slotNumbers, waitingNumbers, inUse}
 use Rattle.lent.specs.Meanings.{fieldBytes, meaningFields, meaningNumbers, meaningBytes}
 use Rattle.lent.specs.Stations.{slotBytes, waitingBytes}
 
@@ -123,9 +127,23 @@ pub waiting-size : (w : Waiting) → length (waitingBytes w) ≡ waitingSize
 unfolding waitingBytes waitingFields waitingNumbers requestFields requestNumbers
 waiting-size w = refl
 
--- ── one record more ──────────────────────────────────────────────────────────
+pub blank-slot-bytes : slotBytes blankSlot ≡ replicate slotSize 0
+unfolding slotBytes slotFields slotNumbers requestFields requestNumbers blankSlot slotImage blankRequest
+blank-slot-bytes = refl
+
+pub blank-waiting-bytes : waitingBytes blankWaiting ≡ replicate waitingSize 0
+unfolding waitingBytes waitingFields waitingNumbers requestFields requestNumbers blankWaiting blankRequest
+blank-waiting-bytes = refl
+
+-- ── the records of an array ──────────────────────────────────────────────────
+
+take-least : {A : Type 0} (n : ℕ) (l : List A) → take (min n (length l)) l ≡ take n l
+take-least zero l = let e : min 0 (length l) ≡ 0 = omega arith in rw e
+take-least (suc n) [] = let e : min (suc n) 0 ≡ 0 = omega arith in rw e
+take-least (suc n) (x ∷ l) = let e : min (suc n) (suc (length l)) ≡ suc (min n (length l)) = omega arith in rw e (ap (λ r. x ∷ r) (take-least n l))
 
 module _ {A : Type 0} (f : A → List ℕ) (n : ℕ) (whole : (x : A) → length (f x) ≡ n) where
+  -- one more, laid behind the others
   pub record-laid : (room : List ℕ) (p i : ℕ) (l : List A) (d : A) → i + 1 ≤ length l → p ≤ length room
       → laid (laid room p (flatMap f (take i l))) (p + n * i) (f (getD l i d)) ≡ laid room p (flatMap f (take (i + 1) l))
   unfolding flatMap
@@ -135,7 +153,51 @@ module _ {A : Type 0} (f : A → List ℕ) (n : ℕ) (whole : (x : A) → length
       let one : take (i + 1) l ≡ take i l ++ (getD l i d ∷ []) = rw (add-one i) (take-suc l i d (omega arith)) in
       rw (one, flatMap-more f (take i l) (getD l i d ∷ []), append-nil (f (getD l i d)), ← size) (laid-next room p (flatMap f (take i l)) (f (getD l i d)) k)
 
-pub record-read : {A : Type 0} (f : ℕ → A) (a : List A) (i size p : ℕ) → i + 1 ≤ length a → take i a ≡ recordsAt f i size p
-    → take (i + 1) (set a i (f (p + size * i))) ≡ recordsAt f (i + 1) size p
-record-read f a i size p h e =
-    rw (add-one i) (take-suc-set a i (f (p + size * i)) (omega arith) ∙ (rw e (sym (recordsAt-more f i size p))))
+  -- a blank record is zeros
+  module _ (b : A) (zeros : f b ≡ replicate n 0) where
+    blanks : (m : ℕ) (l : List A) → length l ≤ m → flatMap f (padded b m l) ≡ flatMap f l ++ replicate (n * (m - length l)) 0
+    unfolding flatMap padded
+    blanks zero [] h = let e : n * (0 - 0) ≡ 0 = omega arith in rw e
+    blanks zero (x ∷ l) h = absurd (not-suc-le-zero h)
+    blanks (suc m) [] h =
+        let all : suc m - 0 ≡ suc m = omega arith in
+        let rest : m - 0 ≡ m = omega arith in
+        let e : n + n * (m - 0) ≡ n * (suc m - 0) = rw (all, rest, mul-suc n m) (omega arith) in
+        rw (zeros, blanks m [] (omega arith), replicate-append-replicate {A = ℕ} n (n * (m - 0)) 0, e)
+    blanks (suc m) (x ∷ l) h =
+        let e : suc m - suc (length l) ≡ m - length l = omega arith in
+        rw (e, blanks m l (le-of-suc-le-suc h)) (sym (append-assoc (f x) (flatMap f l) (replicate (n * (m - length l)) 0)))
+
+    -- zeros behind those in use
+    pub blanks-laid : (room : List ℕ) (p m k : ℕ) (l : List A) → length l ≡ m → p ≤ length room
+        → laid (laid room p (flatMap f (take (min k m) l))) (p + n * min k m) (replicate (n * (m - min k m)) 0) ≡ laid room p (flatMap f (inUse b m k l))
+    unfolding inUse
+    blanks-laid room p m k l e h =
+        let used : take (min k m) l ≡ take k l = rw (← e) (take-least k l) in
+        let short : length (take k l) ≡ min k m = length-take k l ∙ (rw e) in
+        let size : length (flatMap f (take k l)) ≡ n * min k m = flatMap-length f n whole (take k l) ∙ ap (λ j. n * j) short in
+        rw (used, blanks m (take k l) (omega arith), short) (rw size at (laid-next room p (flatMap f (take k l)) (replicate (n * (m - min k m)) 0) h))
+
+module _ {A : Type 0} (f : ℕ → A) (size : ℕ) where
+  records-length : (k p : ℕ) → length (recordsAt f k size p) ≡ k
+  unfolding recordsAt
+  records-length zero p = refl
+  records-length (suc k) p = ap suc (records-length k (p + size))
+
+  records-front : (n k p : ℕ) → take n (recordsAt f k size p) ≡ recordsAt f (min n k) size p
+  unfolding recordsAt
+  records-front zero k p = let e : min 0 k ≡ 0 = omega arith in rw e
+  records-front (suc n) zero p = let e : min (suc n) 0 ≡ 0 = omega arith in rw e
+  records-front (suc n) (suc k) p = let e : min (suc n) (suc k) ≡ suc (min n k) = omega arith in rw e (ap (λ r. f p ∷ r) (records-front n k (p + size)))
+
+  -- one more, read into its place
+  pub record-read : (b : A) (m i p : ℕ) → i + 1 ≤ m
+      → set (padded b m (recordsAt f i size p)) i (f (p + size * i)) ≡ padded b m (recordsAt f (i + 1) size p)
+  record-read b m i p h =
+      let read = recordsAt f i size p in
+      let next = f (p + size * i) in
+      rw (add-one i, recordsAt-more f i size p) (ap (λ j. set (padded b m read) j next) (sym (records-length i p)) ∙ padded-snoc b m read next (omega (arith, records-length i p)))
+
+  pub records-read : (b : A) (m n p : ℕ) → padded b m (recordsAt f (min n m) size p) ≡ inUse b m n (recordsAt f m size p)
+  unfolding inUse
+  records-read b m n p = ap (padded b m) (sym (records-front n m p))

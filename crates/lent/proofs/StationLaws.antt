@@ -5,18 +5,19 @@ use mathlib.Core.Bool.{true}
 use mathlib.Core.List.{List, [], _∷_, _++_, flatMap, flatten, append-nil}
 use native.Mathlib.Omega.{arith}
 use native.Mathlib.Nat.{zero-add}
-use lib.ListN.{length, getD, drop, length-append}
+use lib.ListN.{length, getD, take, drop, length-append}
 use lib.Seq.{drop-at}
+use Rattle.requests.proofs.ArrayLaws.{padded-length}
 use Rattle.slots.specs.declared.Slot.{Slot}
 use Rattle.slots.specs.declared.Waiting.{Waiting}
-use Rattle.slots.specs.Images.{tenths}
+use Rattle.slots.specs.Images.{blankSlot, blankWaiting, tenths}
 use Rattle.station.specs.declared.Station.{Station}
 use Rattle.layouts.specs.Fields.{size, filled, lowFirst, numberAt, encode, decodeFrom, decode, laid}
 use Rattle.layouts.specs.Records.{repeated, recordsAt, recordsIn}
 use Rattle.layouts.proofs.FieldLaws.{encode-length, decode-length, laid-all, laid-whole}
 use Rattle.layouts.proofs.RecordLaws.{encode-behind, decode-behind, encode-repeated, records-decoded, repeated-length, repeated-size, flatMap-length}
 use Rattle.lent.specs.Layout.{requestFields, slotFields, waitingFields, headFields, stationFields, slotSize, waitingSize, slotsPlace, queuePlace, stationSize}
-use Rattle.lent.specs.Numbers.{requestNumbers, slotNumbers, waitingNumbers, stationNumbers, slotFrom, waitingFrom, stationIn}
+use Rattle.lent.specs.Numbers.{requestNumbers, slotNumbers, waitingNumbers, stationNumbers, slotFrom, waitingFrom, inUse, stationIn}
 use Rattle.lent.specs.Stations.{stationBytes, slotBytes, waitingBytes}
 use Rattle.lent.proofs.LayLaws.{slot-size}
 
@@ -55,8 +56,8 @@ pub station-read : (b : List ℕ)
       identity = numberAt b 4 4;
       count = getD b 8 0;
       waiting = getD b 9 0;
-      slots = recordsAt (λ p. slotFrom (decode slotFields b p)) 16 slotSize slotsPlace;
-      queue = recordsAt (λ p. waitingFrom (decode waitingFields b p)) 32 waitingSize queuePlace;
+      slots = inUse blankSlot 16 (getD b 8 0) (recordsAt (λ p. slotFrom (decode slotFields b p)) 16 slotSize slotsPlace);
+      queue = inUse blankWaiting 32 (getD b 9 0) (recordsAt (λ p. waitingFrom (decode waitingFields b p)) 32 waitingSize queuePlace);
     }
 unfolding stationIn stationFields headFields
 station-read b =
@@ -69,17 +70,31 @@ station-read b =
 
 -- ── laid ─────────────────────────────────────────────────────────────────────
 
-module _ (s : Station) (slots16 : length (s .slots) ≡ 16) (queue32 : length (s .queue) ≡ 32) where
-  pub slots-numbers : length (flatMap slotNumbers (s .slots)) ≡ length slotFields * 16
-  slots-numbers = flatMap-length slotNumbers (length slotFields) slot-numbers (s .slots) ∙ ap (λ k. length slotFields * k) slots16
+abbrev pub usedSlots : Station → List Slot
+usedSlots s = inUse blankSlot 16 (s .count) (s .slots)
 
-  queue-numbers : length (flatMap waitingNumbers (s .queue)) ≡ length waitingFields * 32
-  queue-numbers = flatMap-length waitingNumbers (length waitingFields) waiting-numbers (s .queue) ∙ ap (λ k. length waitingFields * k) queue32
+abbrev pub usedQueue : Station → List Waiting
+usedQueue s = inUse blankWaiting 32 (s .waiting) (s .queue)
+
+module _ (s : Station) where
+  pub slots16 : length (usedSlots s) ≡ 16
+  unfolding inUse
+  slots16 = padded-length blankSlot 16 (take (s .count) (s .slots))
+
+  pub queue32 : length (usedQueue s) ≡ 32
+  unfolding inUse
+  queue32 = padded-length blankWaiting 32 (take (s .waiting) (s .queue))
+
+  pub slots-numbers : length (flatMap slotNumbers (usedSlots s)) ≡ length slotFields * 16
+  slots-numbers = flatMap-length slotNumbers (length slotFields) slot-numbers (usedSlots s) ∙ ap (λ k. length slotFields * k) slots16
+
+  queue-numbers : length (flatMap waitingNumbers (usedQueue s)) ≡ length waitingFields * 32
+  queue-numbers = flatMap-length waitingNumbers (length waitingFields) waiting-numbers (usedQueue s) ∙ ap (λ k. length waitingFields * k) queue32
 
   pub station-numbers : length (stationNumbers s) ≡ length stationFields
   unfolding stationNumbers stationFields headFields
   station-numbers =
-      let a = length-append (flatMap slotNumbers (s .slots)) (flatMap waitingNumbers (s .queue)) in
+      let a = length-append (flatMap slotNumbers (usedSlots s)) (flatMap waitingNumbers (usedQueue s)) in
       let b = length-append (repeated 16 slotFields) (repeated 32 waitingFields) in
       rw (a, b, slots-numbers, queue-numbers, repeated-length 16 slotFields, repeated-length 32 waitingFields)
 
@@ -87,28 +102,28 @@ module _ (s : Station) (slots16 : length (s .slots) ≡ 16) (queue32 : length (s
   unfolding stationBytes
   station-size = encode-length stationFields (stationNumbers s) station-numbers ∙ fields-size
 
-  slots-bytes : encode (repeated 16 slotFields) (flatMap slotNumbers (s .slots)) ≡ flatMap slotBytes (s .slots)
+  slots-bytes : encode (repeated 16 slotFields) (flatMap slotNumbers (usedSlots s)) ≡ flatMap slotBytes (usedSlots s)
   unfolding slotBytes
-  slots-bytes = rw slots16 at (encode-repeated slotNumbers slotFields slot-numbers (s .slots))
+  slots-bytes = rw slots16 at (encode-repeated slotNumbers slotFields slot-numbers (usedSlots s))
 
-  queue-bytes : encode (repeated 32 waitingFields) (flatMap waitingNumbers (s .queue)) ≡ flatMap waitingBytes (s .queue)
+  queue-bytes : encode (repeated 32 waitingFields) (flatMap waitingNumbers (usedQueue s)) ≡ flatMap waitingBytes (usedQueue s)
   unfolding waitingBytes
-  queue-bytes = rw queue32 at (encode-repeated waitingNumbers waitingFields waiting-numbers (s .queue))
+  queue-bytes = rw queue32 at (encode-repeated waitingNumbers waitingFields waiting-numbers (usedQueue s))
 
-  station-bytes : stationBytes s ≡ lowFirst 4 (s .clock .0) ++ (lowFirst 4 (s .identity) ++ ((s .count ∷ s .waiting ∷ []) ++ (flatMap slotBytes (s .slots) ++ flatMap waitingBytes (s .queue))))
+  station-bytes : stationBytes s ≡ lowFirst 4 (s .clock .0) ++ (lowFirst 4 (s .identity) ++ ((s .count ∷ s .waiting ∷ []) ++ (flatMap slotBytes (usedSlots s) ++ flatMap waitingBytes (usedQueue s))))
   unfolding stationBytes stationFields headFields stationNumbers
   station-bytes =
-      let e : length (flatMap slotNumbers (s .slots)) ≡ length (repeated 16 slotFields) = slots-numbers ∙ sym (repeated-length 16 slotFields) in
-      rw (encode-behind (repeated 16 slotFields) (repeated 32 waitingFields) (flatMap slotNumbers (s .slots)) (flatMap waitingNumbers (s .queue)) e, slots-bytes, queue-bytes)
+      let e : length (flatMap slotNumbers (usedSlots s)) ≡ length (repeated 16 slotFields) = slots-numbers ∙ sym (repeated-length 16 slotFields) in
+      rw (encode-behind (repeated 16 slotFields) (repeated 32 waitingFields) (flatMap slotNumbers (usedSlots s)) (flatMap waitingNumbers (usedQueue s)) e, slots-bytes, queue-bytes)
 
   pub station-laid : (b : List ℕ) → length b ≡ stationSize
-      → laid (laid (laid (laid (laid b 0 (lowFirst 4 (s .clock .0))) 4 (lowFirst 4 (s .identity))) 8 (s .count ∷ s .waiting ∷ [])) slotsPlace (flatMap slotBytes (s .slots))) queuePlace (flatMap waitingBytes (s .queue))
+      → laid (laid (laid (laid (laid b 0 (lowFirst 4 (s .clock .0))) 4 (lowFirst 4 (s .identity))) 8 (s .count ∷ s .waiting ∷ [])) slotsPlace (flatMap slotBytes (usedSlots s))) queuePlace (flatMap waitingBytes (usedQueue s))
       ≡ stationBytes s
   unfolding flatten headFields
   station-laid b w =
-      let first = flatMap slotBytes (s .slots) in
-      let second = flatMap waitingBytes (s .queue) in
-      let wide : length first ≡ slotSize * 16 = flatMap-length slotBytes slotSize slot-size (s .slots) ∙ ap (λ k. slotSize * k) slots16 in
+      let first = flatMap slotBytes (usedSlots s) in
+      let second = flatMap waitingBytes (usedQueue s) in
+      let wide : length first ≡ slotSize * 16 = flatMap-length slotBytes slotSize slot-size (usedSlots s) ∙ ap (λ k. slotSize * k) slots16 in
       let place : queuePlace ≡ 0 + (slotsPlace + length first) = omega (arith, wide) in
       ap (λ k. laid (laid (laid (laid (laid b 0 (lowFirst 4 (s .clock .0))) 4 (lowFirst 4 (s .identity))) 8 (s .count ∷ s .waiting ∷ [])) slotsPlace first) k second) place
       ∙ laid-all b 0 (lowFirst 4 (s .clock .0)) (lowFirst 4 (s .identity) ∷ (s .count ∷ s .waiting ∷ []) ∷ first ∷ second ∷ []) (omega arith)

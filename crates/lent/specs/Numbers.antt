@@ -3,11 +3,12 @@ use Prim.Native.Nat.{ℕ, zero, suc, _+_, _*_}
 use mathlib.Core.Bool.{cond}
 use mathlib.Core.List.{List, [], _∷_, _++_, flatMap}
 use lib.Dec.{leb, eqb}
-use lib.ListN.{length, getD, drop}
+use lib.ListN.{length, getD, take, drop}
 use Rattle.units.specs.declared.Told.{Told}
 use Rattle.units.specs.declared.Told.the-variants.{Nothing, Lasting}
 use Rattle.units.specs.Units.{greatest}
 use Rattle.sequence.specs.Figures.{mostDigits}
+use Rattle.rules.specs.Bytes.{padded}
 use Rattle.rules.specs.Sound.{mostSlots, queueRoom}
 use Rattle.requests.specs.declared.Mode.{Mode}
 use Rattle.requests.specs.declared.Mode.the-variants.{Simplex, Duplex}
@@ -19,7 +20,7 @@ use Rattle.slots.specs.declared.Phase.{Phase}
 use Rattle.slots.specs.declared.Phase.the-variants.{Free, Offered, RingBack, RingAgain, Acknowledged, Dialling, Answered, Hold, Taken}
 use Rattle.slots.specs.declared.Slot.{Slot}
 use Rattle.slots.specs.declared.Waiting.{Waiting}
-use Rattle.slots.specs.Images.{tenths}
+use Rattle.slots.specs.Images.{blankSlot, blankWaiting, tenths}
 use Rattle.station.specs.declared.Station.{Station}
 use Rattle.layouts.specs.Records.{recordsIn}
 use Rattle.lent.specs.Layout.{slotFields, waitingFields, headFields}
@@ -126,9 +127,15 @@ slotNumbers s = phaseNumbers (phaseFields (s .phase)) (s .channel .0 ∷ request
 unfoldable pub waitingNumbers : Waiting → List ℕ
 waitingNumbers w = w .due .0 ∷ requestNumbers (w .request)
 
+-- the first n places of an array; every place behind them blank
+unfoldable pub inUse : {A : Type 0} → A → ℕ → ℕ → List A → List A
+inUse blank room n l = padded blank room (take n l)
+
 unfoldable pub stationNumbers : Station → List ℕ
 stationNumbers s =
-    (s .clock .0 ∷ s .identity ∷ s .count ∷ s .waiting ∷ []) ++ (flatMap slotNumbers (s .slots) ++ flatMap waitingNumbers (s .queue))
+    (s .clock .0 ∷ s .identity ∷ s .count ∷ s .waiting ∷ [])
+    ++ (flatMap slotNumbers (inUse blankSlot mostSlots (s .count) (s .slots))
+    ++ flatMap waitingNumbers (inUse blankWaiting queueRoom (s .waiting) (s .queue)))
 
 abbrev pub phaseIn : List ℕ → PhaseFields
 phaseIn ns =
@@ -152,6 +159,6 @@ stationIn ns =
       identity = getD ns 1 0;
       count = getD ns 2 0;
       waiting = getD ns 3 0;
-      slots = recordsIn slotFrom mostSlots (length slotFields) (drop (length headFields) ns);
-      queue = recordsIn waitingFrom queueRoom (length waitingFields) (drop (length slotFields * mostSlots) (drop (length headFields) ns));
+      slots = inUse blankSlot mostSlots (getD ns 2 0) (recordsIn slotFrom mostSlots (length slotFields) (drop (length headFields) ns));
+      queue = inUse blankWaiting queueRoom (getD ns 3 0) (recordsIn waitingFrom queueRoom (length waitingFields) (drop (length slotFields * mostSlots) (drop (length headFields) ns)));
     }

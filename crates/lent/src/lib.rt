@@ -1,13 +1,13 @@
 // The station in bytes that a host lends: laid out by one list of fields, and read back.
 ghost use mathlib.Core.Path.{_≡_};
-ghost use mathlib.Core.List.{flatMap};
 ghost use lib.ListN.{length};
-ghost use Rattle.layouts.specs.Fields.{decode, laid};
+ghost use Rattle.layouts.specs.Fields.{decode};
 ghost use Rattle.layouts.specs.Records.{recordsAt};
 ghost use Rattle.rules.specs.Sound.{mostSlots, queueRoom};
+ghost use Rattle.slots.specs.Images.{blankSlot, blankWaiting};
 ghost use Rattle.lent.specs.Layout.{slotFields, waitingFields, slotSize, waitingSize, slotsPlace, queuePlace, stationSize};
-ghost use Rattle.lent.specs.Numbers.{slotFrom, waitingFrom};
-ghost use Rattle.lent.specs.Stations.{stationFrom, stationLaid, slotBytes, waitingBytes};
+ghost use Rattle.lent.specs.Numbers.{inUse, slotFrom, waitingFrom};
+ghost use Rattle.lent.specs.Stations.{stationFrom, stationLaid};
 
 mod asked;
 mod numbers;
@@ -17,6 +17,7 @@ pub mod said;
 
 use numbers::four_at;
 use numbers::lay;
+use numbers::lay_zeros;
 use numbers::low_first;
 use records::SLOT_SIZE;
 use records::WAITING_SIZE;
@@ -24,6 +25,9 @@ use records::lay_slot;
 use records::lay_waiting;
 use records::slot_at;
 use records::waiting_at;
+use requests::least;
+use slots::MOST_SLOTS;
+use slots::MOST_WAITING;
 use slots::QUEUE_ROOM;
 use slots::SLOTS;
 use slots::Slot;
@@ -46,14 +50,15 @@ const QUEUE_PLACE: usize = SLOTS_PLACE + SLOTS * SLOT_SIZE;
 
 pub const STATION_SIZE: usize = QUEUE_PLACE + QUEUE_ROOM * WAITING_SIZE;
 
-fn slots_from(bytes: &[u8]) -> [Slot; SLOTS]
+fn slots_from(bytes: &[u8], count: u8) -> [Slot; SLOTS]
     requires { ⌜ length (now bytes) ≡ stationSize ⌝ }
-    ensures { λ r. ⌜ r ≡ recordsAt (λ p. slotFrom (decode slotFields (now (bytes .entry)) p)) mostSlots slotSize slotsPlace ⌝ }
+    ensures { λ r. ⌜ r ≡ inUse blankSlot mostSlots count (recordsAt (λ p. slotFrom (decode slotFields (now (bytes .entry)) p)) mostSlots slotSize slotsPlace) ⌝ }
 {
     let blank = blank_slot();
     let mut a = [blank; SLOTS];
+    let n = least(count, MOST_SLOTS) as usize;
     let mut i = 0;
-    while i < SLOTS {
+    while i < n {
         let s = slot_at(bytes, SLOTS_PLACE + SLOT_SIZE * i);
         a[i] = s;
         i += 1;
@@ -61,14 +66,15 @@ fn slots_from(bytes: &[u8]) -> [Slot; SLOTS]
     a
 }
 
-fn queue_from(bytes: &[u8]) -> [Waiting; QUEUE_ROOM]
+fn queue_from(bytes: &[u8], waiting: u8) -> [Waiting; QUEUE_ROOM]
     requires { ⌜ length (now bytes) ≡ stationSize ⌝ }
-    ensures { λ r. ⌜ r ≡ recordsAt (λ p. waitingFrom (decode waitingFields (now (bytes .entry)) p)) queueRoom waitingSize queuePlace ⌝ }
+    ensures { λ r. ⌜ r ≡ inUse blankWaiting queueRoom waiting (recordsAt (λ p. waitingFrom (decode waitingFields (now (bytes .entry)) p)) queueRoom waitingSize queuePlace) ⌝ }
 {
     let blank = blank_waiting();
     let mut a = [blank; QUEUE_ROOM];
+    let n = least(waiting, MOST_WAITING) as usize;
     let mut i = 0;
-    while i < QUEUE_ROOM {
+    while i < n {
         let w = waiting_at(bytes, QUEUE_PLACE + WAITING_SIZE * i);
         a[i] = w;
         i += 1;
@@ -83,46 +89,21 @@ pub fn station_from(bytes: &[u8]) -> Station
     if bytes.len() != STATION_SIZE {
         return Station::blank();
     }
-    let a = slots_from(bytes);
-    let b = queue_from(bytes);
+    let count = bytes[SLOT_COUNT];
+    let waiting = bytes[WAITING_COUNT];
+    let a = slots_from(bytes, count);
+    let b = queue_from(bytes, waiting);
     Station {
         clock: Tenths(four_at(bytes, 0)),
         identity: four_at(bytes, IDENTITY),
-        count: bytes[SLOT_COUNT],
-        waiting: bytes[WAITING_COUNT],
+        count: count,
+        waiting: waiting,
         slots: a,
         queue: b,
     }
 }
 
-// The second clause, here and below: in the caller's proof the array is a field, whose length is not at hand.
-fn lay_slots(a: [Slot; SLOTS], room: &mut [u8])
-    requires { ⌜ length (now room) ≡ stationSize ⌝ }
-    ensures { λ _. ⌜ now (room .exit) ≡ laid (now (room .entry)) slotsPlace (flatMap slotBytes a) ⌝ }
-    ensures { λ _. ⌜ length a ≡ mostSlots ⌝ }
-{
-    let mut i = 0;
-    while i < SLOTS {
-        let s = a[i];
-        lay_slot(s, SLOTS_PLACE + SLOT_SIZE * i, room);
-        i += 1;
-    }
-}
-
-fn lay_queue(a: [Waiting; QUEUE_ROOM], room: &mut [u8])
-    requires { ⌜ length (now room) ≡ stationSize ⌝ }
-    ensures { λ _. ⌜ now (room .exit) ≡ laid (now (room .entry)) queuePlace (flatMap waitingBytes a) ⌝ }
-    ensures { λ _. ⌜ length a ≡ queueRoom ⌝ }
-{
-    let mut i = 0;
-    while i < QUEUE_ROOM {
-        let w = a[i];
-        lay_waiting(w, QUEUE_PLACE + WAITING_SIZE * i, room);
-        i += 1;
-    }
-}
-
-// Lent bytes of another size stay as they are.
+// Lent bytes of another size stay as they are. A blank record is zeros.
 pub fn lay_station(s: Station, bytes: &mut [u8])
     ensures { λ _. ⌜ now (bytes .exit) ≡ stationLaid s (now (bytes .entry)) ⌝ }
 {
@@ -130,14 +111,31 @@ pub fn lay_station(s: Station, bytes: &mut [u8])
         return;
     }
     let clock = s.clock;
-    let a = s.slots;
-    let b = s.queue;
     let time = low_first(clock.0);
     let identity = low_first(s.identity);
     let counts = [s.count, s.waiting];
     lay(&time, 0, bytes);
     lay(&identity, IDENTITY, bytes);
     lay(&counts, SLOT_COUNT, bytes);
-    lay_slots(a, bytes);
-    lay_queue(b, bytes);
+    // Record by record out of the station: an array handed on is copied whole.
+    let n = least(s.count, MOST_SLOTS) as usize;
+    let mut i = 0;
+    while i < n {
+        let x = s.slots[i];
+        lay_slot(x, SLOTS_PLACE + SLOT_SIZE * i, bytes);
+        i += 1;
+    }
+    lay_zeros(SLOT_SIZE * (SLOTS - n), SLOTS_PLACE + SLOT_SIZE * n, bytes);
+    let m = least(s.waiting, MOST_WAITING) as usize;
+    let mut k = 0;
+    while k < m {
+        let w = s.queue[k];
+        lay_waiting(w, QUEUE_PLACE + WAITING_SIZE * k, bytes);
+        k += 1;
+    }
+    lay_zeros(
+        WAITING_SIZE * (QUEUE_ROOM - m),
+        QUEUE_PLACE + WAITING_SIZE * m,
+        bytes,
+    );
 }

@@ -1,7 +1,7 @@
 // Numbers in lent bytes, low byte first.
 ghost use mathlib.Core.Path.{_≡_};
 ghost use Prim.Native.Nat.{_+_, _≤_};
-ghost use lib.ListN.{length};
+ghost use lib.ListN.{length, replicate};
 ghost use Rattle.sequence.specs.Figures.{mostDigits};
 ghost use Rattle.layouts.specs.Fields.{lowFirst, numberAt, laid};
 ghost use Rattle.lent.specs.Numbers.{numbersFrom};
@@ -50,6 +50,17 @@ pub(crate) fn lay(bytes: &[u8], place: usize, room: &mut [u8])
     let mut i = 0;
     while i < n {
         room[place + i] = bytes[i];
+        i += 1;
+    }
+}
+
+pub(crate) fn lay_zeros(count: usize, place: usize, room: &mut [u8])
+    requires { ⌜ place + count ≤ length (now room) ⌝ }
+    ensures { λ _. ⌜ now (room .exit) ≡ laid (now (room .entry)) place (replicate count 0) ⌝ }
+{
+    let mut i = 0;
+    while i < count {
+        room[place + i] = 0;
         i += 1;
     }
 }

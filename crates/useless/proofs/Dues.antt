@@ -2,22 +2,10 @@
 use Prim.Native.Nat.{ℕ, _%_}
 use mathlib.Core.Path.{_≡_, refl, sym, ap, _∙_}
 use mathlib.Core.List.{List, [], _∷_}
-use mathlib.Core.Option.{none, some}
 use native.Mathlib.Omega.{arith}
-use Rattle.sequence.specs.Identity.{isShip, isCoast, identitiesOk, identityPairs, identityOf}
-use Rattle.sequence.specs.Field.{isCall, unableSecond, telecommandsOk, channelOk, durationOk, fieldOk}
-use Rattle.sequence.specs.Number.{numberOk, parity, evened}
-use Rattle.sequence.specs.Layout.{endOk, valid, front, body, layout}
-use Rattle.sequence.specs.Reading as Reader
-use Rattle.rules.specs.Words.{is, Event}
-use Rattle.rules.specs.Heard.{kindOf, addressed, meaning}
-use Rattle.rules.specs.Station.{fresh, setSlot, setClock, setQueue, table, fires, nextDue}
-use Rattle.rules.specs.Sound.{identityKeeps, channelsKeep, configKeeps, oneSlotEach, numberKeeps, requestKeeps, durationKeeps, noShipTwice, storedKeeps, timesFit, sound}
-use Rattle.rules.specs.Requests.{rungBack, freedFor, freed, coastEnd, standing, ruleA, repeated, afresh, same, ruleB, ruleD, offer, ruleF, ruleG, eToG, newcomer, dToG, redial, ruleC, bOrC, requested}
-use Rattle.rules.specs.Calls.{dialNow, workingKind, workingOn, agreed, bqKind, bqFor, offHookStage, offHookOn, downOn, upOn, shipEnd, sayAgain, shipEndOn, endOn, takeOn, giveOn, offerDue, ringAgain, pendingDue, replyDue, mainOn, fire, ticked, heardOn70, heardOn, happenedOn, actAt}
-use Rattle.rules.specs.Verdict.{refusals, verdict, setUpVerdict, step, play, final}
+use Rattle.rules.specs.Words.{Event}
+use Rattle.rules.specs.Station.{nextDue}
 use Rattle.rules.specs.Statement.{stationAfter}
-use Rattle.rules.specs.Cases.{asks}
 use Rattle.soundness.proofs.FitLaws.{sound-fits}
 use Rattle.station.specs.declared.NextDue.{NextDue}
 use Rattle.station.specs.declared.NextDue.the-variants.{Never, At}
@@ -33,7 +21,7 @@ use Rattle.rack.proofs.Laid.{records-keep}
 use Rattle.useless.specs.Versions.{Anything}
 use Rattle.useless.specs.Dues.{DueBy, by-next-due, HandedOut, NoUselessNextDue, DueInC, by-coast-next-due, dueSigns, NoUselessNextDueInC}
 use Rattle.useless.proofs.ShutOut.{one, shut-out}
-use Rattle.useless.proofs.Events.{house, leads, reached, reached-is, good}
+use Rattle.useless.proofs.Events.{house, asked, nothing-due, due-261, leads, reached, reached-is, good}
 use Rattle.useless.proofs.Hosted.{bytesAfter, stands}
 
 -- ── the method ───────────────────────────────────────────────────────────────
@@ -46,17 +34,6 @@ model-is es = ap modelOf (reached-is es) ∙ model-back house (stationAfter hous
 
 reached-due : (es : List Event) (y : NextDue) → DueBy (reached es) y → y ≡ dueImage (nextDue (stationAfter house es))
 reached-due es y m = due-is (reached es) y m ∙ ap (λ m. dueImage (nextDue m)) (model-is es)
-
-abbrev asked : List Event
-asked = asks 100 ∷ []
-
-nothing-due : nextDue (stationAfter house []) ≡ none
-unfolding final fresh table nextDue
-nothing-due = refl
-
-due-261 : nextDue (stationAfter house asked) ≡ some 261
-unfolding isShip isCoast identitiesOk identityPairs identityOf isCall unableSecond telecommandsOk channelOk durationOk fieldOk numberOk parity evened endOk valid front body layout Reader.lengthIn Reader.checkIn Reader.formatIn Reader.identityAt Reader.identityPairsAt Reader.identitiesIn Reader.categoryIn Reader.telecommandsIn Reader.blankSymbols Reader.channelSymbols Reader.durationSymbols Reader.fieldSymbols Reader.fieldOf Reader.fieldIn Reader.pairsIn Reader.parityOk Reader.pairsOk Reader.numberIn Reader.zeroBefore Reader.sixteen Reader.numberOf Reader.endIn Reader.refusals Reader.answerOf Reader.meaningOf Reader.blankMeaning Reader.readingOf is kindOf addressed meaning fresh setSlot setClock setQueue table fires nextDue identityKeeps channelsKeep configKeeps oneSlotEach numberKeeps requestKeeps durationKeeps noShipTwice storedKeeps timesFit sound rungBack freedFor freed coastEnd standing ruleA repeated afresh same ruleB ruleD offer ruleF ruleG eToG newcomer dToG redial ruleC bOrC requested dialNow workingKind workingOn agreed bqKind bqFor offHookStage offHookOn downOn upOn shipEnd sayAgain shipEndOn endOn takeOn giveOn offerDue ringAgain pendingDue replyDue mainOn fire ticked heardOn70 heardOn happenedOn actAt refusals verdict setUpVerdict step play final
-due-261 = refl
 
 handed : (past : List Station) (es : List Event) → HandedOut past (reached es)
 handed past es = record { config = house; steps = leads es .steps; trace = leads es .trace; handed = refl }

@@ -163,6 +163,18 @@ computed take-slot = refl
 computed give-back = refl
 computed on-tick = refl
 
+-- nothing is due on a fresh station, and behind P1 at 100 the offer is
+abbrev pub asked : List Event
+asked = asks 100 ∷ []
+
+pub nothing-due : nextDue (stationAfter house []) ≡ none
+unfolding final fresh table nextDue
+nothing-due = refl
+
+pub due-261 : nextDue (stationAfter house asked) ≡ some 261
+unfolding isShip isCoast identitiesOk identityPairs identityOf isCall unableSecond telecommandsOk channelOk durationOk fieldOk numberOk parity evened endOk valid front body layout Reader.lengthIn Reader.checkIn Reader.formatIn Reader.identityAt Reader.identityPairsAt Reader.identitiesIn Reader.categoryIn Reader.telecommandsIn Reader.blankSymbols Reader.channelSymbols Reader.durationSymbols Reader.fieldSymbols Reader.fieldOf Reader.fieldIn Reader.pairsIn Reader.parityOk Reader.pairsOk Reader.numberIn Reader.zeroBefore Reader.sixteen Reader.numberOf Reader.endIn Reader.refusals Reader.answerOf Reader.meaningOf Reader.blankMeaning Reader.readingOf is kindOf addressed meaning fresh setSlot setClock setQueue table fires nextDue identityKeeps channelsKeep configKeeps oneSlotEach numberKeeps requestKeeps durationKeeps noShipTwice storedKeeps timesFit sound rungBack freedFor freed coastEnd standing ruleA repeated afresh same ruleB ruleD offer ruleF ruleG eToG newcomer dToG redial ruleC bOrC requested dialNow workingKind workingOn agreed bqKind bqFor offHookStage offHookOn downOn upOn shipEnd sayAgain shipEndOn endOn takeOn giveOn offerDue ringAgain pendingDue replyDue mainOn fire ticked heardOn70 heardOn happenedOn actAt refusals verdict setUpVerdict step play final
+due-261 = refl
+
 record Told (s : Script) : Type 0 where
   accepted : verdict house (before s) (doing s) ≡ none
   done : act house (before s) (doing s) .answer ≡ 0

@@ -1,27 +1,28 @@
-use Prim.Native.Nat.{_≤_, _-_}
-use mathlib.Core.Path.{_≡_, refl, sym, _∙_}
+use Prim.Native.Nat.{_≤_, _-_, min}
+use mathlib.Core.Path.{_≡_, _∙_}
 use native.Mathlib.Omega.{arith}
-use lib.ListN.{length, take, length-set}
-use lib.Seq.{take-all}
+use lib.ListN.{length, length-set}
+use Rattle.rules.specs.Bytes.{padded}
+use Rattle.slots.specs.Images.{blankSlot}
 use Rattle.layouts.specs.Fields.{decode}
 use Rattle.layouts.specs.Records.{recordsAt}
 use Rattle.lent.specs.Layout.{slotFields, slotSize, slotsPlace}
 use Rattle.lent.specs.Numbers.{slotFrom}
 use Rattle.lent.proofs.Computed.{slot-size-computed, slots-place-computed, station-size-computed}
-use Rattle.lent.proofs.LayLaws.{record-read}
+use Rattle.lent.proofs.LayLaws.{record-read, records-read}
 use borrow.Author.Needs.{needs}
 use Rattle.lent.proofs.slots_from.Statement.{statement}
 use Rattle.lent.proofs.slots_from.Tie as tie
 
 abbrev Inv-loop : tie.InvT-loop
-Inv-loop bytes a₀ i₀ a i = (take i a ≡ recordsAt (λ p. slotFrom (decode slotFields (bytes) p)) i slotSize slotsPlace) × (i ≤ 16) × (length a ≡ 16)
+Inv-loop bytes count a₀ n i₀ a i = (a ≡ padded blankSlot 16 (recordsAt (λ p. slotFrom (decode slotFields (bytes) p)) i slotSize slotsPlace)) × (i ≤ n) × (length a ≡ 16)
 
 abbrev μ-loop : tie.MeasureT-loop
-μ-loop bytes a₀ i₀ a i = 16 - i
+μ-loop bytes count a₀ n i₀ a i = n - i
 
 loop-holds : tie.Need-loop-holds Inv-loop μ-loop
-unfolding recordsAt
-loop-holds c = (refl, omega arith, search needs)
+unfolding recordsAt padded
+loop-holds c = (rw (c .before .blank-slot .ensures), omega arith, search needs)
 
 mul-slot-at : tie.Need-mul-slot-at Inv-loop μ-loop
 mul-slot-at c = omega arith
@@ -42,10 +43,14 @@ loop-less : tie.Need-loop-less Inv-loop μ-loop
 loop-less c = omega arith
 
 loop-again : tie.Need-loop-again Inv-loop μ-loop
-loop-again c = (rw (slot-size-computed, slots-place-computed, c .slot-at .ensures) (rw (slot-size-computed, slots-place-computed) at (record-read (λ p. slotFrom (decode slotFields (c .before .before .before .before .before .args .bytes .now) p)) (c .before .before .loop .a) (c .before .before .loop .i) slotSize slotsPlace (omega arith) (c .before .before .loop .inv .0))), omega arith, simp length-set (c .before .before .loop .inv .2))
+loop-again c = let l = c .before .before .loop in
+    let b = c .before .before .before .before .before .before .args .bytes .now in
+    (rw (l .inv .0, slot-size-computed, slots-place-computed, c .slot-at .ensures) (rw (slot-size-computed, slots-place-computed) at (record-read (λ p. slotFrom (decode slotFields b p)) slotSize blankSlot 16 (l .i) slotsPlace (omega arith))), omega arith, simp length-set (l .inv .2))
 
 returns : tie.Need-returns Inv-loop μ-loop
-returns c = let e : c .before .loop .i ≡ 16 = omega arith in sym (take-all 16 (c .before .loop .a) (omega arith)) ∙ (rw e at (c .before .loop .inv .0))
+returns c = let a = c .before .before .before .before .before .args in
+    let e : c .before .loop .i ≡ min (a .count) 16 = omega arith in
+    (rw e at (c .before .loop .inv .0)) ∙ records-read (λ p. slotFrom (decode slotFields (a .bytes .now) p)) slotSize blankSlot 16 (a .count) slotsPlace
 
 pub slots-from-spec : {M : Type 1} → statement M
-slots-from-spec = tie.close (tie.spec Inv-loop μ-loop (λ c κs. search needs) loop-holds mul-slot-at add-slot-at slot-at-requires (λ c. search needs) array-set-from-a add-i loop-less loop-again returns)
+slots-from-spec = tie.close (tie.spec Inv-loop μ-loop (λ c κs. search needs) (λ c κs. search needs) (λ c. search needs) loop-holds mul-slot-at add-slot-at slot-at-requires (λ c. search needs) array-set-from-a add-i loop-less loop-again returns)

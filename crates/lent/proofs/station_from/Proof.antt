@@ -1,5 +1,4 @@
 use mathlib.Core.Path.{sym, _∙_}
-use native.Mathlib.Omega.{arith}
 use borrow.Author.Tests.{eq-eqb, ne-eqb}
 use Rattle.lent.specs.Stations.{stationFrom}
 use Rattle.lent.proofs.Computed.{station-size-computed}
@@ -13,26 +12,14 @@ unfolding stationFrom
 returns c = rw (station-size-computed, ne-eqb _ _ (c .before .if1 .taken)) (c .blank .ensures)
 
 slots-from-requires : tie.Need-slots-from-requires
-slots-from-requires c κs = c .if1 .left ∙ sym station-size-computed
+slots-from-requires c κs = c .before .before .if1 .left ∙ sym station-size-computed
 
 queue-from-requires : tie.Need-queue-from-requires
-queue-from-requires c κs = c .before .if1 .left ∙ sym station-size-computed
-
-four-at-requires : tie.Need-four-at-requires
-four-at-requires c κs = omega arith
-
-four-at-requires-2 : tie.Need-four-at-requires-2
-four-at-requires-2 c κs = omega arith
-
-shared-slice-read-t10 : tie.Need-shared-slice-read-t10
-shared-slice-read-t10 c = omega arith
-
-shared-slice-read-t12 : tie.Need-shared-slice-read-t12
-shared-slice-read-t12 c = omega arith
+queue-from-requires c κs = c .before .before .before .if1 .left ∙ sym station-size-computed
 
 returns-2 : tie.Need-returns-2
 unfolding stationFrom
-returns-2 c = rw (station-size-computed, eq-eqb _ _ (c .before .before .before .before .before .before .if1 .left), c .before .before .four-at2 .ensures, c .before .before .before .four-at .ensures, c .before .before .before .before .queue-from .ensures, c .before .before .before .before .before .slots-from .ensures) (sym (station-read (c .before .before .before .before .before .before .before .before .args .bytes .now)))
+returns-2 c = rw (station-size-computed, eq-eqb _ _ (c .before .before .before .before .before .before .if1 .left), c .four-at2 .ensures, c .before .four-at .ensures, c .before .before .queue-from .ensures, c .before .before .before .slots-from .ensures) (sym (station-read (c .before .before .before .before .before .before .before .before .args .bytes .now)))
 
 pub station-from-spec : {M : Type 1} → statement M
-station-from-spec = tie.close (tie.spec (λ c κs. search needs) returns slots-from-requires queue-from-requires four-at-requires four-at-requires-2 shared-slice-read-t10 shared-slice-read-t12 returns-2)
+station-from-spec = tie.close (tie.spec (λ c κs. search needs) returns (λ c. search needs) (λ c. search needs) slots-from-requires queue-from-requires (λ c κs. search needs) (λ c κs. search needs) returns-2)
