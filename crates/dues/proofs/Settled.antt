@@ -9,7 +9,6 @@ use Rattle.dues.proofs.falls_due.Reads as falls-due
 use Rattle.dues.proofs.sooner_of.Reads as sooner-of
 use Rattle.dues.proofs.loss_due.Reads as loss-due
 use Rattle.dues.proofs.main_due.Reads as main-due
-use Rattle.dues.proofs.earliest_due.Reads as earliest-due
 
 pub carrier-wait-settled : (κs : Lfts 0) (a : _) (r r' : _) (s s' : _) → carrier-wait.Post κs a r s → carrier-wait.Post κs a r' s' → r ≡ r'
 carrier-wait-settled κs a r r' s s' p q = ap (λ n. record { 0 = n }) (p ∙ sym q)
@@ -31,6 +30,3 @@ loss-due-settled κs a r r' s s' p q = due-one _ _ (p ∙ sym q)
 
 pub main-due-settled : (κs : Lfts 0) (a : _) (r r' : _) (s s' : _) → main-due.Post κs a r s → main-due.Post κs a r' s' → r ≡ r'
 main-due-settled κs a r r' s s' p q = due-one _ _ (p ∙ sym q)
-
-pub earliest-due-settled : (κs : Lfts 0) (a : _) (r r' : _) (s s' : _) → earliest-due.Post κs a r s → earliest-due.Post κs a r' s' → r ≡ r'
-earliest-due-settled κs a r r' s s' p q = due-one _ _ (p ∙ sym q)

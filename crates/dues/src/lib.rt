@@ -1,27 +1,19 @@
-// When a wait falls due, and which of all waits is the earliest.
+// When a wait falls due, and which of two falls due first.
 ghost use mathlib.Core.Path.{_≡_};
-ghost use mathlib.Core.List.{map};
-ghost use Prim.Native.Nat.{_+_, _<_, min};
+ghost use Prim.Native.Nat.{min};
 ghost use Rattle.units.specs.Units.{greatest};
 ghost use Rattle.rules.specs.Places.{isSome};
-ghost use Rattle.rules.specs.Waits.{loss, main, sooner, earliest, ifDue, queueTable};
-ghost use Rattle.rules.specs.Station.{lossDue, mainDue, slotTable, carrierWait, dueAfter};
-ghost use Rattle.requests.specs.Views.{viewed, modeOf};
-ghost use Rattle.slots.specs.Views.{slotView, waitingView, carrierOf, waitView, dueView, dueOf};
-ghost use Rattle.dues.specs.Joins.{whenView, joinDue, queueJoined};
+ghost use Rattle.rules.specs.Waits.{loss, main, sooner, ifDue};
+ghost use Rattle.rules.specs.Station.{lossDue, mainDue, carrierWait, dueAfter};
+ghost use Rattle.requests.specs.Views.{modeOf};
+ghost use Rattle.slots.specs.Views.{slotView, carrierOf, waitView, dueView};
+ghost use Rattle.dues.specs.Joins.{whenView, joinDue};
 use requests::Mode;
-use requests::least;
 use slots::Carrier;
 use slots::Due;
-use slots::MOST_SLOTS;
-use slots::MOST_WAITING;
 use slots::Phase;
-use slots::QUEUE_ROOM;
-use slots::QueuePlace;
-use slots::SLOTS;
 use slots::Slot;
 use slots::Wait;
-use slots::Waiting;
 use units::GREATEST;
 use units::SlotNumber;
 use units::Tenths;
@@ -149,44 +141,6 @@ pub fn main_due(s: Slot, i: SlotNumber, d: Due) -> Due
 {
     let t = main_of(s);
     sooner_when(t, Wait::Main(i), d)
-}
-
-// The earliest wait of the first n slots: from the last slot to the first, so that of two due together the lower stands.
-fn slots_due(a: [Slot; SLOTS], n: u8) -> Due
-    ensures { λ r. ⌜ dueView r ≡ earliest (slotTable 0 (viewed slotView n a)) ⌝ }
-{
-    let mut d = Due::Never;
-    let mut i = least(n, MOST_SLOTS) as u32;
-    while 0 < i {
-        i -= 1;
-        let s = a[i as usize];
-        let m = main_due(s, SlotNumber(i), d);
-        d = loss_due(s, SlotNumber(i), m);
-    }
-    d
-}
-
-// The earliest wait of the first n waiting ships, before d.
-fn queue_due(a: [Waiting; QUEUE_ROOM], n: u8, d: Due) -> Due
-    ensures { λ r. ⌜ dueView r ≡ queueJoined 0 (map dueOf (viewed waitingView n a)) (dueView d) ⌝ }
-{
-    let mut e = d;
-    let mut k = least(n, MOST_WAITING);
-    while 0 < k {
-        k -= 1;
-        let w = a[k as usize];
-        let t = w.due;
-        e = sooner_of(t, Wait::Entry(QueuePlace(k)), e);
-    }
-    e
-}
-
-// The earliest wait of all: "queue entries, oldest first; slots, lowest first".
-pub fn earliest_due(a: [Slot; SLOTS], n: u8, b: [Waiting; QUEUE_ROOM], m: u8) -> Due
-    ensures { λ r. ⌜ dueView r ≡ earliest (queueTable 0 (map dueOf (viewed waitingView m b)) (slotTable 0 (viewed slotView n a))) ⌝ }
-{
-    let d = slots_due(a, n);
-    queue_due(b, m, d)
 }
 
 // The wait, where it is due at or before t.

@@ -1,16 +1,20 @@
 -- What a record is held to: the configuration of its station, and that it holds nothing that the model cannot show.
-use Prim.Native.Nat.{ℕ}
+use Prim.Native.Nat.{ℕ, suc}
 use mathlib.Core.Bool.{Bool, true, cond, _&&_}
-use mathlib.Core.List.{List, []}
-use lib.Dec.{leb}
+use mathlib.Core.List.{List, [], _∷_}
+use lib.Dec.{leb, ltb}
 use lib.ListN.{drop}
 use Rattle.sequence.specs.declared.Number.{Number}
 use Rattle.sequence.specs.Figures.{mostDigits}
 use Rattle.sequence.specs.Symbols.{allAtMost}
+use Rattle.sequence.specs.Field.{channelOk}
+use Rattle.units.specs.declared.Tenths.{Tenths}
 use Rattle.rules.specs.Words.{Config}
+use Rattle.rules.specs.Sound.{slotKeeps, waitingKeeps, slotFits, placeFits}
 use Rattle.slots.specs.declared.Slot.{Slot}
 use Rattle.slots.specs.declared.Waiting.{Waiting}
 use Rattle.slots.specs.Phases.{stored}
+use Rattle.slots.specs.Views.{slotView, waitingView}
 
 -- a station of which only the identity is asked
 abbrev pub named : ℕ → Config
@@ -25,3 +29,27 @@ slotExact s = cond (stored (s .phase)) (numberExact (s .request .number)) true
 
 unfoldable pub waitingExact : Waiting → Bool
 waitingExact w = numberExact (w .request .number)
+
+-- ── one record, held to all of it ────────────────────────────────────────────
+
+unfoldable pub slotSound : ℕ → Tenths → Slot → Bool
+slotSound identity clock s =
+    channelOk (s .channel)
+    && (slotFits (clock .0) (slotView s)
+    && (slotKeeps (named identity) (slotView s) && slotExact s))
+
+unfoldable pub waitingSound : ℕ → Tenths → Waiting → Bool
+waitingSound identity clock w =
+    placeFits (clock .0) (waitingView w)
+    && (waitingKeeps (named identity) (waitingView w) && waitingExact w)
+
+-- ── the digits of a number in one pass ───────────────────────────────────────
+
+-- what may stand at a place: a digit where one is in use, else 0
+abbrev pub mostAt : ℕ → ℕ → ℕ
+mostAt i count = cond (ltb i count) 9 0
+
+-- from the place i on
+abbrev pub digitsFit : ℕ → ℕ → List ℕ → Bool
+digitsFit count i [] = true
+digitsFit count i (d ∷ l) = leb d (mostAt i count) && digitsFit count (suc i) l

@@ -1,4 +1,40 @@
-// Whether each record of a station keeps document 01's rules: what it stores, its times, its unused digits.
-pub mod exact;
+// Whether one record of a station keeps document 01's rules: its channel, what it stores, its times, its unused digits.
+ghost use mathlib.Core.Path.{_≡_};
+ghost use Rattle.keeping.specs.Kept.{slotSound, waitingSound};
+
 pub mod stored;
 pub mod times;
+
+use dues::QUEUE_WAIT;
+use sequence::parts::channel_ok;
+use slots::Slot;
+use slots::Waiting;
+use stored::request_stored;
+use stored::slot_stored;
+use times::fits_wait;
+use times::slot_fits;
+use units::Tenths;
+
+pub fn slot_sound(s: Slot, identity: u32, clock: Tenths) -> bool
+    ensures { λ r. ⌜ r ≡ slotSound identity clock s ⌝ }
+{
+    let c = s.channel;
+    if !channel_ok(c) {
+        return false;
+    }
+    if !slot_fits(s, clock) {
+        return false;
+    }
+    slot_stored(s, identity)
+}
+
+pub fn waiting_sound(w: Waiting, identity: u32, clock: Tenths) -> bool
+    ensures { λ r. ⌜ r ≡ waitingSound identity clock w ⌝ }
+{
+    let q = w.request;
+    let d = w.due;
+    if !fits_wait(clock, QUEUE_WAIT, d) {
+        return false;
+    }
+    request_stored(q, identity)
+}

@@ -1,46 +1,61 @@
 // The stored requests and the hold durations.
 ghost use mathlib.Core.Path.{_≡_};
 ghost use mathlib.Core.Bool.{_&&_};
-ghost use Prim.Native.Nat.{_<_};
-ghost use Rattle.rules.specs.Places.{all};
-ghost use Rattle.rules.specs.Sound.{numberKeeps, requestKeeps, durationKeeps, slotKeeps, waitingKeeps};
-ghost use Rattle.requests.specs.Views.{viewed, requestOf, digitsOf};
-ghost use Rattle.slots.specs.Views.{slotView, waitingView, configFor};
-ghost use Rattle.keeping.specs.Kept.{named};
+ghost use Rattle.rules.specs.Sound.{numberKeeps, requestKeeps, durationKeeps, slotKeeps};
+ghost use Rattle.requests.specs.Views.{requestOf, digitsOf};
+ghost use Rattle.slots.specs.Views.{slotView};
+ghost use Rattle.keeping.specs.Kept.{named, mostAt, digitsFit, numberExact, slotExact};
 use requests::Request;
-use requests::least;
+use sequence::DIGITS;
 use sequence::LAST_SECOND;
 use sequence::LEAST_SECOND;
 use sequence::MOST_DIGITS;
 use sequence::Number;
 use sequence::parts::duration_ok;
 use sequence::parts::is_ship;
-use sequence::symbols::all_at_most;
-use slots::MOST_SLOTS;
-use slots::MOST_WAITING;
 use slots::Phase;
-use slots::QUEUE_ROOM;
-use slots::SLOTS;
 use slots::Slot;
-use slots::Waiting;
 use units::Told;
 
-// "A number has 1 to 16 digits", the digits in use.
-fn number_keeps(number: Number) -> bool
-    ensures { λ r. ⌜ r ≡ numberKeeps (digitsOf number) ⌝ }
+// What may stand at a place of a number with so many digits.
+fn most_at(place: u8, count: u8) -> u8
+    ensures { λ r. ⌜ r ≡ mostAt place count ⌝ }
 {
-    let k = least(number.count, MOST_DIGITS);
-    let count = k as usize;
+    if place < count { 9 } else { 0 }
+}
+
+fn digits_fit(digits: [u8; DIGITS], count: u8) -> bool
+    ensures { λ r. ⌜ r ≡ digitsFit count 0 digits ⌝ }
+{
+    let mut fit = true;
+    let mut i: u8 = 0;
+    while i < MOST_DIGITS {
+        if most_at(i, count) < digits[i as usize] {
+            fit = false;
+        }
+        i += 1;
+    }
+    fit
+}
+
+// "A number has 1 to 16 digits", and its unused digits are 0.
+fn number_stored(number: Number) -> bool
+    ensures { λ r. ⌜ r ≡ (numberKeeps (digitsOf number) && numberExact number) ⌝ }
+{
+    let count = number.count;
     let digits = number.digits;
     if count < 1 {
         return false;
     }
-    all_at_most(&digits[0..count], 9)
+    if MOST_DIGITS < count {
+        return false;
+    }
+    digits_fit(digits, count)
 }
 
 // From a ship, to this station, the second telecommand 100 to 126.
-fn request_keeps(q: Request, identity: u32) -> bool
-    ensures { λ r. ⌜ r ≡ requestKeeps (named identity) (requestOf q) ⌝ }
+pub(crate) fn request_stored(q: Request, identity: u32) -> bool
+    ensures { λ r. ⌜ r ≡ (requestKeeps (named identity) (requestOf q) && numberExact (q .number)) ⌝ }
 {
     let y = q.station;
     let s = q.second;
@@ -57,7 +72,7 @@ fn request_keeps(q: Request, identity: u32) -> bool
     if LAST_SECOND < s {
         return false;
     }
-    number_keeps(n)
+    number_stored(n)
 }
 
 fn told_keeps(t: Told) -> bool
@@ -69,70 +84,30 @@ fn told_keeps(t: Told) -> bool
     }
 }
 
-fn hold_keeps(q: Request, identity: u32, t: Told) -> bool
-    ensures { λ r. ⌜ r ≡ (requestKeeps (named identity) (requestOf q) && durationKeeps t) ⌝ }
+fn hold_stored(q: Request, identity: u32, t: Told) -> bool
+    ensures { λ r. ⌜ r ≡ ((requestKeeps (named identity) (requestOf q) && durationKeeps t) && numberExact (q .number)) ⌝ }
 {
-    if !request_keeps(q, identity) {
+    if !told_keeps(t) {
         return false;
     }
-    told_keeps(t)
+    request_stored(q, identity)
 }
 
-fn slot_keeps(s: Slot, identity: u32) -> bool
-    ensures { λ r. ⌜ r ≡ slotKeeps (named identity) (slotView s) ⌝ }
+// "stored requests (simplex or duplex, to this station) and hold durations keep these rules"
+pub(crate) fn slot_stored(s: Slot, identity: u32) -> bool
+    ensures { λ r. ⌜ r ≡ (slotKeeps (named identity) (slotView s) && slotExact s) ⌝ }
 {
     let p = s.phase;
     let q = s.request;
     match p {
         Phase::Free => true,
-        Phase::Offered(_) => request_keeps(q, identity),
-        Phase::RingBack(_) => request_keeps(q, identity),
-        Phase::RingAgain(_) => request_keeps(q, identity),
-        Phase::Acknowledged(_) => request_keeps(q, identity),
-        Phase::Dialling(_, _) => request_keeps(q, identity),
-        Phase::Answered(_, _) => request_keeps(q, identity),
-        Phase::Hold(_, t) => hold_keeps(q, identity, t),
+        Phase::Offered(_) => request_stored(q, identity),
+        Phase::RingBack(_) => request_stored(q, identity),
+        Phase::RingAgain(_) => request_stored(q, identity),
+        Phase::Acknowledged(_) => request_stored(q, identity),
+        Phase::Dialling(_, _) => request_stored(q, identity),
+        Phase::Answered(_, _) => request_stored(q, identity),
+        Phase::Hold(_, t) => hold_stored(q, identity, t),
         Phase::Taken => true,
     }
-}
-
-fn slots_keep(a: [Slot; SLOTS], n: u8, identity: u32) -> bool
-    ensures { λ r. ⌜ r ≡ all (slotKeeps (named identity)) (viewed slotView n a) ⌝ }
-{
-    let m = least(n, MOST_SLOTS);
-    let mut i: u8 = 0;
-    while i < m {
-        let s = a[i as usize];
-        if !slot_keeps(s, identity) {
-            return false;
-        }
-        i += 1;
-    }
-    true
-}
-
-fn queue_keeps(b: [Waiting; QUEUE_ROOM], m: u8, identity: u32) -> bool
-    ensures { λ r. ⌜ r ≡ all (waitingKeeps (named identity)) (viewed waitingView m b) ⌝ }
-{
-    let n = least(m, MOST_WAITING);
-    let mut k: u8 = 0;
-    while k < n {
-        let w = b[k as usize];
-        let q = w.request;
-        if !request_keeps(q, identity) {
-            return false;
-        }
-        k += 1;
-    }
-    true
-}
-
-// "stored requests (simplex or duplex, to this station) and hold durations keep these rules"
-pub fn stored_keep(identity: u32, a: [Slot; SLOTS], n: u8, b: [Waiting; QUEUE_ROOM], m: u8) -> bool
-    ensures { λ r. ⌜ r ≡ (all (slotKeeps (configFor identity n a)) (viewed slotView n a) && all (waitingKeeps (configFor identity n a)) (viewed waitingView m b)) ⌝ }
-{
-    if !slots_keep(a, n, identity) {
-        return false;
-    }
-    queue_keeps(b, m, identity)
 }

@@ -3,30 +3,22 @@ ghost use mathlib.Core.Path.{_≡_};
 ghost use mathlib.Core.Bool.{_&&_};
 ghost use Prim.Native.Nat.{_+_, _<_};
 ghost use lib.Dec.{leb};
-ghost use Rattle.rules.specs.Places.{all};
-ghost use Rattle.rules.specs.Sound.{fits, lossFits, slotFits, placeFits};
-ghost use Rattle.requests.specs.Views.{viewed, modeOf};
-ghost use Rattle.slots.specs.Views.{slotView, waitingView, carrierOf};
+ghost use Rattle.rules.specs.Sound.{fits, lossFits, slotFits};
+ghost use Rattle.requests.specs.Views.{modeOf};
+ghost use Rattle.slots.specs.Views.{slotView, carrierOf};
 use dues::HOLD_WAIT;
 use dues::OFFER_WAIT;
-use dues::QUEUE_WAIT;
 use dues::REPLY_WAIT;
 use dues::RING_WAIT;
 use dues::carrier_wait;
 use requests::Mode;
-use requests::least;
 use slots::Carrier;
-use slots::MOST_SLOTS;
-use slots::MOST_WAITING;
 use slots::Phase;
-use slots::QUEUE_ROOM;
-use slots::SLOTS;
 use slots::Slot;
-use slots::Waiting;
 use units::Tenths;
 
 // "each due time lies from the clock to the clock plus its wait and 1"
-fn fits_wait(c: Tenths, p: Tenths, d: Tenths) -> bool
+pub(crate) fn fits_wait(c: Tenths, p: Tenths, d: Tenths) -> bool
     ensures { λ r. ⌜ r ≡ fits (c .0) (p .0) (d .0) ⌝ }
 {
     let x = c.0;
@@ -68,7 +60,7 @@ fn answered_fits(c: Tenths, t: Tenths, m: Mode, l: Carrier) -> bool
     loss_fits(c, m, l)
 }
 
-fn slot_fits(s: Slot, c: Tenths) -> bool
+pub(crate) fn slot_fits(s: Slot, c: Tenths) -> bool
     ensures { λ r. ⌜ r ≡ slotFits (c .0) (slotView s) ⌝ }
 {
     let p = s.phase;
@@ -85,44 +77,4 @@ fn slot_fits(s: Slot, c: Tenths) -> bool
         Phase::Hold(t, _) => fits_wait(c, HOLD_WAIT, t),
         Phase::Taken => true,
     }
-}
-
-fn slots_fit(a: [Slot; SLOTS], n: u8, c: Tenths) -> bool
-    ensures { λ r. ⌜ r ≡ all (slotFits (c .0)) (viewed slotView n a) ⌝ }
-{
-    let m = least(n, MOST_SLOTS);
-    let mut i: u8 = 0;
-    while i < m {
-        let s = a[i as usize];
-        if !slot_fits(s, c) {
-            return false;
-        }
-        i += 1;
-    }
-    true
-}
-
-fn queue_fits(b: [Waiting; QUEUE_ROOM], m: u8, c: Tenths) -> bool
-    ensures { λ r. ⌜ r ≡ all (placeFits (c .0)) (viewed waitingView m b) ⌝ }
-{
-    let n = least(m, MOST_WAITING);
-    let mut k: u8 = 0;
-    while k < n {
-        let w = b[k as usize];
-        let d = w.due;
-        if !fits_wait(c, QUEUE_WAIT, d) {
-            return false;
-        }
-        k += 1;
-    }
-    true
-}
-
-pub fn times_fit(c: Tenths, a: [Slot; SLOTS], n: u8, b: [Waiting; QUEUE_ROOM], m: u8) -> bool
-    ensures { λ r. ⌜ r ≡ (all (slotFits (c .0)) (viewed slotView n a) && all (placeFits (c .0)) (viewed waitingView m b)) ⌝ }
-{
-    if !slots_fit(a, n, c) {
-        return false;
-    }
-    queue_fits(b, m, c)
 }

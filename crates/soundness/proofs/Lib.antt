@@ -1,2 +1,4 @@
 pub mod FitLaws
+pub mod GatherLaws
+pub mod SeenLaws
 pub mod Settled

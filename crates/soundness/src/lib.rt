@@ -1,23 +1,43 @@
-// Whether a station is sound: its parts held to document 01, "It is sound if ..".
+// What a station is held to beside its single records: identity, clock, counts, and channels of which none stands twice.
 ghost use mathlib.Core.Path.{_≡_};
 ghost use Prim.Native.Nat.{_<_};
-ghost use Rattle.rules.specs.Sound.{configKeeps, sound};
-ghost use Rattle.slots.specs.Views.{configFor};
-ghost use Rattle.soundness.specs.Soundly.{modelFor, soundly};
-use apart::channels_keep;
-use apart::no_ship_twice;
-use keeping::exact::is_exact;
-use keeping::stored::stored_keep;
-use keeping::times::times_fit;
+ghost use Rattle.rules.specs.Sound.{channelsKeep, configKeeps};
+ghost use Rattle.requests.specs.Views.{viewed};
+ghost use Rattle.slots.specs.Views.{channelOf, configFor};
+ghost use Rattle.soundness.specs.Soundly.{headSound};
+use apart::all_apart;
+use requests::least;
+use sequence::parts::channel_ok;
 use sequence::parts::is_coast;
 use slots::MOST_SLOTS;
 use slots::MOST_WAITING;
-use slots::QUEUE_ROOM;
 use slots::SLOTS;
 use slots::Slot;
-use slots::Waiting;
 use units::LIMIT;
 use units::Tenths;
+
+// "1 to 16 distinct channels of the kind above"
+fn channels_keep(a: [Slot; SLOTS], n: u8) -> bool
+    ensures { λ r. ⌜ r ≡ channelsKeep (viewed channelOf n a) ⌝ }
+{
+    if n < 1 {
+        return false;
+    }
+    let m = least(n, MOST_SLOTS);
+    let mut numbers = [0u32; SLOTS];
+    let mut i: u8 = 0;
+    while i < m {
+        let s = a[i as usize];
+        let c = s.channel;
+        if !channel_ok(c) {
+            return false;
+        }
+        numbers[i as usize] = c.0;
+        i += 1;
+    }
+    let end = m as usize;
+    all_apart(&numbers[..end])
+}
 
 // The identity and the channels: what set-up asks, and every event after it.
 pub fn config_keeps(identity: u32, a: [Slot; SLOTS], n: u8) -> bool
@@ -29,43 +49,9 @@ pub fn config_keeps(identity: u32, a: [Slot; SLOTS], n: u8) -> bool
     channels_keep(a, n)
 }
 
-// What the arrays stand for is sound.
-fn keeps_rules(
-    identity: u32,
-    clock: Tenths,
-    a: [Slot; SLOTS],
-    n: u8,
-    b: [Waiting; QUEUE_ROOM],
-    m: u8,
-) -> bool
-    ensures { λ r. ⌜ r ≡ sound (configFor identity n a) (modelFor clock n a m b) ⌝ }
-{
-    if !config_keeps(identity, a, n) {
-        return false;
-    }
-    if !stored_keep(identity, a, n, b, m) {
-        return false;
-    }
-    let t = clock.0;
-    if LIMIT < t {
-        return false;
-    }
-    if !no_ship_twice(a, n, b, m) {
-        return false;
-    }
-    times_fit(clock, a, n, b, m)
-}
-
-// The counts are within the arrays, what they stand for is sound, and the records are what a reader of sequences leaves.
-pub fn is_sound(
-    identity: u32,
-    clock: Tenths,
-    a: [Slot; SLOTS],
-    n: u8,
-    b: [Waiting; QUEUE_ROOM],
-    m: u8,
-) -> bool
-    ensures { λ r. ⌜ r ≡ soundly identity clock n a m b ⌝ }
+// The counts are within the arrays, there is a slot, the identity is a coast station's, the clock within the limit.
+pub fn head_sound(identity: u32, clock: Tenths, n: u8, m: u8) -> bool
+    ensures { λ r. ⌜ r ≡ headSound identity clock n m ⌝ }
 {
     if MOST_SLOTS < n {
         return false;
@@ -73,8 +59,11 @@ pub fn is_sound(
     if MOST_WAITING < m {
         return false;
     }
-    if !keeps_rules(identity, clock, a, n, b, m) {
+    if n < 1 {
         return false;
     }
-    is_exact(a, n, b, m)
+    if !is_coast(identity) {
+        return false;
+    }
+    clock.0 <= LIMIT
 }

@@ -9,13 +9,9 @@ use lib.ListN.{getD}
 use borrow.Author.Tests.{leb-true}
 use Rattle.sequence.specs.Answers.{answerNumber, isDone}
 use Rattle.sequence.specs.Refusals.{firstRefusal}
-use Rattle.rules.specs.Places.{all}
 use Rattle.rules.specs.Words.{Signal, Hand, heard, signal, operator, tick, onChannel70, onSlot, Event}
 use Rattle.rules.specs.Station.{free, fires}
 use Rattle.rules.specs.Sound.{sound}
-use Rattle.requests.specs.Views.{viewed, itself}
-use Rattle.keeping.specs.Kept.{slotExact, waitingExact}
-use Rattle.soundness.specs.Soundly.{soundly}
 use Rattle.gate.specs.declared.Look.{Look}
 use Rattle.gate.specs.Asked.{andThen, askedAlways, askedNow, askedOnSlot}
 use Rattle.gate.proofs.AskedLaws.{one-more}
@@ -79,18 +75,3 @@ passed s e h =
     let c = one (leb 320 (e .room)) 30 _ (b .1) in
     let d = one (leb (e .time) 4000000000) 31 _ (c .1) in
     record { sounds = b .0; room = leb-true 320 (e .room) (c .0); time = leb-true (e .time) 4000000000 (d .0); judged = sym (a .1) }
-
--- the parts of soundness, in the order of the tests
-apart : (a b x y : Bool) → (a && (b && (x && y))) ≡ ((a && (b && y)) && x)
-apart false b x y = refl
-apart true false x y = refl
-apart true true true true = refl
-apart true true true false = refl
-apart true true false true = refl
-apart true true false false = refl
-
-pub sound-is : (s : Station) → soundly (s .identity) (s .clock) (s .count) (s .slots) (s .waiting) (s .queue) ≡ (recordsKeep s && sound (configOf s) (modelOf s))
-unfolding soundly recordsKeep configOf modelOf
-sound-is s =
-    apart (leb (s .count) 16) (leb (s .waiting) 32) (sound (configOf s) (modelOf s))
-    (all slotExact (viewed itself (s .count) (s .slots)) && all waitingExact (viewed itself (s .waiting) (s .queue)))
