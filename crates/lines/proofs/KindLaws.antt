@@ -10,10 +10,10 @@ use lib.ListN.{length, take, drop, getD, length-drop}
 use lib.Seq.{take-all}
 use borrow.Author.Tests.{le-leb, lt-leb, ne-eqb}
 use Rattle.rules.specs.Places.{all, isSome}
-use Rattle.rules.specs.Words.{Happened}
+use Rattle.rules.specs.Words.{Happened, What}
 use Rattle.sequence.proofs.Rest.{rest}
 use Rattle.lines.specs.Lines.{Said, isSymbol}
-use Rattle.lines.specs.Readable.{saysSetUp, saysChannel70, saysWorking, saysSlot, saysTick}
+use Rattle.lines.specs.Readable.{saysSetUp, saysSlot, saysSymbols, saysSlotSymbols, saysTime}
 
 module _ (s : List ℕ) (i : ℕ) (h : i < length s) where
   pub symbol-here : getD s i 0 ≤ 255 → all isSymbol (drop (i + 1) s) ≡ all isSymbol (drop i s)
@@ -33,14 +33,14 @@ pub set-up-fits : (ns : List ℕ) → isSome (saysSetUp ns) ≡ leb 1 (length ns
 set-up-fits [] = refl
 set-up-fits (i ∷ ns) = sym (at-least 1 (i ∷ ns) (omega arith))
 
-pub channel70-fits : (ns : List ℕ) → isSome (saysChannel70 ns) ≡ (leb 1 (length ns) && all isSymbol (drop 1 ns))
-channel70-fits [] = refl
-channel70-fits (t ∷ ns) = rw (at-least 1 (t ∷ ns) (omega arith)) (of-symbols (all isSymbol ns) _)
+pub symbols-fit : (w : List ℕ → What) (ns : List ℕ) → isSome (saysSymbols w ns) ≡ (leb 1 (length ns) && all isSymbol (drop 1 ns))
+symbols-fit w [] = refl
+symbols-fit w (t ∷ ns) = rw (at-least 1 (t ∷ ns) (omega arith)) (of-symbols (all isSymbol ns) _)
 
-pub working-fits : (ns : List ℕ) → isSome (saysWorking ns) ≡ (leb 2 (length ns) && all isSymbol (drop 2 ns))
-working-fits [] = refl
-working-fits (t ∷ []) = refl
-working-fits (t ∷ i ∷ ns) = rw (at-least 2 (t ∷ i ∷ ns) (omega arith)) (of-symbols (all isSymbol ns) _)
+pub slot-symbols-fit : (h : List ℕ → Happened) (ns : List ℕ) → isSome (saysSlotSymbols h ns) ≡ (leb 2 (length ns) && all isSymbol (drop 2 ns))
+slot-symbols-fit h [] = refl
+slot-symbols-fit h (t ∷ []) = refl
+slot-symbols-fit h (t ∷ i ∷ ns) = rw (at-least 2 (t ∷ i ∷ ns) (omega arith)) (of-symbols (all isSymbol ns) _)
 
 pub slot-fits : (h : Happened) (ns : List ℕ) → isSome (saysSlot h ns) ≡ eqb (length ns) 2
 slot-fits h [] = refl
@@ -48,10 +48,10 @@ slot-fits h (t ∷ []) = refl
 slot-fits h (t ∷ i ∷ []) = refl
 slot-fits h (t ∷ i ∷ x ∷ ns) = sym (ne-eqb (length (t ∷ i ∷ x ∷ ns)) 2 (λ e. omega arith))
 
-pub tick-fits : (ns : List ℕ) → isSome (saysTick ns) ≡ eqb (length ns) 1
-tick-fits [] = refl
-tick-fits (t ∷ []) = refl
-tick-fits (t ∷ x ∷ ns) = sym (ne-eqb (length (t ∷ x ∷ ns)) 1 (λ e. omega arith))
+pub time-fits : (w : What) (ns : List ℕ) → isSome (saysTime w ns) ≡ eqb (length ns) 1
+time-fits w [] = refl
+time-fits w (t ∷ []) = refl
+time-fits w (t ∷ x ∷ ns) = sym (ne-eqb (length (t ∷ x ∷ ns)) 1 (λ e. omega arith))
 
 -- the part of a list from a place on is all that is left there
 pub part-left : (s : List ℕ) (n : ℕ) → take (length s - n) (drop n s) ≡ drop n s

@@ -6,7 +6,7 @@ use Prim.Native.Nat.{ℕ, _+_, _-_, _*_}
 use lib.Dec.{leb, eqb}
 use lib.ListN.{length}
 use Rattle.rules.specs.Places.{all}
-use Rattle.rules.specs.Words.{Happened, heard, offHook, onHook, carrierUp, carrierDown, takes, givesBack, tick, onChannel70, onSlot}
+use Rattle.rules.specs.Words.{Happened, heard, offHook, onHook, carrierUp, carrierDown, takes, givesBack, tick, onChannel70, onSlot, What}
 use Rattle.rules.specs.Bytes.{padded}
 use Rattle.lines.specs.declared.Kind.{Kind}
 use Rattle.lines.specs.declared.Kind.the-variants.{Unreadable, SetUp, Channel70, Working, OffHook, OnHook, CarrierUp, CarrierDown, Take, GiveBack, Tick}
@@ -56,18 +56,19 @@ kindOf b =
 abbrev pub ofSymbols : List ℕ → Said → Option Said
 ofSymbols symbols said = cond (all isSymbol symbols) (some said) none
 
+-- the fields of a set-up; of a time with symbols, a slot with symbols, a slot, nothing
 abbrev pub saysSetUp : List ℕ → Option Said
 saysSetUp [] = none
 saysSetUp (identity ∷ channels) = some (setsUp identity channels)
 
-abbrev pub saysChannel70 : List ℕ → Option Said
-saysChannel70 [] = none
-saysChannel70 (time ∷ symbols) = ofSymbols symbols (happens time (onChannel70 symbols))
+abbrev pub saysSymbols : (List ℕ → What) → List ℕ → Option Said
+saysSymbols w [] = none
+saysSymbols w (time ∷ symbols) = ofSymbols symbols (happens time (w symbols))
 
-abbrev pub saysWorking : List ℕ → Option Said
-saysWorking [] = none
-saysWorking (time ∷ []) = none
-saysWorking (time ∷ slot ∷ symbols) = ofSymbols symbols (happens time (onSlot slot (heard symbols)))
+abbrev pub saysSlotSymbols : (List ℕ → Happened) → List ℕ → Option Said
+saysSlotSymbols h [] = none
+saysSlotSymbols h (time ∷ []) = none
+saysSlotSymbols h (time ∷ slot ∷ symbols) = ofSymbols symbols (happens time (onSlot slot (h symbols)))
 
 abbrev pub saysSlot : Happened → List ℕ → Option Said
 saysSlot h [] = none
@@ -75,23 +76,23 @@ saysSlot h (time ∷ []) = none
 saysSlot h (time ∷ slot ∷ []) = some (happens time (onSlot slot h))
 saysSlot h (time ∷ slot ∷ more ∷ rest) = none
 
-abbrev pub saysTick : List ℕ → Option Said
-saysTick [] = none
-saysTick (time ∷ []) = some (happens time tick)
-saysTick (time ∷ more ∷ rest) = none
+abbrev pub saysTime : What → List ℕ → Option Said
+saysTime w [] = none
+saysTime w (time ∷ []) = some (happens time w)
+saysTime w (time ∷ more ∷ rest) = none
 
 abbrev pub says : Kind → List ℕ → Option Said
 says Unreadable ns = none
 says SetUp ns = saysSetUp ns
-says Channel70 ns = saysChannel70 ns
-says Working ns = saysWorking ns
+says Channel70 ns = saysSymbols onChannel70 ns
+says Working ns = saysSlotSymbols heard ns
 says OffHook ns = saysSlot offHook ns
 says OnHook ns = saysSlot onHook ns
 says CarrierUp ns = saysSlot carrierUp ns
 says CarrierDown ns = saysSlot carrierDown ns
 says Take ns = saysSlot takes ns
 says GiveBack ns = saysSlot givesBack ns
-says Tick ns = saysTick ns
+says Tick ns = saysTime tick ns
 
 abbrev pub saysOf : Kind → Option (List ℕ) → Option Said
 saysOf k none = none

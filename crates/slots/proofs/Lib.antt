@@ -1,4 +1,5 @@
 pub mod QueueLaws
 pub mod ViewLaws
+pub mod TidyLaws
 pub mod ImageLaws
 pub mod Settled

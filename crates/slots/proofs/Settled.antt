@@ -4,8 +4,8 @@ use contract.Lifetimes.{Lfts}
 use Rattle.slots.proofs.ViewLaws.{call-one}
 use Rattle.slots.proofs.laying.blank_slot.Reads as blank-slot
 use Rattle.slots.proofs.laying.blank_waiting.Reads as blank-waiting
-use Rattle.slots.proofs.laying.tidy_slots.Reads as tidy-slots
-use Rattle.slots.proofs.laying.tidy_queue.Reads as tidy-queue
+use Rattle.slots.proofs.laying.tidy_slot.Reads as tidy-slot
+use Rattle.slots.proofs.laying.tidy_waiting.Reads as tidy-waiting
 use Rattle.slots.proofs.phases.stores.Reads as stores
 use Rattle.slots.proofs.phases.has_ship.Reads as has-ship
 use Rattle.slots.proofs.phases.is_free.Reads as is-free
@@ -14,21 +14,12 @@ use Rattle.slots.proofs.phases.awaits_call.Reads as awaits-call
 use Rattle.slots.proofs.phases.is_rung.Reads as is-rung
 use Rattle.slots.proofs.phases.call_of.Reads as call-of
 use Rattle.slots.proofs.places.held.Reads as held
-use Rattle.slots.proofs.places.in_line.Reads as in-line
-use Rattle.slots.proofs.queue.cut_count.Reads as cut-count
-use Rattle.slots.proofs.queue.cut_in.Reads as cut-in
 
 pub blank-slot-settled : (κs : Lfts 0) (a : _) (r r' : _) (s s' : _) → blank-slot.Post κs a r s → blank-slot.Post κs a r' s' → r ≡ r'
 blank-slot-settled κs a r r' s s' p q = p ∙ sym q
 
 pub blank-waiting-settled : (κs : Lfts 0) (a : _) (r r' : _) (s s' : _) → blank-waiting.Post κs a r s → blank-waiting.Post κs a r' s' → r ≡ r'
 blank-waiting-settled κs a r r' s s' p q = p ∙ sym q
-
-pub tidy-slots-settled : (κs : Lfts 0) (a : _) (r r' : _) (s s' : _) → tidy-slots.Post κs a r s → tidy-slots.Post κs a r' s' → r ≡ r'
-tidy-slots-settled κs a r r' s s' p q = p ∙ sym q
-
-pub tidy-queue-settled : (κs : Lfts 0) (a : _) (r r' : _) (s s' : _) → tidy-queue.Post κs a r s → tidy-queue.Post κs a r' s' → r ≡ r'
-tidy-queue-settled κs a r r' s s' p q = p ∙ sym q
 
 pub stores-settled : (κs : Lfts 0) (a : _) (r r' : _) (s s' : _) → stores.Post κs a r s → stores.Post κs a r' s' → r ≡ r'
 stores-settled κs a r r' s s' p q = p ∙ sym q
@@ -54,11 +45,8 @@ call-of-settled κs a r r' s s' p q = call-one _ _ _ (p ∙ sym q)
 pub held-settled : (κs : Lfts 0) (a : _) (r r' : _) (s s' : _) → held.Post κs a r s → held.Post κs a r' s' → r ≡ r'
 held-settled κs a r r' s s' p q = p ∙ sym q
 
-pub in-line-settled : (κs : Lfts 0) (a : _) (r r' : _) (s s' : _) → in-line.Post κs a r s → in-line.Post κs a r' s' → r ≡ r'
-in-line-settled κs a r r' s s' p q = p ∙ sym q
+pub tidy-slot-settled : (κs : Lfts 0) (a : _) (r r' : _) (s s' : _) → tidy-slot.Post κs a r s → tidy-slot.Post κs a r' s' → r ≡ r'
+tidy-slot-settled κs a r r' s s' p q = p ∙ sym q
 
-pub cut-count-settled : (κs : Lfts 0) (a : _) (r r' : _) (s s' : _) → cut-count.Post κs a r s → cut-count.Post κs a r' s' → r ≡ r'
-cut-count-settled κs a r r' s s' p q = p ∙ sym q
-
-pub cut-in-settled : (κs : Lfts 0) (a : _) (r r' : _) (s s' : _) → cut-in.Post κs a r s → cut-in.Post κs a r' s' → r ≡ r'
-cut-in-settled κs a r r' s s' p q = p .0 ∙ sym (q .0)
+pub tidy-waiting-settled : (κs : Lfts 0) (a : _) (r r' : _) (s s' : _) → tidy-waiting.Post κs a r s → tidy-waiting.Post κs a r' s' → r ≡ r'
+tidy-waiting-settled κs a r r' s s' p q = p ∙ sym q

@@ -1,4 +1,3 @@
 pub mod Views
 pub mod Phases
 pub mod Images
-pub mod Changes

@@ -3,15 +3,10 @@ ghost use mathlib.Core.Path.{_≡_};
 ghost use Prim.Native.Nat.{_<_};
 ghost use Rattle.sequence.specs.Figures.{mostDigits};
 ghost use Rattle.rules.specs.Bytes.{padded};
-ghost use Rattle.rules.specs.Sound.{mostSlots, queueRoom};
 ghost use Rattle.requests.specs.Views.{viewed, itself};
 ghost use Rattle.requests.specs.Images.{tidyRequest};
 ghost use Rattle.slots.specs.Images.{blankSlot, blankWaiting, tidySlot, tidyWaiting};
-use crate::MOST_SLOTS;
-use crate::MOST_WAITING;
 use crate::Phase;
-use crate::QUEUE_ROOM;
-use crate::SLOTS;
 use crate::Slot;
 use crate::Waiting;
 use crate::phases::stores;
@@ -29,11 +24,10 @@ fn cleared(d: [u8; DIGITS], n: u8) -> [u8; DIGITS]
     ensures { λ r. ⌜ r ≡ padded 0 mostDigits (viewed itself n d) ⌝ }
 {
     let mut a = [0u8; DIGITS];
-    let m = least(n, MOST_DIGITS);
     let mut i: u8 = 0;
-    while i < m {
+    while i < MOST_DIGITS {
         let x = d[i as usize];
-        a[i as usize] = x;
+        a[i as usize] = if i < n { x } else { 0 };
         i += 1;
     }
     a
@@ -60,7 +54,7 @@ fn tidy_request(q: Request) -> Request
     }
 }
 
-fn tidy_slot(s: Slot) -> Slot
+pub fn tidy_slot(s: Slot) -> Slot
     ensures { λ r. ⌜ r ≡ tidySlot s ⌝ }
 {
     let p = s.phase;
@@ -93,7 +87,7 @@ pub fn blank_slot() -> Slot
     }
 }
 
-fn tidy_waiting(w: Waiting) -> Waiting
+pub fn tidy_waiting(w: Waiting) -> Waiting
     ensures { λ r. ⌜ r ≡ tidyWaiting w ⌝ }
 {
     let t = w.due;
@@ -110,38 +104,4 @@ pub fn blank_waiting() -> Waiting
         due: Tenths(0),
         request: b,
     }
-}
-
-// The first n slots tidied, the others blank.
-pub fn tidy_slots(a: [Slot; SLOTS], n: u8) -> [Slot; SLOTS]
-    ensures { λ r. ⌜ r ≡ padded blankSlot mostSlots (viewed tidySlot n a) ⌝ }
-{
-    let blank = blank_slot();
-    let mut b = [blank; SLOTS];
-    let m = least(n, MOST_SLOTS);
-    let mut i: u8 = 0;
-    while i < m {
-        let s = a[i as usize];
-        let t = tidy_slot(s);
-        b[i as usize] = t;
-        i += 1;
-    }
-    b
-}
-
-// The first n waiting ships tidied, the others blank.
-pub fn tidy_queue(a: [Waiting; QUEUE_ROOM], n: u8) -> [Waiting; QUEUE_ROOM]
-    ensures { λ r. ⌜ r ≡ padded blankWaiting queueRoom (viewed tidyWaiting n a) ⌝ }
-{
-    let blank = blank_waiting();
-    let mut b = [blank; QUEUE_ROOM];
-    let m = least(n, MOST_WAITING);
-    let mut i: u8 = 0;
-    while i < m {
-        let w = a[i as usize];
-        let t = tidy_waiting(w);
-        b[i as usize] = t;
-        i += 1;
-    }
-    b
 }

@@ -2,7 +2,6 @@
 pub mod laying;
 pub mod phases;
 pub mod places;
-pub mod queue;
 
 use requests::Request;
 use units::Channel;

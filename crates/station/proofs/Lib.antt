@@ -1,6 +1,8 @@
 pub mod Longs
 pub mod PlaceLaws
 pub mod ApplyLaws
+pub mod ChangeLaws
+pub mod FinishLaws
 pub mod AskLaws
 pub mod DecideLaws
 pub mod GateLaws

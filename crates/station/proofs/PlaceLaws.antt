@@ -1,13 +1,15 @@
 -- What a slot's record stands for.
-use Prim.Native.Nat.{ℕ, zero, suc}
+use Prim.Native.Nat.{ℕ, zero, suc, _<_, _≤_, min}
 use mathlib.Core.List.{List, [], _∷_, map}
-use mathlib.Core.Path.{_≡_, refl}
-use lib.ListN.{getD, take}
+use mathlib.Core.Path.{_≡_, refl, sym}
+use native.Mathlib.Omega.{arith}
+use lib.ListN.{length, getD, take}
 use Rattle.rules.specs.Bytes.{channelAt}
 use Rattle.rules.specs.Station.{free}
 use Rattle.requests.specs.Views.{viewed, itself}
-use Rattle.slots.specs.Images.{blankSlot, slotImage}
-use Rattle.slots.specs.Views.{slotView, channelOf}
+use Rattle.requests.proofs.ArrayLaws.{viewed-at, viewed-past, viewed-length}
+use Rattle.slots.specs.Images.{blankSlot, blankWaiting, slotImage}
+use Rattle.slots.specs.Views.{slotView, waitingView, channelOf, noSlot, noWaiting}
 use Rattle.station.specs.declared.Station.{Station}
 use Rattle.station.specs.Model.{modelOf, configOf}
 use Rattle.station.specs.Pieces.{slotOf}
@@ -29,3 +31,26 @@ module _ (s : Station) (i : ℕ) where
   pub slot-channel : slotOf s i .channel ≡ channelAt (configOf s) i
   unfolding slotOf configOf blankSlot slotImage
   slot-channel = seen-at channelOf blankSlot (s .count) (s .slots) i
+
+-- a record read from the arrays of a station, or a blank one
+module _ (s : Station) (wide : length (s .slots) ≡ 16) where
+  pub slot-in : (i : ℕ) → i < min (s .count) 16 → getD (s .slots) i noSlot ≡ slotOf s i
+  unfolding slotOf
+  slot-in i h = sym (viewed-at itself (s .count) (s .slots) i noSlot blankSlot (omega arith) (omega arith))
+
+  pub slot-past : (i : ℕ) → min (s .count) 16 ≤ i → blankSlot ≡ slotOf s i
+  unfolding slotOf
+  slot-past i h = sym (viewed-past itself (s .count) (s .slots) i blankSlot (omega arith))
+
+module _ (s : Station) (long : length (s .queue) ≡ 32) where
+  pub oldest-in : 0 < min (s .waiting) 32 → waitingView (getD (s .queue) 0 noWaiting) ≡ getD (modelOf s .queue) 0 (waitingView blankWaiting)
+  unfolding modelOf
+  oldest-in h = sym (viewed-at waitingView (s .waiting) (s .queue) 0 noWaiting (waitingView blankWaiting) (omega arith) (omega arith))
+
+  pub oldest-past : min (s .waiting) 32 ≤ 0 → waitingView blankWaiting ≡ getD (modelOf s .queue) 0 (waitingView blankWaiting)
+  unfolding modelOf
+  oldest-past h = sym (viewed-past waitingView (s .waiting) (s .queue) 0 (waitingView blankWaiting) (omega arith))
+
+  pub line-length : min (s .waiting) 32 ≡ length (modelOf s .queue)
+  unfolding modelOf
+  line-length = omega (arith, viewed-length waitingView (s .waiting) (s .queue))

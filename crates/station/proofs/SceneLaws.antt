@@ -1,18 +1,26 @@
 -- An outcome told and applied by its scene is the outcome in the words of the rules.
 use Prim.Native.Nat.{ℕ, _≤_}
 use mathlib.Core.List.{List, map}
-use mathlib.Core.Path.{_≡_, sym, ap, _∙_}
+use mathlib.Core.Path.{_≡_, refl, sym, ap, _∙_}
+use lib.ListN.{length, getD}
 use Rattle.units.specs.declared.SlotNumber.{SlotNumber}
 use Rattle.units.specs.declared.Tenths.{Tenths}
 use Rattle.rules.specs.Words.{Request}
 use Rattle.rules.specs.Bytes.{channelAt}
+use Rattle.rules.specs.Station as R
 use Rattle.rules.specs.Station.{setClock, nextDue}
 use Rattle.rules.specs.Requests.{Out}
+use Rattle.requests.specs.declared.Request.{Request as Asked}
+use Rattle.requests.specs.Views.{requestOf}
+use Rattle.slots.specs.declared.Slot.{Slot}
+use Rattle.slots.specs.declared.Waiting.{Waiting}
+use Rattle.slots.specs.Views.{waitingView}
+use Rattle.slots.specs.Images.{blankWaiting}
 use Rattle.actions.specs.Sent.{sentBlock}
 use Rattle.blocks.specs.Laid.{Laid, laidFrom}
 use Rattle.outcomes.specs.declared.Outcome.{Outcome}
 use Rattle.outcomes.specs.Does as D
-use Rattle.outcomes.specs.Does.{outOf, sceneOf, actsOf, answerOf, applied}
+use Rattle.outcomes.specs.Does.{outOf, sceneOf, actsOf, answerOf, lineOf, lined, applied}
 use Rattle.outcomes.proofs.PartLaws.{outcome-applied}
 use Rattle.telling.specs.declared.Scene.{Scene}
 use Rattle.telling.specs.Told.{sceneView, telling}
@@ -21,8 +29,9 @@ use Rattle.station.specs.declared.Station.{Station}
 use Rattle.station.specs.declared.Stepped.{Stepped}
 use Rattle.station.specs.Model.{modelOf, configOf, imageOf}
 use Rattle.station.specs.Step.{dueImage}
-use Rattle.station.specs.Pieces.{ownOf, outAt, laidOf, enacted}
-use Rattle.station.proofs.ApplyLaws.{applied-clock}
+use Rattle.station.specs.Pieces.{slotOf, ownOf, outAt, laidOf, enacted}
+use Rattle.station.proofs.PlaceLaws.{slot-channel}
+use Rattle.station.proofs.ApplyLaws.{turned-queue}
 
 scene-out : (s : Station) (t i : ℕ) (own asked : Request) → t ≤ 4_000_000_000 → (sc : D.Scene) (o : Outcome) → sc ≡ sceneOf i own asked (setClock t (modelOf s))
     → applied sc o (setClock t (modelOf s)) ≡ outOf i own asked o (setClock t (modelOf s))
@@ -33,6 +42,14 @@ scene-out s t i own asked late sc o e = rw e (sym (outcome-applied i own asked (
 abbrev pub Shows : Station → Tenths → SlotNumber → Request → Scene → Type 0
 Shows s t i q sc = (sceneView sc ≡ sceneOf (i .0) (ownOf s (i .0)) q (setClock (t .0) (modelOf s))) × ((sc .clock ≡ t) × (sc .channel ≡ channelAt (configOf s) (sc .slot .0)))
 
+-- from the slot's record and the oldest waiting ship's, where n wait
+pub shows : (s : Station) (t : Tenths) (i : SlotNumber) (q : Asked) (x : Slot) (w : Waiting) (n : ℕ) → x ≡ slotOf s (i .0)
+    → waitingView w ≡ getD (modelOf s .queue) 0 (waitingView blankWaiting) → n ≡ length (modelOf s .queue)
+    → Shows s t i (requestOf q) (record { clock = t; slot = i; channel = x .channel; own = x .request; asked = q; oldest = w .request; line = n })
+unfolding sceneOf sceneView ownOf setClock
+shows s t i q x w n at first line =
+    (rw (line, ap (λ (y : R.Waiting). y .request) first, at), (refl, ap (λ y. y .channel) at ∙ slot-channel s (i .0)))
+
 module _ (s : Station) (t : Tenths) (i : SlotNumber) (q : Request) (sc : Scene) (o : Outcome) (late : t .0 ≤ 4_000_000_000) (shows : Shows s t i q sc) where
   pub out-is : applied (sceneView sc) o (setClock (sc .clock .0) (modelOf s)) ≡ outAt s t i q o
   unfolding outAt
@@ -40,10 +57,10 @@ module _ (s : Station) (t : Tenths) (i : SlotNumber) (q : Request) (sc : Scene) 
       ap (λ (u : Tenths). applied (sceneView sc) o (setClock (u .0) (modelOf s))) (shows .1 .0)
       ∙ scene-out s (t .0) (i .0) (ownOf s (i .0)) q late (sceneView sc) o (shows .0)
 
-  pub clock-is : outAt s t i q o .next .clock ≡ t .0
-  unfolding setClock
-  clock-is =
-      ap (λ (x : Out). x .next .clock) (sym out-is) ∙ applied-clock (sceneView sc) o (setClock (sc .clock .0) (modelOf s)) ∙ ap (λ (u : Tenths). u .0) (shows .1 .0)
+  -- the queue that the outcome leaves
+  pub line-is : outAt s t i q o .next .queue ≡ lined (sceneView sc) (lineOf (sc .clock) (sc .line) o) (setClock (sc .clock .0) (modelOf s)) .queue
+  unfolding applied setClock sceneView
+  line-is = ap (λ (x : Out). x .next .queue) (sym out-is) ∙ turned-queue (sceneView sc) _ (lined (sceneView sc) _ (setClock (sc .clock .0) (modelOf s)))
 
   pub told-is : (k : ℕ) (room : List ℕ) → telling sc (actsOf (sceneView sc) o) k room ≡ laidOf (configOf s) (outAt s t i q o .acts) k room
   unfolding laidOf applied

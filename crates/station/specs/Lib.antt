@@ -1,3 +1,4 @@
 pub mod Model
 pub mod Step
 pub mod Pieces
+pub mod Changes

@@ -3,85 +3,46 @@ ghost use mathlib.Core.Path.{_≡_};
 ghost use Prim.Native.Nat.{_≤_};
 ghost use lib.ListN.{length};
 ghost use Rattle.rules.specs.Sound.{limit, queueRoom};
-ghost use Rattle.rules.specs.Station.{setClock, nextDue, dueAt};
-ghost use Rattle.rules.specs.Bytes.{channelAt};
+ghost use Rattle.rules.specs.Station.{dueAt};
 ghost use Rattle.requests.specs.Views.{requestOf};
 ghost use Rattle.slots.specs.Views.{dueView};
-ghost use Rattle.outcomes.specs.Does.{sceneOf};
-ghost use Rattle.telling.specs.Told.{sceneView};
-ghost use Rattle.station.specs.Model.{modelOf, configOf, imageOf};
+ghost use Rattle.station.specs.Model.{configOf};
 ghost use Rattle.station.specs.Step.{dueImage};
-ghost use Rattle.station.specs.Pieces.{ownOf, outAt, laidOf, enacted};
+ghost use Rattle.station.specs.Pieces.{outAt, laidOf, enacted};
 use crate::Station;
 use crate::Stepped;
+use crate::applying::entered;
+use crate::applying::entry_place;
+use crate::applying::leaving;
+use crate::applying::length_after;
+use crate::applying::slot_turned;
 use crate::look::due_time;
+use dues::loss_due;
+use dues::main_due;
+use dues::sooner_of;
 use outcomes::Outcome;
 use outcomes::parts::answer_of;
+use outcomes::parts::line_of;
+use outcomes::parts::turn_of;
 use requests::Request;
+use requests::least;
 use slots::Due;
-use slots::laying::tidy_queue;
-use slots::laying::tidy_slots;
-use slots::places::held;
-use slots::places::in_line;
+use slots::MOST_SLOTS;
+use slots::MOST_WAITING;
+use slots::QueuePlace;
+use slots::Wait;
+use slots::laying::blank_slot;
+use slots::laying::blank_waiting;
+use slots::laying::tidy_slot;
+use slots::laying::tidy_waiting;
 use telling::Scene;
 use units::SlotNumber;
 use units::Tenths;
 
 impl Station {
-    // What an outcome of the slot i is told from, at the time t, where q is asked for.
-    pub(crate) fn scene(self, t: Tenths, i: SlotNumber, q: Request) -> Scene
-        ensures { λ r. ⌜ sceneView r ≡ sceneOf (i .0) (ownOf self (i .0)) (requestOf q) (setClock (t .0) (modelOf self)) ⌝ }
-        ensures { λ r. ⌜ r .clock ≡ t ⌝ }
-        ensures { λ r. ⌜ r .channel ≡ channelAt (configOf self) (r .slot .0) ⌝ }
-    {
-        let x = self.slot_at(i);
-        let w = self.first_waiting();
-        let n = self.line();
-        let c = x.channel;
-        let own = x.request;
-        let oldest = w.request;
-        Scene {
-            clock: t,
-            slot: i,
-            channel: c,
-            own: own,
-            asked: q,
-            oldest: oldest,
-            line: n,
-        }
-    }
-
-    // Every unused place blank, and the next due time.
-    fn finish(self, answer: u8, count: u8) -> Stepped
-        ensures { λ r. ⌜ r ≡ record { answer = answer; count = count; due = dueImage (nextDue (modelOf self)); station = imageOf (configOf self) (modelOf self) } ⌝ }
-    {
-        let d = self.next_due();
-        let t = self.clock;
-        let a = self.slots;
-        let b = self.queue;
-        let n = self.count;
-        let k = self.waiting;
-        let s = tidy_slots(a, n);
-        let q = tidy_queue(b, k);
-        let next = Station {
-            clock: t,
-            identity: self.identity,
-            count: held(a, n),
-            waiting: in_line(b, k),
-            slots: s,
-            queue: q,
-        };
-        Stepped {
-            answer: answer,
-            count: count,
-            due: d,
-            station: next,
-        }
-    }
-
-    // An outcome of the slot i, told from block number k on.
+    // An outcome of the slot i, told from block number k on; in one piece, since each call that is handed a station copies it.
     pub(crate) fn enact(
-        self,
+        mut self,
         t: Tenths,
         i: SlotNumber,
         o: Outcome,
@@ -94,10 +55,85 @@ impl Station {
         ensures { λ r. ⌜ r ≡ enacted (configOf self) (laidOf (configOf self) (outAt self t i (requestOf q) o .acts) k (now (room .entry))) (outAt self t i (requestOf q) o) ⌝ }
         ensures { λ _. ⌜ now (room .exit) ≡ laidOf (configOf self) (outAt self t i (requestOf q) o .acts) k (now (room .entry)) .room ⌝ }
     {
-        let scene = self.scene(t, i, q);
-        let n = scene.tell(o, k, room);
-        let next = self.moved(scene, o);
-        next.finish(answer_of(o), n)
+        let slots = least(self.count, MOST_SLOTS);
+        let waiting = least(self.waiting, MOST_WAITING);
+        let blank = blank_slot();
+        let nobody = blank_waiting();
+        let mut x = blank;
+        if i.0 < slots as u32 {
+            x = self.slots[i.0 as usize];
+        }
+        let mut w = nobody;
+        if 0 < waiting {
+            w = self.queue[0];
+        }
+        let c = x.channel;
+        let own = x.request;
+        let oldest = w.request;
+        let scene = Scene {
+            clock: t,
+            slot: i,
+            channel: c,
+            own: own,
+            asked: q,
+            oldest: oldest,
+            line: waiting,
+        };
+        let told = scene.tell(o, k, room);
+        let line = line_of(o, t, waiting);
+        let turn = turn_of(o, t, waiting);
+        if i.0 < slots as u32 {
+            self.slots[i.0 as usize] = slot_turned(x, turn, scene);
+        }
+        // who waits behind the place that is given up moves up
+        let mut j = leaving(line, waiting);
+        while (j as usize) + 1 < waiting as usize {
+            let next = self.queue[j as usize + 1];
+            self.queue[j as usize] = next;
+            j += 1;
+        }
+        let kept = least(j, waiting);
+        let place = entry_place(line, kept);
+        if place < MOST_WAITING {
+            let before = self.queue[place as usize];
+            self.queue[place as usize] = entered(line, before, q);
+        }
+        let after = length_after(line, kept);
+        self.clock = t;
+        self.count = slots;
+        self.waiting = after;
+        // laid out anew from the last place to the first, so that of two waits due together the earlier stands
+        let mut d = Due::Never;
+        let mut n = MOST_SLOTS;
+        while slots < n {
+            n -= 1;
+            self.slots[n as usize] = blank;
+        }
+        while 0 < n {
+            n -= 1;
+            let s = self.slots[n as usize];
+            let m = main_due(s, SlotNumber(n as u32), d);
+            d = loss_due(s, SlotNumber(n as u32), m);
+            self.slots[n as usize] = tidy_slot(s);
+        }
+        n = MOST_WAITING;
+        while after < n {
+            n -= 1;
+            self.queue[n as usize] = nobody;
+        }
+        while 0 < n {
+            n -= 1;
+            let e = self.queue[n as usize];
+            let u = e.due;
+            d = sooner_of(u, Wait::Entry(QueuePlace(n)), d);
+            self.queue[n as usize] = tidy_waiting(e);
+        }
+        Stepped {
+            answer: answer_of(o),
+            count: told,
+            due: due_time(d),
+            station: self,
+        }
     }
 
     // "hands back the station unchanged, clock included"

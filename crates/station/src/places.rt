@@ -1,8 +1,6 @@
-// What a rule asks of a station: one slot, the oldest waiting ship, how many wait.
+// What a rule asks of a station: one slot, how many wait.
 ghost use mathlib.Core.Path.{_≡_};
-ghost use lib.ListN.{length, getD};
-ghost use Rattle.slots.specs.Views.{waitingView};
-ghost use Rattle.slots.specs.Images.{blankWaiting};
+ghost use lib.ListN.{length};
 ghost use Rattle.station.specs.Model.{modelOf};
 ghost use Rattle.station.specs.Pieces.{slotOf};
 use crate::Station;
@@ -10,9 +8,7 @@ use requests::least;
 use slots::MOST_SLOTS;
 use slots::MOST_WAITING;
 use slots::Slot;
-use slots::Waiting;
 use slots::laying::blank_slot;
-use slots::laying::blank_waiting;
 use units::SlotNumber;
 
 impl Station {
@@ -25,16 +21,6 @@ impl Station {
             return blank_slot();
         }
         self.slots[i.0 as usize]
-    }
-
-    // The ship that has waited longest.
-    pub(crate) fn first_waiting(self) -> Waiting
-        ensures { λ r. ⌜ waitingView r ≡ getD (modelOf self .queue) 0 (waitingView blankWaiting) ⌝ }
-    {
-        if self.waiting == 0 {
-            return blank_waiting();
-        }
-        self.queue[0]
     }
 
     // How many wait.

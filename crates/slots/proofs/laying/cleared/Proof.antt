@@ -1,32 +1,52 @@
-use Prim.Native.Nat.{_≤_, _-_, min}
+use Prim.Native.Nat.{_+_, _-_, _<_, _≤_, min}
+use mathlib.Core.Logic.{⊎-elim}
 use mathlib.Core.Path.{_≡_, refl, ap, _∙_}
 use native.Mathlib.Omega.{arith}
 use lib.ListN.{length}
 use Rattle.requests.specs.Views.{viewed, itself}
 use Rattle.rules.specs.Bytes.{padded}
-use Rattle.requests.proofs.ArrayLaws.{laid-more, viewed-min}
+use Rattle.requests.proofs.ArrayLaws.{laid-more, viewed-min, viewed-length}
+use Rattle.slots.proofs.TidyLaws.{padded-blank}
 use borrow.Author.Needs.{needs}
 use Rattle.slots.proofs.laying.cleared.Statement.{statement}
 use Rattle.slots.proofs.laying.cleared.Tie as tie
 
 abbrev Inv-loop : tie.InvT-loop
-Inv-loop n d a₀ m i₀ a i = (length d ≡ 16) × (i ≤ m) × (m ≡ min n 16) × (length a ≡ 16) × (a ≡ padded 0 16 (viewed itself i d))
+Inv-loop n d a₀ i₀ a i = (length d ≡ 16) × (i ≤ 16) × (length a ≡ 16) × (a ≡ padded 0 16 (viewed itself (min i n) d))
 
 abbrev μ-loop : tie.MeasureT-loop
-μ-loop n d a₀ m i₀ a i = m - i
+μ-loop n d a₀ i₀ a i = 16 - i
 
 loop-holds : tie.Need-loop-holds Inv-loop μ-loop
 unfolding padded viewed
-loop-holds c = (search needs, omega arith, c .least .ensures, search needs, refl)
+loop-holds c = (search needs, omega arith, search needs, (let e : min 0 (c .args .n) ≡ 0 = omega arith in rw e refl))
 
 loop-less : tie.Need-loop-less Inv-loop μ-loop
 loop-less c = omega arith
 
 loop-again : tie.Need-loop-again Inv-loop μ-loop
-loop-again c = (search needs, omega arith, c .before .loop .inv .2, search needs, rw (c .before .loop .inv .4) (laid-more itself 0 16 _ _ 0 (omega arith) (omega arith)))
+loop-again c =
+    let l = c .before .before .loop in
+    let x = c .before .before .before .args in (
+      search needs,
+      omega arith,
+      search needs,
+      ⊎-elim
+          (λ w.
+          let h : l .i < x .n = w .0 .taken in
+          let e : min (l .i) (x .n) ≡ l .i = omega arith in
+          let f : min (l .i + 1) (x .n) ≡ l .i + 1 = omega arith in
+          rw (w .1, l .inv .3, e, f) (laid-more itself 0 16 (l .i) (x .t1) 0 (omega arith) (omega arith)))
+          (λ w.
+          let h : x .n ≤ l .i = w .0 .left in
+          let e : min (l .i) (x .n) ≡ x .n = omega arith in
+          let f : min (l .i + 1) (x .n) ≡ x .n = omega arith in
+          rw (w .1, l .inv .3, e, f) (padded-blank 0 16 (viewed itself (x .n) (x .t1)) (l .i) (omega (arith, viewed-length itself (x .n) (x .t1)))))
+          (c .if1 .came),
+    )
 
 returns : tie.Need-returns Inv-loop μ-loop
-returns c = c .before .loop .inv .4 ∙ ap (λ z. padded 0 16 z) (let e : c .before .loop .i ≡ min (c .before .before .before .args .n) (length (c .before .before .before .args .t1)) = omega arith in rw e (viewed-min itself _ _))
+returns c = c .before .loop .inv .3 ∙ ap (λ z. padded 0 16 z) (let e : min (c .before .loop .i) (c .before .before .args .n) ≡ min (c .before .before .args .n) (length (c .before .before .args .t1)) = omega arith in rw e (viewed-min itself _ _))
 
 pub cleared-spec : {M : Type 1} → statement M
 cleared-spec =
@@ -34,7 +54,6 @@ cleared-spec =
     (tie.spec
     Inv-loop
     μ-loop
-    (λ c κs. search needs)
     loop-holds
     (λ c. search needs)
     (λ c. search needs)

@@ -1,30 +1,20 @@
-use Rattle.requests.specs.Views.{itself}
-use Rattle.requests.proofs.ArrayLaws.{viewed-at, viewed-past}
-use Rattle.slots.specs.Images.{blankSlot}
-use Rattle.slots.specs.Views.{noSlot}
 use Rattle.station.proofs.Longs.{slots-long}
-use Rattle.station.specs.Pieces.{slotOf}
+use Rattle.station.proofs.PlaceLaws.{slot-in, slot-past}
 use native.Mathlib.Omega.{arith}
-use mathlib.Core.Path.{sym, _∙_}
+use mathlib.Core.Path.{_∙_}
 use borrow.Author.Needs.{needs}
 use Rattle.station.proofs.Station.slot_at.Statement.{statement}
 use Rattle.station.proofs.Station.slot_at.Tie as tie
 
 returns : tie.Need-returns
-unfolding slotOf
 returns c =
-    let x = c .before .before .before .before .args in
-    let s = x .t1 in
-    let e = slots-long s (c .before .before .before .before .good .0) in
-    c .blank-slot .ensures ∙ sym (viewed-past itself (s .count) (s .slots) (x .i .0) blankSlot (omega arith))
+    let z = c .before .before .before .before in
+    c .blank-slot .ensures ∙ slot-past (z .args .t1) (slots-long (z .args .t1) (z .good .0)) (z .args .i .0) (omega arith)
 
 returns-2 : tie.Need-returns-2
-unfolding slotOf
 returns-2 c =
-    let x = c .before .before .before .before .before .args in
-    let s = x .t1 in
-    let e = slots-long s (c .before .before .before .before .before .good .0) in
-    sym (viewed-at itself (s .count) (s .slots) (x .i .0) noSlot blankSlot (omega arith) (omega arith))
+    let z = c .before .before .before .before .before in
+    slot-in (z .args .t1) (slots-long (z .args .t1) (z .good .0)) (z .args .i .0) (omega arith)
 
 pub slot-at-spec : {M : Type 1} → statement M
 slot-at-spec =

@@ -1,0 +1,44 @@
+-- What an outcome makes of a slot's record, and of the queue's.
+use Prim.Native.Nat.{ℕ, _+_}
+use Rattle.rules.specs.Sound.{queueRoom}
+use Rattle.requests.specs.declared.Request.{Request}
+use Rattle.slots.specs.declared.Slot.{Slot}
+use Rattle.slots.specs.declared.Waiting.{Waiting}
+use Rattle.outcomes.specs.declared.Turn.{Turn}
+use Rattle.outcomes.specs.declared.Turn.the-variants.{Stays, Own, Asked, Oldest}
+use Rattle.outcomes.specs.declared.Line.{Line}
+use Rattle.outcomes.specs.declared.Line.the-variants.{Same, Leaves, Joins, Replaces}
+use Rattle.telling.specs.declared.Scene.{Scene}
+
+abbrev pub slotTurned : Scene → Slot → Turn → Slot
+slotTurned sc x Stays = x
+slotTurned sc x (Own p) = record { phase = p; channel = x .channel; request = sc .own }
+slotTurned sc x (Asked p) = record { phase = p; channel = x .channel; request = sc .asked }
+slotTurned sc x (Oldest p) = record { phase = p; channel = x .channel; request = sc .oldest }
+
+-- the place that is given up in a queue of n
+abbrev pub leavingOf : ℕ → Line → ℕ
+leavingOf n Same = n
+leavingOf n (Leaves k) = k .0
+leavingOf n (Joins d) = n
+leavingOf n (Replaces k) = n
+
+-- the place that is written in a queue of n, and what is written over w
+abbrev pub entryPlace : ℕ → Line → ℕ
+entryPlace n Same = queueRoom
+entryPlace n (Leaves k) = queueRoom
+entryPlace n (Joins d) = n
+entryPlace n (Replaces k) = k .0
+
+abbrev pub enteredOf : Request → Waiting → Line → Waiting
+enteredOf q w Same = w
+enteredOf q w (Leaves k) = w
+enteredOf q w (Joins d) = record { due = d; request = q }
+enteredOf q w (Replaces k) = record { due = w .due; request = q }
+
+-- how many of n wait then
+abbrev pub lengthAfter : ℕ → Line → ℕ
+lengthAfter n Same = n
+lengthAfter n (Leaves k) = n
+lengthAfter n (Joins d) = n + 1
+lengthAfter n (Replaces k) = n
