@@ -5,13 +5,12 @@ use mathlib.Core.Bool.{Bool, true, false, cond}
 use mathlib.Core.List.{List, [], _∷_}
 use mathlib.Core.Option.{Option, none, some}
 use native.Mathlib.Omega.{arith}
-use lib.Dec.{ltb, eqb}
-use lib.ListN.{length}
-use borrow.Author.Tests.{le-leb, lt-leb, ltb-true, eq-eqb, ne-eqb, eqb-true, eqb-false}
+use lib.Dec.{ltb}
+use borrow.Author.Tests.{le-leb, lt-leb, ltb-true}
 use Rattle.sequence.specs.Identity.{isCoast}
 use Rattle.sequence.proofs.Tests.{Either, yes!, no!, which}
 use Rattle.rules.specs.Places.{all}
-use Rattle.rules.specs.Words.{Event}
+use Rattle.rules.specs.Words.{Config, Event}
 use Rattle.rules.specs.Calls.{act}
 use Rattle.rules.specs.Bytes.{padded}
 use Rattle.rules.specs.Station.{fresh}
@@ -25,10 +24,9 @@ use Rattle.station.specs.declared.NextDue.{NextDue}
 use Rattle.station.specs.declared.NextDue.the-variants.{Never, At}
 use Rattle.station.specs.declared.Station.{Station}
 use Rattle.station.specs.Model.{configOf, modelOf, imageOf}
-use Rattle.station.specs.Step.{given, recordsKeep, refusal, steppedBy, roomAfter, blankStation, setUpBy}
+use Rattle.station.specs.Step.{recordsKeep, refusal, steppedBy, roomAfter, blankStation, setUpOf}
 use Rattle.station.proofs.GateLaws.{passed}
-use Rattle.lent.specs.Layout.{stationSize}
-use Rattle.lent.specs.Stations.{stationBytes, stationFrom, stationLaid}
+use Rattle.lent.specs.Stations.{sized, stationBytes, stationFrom, stationLaid}
 use Rattle.lent.specs.Statement.{FoundAgain}
 use Rattle.lent.proofs.FoundAgain.{handed-out-is-found-again, wrong-size-is-not-sound}
 use Rattle.exchange.specs.Events.{told, kept, returned, stationAfter, roomLeft, stationSetUp, dueNumber, dueReturned}
@@ -36,9 +34,9 @@ use Rattle.exchange.specs.Statement.{RefusalLeavesAll, AcceptedLeavesIts
 
 -- ── any call, on any bytes ───────────────────────────────────────────────────
 
-laid-whole : (s : Station) (b : List ℕ) → length b ≡ stationSize → stationLaid s b ≡ stationBytes s
+laid-whole : (s : Station) (b : List ℕ) → sized b ≡ true → stationLaid s b ≡ stationBytes s
 unfolding stationLaid
-laid-whole s b w = rw (eq-eqb (length b) stationSize w)
+laid-whole s b w = rw w
 
 -- a test that every number of a refusal passes
 pub refused-such : (p : ℕ → Bool) → all p otherNumbers ≡ true → p 29 ≡ true → (s : Station) (e : Event) (n : ℕ) → refusal s e ≡ some n → p n ≡ true
@@ -54,13 +52,13 @@ unfolding stationAfter kept steppedBy roomLeft roomAfter
 refusal-leaves-all b room e n h = (rw (h, lt-leb n 1 (ltb-true 1 n (refused-such (ltb 1) refl refl (stationFrom b) e n h))), rw h)
 
 -- an event is accepted on bytes of the right size alone
-right-size : (b : List ℕ) (e : Event) → refusal (stationFrom b) e ≡ none → length b ≡ stationSize
-right-size b e h = go (which (eqb (length b) stationSize))
+right-size : (b : List ℕ) (e : Event) → refusal (stationFrom b) e ≡ none → sized b ≡ true
+right-size b e h = go (which (sized b))
   where
-    go : Either (eqb (length b) stationSize) → length b ≡ stationSize
-    go (yes! p) = eqb-true (length b) stationSize p
+    go : Either (sized b) → sized b ≡ true
+    go (yes! p) = p
     go (no! p) =
-        let v = wrong-size-is-not-sound b (eqb-false (length b) stationSize p) e in
+        let v = wrong-size-is-not-sound b p e in
         let q : _≡_ {A = ℕ} 0 1 = cc in
         absurd (omega (arith, q))
 
@@ -76,7 +74,7 @@ accepted-leaves-its-station b e h = (accepted-laid b e h, handed-out-is-found-ag
 
 pub wrong-size-has-no-due : WrongSizeHasNoDue
 unfolding dueReturned stationFrom blankStation recordsKeep viewed imageOf modelOf configOf sound configKeeps identityKeeps isCoast fresh padded
-wrong-size-has-no-due b h = rw (ne-eqb (length b) stationSize h) refl
+wrong-size-has-no-due b h = rw h refl
 
 apart : (a n : ℕ) (d : NextDue) → a < 256 → n < 256
     → ((a + 256 * n + dueNumber d) % 256 ≡ a) × ((a + 256 * n + dueNumber d) / 256 % 256 ≡ n) × ((a + 256 * n + dueNumber d) / 65536 % 2 ≡ waits d) × ((a + 256 * n + dueNumber d) / 4294967296 ≡ dueTime d)
@@ -112,12 +110,9 @@ along s f (e ∷ es) =
     let more = along (steppedBy s e .station) (l .1) es in
     (rw (returned-is s f e, l .0, more .0), rw (l .0) (more .1), rw (l .0) (more .2))
 
-pub set-up : (identity : ℕ) (channels lent : List ℕ) → setUpVerdict (given identity channels) ≡ none → length lent ≡ stationSize
-    → stationSetUp identity channels lent ≡ stationBytes (setUpBy identity channels .station)
-unfolding stationSetUp setUpBy
-set-up identity channels lent h w = rw h (laid-whole _ lent w)
+pub set-up : (c : Config) (lent : List ℕ) → setUpVerdict c ≡ none → sized lent ≡ true → stationSetUp c lent ≡ stationBytes (setUpOf c .station)
+unfolding stationSetUp
+set-up c lent h w = rw h (laid-whole _ lent w)
 
 pub host-hands-on : HostHandsOn
-unfolding setUpBy
-host-hands-on identity channels lent h w es =
-    rw (set-up identity channels lent h w) (along (setUpBy identity channels .station) (handed-out-is-found-again .0 (given identity channels)) es)
+host-hands-on c lent h w es = rw (set-up c lent h w) (along (setUpOf c .station) (handed-out-is-found-again .0 c) es)

@@ -3,7 +3,7 @@ use Prim.Native.Nat.{ℕ, _+_, _*_}
 use mathlib.Core.Bool.{cond, _&&_}
 use mathlib.Core.List.{List}
 use lib.Dec.{leb, eqb}
-use Rattle.rules.specs.Words.{Happened, Event}
+use Rattle.rules.specs.Words.{Config, Happened, Event}
 use Rattle.rules.specs.Sound.{sound}
 use Rattle.station.specs.declared.NextDue.{NextDue}
 use Rattle.station.specs.declared.NextDue.the-variants.{Never, At}
@@ -13,9 +13,8 @@ use Rattle.station.specs.declared.SetUp.{SetUp}
 use Rattle.rules.specs.Station.{nextDue}
 use Rattle.station.specs.Model.{modelOf, configOf}
 use Rattle.slots.specs.Images.{tenths}
-use Rattle.station.specs.Step.{tickAt, channel70At, slotAt, recordsKeep, dueImage, steppedBy, roomAfter, setUpBy}
-use Rattle.lent.specs.Layout.{stationSize}
-use Rattle.lent.specs.Stations.{stationFrom, stationLaid}
+use Rattle.station.specs.Step.{tickAt, channel70At, slotAt, recordsKeep, dueImage, steppedBy, roomAfter, setUpOf}
+use Rattle.lent.specs.Stations.{sized, stationFrom, stationLaid}
 
 -- ── the events, from plain numbers ───────────────────────────────────────────
 
@@ -57,11 +56,11 @@ roomLeft b room e = roomAfter (stationFrom b) room e
 abbrev pub setUpLeaves : SetUp → List ℕ → List ℕ
 setUpLeaves u b = cond (eqb (u .answer) 0) (stationLaid (u .station) b) b
 
-unfoldable pub setUpReturned : ℕ → List ℕ → ℕ → ℕ
-setUpReturned identity channels size = cond (eqb size stationSize) (setUpBy identity channels .answer) 23
+unfoldable pub setUpReturned : Config → List ℕ → ℕ
+setUpReturned c b = cond (sized b) (setUpOf c .answer) 23
 
-unfoldable pub stationSetUp : ℕ → List ℕ → List ℕ → List ℕ
-stationSetUp identity channels b = setUpLeaves (setUpBy identity channels) b
+unfoldable pub stationSetUp : Config → List ℕ → List ℕ
+stationSetUp c b = setUpLeaves (setUpOf c) b
 
 -- 29 where the station is not sound
 unfoldable pub dueReturned : Station → ℕ

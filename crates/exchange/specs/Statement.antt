@@ -1,18 +1,17 @@
 -- What is claimed of the station's entries: of any call, and of a host that hands on what it was left.
 use Prim.Native.Nat.{ℕ, _/_, _%_, _<_}
 use mathlib.Core.Path.{_≡_}
+use mathlib.Core.Bool.{true, false}
 use mathlib.Core.List.{List, [], _∷_}
 use mathlib.Core.Option.{none, some}
-use lib.ListN.{length}
-use Rattle.rules.specs.Words.{Event}
+use Rattle.rules.specs.Words.{Config, Event}
 use Rattle.rules.specs.Verdict.{setUpVerdict}
 use Rattle.station.specs.declared.NextDue.{NextDue}
 use Rattle.station.specs.declared.NextDue.the-variants.{Never, At}
 use Rattle.station.specs.declared.Station.{Station}
 use Rattle.station.specs.declared.Stepped.{Stepped}
-use Rattle.station.specs.Step.{given, refusal, steppedBy, roomAfter, setUpBy}
-use Rattle.lent.specs.Layout.{stationSize}
-use Rattle.lent.specs.Stations.{stationBytes, stationFrom}
+use Rattle.station.specs.Step.{refusal, steppedBy, roomAfter, setUpOf}
+use Rattle.lent.specs.Stations.{sized, stationBytes, stationFrom}
 use Rattle.lent.specs.Statement.{FoundAgain}
 use Rattle.exchange.specs.Events.{told, returned, stationAfter, roomLeft, stationSetUp, dueReturned}
 
@@ -29,7 +28,7 @@ AcceptedLeavesItsStation = (b : List ℕ) (e : Event) → refusal (stationFrom b
 
 -- bytes of another size have no due time either
 abbrev pub WrongSizeHasNoDue : Type 0
-WrongSizeHasNoDue = (b : List ℕ) → (length b ≡ stationSize → ⊥) → dueReturned (stationFrom b) ≡ 29
+WrongSizeHasNoDue = (b : List ℕ) → sized b ≡ false → dueReturned (stationFrom b) ≡ 29
 
 -- the four parts of the number that an event returns, as the header takes it apart
 abbrev pub waits : NextDue → ℕ
@@ -67,7 +66,7 @@ handedBy s (e ∷ es) = handedBy (steppedBy s e .station) es
 -- from every set-up that 36 does not refuse, along any list of events: the same answers, counts and due times, the same station, and
 -- in the room of one event more the same actions
 abbrev pub HostHandsOn : Type 0
-HostHandsOn = (identity : ℕ) (channels lent : List ℕ) → setUpVerdict (given identity channels) ≡ none → length lent ≡ stationSize → (es : List Event)
-    → (returnedBy (stationSetUp identity channels lent) es ≡ toldBy (setUpBy identity channels .station) es)
-    × (leftBy (stationSetUp identity channels lent) es ≡ stationBytes (handedBy (setUpBy identity channels .station) es))
-    × ((e : Event) (room : List ℕ) → roomLeft (leftBy (stationSetUp identity channels lent) es) room e ≡ roomAfter (handedBy (setUpBy identity channels .station) es) room e)
+HostHandsOn = (c : Config) (lent : List ℕ) → setUpVerdict c ≡ none → sized lent ≡ true → (es : List Event)
+    → (returnedBy (stationSetUp c lent) es ≡ toldBy (setUpOf c .station) es)
+    × (leftBy (stationSetUp c lent) es ≡ stationBytes (handedBy (setUpOf c .station) es))
+    × ((e : Event) (room : List ℕ) → roomLeft (leftBy (stationSetUp c lent) es) room e ≡ roomAfter (handedBy (setUpOf c .station) es) room e)

@@ -3,7 +3,7 @@ ghost use mathlib.Core.Path.{_≡_};
 ghost use Prim.Native.Nat.{_≤_};
 ghost use lib.ListN.{length};
 ghost use Rattle.rules.specs.Sound.{mostSlots};
-ghost use Rattle.station.specs.Step.{sixteenOf};
+ghost use Rattle.station.specs.Step.{given, sixteenOf};
 ghost use Rattle.lent.specs.Stations.{stationFrom};
 ghost use Rattle.exchange.specs.Events.{setUpReturned, stationSetUp, dueReturned};
 use crate::events::due_number;
@@ -32,8 +32,8 @@ fn channels_in(bytes: &[u8]) -> [Channel; SLOTS]
 // Sets a station up in a station's lent bytes: a slot for each channel, one a byte, in the list's order.
 #[no_mangle]
 pub extern "C" fn coast_set_up(identity: u32, channels: &[u8], station: &mut [u8]) -> u64
-    ensures { λ r. ⌜ r ≡ setUpReturned identity (now (channels .entry)) (length (now (station .entry))) ⌝ }
-    ensures { λ _. ⌜ now (station .exit) ≡ stationSetUp identity (now (channels .entry)) (now (station .entry)) ⌝ }
+    ensures { λ r. ⌜ r ≡ setUpReturned (given identity (now (channels .entry))) (now (station .entry)) ⌝ }
+    ensures { λ _. ⌜ now (station .exit) ≡ stationSetUp (given identity (now (channels .entry))) (now (station .entry)) ⌝ }
 {
     if station.len() != STATION_SIZE {
         return 23;

@@ -1,16 +1,17 @@
 -- A host's run for every script.
 use Prim.Native.Nat.{ℕ}
 use mathlib.Core.Path.{_≡_, refl, ap, _∙_}
+use mathlib.Core.Bool.{true}
 use mathlib.Core.List.{List, [], _∷_, map}
 use mathlib.Core.Option.{none}
 use native.Mathlib.Omega.{arith}
-use lib.ListN.{length, replicate, length-replicate}
-use borrow.Author.Tests.{eq-eqb}
+use lib.ListN.{length}
 use Rattle.units.specs.declared.Channel.{Channel}
 use Rattle.rules.specs.Words.{Event}
 use Rattle.rules.specs.Verdict.{setUpVerdict}
-use Rattle.station.specs.Step.{channelNumber, given, setUpBy}
-use Rattle.lent.specs.Layout.{stationSize}
+use Rattle.station.specs.Step.{channelNumber, given, setUpOf}
+use Rattle.lent.specs.Stations.{sized, stationBytes}
+use Rattle.lent.proofs.FoundAgain.{handed-out-is-found-again}
 use Rattle.exchange.specs.Events.{setUpReturned, stationSetUp}
 use Rattle.rack.proofs.Scripted.{lives, lent}
 use Rattle.host.specs.Calls.{Call, SetUpIn, by-set-up, HandsOn}
@@ -48,23 +49,22 @@ numbers : (l : List Channel) → map channelNumber (map (λ n. n .0) l) ≡ l
 numbers [] = refl
 numbers (n ∷ l) = ap (λ r. n ∷ r) (numbers l)
 
-begun : (identity : ℕ) (l : List ℕ) → setUpVerdict (given identity l) ≡ none → (b : List ℕ) → length b ≡ stationSize
-    → SetUpIn (given identity l) (stationSetUp identity l b)
-unfolding setUpReturned setUpBy
-begun identity l v b w =
-    by-set-up lives (identity, (lent l, (lent b, tt))) 0 (identity, (lent l, (lent _, tt))) (rw (eq-eqb (length b) stationSize w, v), refl) refl
+begun : (identity : ℕ) (l : List ℕ) → setUpVerdict (given identity l) ≡ none → (b : List ℕ) → sized b ≡ true
+    → SetUpIn (given identity l) (stationSetUp (given identity l) b)
+unfolding setUpReturned
+begun identity l v b w = by-set-up lives (identity, (lent l, (lent b, tt))) 0 (identity, (lent l, (lent _, tt))) (rw (w, v), refl) refl
 
 pub every-script-is-hosted : EveryScriptIsHosted
 unfolding EveryScriptIsHosted
 every-script-is-hosted c set es rooms h =
     let l = map (λ (n : Channel). n .0) (c .channels) in
     let e : given (c .identity) l ≡ c = ap (λ (r : List Channel). record { identity = c .identity; channels = r }) (numbers (c .channels)) in
-    let bytes = replicate {A = ℕ} stationSize 0 in
-    let first = stationSetUp (c .identity) l bytes in
+    let bytes = stationBytes (setUpOf c .station) in
+    let first = stationSetUp c bytes in
     let w = walk es rooms h first in
     record {
       calls = w .calls;
-      run = record { first = first; begun = rw e at (begun (c .identity) l (rw e set) bytes (length-replicate {A = ℕ} stationSize 0)); calls = w .hands };
+      run = record { first = first; begun = rw e at (begun (c .identity) l (rw e set) bytes (handed-out-is-found-again .0 c .0)); calls = w .hands };
       script = w .script;
       lent = w .lent-are;
     }

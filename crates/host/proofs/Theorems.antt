@@ -5,9 +5,7 @@ use mathlib.Core.Bool.{Bool, true, false, cond}
 use mathlib.Core.List.{List, [], _∷_}
 use mathlib.Core.Option.{none}
 use native.Mathlib.Omega.{arith}
-use lib.Dec.{leb, eqb}
-use lib.ListN.{length}
-use borrow.Author.Tests.{eqb-true}
+use lib.Dec.{leb}
 use Rattle.sequence.proofs.Tests.{Either, yes!, no!, which}
 use Rattle.rules.specs.Places.{Each}
 use Rattle.rules.specs.Words.{Config, Event}
@@ -17,9 +15,8 @@ use Rattle.rules.specs.Repeated.{Answers, RingsSame, DialsNamed, DeedByDeed}
 use Rattle.rules.specs.Verdict.{setUpVerdict, Entry}
 use Rattle.station.specs.declared.Station.{Station}
 use Rattle.station.specs.declared.Stepped.{Stepped}
-use Rattle.station.specs.Step.{given, refusal, steppedBy, roomAfter, setUpBy}
-use Rattle.lent.specs.Layout.{stationSize}
-use Rattle.lent.specs.Stations.{stationBytes, stationFrom}
+use Rattle.station.specs.Step.{given, refusal, steppedBy, roomAfter, setUpOf}
+use Rattle.lent.specs.Stations.{sized, stationBytes, stationFrom}
 use Rattle.lent.specs.Statement.{FoundAgain}
 use Rattle.lent.proofs.FoundAgain.{handed-out-is-found-again}
 use Rattle.exchange.specs.Events.{roomLeft, setUpReturned}
@@ -77,16 +74,16 @@ walk s f (x ∷ xs) h =
 
 -- ── set-up ───────────────────────────────────────────────────────────────────
 
-begun-well : (identity : ℕ) (channels : List ℕ) (size : ℕ) → setUpReturned identity channels size ≡ 0 → (size ≡ stationSize) × (setUpVerdict (given identity channels) ≡ none)
-unfolding setUpReturned setUpBy setUpVerdict
-begun-well identity channels size h = go (which (eqb size stationSize))
+begun-well : (c : Config) (b : List ℕ) → setUpReturned c b ≡ 0 → (sized b ≡ true) × (setUpVerdict c ≡ none)
+unfolding setUpReturned setUpVerdict
+begun-well c b h = go (which (sized b))
   where
-    judged : (t : Bool) → configKeeps (given identity channels) ≡ t → setUpBy identity channels .answer ≡ 0 → setUpVerdict (given identity channels) ≡ none
+    judged : (t : Bool) → configKeeps c ≡ t → setUpOf c .answer ≡ 0 → setUpVerdict c ≡ none
     judged true e z = rw e
     judged false e z = let q : _≡_ {A = ℕ} 36 0 = rw e at z in absurd (omega (arith, q))
 
-    go : Either (eqb size stationSize) → (size ≡ stationSize) × (setUpVerdict (given identity channels) ≡ none)
-    go (yes! p) = (eqb-true size stationSize p, judged (configKeeps (given identity channels)) refl (rw p at h))
+    go : Either (sized b) → (sized b ≡ true) × (setUpVerdict c ≡ none)
+    go (yes! p) = (p, judged (configKeeps c) refl (rw p at h))
     go (no! p) = let q : _≡_ {A = ℕ} 23 0 = rw p at h in absurd (omega (arith, q))
 
 pub record Begun (c : Config) (b : List ℕ) : Type 0 where
@@ -96,14 +93,14 @@ pub record Begun (c : Config) (b : List ℕ) : Type 0 where
   pub bytes : b ≡ stationBytes station
 
 pub begun : (c : Config) (b : List ℕ) → SetUpIn c b → Begun c b
-unfolding setUpBy
 begun _ _ (Host.by-set-up κs a r s p z) =
-    let w = begun-well (a .0) (a .1 .0 .now) (length (a .1 .1 .0 .now)) (sym (p .0) ∙ z) in
+    let c = given (a .0) (a .1 .0 .now) in
+    let w = begun-well c (a .1 .1 .0 .now) (sym (p .0) ∙ z) in
     record {
-      station = setUpBy (a .0) (a .1 .0 .now) .station;
-      found = handed-out-is-found-again .0 (given (a .0) (a .1 .0 .now));
-      begins = rw (w .1) (beginning (given (a .0) (a .1 .0 .now)) (w .1));
-      bytes = p .1 ∙ set-up (a .0) (a .1 .0 .now) (a .1 .1 .0 .now) (w .1) (w .0);
+      station = setUpOf c .station;
+      found = handed-out-is-found-again .0 c;
+      begins = rw (w .1) (beginning c (w .1));
+      bytes = p .1 ∙ set-up c (a .1 .1 .0 .now) (w .1) (w .0);
     }
 
 -- ── what holds of traces holds of hosts ──────────────────────────────────────

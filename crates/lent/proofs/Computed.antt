@@ -1,10 +1,13 @@
 -- What the lists of fields come to. tests/header holds include/coast.h to these lines.
 use mathlib.Core.Path.{_≡_, refl}
-use mathlib.Core.List.{[], _∷_}
-use lib.ListN.{take}
+use Prim.Native.Nat.{ℕ}
+use mathlib.Core.List.{List, [], _∷_}
+use lib.Dec.{eqb}
+use lib.ListN.{length, take}
 use Rattle.layouts.specs.Fields.{places}
 use Rattle.lent.specs.Layout.{requestFields, slotFields, waitingFields, headFields, requestSize, slotSize, waitingSize, slotsPlace, queuePlace, stationSize}
 use Rattle.lent.specs.Meanings.{meaningFields, meaningSize}
+use Rattle.lent.specs.Stations.{sized}
 
 pub meaning-computed : places 0 (take 11 meaningFields) ≡ 0 ∷ 4 ∷ 8 ∷ 9 ∷ 10 ∷ 11 ∷ 12 ∷ 13 ∷ 14 ∷ 15 ∷ 16 ∷ []
 meaning-computed = refl
@@ -51,3 +54,7 @@ queue-place-computed = refl
 pub station-size-computed : stationSize ≡ 1722
 unfolding stationSize headFields slotFields waitingFields requestFields
 station-size-computed = refl
+
+pub sized-computed : (b : List ℕ) → sized b ≡ eqb (length b) 1722
+unfolding sized
+sized-computed b = rw station-size-computed

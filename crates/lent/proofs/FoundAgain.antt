@@ -7,7 +7,6 @@ use native.Mathlib.Omega.{arith}
 use native.Mathlib.Nat.{le-of-suc-le-suc, not-suc-le-zero}
 use lib.ListN.{length, drop, length-map}
 use lib.Seq.{drop-at}
-use borrow.Author.Tests.{eq-eqb, ne-eqb}
 use Rattle.units.specs.declared.Channel.{Channel}
 use Rattle.units.specs.declared.Told.{Told}
 use Rattle.units.specs.declared.Told.the-variants.{Nothing, Lasting}
@@ -41,12 +40,12 @@ use Rattle.layouts.specs.Fields.{encode, decode}
 use Rattle.layouts.specs.Records.{recordsIn}
 use Rattle.layouts.proofs.FieldLaws.{there-and-back}
 use Rattle.layouts.proofs.RecordLaws.{records-told}
-use Rattle.lent.specs.Layout.{slotFields, waitingFields, headFields, stationFields, stationSize}
+use Rattle.lent.specs.Layout.{slotFields, waitingFields, headFields, stationFields}
 use Rattle.lent.specs.Numbers.{requestNumbers, requestFrom, carrierFields, toldFields, carrierFrom, toldFrom, phaseFields, phaseFrom, slotNumbers, waitingNumbers, stationNumbers, slotFrom, waitingFrom, inUse, stationIn}
 use Rattle.lent.specs.Stations.{stationBytes, stationFrom}
 use Rattle.lent.specs.Statement.{FoundAgain, HandedOutIsFoundAgain, WrongSizeIsNotSound}
 use Rattle.lent.proofs.LayLaws.{sixteen}
-use Rattle.lent.proofs.StationLaws.{slot-numbers, waiting-numbers, usedSlots, usedQueue, slots16, queue32, slots-numbers, fields-filled, station-numbers, station-size}
+use Rattle.lent.proofs.StationLaws.{slot-numbers, waiting-numbers, usedSlots, usedQueue, slots16, queue32, slots-numbers, fields-filled, station-numbers, station-sized}
 
 -- ── one record ───────────────────────────────────────────────────────────────
 
@@ -128,12 +127,11 @@ module _ (s : Station) (w : Whole s) where
   found-again : FoundAgain s
   unfolding stationFrom
   found-again =
-      let long = station-size s in
       let decoded : decode stationFields (stationBytes s) 0 ≡ stationNumbers s =
       unfold stationBytes in
       ap (λ b. decode stationFields b 0) (sym (append-nil (encode stationFields (stationNumbers s))))
       ∙ there-and-back stationFields (stationNumbers s) [] [] 0 0 (station-numbers s) fields-filled refl in
-      (long, rw (eq-eqb _ _ long, decoded) numbers-back)
+      (station-sized s, rw (station-sized s, decoded) numbers-back)
 
 -- ── what is handed out ───────────────────────────────────────────────────────
 
@@ -213,4 +211,4 @@ blank-refused e = refl
 
 pub wrong-size-is-not-sound : WrongSizeIsNotSound
 unfolding stationFrom
-wrong-size-is-not-sound b h e = rw (ne-eqb (length b) stationSize h) (blank-refused e)
+wrong-size-is-not-sound b h e = rw h (blank-refused e)

@@ -7,6 +7,7 @@ use native.Mathlib.Omega.{arith}
 use native.Mathlib.Nat.{zero-add}
 use lib.ListN.{length, getD, take, drop, length-append}
 use lib.Seq.{drop-at}
+use borrow.Author.Tests.{eq-eqb}
 use Rattle.requests.proofs.ArrayLaws.{padded-length}
 use Rattle.slots.specs.declared.Slot.{Slot}
 use Rattle.slots.specs.declared.Waiting.{Waiting}
@@ -18,7 +19,7 @@ use Rattle.layouts.proofs.FieldLaws.{encode-length, decode-length, laid-all, la
 use Rattle.layouts.proofs.RecordLaws.{encode-behind, decode-behind, encode-repeated, records-decoded, repeated-length, repeated-size, flatMap-length}
 use Rattle.lent.specs.Layout.{requestFields, slotFields, waitingFields, headFields, stationFields, slotSize, waitingSize, slotsPlace, queuePlace, stationSize}
 use Rattle.lent.specs.Numbers.{requestNumbers, slotNumbers, waitingNumbers, stationNumbers, slotFrom, waitingFrom, inUse, stationIn}
-use Rattle.lent.specs.Stations.{stationBytes, slotBytes, waitingBytes}
+use Rattle.lent.specs.Stations.{sized, stationBytes, slotBytes, waitingBytes}
 use Rattle.lent.proofs.LayLaws.{slot-size}
 
 -- ── how many numbers and bytes ───────────────────────────────────────────────
@@ -98,9 +99,13 @@ module _ (s : Station) where
       let b = length-append (repeated 16 slotFields) (repeated 32 waitingFields) in
       rw (a, b, slots-numbers, queue-numbers, repeated-length 16 slotFields, repeated-length 32 waitingFields)
 
-  pub station-size : length (stationBytes s) ≡ stationSize
+  station-size : length (stationBytes s) ≡ stationSize
   unfolding stationBytes
   station-size = encode-length stationFields (stationNumbers s) station-numbers ∙ fields-size
+
+  pub station-sized : sized (stationBytes s) ≡ true
+  unfolding sized
+  station-sized = eq-eqb _ _ station-size
 
   slots-bytes : encode (repeated 16 slotFields) (flatMap slotNumbers (usedSlots s)) ≡ flatMap slotBytes (usedSlots s)
   unfolding slotBytes

@@ -1,7 +1,7 @@
 -- What is claimed of the lent bytes: whatever is handed out is found again in them.
 use Prim.Native.Nat.{ℕ, _≤_}
 use mathlib.Core.Path.{_≡_}
-use mathlib.Core.Bool.{true}
+use mathlib.Core.Bool.{true, false}
 use mathlib.Core.List.{List, _++_}
 use mathlib.Core.Option.{none, some}
 use lib.ListN.{length, take}
@@ -11,9 +11,8 @@ use Rattle.sequence.specs.Layout.{valid}
 use Rattle.rules.specs.Words.{Config, Event}
 use Rattle.station.specs.declared.Station.{Station}
 use Rattle.station.specs.Step.{refusal, steppedBy, setUpOf}
-use Rattle.lent.specs.Layout.{stationSize}
 use Rattle.lent.specs.Meanings.{meaningSize, meaningBytes, meaningFrom}
-use Rattle.lent.specs.Stations.{stationBytes, stationFrom}
+use Rattle.lent.specs.Stations.{sized, stationBytes, stationFrom}
 
 -- the bytes of a valid meaning, whatever stands behind them
 abbrev pub MeaningIsFoundAgain : Type 0
@@ -26,7 +25,7 @@ MeaningIsLaidAgain = (b : List ℕ) → allAtMost 255 b ≡ true → valid (mean
 
 -- decoding what was encoded gives the station back, and it takes a station's bytes
 abbrev pub FoundAgain : Station → Type 0
-FoundAgain s = (length (stationBytes s) ≡ stationSize) × (stationFrom (stationBytes s) ≡ s)
+FoundAgain s = (sized (stationBytes s) ≡ true) × (stationFrom (stationBytes s) ≡ s)
 
 -- every station that set-up hands out, and every station that an accepted event does
 abbrev pub HandedOutIsFoundAgain : Type 0
@@ -36,4 +35,4 @@ HandedOutIsFoundAgain =
 
 -- bytes of another size stand for a station that every event refuses with 29
 abbrev pub WrongSizeIsNotSound : Type 0
-WrongSizeIsNotSound = (b : List ℕ) → (length b ≡ stationSize → ⊥) → (e : Event) → refusal (stationFrom b) e ≡ some 29
+WrongSizeIsNotSound = (b : List ℕ) → sized b ≡ false → (e : Event) → refusal (stationFrom b) e ≡ some 29

@@ -1,6 +1,6 @@
 -- A station's bytes, and the station that bytes stand for.
 use Prim.Native.Nat.{ℕ}
-use mathlib.Core.Bool.{cond}
+use mathlib.Core.Bool.{Bool, cond}
 use mathlib.Core.List.{List}
 use lib.Dec.{eqb}
 use lib.ListN.{length}
@@ -15,13 +15,17 @@ use Rattle.lent.specs.Numbers.{slotNumbers, waitingNumbers, stationNumbe
 unfoldable pub stationBytes : Station → List ℕ
 stationBytes s = encode stationFields (stationNumbers s)
 
+-- as many bytes as a station takes
+unfoldable pub sized : List ℕ → Bool
+sized b = eqb (length b) stationSize
+
 -- bytes of another size stand for the blank station, which is not sound: 29
 unfoldable pub stationFrom : List ℕ → Station
-stationFrom b = cond (eqb (length b) stationSize) (stationIn (decode stationFields b 0)) blankStation
+stationFrom b = cond (sized b) (stationIn (decode stationFields b 0)) blankStation
 
 -- lent bytes of another size stay as they are
 unfoldable pub stationLaid : Station → List ℕ → List ℕ
-stationLaid s b = cond (eqb (length b) stationSize) (stationBytes s) b
+stationLaid s b = cond (sized b) (stationBytes s) b
 
 -- one slot's, and one waiting ship's
 unfoldable pub slotBytes : Slot → List ℕ

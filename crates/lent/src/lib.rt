@@ -1,11 +1,12 @@
 // The station in bytes that a host lends: laid out by one list of fields, and read back.
 ghost use mathlib.Core.Path.{_≡_};
+ghost use Prim.Native.Nat.{_+_, _*_, _≤_};
 ghost use lib.ListN.{length};
 ghost use Rattle.layouts.specs.Fields.{decode};
 ghost use Rattle.layouts.specs.Records.{recordsAt};
 ghost use Rattle.rules.specs.Sound.{mostSlots, queueRoom};
 ghost use Rattle.slots.specs.Images.{blankSlot, blankWaiting};
-ghost use Rattle.lent.specs.Layout.{slotFields, waitingFields, slotSize, waitingSize, slotsPlace, queuePlace, stationSize};
+ghost use Rattle.lent.specs.Layout.{slotFields, waitingFields, slotSize, waitingSize, slotsPlace, queuePlace};
 ghost use Rattle.lent.specs.Numbers.{inUse, slotFrom, waitingFrom};
 ghost use Rattle.lent.specs.Stations.{stationFrom, stationLaid};
 
@@ -51,7 +52,7 @@ const QUEUE_PLACE: usize = SLOTS_PLACE + SLOTS * SLOT_SIZE;
 pub const STATION_SIZE: usize = QUEUE_PLACE + QUEUE_ROOM * WAITING_SIZE;
 
 fn slots_from(bytes: &[u8], count: u8) -> [Slot; SLOTS]
-    requires { ⌜ length (now bytes) ≡ stationSize ⌝ }
+    requires { ⌜ queuePlace ≤ length (now bytes) ⌝ }
     ensures { λ r. ⌜ r ≡ inUse blankSlot mostSlots count (recordsAt (λ p. slotFrom (decode slotFields (now (bytes .entry)) p)) mostSlots slotSize slotsPlace) ⌝ }
 {
     let blank = blank_slot();
@@ -67,7 +68,7 @@ fn slots_from(bytes: &[u8], count: u8) -> [Slot; SLOTS]
 }
 
 fn queue_from(bytes: &[u8], waiting: u8) -> [Waiting; QUEUE_ROOM]
-    requires { ⌜ length (now bytes) ≡ stationSize ⌝ }
+    requires { ⌜ queuePlace + waitingSize * queueRoom ≤ length (now bytes) ⌝ }
     ensures { λ r. ⌜ r ≡ inUse blankWaiting queueRoom waiting (recordsAt (λ p. waitingFrom (decode waitingFields (now (bytes .entry)) p)) queueRoom waitingSize queuePlace) ⌝ }
 {
     let blank = blank_waiting();

@@ -14,7 +14,7 @@ use Rattle.station.specs.Model.{modelOf}
 use Rattle.station.specs.Step.{dueImage}
 use Rattle.station.proofs.ImageLaws.{model-back, config-back}
 use Rattle.lent.specs.Stations.{stationFrom}
-use Rattle.lent.proofs.Computed.{station-size-computed}
+use Rattle.lent.proofs.Computed.{sized-computed}
 use Rattle.exchange.specs.Events.{dueReturned}
 use Rattle.exchange.proofs.Theorems.{wrong-size-has-no-due}
 use Rattle.rack.proofs.Laid.{records-keep}
@@ -70,7 +70,7 @@ fresh-due =
     rw (stands [], records-keep house m fits, config-back house m fits, model-back house m fits, good [], nothing-due) refl
 
 no-bytes : (y : ℕ) → DueInC [] y → y ≡ 29
-no-bytes y m = c-due-is [] y m ∙ wrong-size-has-no-due [] (λ e. omega (arith, station-size-computed, e))
+no-bytes y m = c-due-is [] y m ∙ wrong-size-has-no-due [] (sized-computed [])
 
 pub no-useless-next-due-in-c : NoUselessNextDueInC
 unfolding NoUselessNextDueInC

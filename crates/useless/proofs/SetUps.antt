@@ -1,11 +1,11 @@
 -- Set-up: a station with channel 26 is set up; the identity 0 with no channels is refused.
 use Prim.Native.Nat.{ℕ}
 use mathlib.Core.Path.{_≡_, refl, sym, ap, _∙_}
+use mathlib.Core.Bool.{true}
 use mathlib.Core.List.{List, [], _∷_}
 use mathlib.Core.Option.{none, some}
 use native.Mathlib.Omega.{arith}
-use lib.ListN.{length, replicate}
-use borrow.Author.Tests.{eq-eqb}
+use lib.ListN.{replicate}
 use Rattle.sequence.specs.Identity.{isCoast}
 use Rattle.sequence.specs.Field.{channelOk}
 use Rattle.rules.specs.Station.{fresh}
@@ -15,8 +15,7 @@ use Rattle.station.specs.declared.SetUp.{SetUp}
 use Rattle.station.specs.declared.Station.{Station}
 use Rattle.station.specs.Model.{imageOf}
 use Rattle.station.specs.Step.{channelNumber, given, chosen, blankStation, setUpOf, setUpBy}
-use Rattle.lent.specs.Layout.{stationSize}
-use Rattle.lent.specs.Stations.{stationBytes, stationFrom}
+use Rattle.lent.specs.Stations.{sized, stationBytes, stationFrom}
 use Rattle.lent.proofs.FoundAgain.{handed-out-is-found-again}
 use Rattle.exchange.specs.Events.{setUpReturned, stationSetUp}
 use Rattle.exchange.proofs.Theorems as Exchange
@@ -87,25 +86,25 @@ no-useless-set-up =
 -- ── in C ─────────────────────────────────────────────────────────────────────
 
 c-set-up-is : (x : Lent) (y : Left) → SetUpInC x y
-    → (y .number ≡ setUpReturned (x .identity) (x .channels) (length (x .station)))
-    × (y .kept ≡ stationSetUp (x .identity) (x .channels) (x .station))
+    → (y .number ≡ setUpReturned (given (x .identity) (x .channels)) (x .station))
+    × (y .kept ≡ stationSetUp (given (x .identity) (x .channels)) (x .station))
 c-set-up-is _ _ (by-coast-set-up κs a r s p) = (p .0, p .1)
 
 -- the lent bytes are those of another station
 abbrev another : List ℕ
 another = stationBytes (setUpBy 2001235 (26 ∷ []) .station)
 
-sized : length another ≡ stationSize
+another-sized : sized another ≡ true
 unfolding setUpBy
-sized = handed-out-is-found-again .0 (given 2001235 (26 ∷ [])) .0
+another-sized = handed-out-is-found-again .0 (given 2001235 (26 ∷ [])) .0
 
-c-answers-0 : setUpReturned 2001234 (26 ∷ []) (length another) ≡ 0
-unfolding setUpReturned
-c-answers-0 = rw (sized, eq-eqb stationSize stationSize refl, answers-0)
+c-answers-0 : setUpReturned (given 2001234 (26 ∷ [])) another ≡ 0
+unfolding setUpReturned setUpBy
+c-answers-0 = rw another-sized answers-0
 
-c-answers-36 : setUpReturned 0 [] (length another) ≡ 36
-unfolding setUpReturned
-c-answers-36 = rw (sized, eq-eqb stationSize stationSize refl, answers-36)
+c-answers-36 : setUpReturned (given 0 []) another ≡ 36
+unfolding setUpReturned setUpBy
+c-answers-36 = rw another-sized answers-36
 
 other-set-up : setUpVerdict (given 2001235 (26 ∷ [])) ≡ none
 unfolding setUpVerdict configKeeps identityKeeps channelsKeep isCoast channelOk
@@ -119,10 +118,10 @@ other-identity : setUpBy 2001235 (26 ∷ []) .station .identity ≡ 2001235
 unfolding setUpBy imageOf
 other-identity = rw other-set-up
 
-changed : (kept : List ℕ) → kept ≡ stationSetUp 2001234 (26 ∷ []) another → kept ≡ another → ⊥
+changed : (kept : List ℕ) → kept ≡ stationSetUp (given 2001234 (26 ∷ [])) another → kept ≡ another → ⊥
 unfolding setUpBy
 changed kept e same =
-    let bytes = sym (Exchange.set-up 2001234 (26 ∷ []) another set-up sized) ∙ sym e ∙ same in
+    let bytes = sym (Exchange.set-up (given 2001234 (26 ∷ [])) another set-up another-sized) ∙ sym e ∙ same in
     let stations = sym (handed-out-is-found-again .0 (given 2001234 (26 ∷ [])) .1) ∙ ap stationFrom bytes ∙ handed-out-is-found-again .0 (given 2001235 (26 ∷ [])) .1 in
     let q : _≡_ {A = ℕ} 2001234 2001235 = sym identity-is ∙ ap (λ (s : Station). s .identity) stations ∙ other-identity in
     omega (arith, q)

@@ -11,7 +11,7 @@ use Rattle.station.proofs.Longs.{slots-long, queue-long}
 use Rattle.layouts.specs.Fields.{laid}
 use Rattle.lent.specs.Layout.{slotSize, waitingSize, slotsPlace, queuePlace, stationSize}
 use Rattle.lent.specs.Stations.{stationLaid, slotBytes, waitingBytes}
-use Rattle.lent.proofs.Computed.{slot-size-computed, waiting-size-computed, slots-place-computed, queue-place-computed, station-size-computed}
+use Rattle.lent.proofs.Computed.{slot-size-computed, waiting-size-computed, slots-place-computed, queue-place-computed, station-size-computed, sized-computed}
 use Rattle.lent.proofs.LayLaws.{record-laid, blanks-laid, slot-size, waiting-size, blank-slot-bytes, blank-waiting-bytes}
 use Rattle.lent.proofs.StationLaws.{usedSlots, usedQueue, station-laid}
 use borrow.Author.Needs.{needs}
@@ -32,7 +32,7 @@ abbrev μ-loop2 : tie.MeasureT-loop2
 
 returns : tie.Need-returns Inv-loop μ-loop Inv-loop2 μ-loop2
 unfolding stationLaid
-returns c = rw (station-size-computed, ne-eqb _ _ (c .if1 .taken))
+returns c = rw (sized-computed (c .before .before .args .bytes .now) ∙ ne-eqb _ _ (c .if1 .taken))
 
 lay-requires : tie.Need-lay-requires Inv-loop μ-loop Inv-loop2 μ-loop2
 lay-requires c κs = omega arith
@@ -161,7 +161,7 @@ returns-2 c = let queued = c .before .before in
     let queue-laid : queued .lay-zeros2 .last .1 .1 .0 ≡ laid (slotted .lay-zeros .last .1 .1 .0) queuePlace (flatMap waitingBytes (usedQueue s)) =
     queued .lay-zeros2 .ensures
     ∙ (rw (atQueue .loop2 .inv .0, lined, atQueue .before .least2 .ensures, queue-place-computed) (rw (waiting-size-computed, queue-place-computed) at (blanks-laid waitingBytes waitingSize waiting-size blankWaiting blank-waiting-bytes (slotted .lay-zeros .last .1 .1 .0) queuePlace 32 (s .waiting) (s .queue) (queue-long s (start .good .0)) (omega (arith, queue-wide, queue-place-computed, station-size-computed))))) in
-    rw (station-size-computed, eq-eqb _ _ (begun .if1 .left))
+    rw (sized-computed (start .args .bytes .now) ∙ eq-eqb _ _ (begun .if1 .left))
     (queue-laid
     ∙ (rw (slots-laid, counted .lay3 .ensures, named .lay2 .ensures, timed .lay .ensures, numbers .low-first2 .ensures, numbers .before .low-first .ensures) (station-laid s (start .args .bytes .now) (begun .if1 .left ∙ sym station-size-computed))))
 

@@ -8,7 +8,7 @@ use Rattle.layouts.specs.Fields.{decode}
 use Rattle.layouts.specs.Records.{recordsAt}
 use Rattle.lent.specs.Layout.{waitingFields, waitingSize, queuePlace}
 use Rattle.lent.specs.Numbers.{waitingFrom}
-use Rattle.lent.proofs.Computed.{waiting-size-computed, queue-place-computed, station-size-computed}
+use Rattle.lent.proofs.Computed.{waiting-size-computed, queue-place-computed}
 use Rattle.lent.proofs.LayLaws.{record-read, records-read}
 use borrow.Author.Needs.{needs}
 use Rattle.lent.proofs.queue_from.Statement.{statement}
@@ -31,7 +31,7 @@ add-waiting-at : tie.Need-add-waiting-at Inv-loop μ-loop
 add-waiting-at c = omega arith
 
 waiting-at-requires : tie.Need-waiting-at-requires Inv-loop μ-loop
-waiting-at-requires c κs = omega (arith, waiting-size-computed, station-size-computed)
+waiting-at-requires c κs = omega (arith, waiting-size-computed, queue-place-computed)
 
 array-set-from-a : tie.Need-array-set-from-a Inv-loop μ-loop
 array-set-from-a c = omega arith

@@ -8,7 +8,7 @@ use Rattle.layouts.specs.Fields.{decode}
 use Rattle.layouts.specs.Records.{recordsAt}
 use Rattle.lent.specs.Layout.{slotFields, slotSize, slotsPlace}
 use Rattle.lent.specs.Numbers.{slotFrom}
-use Rattle.lent.proofs.Computed.{slot-size-computed, slots-place-computed, station-size-computed}
+use Rattle.lent.proofs.Computed.{slot-size-computed, slots-place-computed, queue-place-computed}
 use Rattle.lent.proofs.LayLaws.{record-read, records-read}
 use borrow.Author.Needs.{needs}
 use Rattle.lent.proofs.slots_from.Statement.{statement}
@@ -31,7 +31,7 @@ add-slot-at : tie.Need-add-slot-at Inv-loop μ-loop
 add-slot-at c = omega arith
 
 slot-at-requires : tie.Need-slot-at-requires Inv-loop μ-loop
-slot-at-requires c κs = omega (arith, slot-size-computed, station-size-computed)
+slot-at-requires c κs = omega (arith, slot-size-computed, queue-place-computed)
 
 array-set-from-a : tie.Need-array-set-from-a Inv-loop μ-loop
 array-set-from-a c = omega arith

@@ -1,8 +1,8 @@
 use mathlib.Core.Path.{_≡_, refl, _∙_}
 use borrow.Author.Tests.{eq-eqb, ne-eqb}
-use Rattle.station.specs.Step.{blankStation, setUpBy}
+use Rattle.station.specs.Step.{given, setUpOf, setUpBy}
 use Rattle.station.proofs.SetLaws.{too-long, set-up-refused, set-up-numbers}
-use Rattle.lent.proofs.Computed.{station-size-computed}
+use Rattle.lent.proofs.Computed.{sized-computed}
 use Rattle.exchange.specs.Events.{setUpReturned, stationSetUp}
 use Rattle.exchange.proofs.SetUpLaws.{nowhere}
 use borrow.Author.Needs.{needs}
@@ -11,27 +11,32 @@ use Rattle.exchange.proofs.setting.coast_set_up.Tie as tie
 
 returns : tie.Need-returns
 unfolding setUpReturned stationSetUp
-returns c = (rw (station-size-computed, ne-eqb _ _ (c .if1 .taken)), nowhere (setUpBy (c .before .before .before .args .identity) (c .before .before .before .args .channels .now)) _ (λ e. c .if1 .taken (e ∙ station-size-computed)))
+returns c = let a = c .before .before .before .args in
+    let other = sized-computed (a .station .now) ∙ ne-eqb _ _ (c .if1 .taken) in
+    (rw other, nowhere (setUpOf (given (a .identity) (a .channels .now))) (a .station .now) other)
 
 returns-2 : tie.Need-returns-2
 unfolding setUpReturned stationSetUp
 returns-2 c = let a = c .before .before .before .before .args in
-    let u : record { answer = 36; station = blankStation } ≡ setUpBy (a .identity) (a .channels .now) = unfold setUpBy in set-up-refused _ (too-long (a .identity) (a .channels .now) (c .if2 .taken)) in
-    (rw (station-size-computed, eq-eqb _ _ (c .before .if1 .left), ← u), rw (← u))
+    let right = sized-computed (a .station .now) ∙ eq-eqb _ _ (c .before .if1 .left) in
+    let u = set-up-refused (given (a .identity) (a .channels .now)) (too-long (a .identity) (a .channels .now) (c .if2 .taken)) in
+    (rw (right, ← u), rw (← u))
 
 returns-3 : tie.Need-returns-3
 unfolding setUpReturned stationSetUp
 returns-3 c = let b = c .before .before .before .before .before .before in
     let a = b .before .before .before .before .before .before .args in
-    let u : b .set-up .result ≡ setUpBy (a .identity) (a .channels .now) = b .set-up .ensures ∙ rw (b .before .channels-in .ensures) (set-up-numbers (a .identity) (a .channels .now) _ refl) in
-    (rw (station-size-computed, eq-eqb _ _ (b .before .before .before .if1 .left), ← u, c .before .before .before .before .if3 .taken), rw (← u, eq-eqb _ _ (c .before .before .before .before .if3 .taken)) (c .before .before .lay-station .ensures))
+    let right = sized-computed (a .station .now) ∙ eq-eqb _ _ (b .before .before .before .if1 .left) in
+    let u : b .set-up .result ≡ setUpOf (given (a .identity) (a .channels .now)) = unfold setUpBy in b .set-up .ensures ∙ rw (b .before .channels-in .ensures) (set-up-numbers (a .identity) (a .channels .now) _ refl) in
+    (rw (right, ← u, c .before .before .before .before .if3 .taken), rw (← u, eq-eqb _ _ (c .before .before .before .before .if3 .taken)) (c .before .before .lay-station .ensures))
 
 returns-4 : tie.Need-returns-4
 unfolding setUpReturned stationSetUp
 returns-4 c = let b = c .before .before in
     let a = b .before .before .before .before .before .before .args in
-    let u : b .set-up .result ≡ setUpBy (a .identity) (a .channels .now) = b .set-up .ensures ∙ rw (b .before .channels-in .ensures) (set-up-numbers (a .identity) (a .channels .now) _ refl) in
-    (rw (station-size-computed, eq-eqb _ _ (b .before .before .before .if1 .left), ← u), rw (← u, ne-eqb _ _ (c .if3 .left)))
+    let right = sized-computed (a .station .now) ∙ eq-eqb _ _ (b .before .before .before .if1 .left) in
+    let u : b .set-up .result ≡ setUpOf (given (a .identity) (a .channels .now)) = unfold setUpBy in b .set-up .ensures ∙ rw (b .before .channels-in .ensures) (set-up-numbers (a .identity) (a .channels .now) _ refl) in
+    (rw (right, ← u), rw (← u, ne-eqb _ _ (c .if3 .left)))
 
 pub coast-set-up-spec : {M : Type 1} → statement M
 coast-set-up-spec = tie.close (tie.spec returns returns-2 (λ c κs. search needs) (λ c. search needs) (λ c κs. search needs) (λ c κs. search needs) (λ c. search needs) returns-3 (λ c. search needs) returns-4)
