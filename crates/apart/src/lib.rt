@@ -8,12 +8,12 @@ fn is_among(x: u32, s: &[u32]) -> bool
     ensures { λ r. ⌜ r ≡ elem eqb x (now (s .entry)) ⌝ }
 {
     let mut found = false;
-    let mut i = 0;
-    while i < s.len() {
-        if s[i] == x {
+    let mut k = 0;
+    while k < s.len() {
+        if s[k] == x {
             found = true;
         }
-        i += 1;
+        k += 1;
     }
     found
 }

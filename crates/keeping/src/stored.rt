@@ -24,9 +24,12 @@ fn most_at(place: u8, count: u8) -> u8
     if place < count { 9 } else { 0 }
 }
 
-fn digits_fit(digits: [u8; DIGITS], count: u8) -> bool
-    ensures { λ r. ⌜ r ≡ digitsFit count 0 digits ⌝ }
+// "A number has 1 to 16 digits", and its unused digits are 0: all sixteen places are looked at, so that the compiler does so at once.
+fn number_stored(number: Number) -> bool
+    ensures { λ r. ⌜ r ≡ (numberKeeps (digitsOf number) && numberExact number) ⌝ }
 {
+    let count = number.count;
+    let digits = number.digits;
     let mut fit = true;
     let mut i: u8 = 0;
     while i < MOST_DIGITS {
@@ -35,22 +38,13 @@ fn digits_fit(digits: [u8; DIGITS], count: u8) -> bool
         }
         i += 1;
     }
-    fit
-}
-
-// "A number has 1 to 16 digits", and its unused digits are 0.
-fn number_stored(number: Number) -> bool
-    ensures { λ r. ⌜ r ≡ (numberKeeps (digitsOf number) && numberExact number) ⌝ }
-{
-    let count = number.count;
-    let digits = number.digits;
     if count < 1 {
         return false;
     }
     if MOST_DIGITS < count {
         return false;
     }
-    digits_fit(digits, count)
+    fit
 }
 
 // From a ship, to this station, the second telecommand 100 to 126.

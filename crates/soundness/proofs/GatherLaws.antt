@@ -1,11 +1,11 @@
 -- Numbers gathered from a station's records, and what it says of the records that none of them stands twice.
-use Prim.Native.Nat.{ℕ, zero, suc, _+_, _-_, _<_, _≤_, min}
-use mathlib.Core.Bool.{Bool, true, false, cond, not, _&&_, _||_}
+use Prim.Native.Nat.{ℕ, _+_, _-_, _<_, _≤_, min}
+use mathlib.Core.Bool.{Bool, true, false, cond, _&&_, _||_}
 use mathlib.Core.List.{List, [], _∷_, _++_, map, append-assoc, append-nil}
 use mathlib.Core.Path.{_≡_, refl, sym, ap, _∙_}
 use native.Mathlib.Omega.{arith}
 use lib.Dec.{eqb}
-use lib.ListN.{length, take, getD, set, replicate, length-append}
+use lib.ListN.{length, take, getD, set, length-append}
 use borrow.Author.Tests.{eqb-true, eq-eqb}
 use Rattle.units.specs.declared.Channel.{Channel}
 use Rattle.sequence.specs.Identity.{isShip}

@@ -12,10 +12,10 @@ use Rattle.apart.proofs.is_among.Statement.{statement}
 use Rattle.apart.proofs.is_among.Tie as tie
 
 abbrev Inv-loop : tie.InvT-loop
-Inv-loop x s found₀ i₀ found i = ((found || elem eqb x (drop i s)) ≡ elem eqb x s) × (i ≤ length s)
+Inv-loop x s found₀ k₀ found k = ((found || elem eqb x (drop k s)) ≡ elem eqb x s) × (k ≤ length s)
 
 abbrev μ-loop : tie.MeasureT-loop
-μ-loop x s found₀ i₀ found i = length s - i
+μ-loop x s found₀ k₀ found k = length s - k
 
 loop-holds : tie.Need-loop-holds Inv-loop μ-loop
 loop-holds c = (refl, omega arith)

@@ -1,4 +1,4 @@
-use Prim.Native.Nat.{ℕ, _+_, _-_, _<_, _≤_, min}
+use Prim.Native.Nat.{ℕ, _+_, _-_, _≤_, min}
 use mathlib.Core.Bool.{Bool, _&&_}
 use mathlib.Core.List.{_++_, map, append-nil}
 use mathlib.Core.Logic.{⊎-elim}
@@ -12,7 +12,7 @@ use Rattle.rules.specs.Bytes.{padded}
 use Rattle.rules.specs.Waits.{earliest}
 use Rattle.rules.specs.Station.{slotTable, table}
 use Rattle.requests.specs.Views.{viewed, left, itself}
-use Rattle.requests.proofs.ArrayLaws.{left-all, left-none, laid-more, viewed-length, viewed-min}
+use Rattle.requests.proofs.ArrayLaws.{left-all, left-none, laid-more, viewed-length}
 use Rattle.slots.specs.Views.{slotView, waitingView, dueView, dueOf, noSlot, noWaiting}
 use Rattle.dues.specs.Joins.{queueJoined}
 use Rattle.dues.proofs.DueLaws.{slots-down, slots-none, queue-down, queue-none, earliest-queue}
