@@ -3,27 +3,15 @@ use mathlib.Core.Path.{_≡_, sym, _∙_}
 use contract.Lifetimes.{Lfts}
 use Rattle.slots.proofs.ViewLaws.{found-one, place-one, standing-one}
 use Rattle.finding.proofs.first_free.Reads as first-free
-use Rattle.finding.proofs.channel_from.Reads as channel-from
 use Rattle.finding.proofs.slot_named.Reads as slot-named
-use Rattle.finding.proofs.slot_from.Reads as slot-from
-use Rattle.finding.proofs.place_from.Reads as place-from
 use Rattle.finding.proofs.place_of.Reads as place-of
 use Rattle.finding.proofs.standing.Reads as standing
 
 pub first-free-settled : (κs : Lfts 0) (a : _) (r r' : _) (s s' : _) → first-free.Post κs a r s → first-free.Post κs a r' s' → r ≡ r'
 first-free-settled κs a r r' s s' p q = found-one _ _ (p ∙ sym q)
 
-pub channel-from-settled : (κs : Lfts 0) (a : _) (r r' : _) (s s' : _) → channel-from.Post κs a r s → channel-from.Post κs a r' s' → r ≡ r'
-channel-from-settled κs a r r' s s' p q = found-one _ _ (p ∙ sym q)
-
 pub slot-named-settled : (κs : Lfts 0) (a : _) (r r' : _) (s s' : _) → slot-named.Post κs a r s → slot-named.Post κs a r' s' → r ≡ r'
 slot-named-settled κs a r r' s s' p q = found-one _ _ (p ∙ sym q)
-
-pub slot-from-settled : (κs : Lfts 0) (a : _) (r r' : _) (s s' : _) → slot-from.Post κs a r s → slot-from.Post κs a r' s' → r ≡ r'
-slot-from-settled κs a r r' s s' p q = found-one _ _ (p ∙ sym q)
-
-pub place-from-settled : (κs : Lfts 0) (a : _) (r r' : _) (s s' : _) → place-from.Post κs a r s → place-from.Post κs a r' s' → r ≡ r'
-place-from-settled κs a r r' s s' p q = place-one _ _ (p ∙ sym q)
 
 pub place-of-settled : (κs : Lfts 0) (a : _) (r r' : _) (s s' : _) → place-of.Post κs a r s → place-of.Post κs a r' s' → r ≡ r'
 place-of-settled κs a r r' s s' p q = place-one _ _ (p ∙ sym q)

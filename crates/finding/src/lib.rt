@@ -42,7 +42,7 @@ pub fn first_free(a: [Slot; SLOTS], n: u8) -> Found
 }
 
 // The lowest slot, from a number on, that works on the channel c.
-pub fn channel_from(a: [Slot; SLOTS], n: u8, from: SlotNumber, c: Channel) -> Found
+fn channel_from(a: [Slot; SLOTS], n: u8, from: SlotNumber, c: Channel) -> Found
     ensures { λ r. ⌜ foundView r ≡ lowestFrom (sameChannel c) (from .0) (left channelOf n a (from .0)) ⌝ }
 {
     let m = least(n, MOST_SLOTS) as u32;
@@ -77,7 +77,7 @@ fn is_of(s: Slot, ship: u32, station: u32) -> bool
 }
 
 // The lowest slot, from a number on, that is the ship's.
-pub fn slot_from(a: [Slot; SLOTS], n: u8, from: SlotNumber, ship: u32, station: u32) -> Found
+fn slot_from(a: [Slot; SLOTS], n: u8, from: SlotNumber, ship: u32, station: u32) -> Found
     ensures { λ r. ⌜ foundView r ≡ lowestFrom (owns (partyOf ship station)) (from .0) (left slotView n a (from .0)) ⌝ }
 {
     let m = least(n, MOST_SLOTS) as u32;
@@ -93,13 +93,7 @@ pub fn slot_from(a: [Slot; SLOTS], n: u8, from: SlotNumber, ship: u32, station: 
 }
 
 // The first place of the queue, from a place on, where the ship waits.
-pub fn place_from(
-    b: [Waiting; QUEUE_ROOM],
-    m: u8,
-    from: QueuePlace,
-    ship: u32,
-    station: u32,
-) -> Place
+fn place_from(b: [Waiting; QUEUE_ROOM], m: u8, from: QueuePlace, ship: u32, station: u32) -> Place
     ensures { λ r. ⌜ placeView r ≡ lowestFrom (waitsFor (partyOf ship station)) (from .0) (left waitingView m b (from .0)) ⌝ }
 {
     let n = least(m, MOST_WAITING);

@@ -18,6 +18,7 @@ use Rattle.outcomes.proofs.parts.answer_of.Reads as answer-of
 use Rattle.outcomes.proofs.parts.goes_on.Reads as goes-on
 use Rattle.outcomes.proofs.parts.turn_of.Reads as turn-of
 use Rattle.outcomes.proofs.parts.line_of.Reads as line-of
+use Rattle.outcomes.proofs.parts.entered.Reads as entered
 
 pub off-hook-settled : (κs : Lfts 0) (a : _) (r r' : _) (s s' : _) → off-hook.Post κs a r s → off-hook.Post κs a r' s' → r ≡ r'
 off-hook-settled κs a r r' s s' p q = p ∙ sym q
@@ -69,3 +70,6 @@ turn-of-settled κs a r r' s s' p q = p ∙ sym q
 
 pub line-of-settled : (κs : Lfts 0) (a : _) (r r' : _) (s s' : _) → line-of.Post κs a r s → line-of.Post κs a r' s' → r ≡ r'
 line-of-settled κs a r r' s s' p q = p ∙ sym q
+
+pub entered-settled : (κs : Lfts 0) (a : _) (r r' : _) (s s' : _) → entered.Post κs a r s → entered.Post κs a r' s' → r ≡ r'
+entered-settled κs a r r' s s' p q = p ∙ sym q

@@ -17,7 +17,9 @@ use Rattle.rules.specs.Waits.{ofQueue}
 use Rattle.slots.specs.declared.Carrier.the-variants.{Present}
 use Rattle.slots.specs.declared.Phase.{Phase}
 use Rattle.slots.specs.declared.Phase.the-variants.{Free, Offered, RingBack, RingAgain, Dialling, Hold}
+use Rattle.requests.specs.declared.Request.{Request as Stored}
 use Rattle.slots.specs.declared.QueuePlace.{QueuePlace}
+use Rattle.slots.specs.declared.Waiting.{Waiting}
 use Rattle.slots.specs.Views.{phaseView, waitingView}
 use Rattle.slots.specs.Images.{blankWaiting}
 use Rattle.outcomes.specs.declared.Talk.{Talk}
@@ -238,6 +240,13 @@ lined sc Same st = st
 lined sc (Leaves k) st = setQueue (dropAt (k .0) (st .queue)) st
 lined sc (L.Joins d) st = setQueue (st .queue ++ record { request = sc .asked; due = d .0 } ∷ []) st
 lined sc (L.Replaces k) st = setQueue (modAt (λ w. record { request = sc .asked; due = w .due }) (k .0) (st .queue)) st
+
+-- what is written over the record w of a waiting ship: who joins has a due time of its own, who asks for something else keeps the old one
+abbrev pub enteredOf : Stored → Waiting → Line → Waiting
+enteredOf q w Same = w
+enteredOf q w (Leaves k) = w
+enteredOf q w (L.Joins d) = record { due = d; request = q }
+enteredOf q w (L.Replaces k) = record { due = w .due; request = q }
 
 -- all its parts together
 unfoldable pub applied : Scene → Outcome → R.Station → Out

@@ -1,6 +1,6 @@
 // What an outcome comes to: the answer, the slot, the queue.
 ghost use mathlib.Core.Path.{_≡_};
-ghost use Rattle.outcomes.specs.Does.{answerOf, goesOn, waitFrom, toldOf, freeTurn, turnOf, freeLine, lineOf};
+ghost use Rattle.outcomes.specs.Does.{answerOf, goesOn, waitFrom, toldOf, freeTurn, turnOf, freeLine, lineOf, enteredOf};
 use crate::Line;
 use crate::Outcome;
 use crate::Talk;
@@ -12,9 +12,11 @@ use dues::QUEUE_WAIT;
 use dues::REPLY_WAIT;
 use dues::RING_WAIT;
 use dues::due_after;
+use requests::Request;
 use slots::Carrier;
 use slots::Phase;
 use slots::QueuePlace;
+use slots::Waiting;
 use units::Tenths;
 use units::Told;
 
@@ -121,5 +123,25 @@ pub fn line_of(o: Outcome, t: Tenths, line: u8) -> Line
         Outcome::Replaces(k) => Line::Replaces(k),
         Outcome::Drops(k) => Line::Leaves(k),
         _ => Line::Same,
+    }
+}
+
+// Rule d: what the ship asks for now, its due time kept.
+fn asking(w: Waiting, q: Request) -> Waiting
+    ensures { λ r. ⌜ r ≡ record { due = w .due; request = q } ⌝ }
+{
+    let d = w.due;
+    Waiting { due: d, request: q }
+}
+
+// What is written over the record w of a waiting ship, where q is asked for.
+pub fn entered(line: Line, w: Waiting, q: Request) -> Waiting
+    ensures { λ r. ⌜ r ≡ enteredOf q w line ⌝ }
+{
+    match line {
+        Line::Same => w,
+        Line::Leaves(_) => w,
+        Line::Joins(u) => Waiting { due: u, request: q },
+        Line::Replaces(_) => asking(w, q),
     }
 }

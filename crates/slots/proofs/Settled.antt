@@ -13,7 +13,6 @@ use Rattle.slots.proofs.phases.is_taken.Reads as is-taken
 use Rattle.slots.proofs.phases.awaits_call.Reads as awaits-call
 use Rattle.slots.proofs.phases.is_rung.Reads as is-rung
 use Rattle.slots.proofs.phases.call_of.Reads as call-of
-use Rattle.slots.proofs.places.held.Reads as held
 
 pub blank-slot-settled : (κs : Lfts 0) (a : _) (r r' : _) (s s' : _) → blank-slot.Post κs a r s → blank-slot.Post κs a r' s' → r ≡ r'
 blank-slot-settled κs a r r' s s' p q = p ∙ sym q
@@ -41,9 +40,6 @@ is-rung-settled κs a r r' s s' p q = p ∙ sym q
 
 pub call-of-settled : (κs : Lfts 0) (a : _) (r r' : _) (s s' : _) → call-of.Post κs a r s → call-of.Post κs a r' s' → r ≡ r'
 call-of-settled κs a r r' s s' p q = call-one _ _ _ (p ∙ sym q)
-
-pub held-settled : (κs : Lfts 0) (a : _) (r r' : _) (s s' : _) → held.Post κs a r s → held.Post κs a r' s' → r ≡ r'
-held-settled κs a r r' s s' p q = p ∙ sym q
 
 pub tidy-slot-settled : (κs : Lfts 0) (a : _) (r r' : _) (s s' : _) → tidy-slot.Post κs a r s → tidy-slot.Post κs a r' s' → r ≡ r'
 tidy-slot-settled κs a r r' s s' p q = p ∙ sym q

@@ -1,7 +1,6 @@
 // The slots and the waiting ships of a station, and what is done with one of them or with an array of them.
 pub mod laying;
 pub mod phases;
-pub mod places;
 
 use requests::Request;
 use units::Channel;

@@ -21,7 +21,8 @@ use Rattle.outcomes.specs.declared.Line.the-variants.{Same, Leaves, Joins, Repl
 use Rattle.outcomes.specs.Does.{turned, lined}
 use Rattle.telling.specs.declared.Scene.{Scene}
 use Rattle.telling.specs.Told.{sceneView}
-use Rattle.station.specs.Changes.{slotTurned, leavingOf, entryPlace, enteredOf, lengthAfter}
+use Rattle.station.specs.Changes.{slotTurned, leavingOf, entryPlace, lengthAfter}
+use Rattle.outcomes.specs.Does.{enteredOf}
 
 -- ── the slots ──
 

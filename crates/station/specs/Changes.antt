@@ -1,9 +1,7 @@
 -- What an outcome makes of a slot's record, and of the queue's.
 use Prim.Native.Nat.{ℕ, _+_}
 use Rattle.rules.specs.Sound.{queueRoom}
-use Rattle.requests.specs.declared.Request.{Request}
 use Rattle.slots.specs.declared.Slot.{Slot}
-use Rattle.slots.specs.declared.Waiting.{Waiting}
 use Rattle.outcomes.specs.declared.Turn.{Turn}
 use Rattle.outcomes.specs.declared.Turn.the-variants.{Stays, Own, Asked, Oldest}
 use Rattle.outcomes.specs.declared.Line.{Line}
@@ -23,18 +21,12 @@ leavingOf n (Leaves k) = k .0
 leavingOf n (Joins d) = n
 leavingOf n (Replaces k) = n
 
--- the place that is written in a queue of n, and what is written over w
+-- the place that is written in a queue of n
 abbrev pub entryPlace : ℕ → Line → ℕ
 entryPlace n Same = queueRoom
 entryPlace n (Leaves k) = queueRoom
 entryPlace n (Joins d) = n
 entryPlace n (Replaces k) = k .0
-
-abbrev pub enteredOf : Request → Waiting → Line → Waiting
-enteredOf q w Same = w
-enteredOf q w (Leaves k) = w
-enteredOf q w (Joins d) = record { due = d; request = q }
-enteredOf q w (Replaces k) = record { due = w .due; request = q }
 
 -- how many of n wait then
 abbrev pub lengthAfter : ℕ → Line → ℕ

@@ -1,13 +1,11 @@
 // What an outcome makes of a slot's record, and of the queue's.
 ghost use mathlib.Core.Path.{_≡_};
 ghost use Prim.Native.Nat.{_<_};
-ghost use Rattle.station.specs.Changes.{slotTurned, leavingOf, entryPlace, enteredOf, lengthAfter};
+ghost use Rattle.station.specs.Changes.{slotTurned, leavingOf, entryPlace, lengthAfter};
 use outcomes::Line;
 use outcomes::Turn;
-use requests::Request;
 use slots::MOST_WAITING;
 use slots::Slot;
-use slots::Waiting;
 use telling::Scene;
 
 // The slot as the outcome turns it, its channel kept.
@@ -59,19 +57,6 @@ pub(crate) fn entry_place(line: Line, n: u8) -> u8
         Line::Leaves(_) => MOST_WAITING,
         Line::Joins(_) => n,
         Line::Replaces(k) => k.0,
-    }
-}
-
-// What is written there over w: who joins has a due time of its own, who asks for something else keeps the old one.
-pub(crate) fn entered(line: Line, w: Waiting, q: Request) -> Waiting
-    ensures { λ r. ⌜ r ≡ enteredOf q w line ⌝ }
-{
-    let d = w.due;
-    match line {
-        Line::Same => w,
-        Line::Leaves(_) => w,
-        Line::Joins(u) => Waiting { due: u, request: q },
-        Line::Replaces(_) => Waiting { due: d, request: q },
     }
 }
 

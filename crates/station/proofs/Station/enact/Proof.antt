@@ -27,7 +27,8 @@ use Rattle.telling.specs.Told.{sceneView}
 use Rattle.station.specs.declared.Station.{Station}
 use Rattle.station.specs.Model.{modelOf, configOf}
 use Rattle.station.specs.Pieces.{slotOf}
-use Rattle.station.specs.Changes.{slotTurned, leavingOf, enteredOf, lengthAfter}
+use Rattle.station.specs.Changes.{slotTurned, leavingOf, lengthAfter}
+use Rattle.outcomes.specs.Does.{enteredOf}
 use Rattle.station.proofs.Longs.{slots-long, queue-long}
 use Rattle.station.proofs.PlaceLaws.{slot-in, slot-past, oldest-in, oldest-past, line-length}
 use Rattle.station.proofs.ApplyLaws.{lined-slots, moved-is}
