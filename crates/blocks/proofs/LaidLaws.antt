@@ -1,11 +1,9 @@
 -- Blocks laid one at a time are blocks laid at once, in a room that holds them.
 use Prim.Native.Nat.{ℕ, suc, _+_, _*_, _<_, _≤_, min}
-use mathlib.Core.Bool.{true, false, _&&_}
 use mathlib.Core.Path.{_≡_, refl, sym, ap, _∙_}
 use mathlib.Core.List.{List, [], _∷_, _++_, append-assoc, append-nil}
 use native.Mathlib.Omega.{arith}
 use native.Mathlib.Nat.{zero-add}
-use lib.Dec.{leb, ltb}
 use lib.ListN.{length, take, drop, getD, set, length-take, take-append-drop}
 use lib.Seq.{paste, paste-zero, take-all, length-paste, take-paste, drop-paste, drop-drop}
 use borrow.Author.Tests.{le-leb, lt-leb, lt-ltb, le-ltb}

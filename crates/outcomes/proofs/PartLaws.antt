@@ -1,18 +1,17 @@
 -- An outcome in the words of the rules is its parts together: the answer, the actions, and the station with its slot and its queue so changed.
 use Prim.Native.Nat.{ℕ, _≤_}
-use mathlib.Core.List.{List, [], _∷_, _++_}
-use mathlib.Core.Path.{_≡_, refl, ap, _∙_}
+use mathlib.Core.List.{List, [], _∷_}
+use mathlib.Core.Path.{_≡_, refl, ap}
 use native.Mathlib.Omega.{arith}
-use lib.ListN.{length}
 use Rattle.rules.specs.Words.{Request, carrierOff}
 use Rattle.rules.specs.Actions.{Action, does, theCoast}
 use Rattle.rules.specs.Station as R
-use Rattle.rules.specs.Requests.{Out, also, rungBack, freedFor, freed, endActs, coastEnd, repeated, afresh, ruleD, offer, ruleF}
+use Rattle.rules.specs.Requests.{also, rungBack, freedFor, freed, endActs, coastEnd, repeated, afresh, ruleD, offer, ruleF}
 use Rattle.rules.specs.Calls.{dialNow, shipEnd, sayAgain, offerDue, ringAgain, fire}
 use Rattle.outcomes.specs.declared.Talk.{Talk}
 use Rattle.outcomes.specs.declared.Outcome.{Outcome}
 use Rattle.outcomes.specs.declared.Outcome.the-variants.{Ignored, Passes, Turns, Dials, RingsAgain, Frees, Clears, CoastEnds, ShipEnds, SaysAgain, Repeats, Renews, Redials, Offers, Joins, Replaces, Unable, Drops}
-use Rattle.outcomes.specs.Does.{sinceOf, outOf, sceneOf, actsOf, freeActs, turned, lined, applied}
+use Rattle.outcomes.specs.Does.{sinceOf, outOf, sceneOf, actsOf, turned, lined, applied}
 use Rattle.outcomes.proofs.RuleLaws.{wait-fits}
 
 module _ (i : ℕ) (own asked : Request) (st : R.Station) (h : st .clock ≤ 4_000_000_000) where

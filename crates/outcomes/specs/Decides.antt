@@ -1,6 +1,6 @@
 -- What each event does to a slot, by its phase: one row for an event, one column for a kind of phase, as in the rules.
 use Prim.Native.Nat.{ℕ}
-use mathlib.Core.Bool.{Bool, true, false, cond}
+use mathlib.Core.Bool.{Bool, cond}
 use lib.Dec.{ltb}
 use Rattle.units.specs.declared.Tenths.{Tenths}
 use Rattle.units.specs.declared.Told.{Told}

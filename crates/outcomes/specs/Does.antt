@@ -15,10 +15,8 @@ use Rattle.rules.specs.Requests.{Out, done, ignored, saying, also, freed, laste
 use Rattle.rules.specs.Calls.{dialNow, shipEnd, sayAgain, offerDue, ringAgain, fire}
 use Rattle.rules.specs.Waits.{ofQueue}
 use Rattle.slots.specs.declared.Carrier.the-variants.{Present}
-use Rattle.slots.specs.declared.Phase.{Phase}
 use Rattle.slots.specs.declared.Phase.the-variants.{Free, Offered, RingBack, RingAgain, Dialling, Hold}
 use Rattle.requests.specs.declared.Request.{Request as Stored}
-use Rattle.slots.specs.declared.QueuePlace.{QueuePlace}
 use Rattle.slots.specs.declared.Waiting.{Waiting}
 use Rattle.slots.specs.Views.{phaseView, waitingView}
 use Rattle.slots.specs.Images.{blankWaiting}

@@ -1,7 +1,6 @@
 -- Any two results that meet a contract are equal.
 use mathlib.Core.Path.{_≡_, sym, _∙_}
 use contract.Lifetimes.{Lfts}
-use Rattle.slots.proofs.ViewLaws.{call-one}
 use Rattle.slots.proofs.laying.blank_slot.Reads as blank-slot
 use Rattle.slots.proofs.laying.blank_waiting.Reads as blank-waiting
 use Rattle.slots.proofs.laying.tidy_slot.Reads as tidy-slot
@@ -10,9 +9,6 @@ use Rattle.slots.proofs.phases.stores.Reads as stores
 use Rattle.slots.proofs.phases.has_ship.Reads as has-ship
 use Rattle.slots.proofs.phases.is_free.Reads as is-free
 use Rattle.slots.proofs.phases.is_taken.Reads as is-taken
-use Rattle.slots.proofs.phases.awaits_call.Reads as awaits-call
-use Rattle.slots.proofs.phases.is_rung.Reads as is-rung
-use Rattle.slots.proofs.phases.call_of.Reads as call-of
 
 pub blank-slot-settled : (κs : Lfts 0) (a : _) (r r' : _) (s s' : _) → blank-slot.Post κs a r s → blank-slot.Post κs a r' s' → r ≡ r'
 blank-slot-settled κs a r r' s s' p q = p ∙ sym q
@@ -31,15 +27,6 @@ is-free-settled κs a r r' s s' p q = p ∙ sym q
 
 pub is-taken-settled : (κs : Lfts 0) (a : _) (r r' : _) (s s' : _) → is-taken.Post κs a r s → is-taken.Post κs a r' s' → r ≡ r'
 is-taken-settled κs a r r' s s' p q = p ∙ sym q
-
-pub awaits-call-settled : (κs : Lfts 0) (a : _) (r r' : _) (s s' : _) → awaits-call.Post κs a r s → awaits-call.Post κs a r' s' → r ≡ r'
-awaits-call-settled κs a r r' s s' p q = p ∙ sym q
-
-pub is-rung-settled : (κs : Lfts 0) (a : _) (r r' : _) (s s' : _) → is-rung.Post κs a r s → is-rung.Post κs a r' s' → r ≡ r'
-is-rung-settled κs a r r' s s' p q = p ∙ sym q
-
-pub call-of-settled : (κs : Lfts 0) (a : _) (r r' : _) (s s' : _) → call-of.Post κs a r s → call-of.Post κs a r' s' → r ≡ r'
-call-of-settled κs a r r' s s' p q = call-one _ _ _ (p ∙ sym q)
 
 pub tidy-slot-settled : (κs : Lfts 0) (a : _) (r r' : _) (s s' : _) → tidy-slot.Post κs a r s → tidy-slot.Post κs a r' s' → r ≡ r'
 tidy-slot-settled κs a r r' s s' p q = p ∙ sym q

@@ -1,21 +1,17 @@
 -- What a record stands for: laid out again it is the record, and two records that stand for one thing are one.
 use mathlib.Core.Bool.{false, cond}
 use mathlib.Core.List.{List, _∷_}
-use mathlib.Core.Option.{Option, none, some}
-use mathlib.Core.Path.{_≡_, refl, sym, ap, _∙_}
+use mathlib.Core.Path.{_≡_, refl, ap}
 use Rattle.units.specs.declared.SlotNumber.{SlotNumber}
 use Rattle.rules.specs.Words as W
 use Rattle.rules.specs.Words.{is, Party}
 use Rattle.rules.specs.Waits as T
 use Rattle.rules.specs.Requests.{owns}
-use Rattle.rules.specs.Station as R
 use Rattle.rules.specs.Sound.{owner}
 use Rattle.requests.specs.declared.Mode.{Mode}
 use Rattle.requests.specs.declared.Mode.the-variants.{Simplex, Duplex}
 use Rattle.requests.specs.Views.{modeOf}
 use Rattle.requests.specs.Images.{modeImage, requestImage, blankRequest}
-use Rattle.slots.specs.declared.Call.{Call}
-use Rattle.slots.specs.declared.Call.the-variants as C
 use Rattle.slots.specs.declared.Carrier.{Carrier}
 use Rattle.slots.specs.declared.Carrier.the-variants.{Present, Lost}
 use Rattle.slots.specs.declared.Phase.{Phase}
@@ -32,8 +28,8 @@ use Rattle.slots.specs.declared.Place.the-variants as P
 use Rattle.slots.specs.declared.Standing.{Standing}
 use Rattle.slots.specs.declared.Standing.the-variants.{Nowhere, Holds, Waits}
 use Rattle.slots.specs.Views.{carrierOf, phaseView, waitView, dueView, foundView, placeView, standingView}
-use Rattle.slots.specs.Phases.{Busy, stored, owned, busyOf}
-use Rattle.slots.specs.Images.{tenths, carrierImage, phaseImage, storedImage}
+use Rattle.slots.specs.Phases.{stored, owned}
+use Rattle.slots.specs.Images.{carrierImage, phaseImage, storedImage}
 
 -- ── a phase laid out again is the phase, and its request is kept where the phase stores one ──
 
@@ -140,16 +136,3 @@ due-one (In t w) Never e = cc
 due-one (In t w) (In u x) e =
     let g : _≡_ {A = T.Due} (record { what = waitView w; at = t .0 }) (record { what = waitView x; at = u .0 }) = cc in
     rw (wait-one w x (ap (λ p. p .what) g)) (ap (λ p. In (record { 0 = p .at }) x) g)
-
--- of the same request
-pub call-one : (r : W.Request) (a b : Call) → busyOf a r ≡ busyOf b r → a ≡ b
-call-one r a b e = sym (call-back r a) ∙ ap callImage e ∙ call-back r b
-  where
-    callImage : Option Busy → Call
-    callImage none = C.NoCall
-    callImage (some x) = elim (x .stage) [ R.dialling t ↦ C.Dialling (tenths t) (carrierImage (x .loss)) | R.answered t ↦ C.Answered (tenths t) (carrierImage (x .loss)) ]
-
-    call-back : (r : W.Request) (a : Call) → callImage (busyOf a r) ≡ a
-    call-back r C.NoCall = refl
-    call-back r (C.Dialling t c) = ap (λ x. C.Dialling t x) (carrier-back c)
-    call-back r (C.Answered t c) = ap (λ x. C.Answered t x) (carrier-back c)

@@ -37,13 +37,6 @@ pub enum Phase {
     Taken,
 }
 
-// The call of a slot.
-pub enum Call {
-    NoCall,
-    Dialling(Tenths, Carrier),
-    Answered(Tenths, Carrier),
-}
-
 pub struct Slot {
     pub phase: Phase,
     pub channel: Channel,

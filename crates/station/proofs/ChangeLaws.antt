@@ -1,5 +1,5 @@
 -- What an outcome leaves of the records stands for what it leaves of the model.
-use Prim.Native.Nat.{ℕ, _+_, _<_, _≤_, min}
+use Prim.Native.Nat.{ℕ, _+_, _<_, _≤_}
 use mathlib.Core.List.{List, [], _∷_, _++_}
 use mathlib.Core.Path.{_≡_, refl, sym, ap, _∙_}
 use native.Mathlib.Omega.{arith}
@@ -7,7 +7,6 @@ use lib.ListN.{length, length-append, getD, set}
 use Rattle.rules.specs.Places.{dropAt, modAt}
 use Rattle.rules.specs.Station as R
 use Rattle.rules.specs.Station.{setSlot, setQueue}
-use Rattle.requests.specs.declared.Request.{Request}
 use Rattle.requests.specs.Views.{viewed, requestOf}
 use Rattle.requests.proofs.ArrayLaws.{viewed-set, viewed-same, viewed-push, viewed-length, modAt-past}
 use Rattle.slots.specs.declared.Slot.{Slot}

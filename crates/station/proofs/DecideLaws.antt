@@ -7,7 +7,6 @@ use Rattle.units.specs.declared.Tenths.{Tenths}
 use Rattle.rules.specs.Words.{Request, is}
 use Rattle.rules.specs.Station as R
 use Rattle.rules.specs.Station.{free, setClock}
-use Rattle.rules.specs.Requests.{Out}
 use Rattle.rules.specs.Calls.{signalOn, handOn, heardOn, fire, ticked}
 use Rattle.requests.specs.declared.Mode.{Mode}
 use Rattle.requests.specs.Views.{modeOf}

@@ -31,7 +31,7 @@ use Rattle.station.specs.declared.Station.{Station}
 use Rattle.station.specs.declared.Signal.{Signal}
 use Rattle.station.specs.declared.Hand.{Hand}
 use Rattle.station.specs.Model.{modelOf, configOf}
-use Rattle.station.specs.Pieces.{slotOf, ownOf, outAt, wholeAt, signalView, bySignal, handView, byHand, dueSlot, moment, byDue, byKind}
+use Rattle.station.specs.Pieces.{slotOf, ownOf, outAt, signalView, bySignal, handView, byHand, dueSlot, moment, byDue, byKind}
 use Rattle.station.proofs.PlaceLaws.{slot-view}
 use Rattle.station.proofs.DecideLaws.{signal-is, hand-is, kind-is, due-is}
 use Rattle.station.proofs.StepLaws.{slot-acts}

@@ -1,10 +1,10 @@
-use Prim.Native.Nat.{_+_, _-_, _*_, _≤_, _<_, min}
+use Prim.Native.Nat.{_+_, _-_, _*_, _≤_}
 use mathlib.Core.Path.{_≡_, refl, _∙_}
 use mathlib.Core.Logic.{⊎-elim}
 use native.Mathlib.Omega.{arith}
 use borrow.Author.Needs.{needs}
 use denote.Ref.{now}
-use lib.ListN.{length, getD, take, length-set}
+use lib.ListN.{length, take, length-set}
 use lib.Seq.{paste, paste-zero}
 use Rattle.rules.specs.Bytes.{padded}
 use Rattle.actions.specs.Blocks.{actionBlock}

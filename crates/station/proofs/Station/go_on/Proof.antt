@@ -1,4 +1,4 @@
-use mathlib.Core.Path.{_≡_, ap, _∙_}
+use mathlib.Core.Path.{_≡_}
 use Rattle.requests.specs.Views.{requestOf}
 use Rattle.station.specs.Model.{modelOf}
 use Rattle.station.specs.Pieces.{outAt}
