@@ -21,7 +21,7 @@ pub(crate) fn due_number(due: NextDue) -> u64
 }
 
 // What an event came to, as one number; the next station is laid where it was accepted.
-fn hand_back(r: Stepped, station: &mut [u8]) -> u64
+pub(crate) fn hand_back(r: Stepped, station: &mut [u8]) -> u64
     ensures { λ n. ⌜ n ≡ told r ⌝ }
     ensures { λ _. ⌜ now (station .exit) ≡ kept (now (station .entry)) r ⌝ }
 {

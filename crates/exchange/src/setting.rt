@@ -7,11 +7,13 @@ ghost use Rattle.station.specs.Step.{given, sixteenOf};
 ghost use Rattle.lent.specs.Stations.{stationFrom};
 ghost use Rattle.exchange.specs.Events.{setUpReturned, stationSetUp, dueReturned};
 use crate::events::due_number;
+use crate::events::hand_back;
 use lent::STATION_SIZE;
-use lent::lay_station;
 use lent::station_from;
 use slots::SLOTS;
+use station::NextDue;
 use station::Station;
+use station::Stepped;
 use units::Channel;
 
 fn channels_in(bytes: &[u8]) -> [Channel; SLOTS]
@@ -46,11 +48,13 @@ pub extern "C" fn coast_set_up(identity: u32, channels: &[u8], station: &mut [u8
     let u = Station::set_up(identity, all, n as u8);
     let answer = u.answer;
     let fresh = u.station;
-    if answer == 0 {
-        lay_station(fresh, station);
-        return 0;
-    }
-    answer as u64
+    let made = Stepped {
+        answer: answer,
+        count: 0,
+        due: NextDue::Never,
+        station: fresh,
+    };
+    hand_back(made, station)
 }
 
 // When the station must be handed a tick at the latest.

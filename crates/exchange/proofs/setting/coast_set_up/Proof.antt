@@ -1,10 +1,11 @@
-use mathlib.Core.Path.{_≡_, refl, _∙_}
+use mathlib.Core.Path.{_≡_, refl, ap, _∙_}
 use borrow.Author.Tests.{eq-eqb, ne-eqb}
+use Rattle.station.specs.declared.SetUp.{SetUp}
 use Rattle.station.specs.Step.{given, setUpOf, setUpBy}
 use Rattle.station.proofs.SetLaws.{too-long, set-up-refused, set-up-numbers}
 use Rattle.lent.proofs.Computed.{sized-computed}
-use Rattle.exchange.specs.Events.{setUpReturned, stationSetUp}
-use Rattle.exchange.proofs.SetUpLaws.{nowhere}
+use Rattle.exchange.specs.Events.{told, kept, setUpReturned, stationSetUp}
+use Rattle.exchange.proofs.SetUpLaws.{nowhere, made, made-back}
 use borrow.Author.Needs.{needs}
 use Rattle.exchange.proofs.setting.coast_set_up.Statement.{statement}
 use Rattle.exchange.proofs.setting.coast_set_up.Tie as tie
@@ -24,19 +25,14 @@ returns-2 c = let a = c .before .before .before .before .args in
 
 returns-3 : tie.Need-returns-3
 unfolding setUpReturned stationSetUp
-returns-3 c = let b = c .before .before .before .before .before .before in
+returns-3 c =
+    let b = c .before .before .before .before .before in
     let a = b .before .before .before .before .before .before .args in
     let right = sized-computed (a .station .now) ∙ eq-eqb _ _ (b .before .before .before .if1 .left) in
     let u : b .set-up .result ≡ setUpOf (given (a .identity) (a .channels .now)) = unfold setUpBy in b .set-up .ensures ∙ rw (b .before .channels-in .ensures) (set-up-numbers (a .identity) (a .channels .now) _ refl) in
-    (rw (right, ← u, c .before .before .before .before .if3 .taken), rw (← u, eq-eqb _ _ (c .before .before .before .before .if3 .taken)) (c .before .before .lay-station .ensures))
-
-returns-4 : tie.Need-returns-4
-unfolding setUpReturned stationSetUp
-returns-4 c = let b = c .before .before in
-    let a = b .before .before .before .before .before .before .args in
-    let right = sized-computed (a .station .now) ∙ eq-eqb _ _ (b .before .before .before .if1 .left) in
-    let u : b .set-up .result ≡ setUpOf (given (a .identity) (a .channels .now)) = unfold setUpBy in b .set-up .ensures ∙ rw (b .before .channels-in .ensures) (set-up-numbers (a .identity) (a .channels .now) _ refl) in
-    (rw (right, ← u), rw (← u, ne-eqb _ _ (c .if3 .left)))
+    let e = c .before .before .hand-back .ensures in
+    let m = made-back (given (a .identity) (a .channels .now)) (a .station .now) in
+    (rw right (e .0 ∙ ap (λ (x : SetUp). told (made x)) u ∙ m .0), e .1 ∙ ap (λ (x : SetUp). kept (a .station .now) (made x)) u ∙ m .1)
 
 pub coast-set-up-spec : {M : Type 1} → statement M
-coast-set-up-spec = tie.close (tie.spec returns returns-2 (λ c κs. search needs) (λ c. search needs) (λ c κs. search needs) (λ c κs. search needs) (λ c. search needs) returns-3 (λ c. search needs) returns-4)
+coast-set-up-spec = tie.close (tie.spec returns returns-2 (λ c κs. search needs) (λ c. search needs) (λ c κs. search needs) (λ c κs. search needs) (λ c. search needs) returns-3)
