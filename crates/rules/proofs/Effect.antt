@@ -20,10 +20,10 @@ use Rattle.rules.specs.Verdict.{overtaken, readIn, verdict}
 use Rattle.rules.specs.Book.{Stop, Line, Book, atLine, atPlaces, fallsAt, momentOf, moment, stopsDue, stopsAgain, stopsHeard, stopsAt}
 use Rattle.rules.specs.Reading.{hearHeard, hearDue, hear, setNow}
 use Rattle.rules.specs.Repeated.{heardAt}
-use Rattle.rules.specs.ThreeWords.{Word, idle, lifted, wordHeard, answer}
+use Rattle.rules.specs.ThreeWords.{Word, idle, wordHeard, answer}
 use Rattle.rules.proofs.PlaceLaws.{modAt-length, modAt-none}
 use Rattle.rules.proofs.Base.{seen, falls-fires, line-is}
-use Rattle.rules.proofs.Outcome.{Outcome, end-outcome, bq-outcome, main-outcome, happened-outcome}
+use Rattle.rules.proofs.Outcome.{lifted, Outcome, end-outcome, bq-outcome, main-outcome, happened-outcome}
 use Rattle.rules.proofs.Spoken.{words, one-of}
 use Rattle.rules.proofs.Accepted.{accepted}
 

@@ -6,7 +6,7 @@ use mathlib.Core.Option.{Option, none, some}
 use Prim.Native.Nat.{ℕ}
 use Rattle.units.specs.declared.Told.{Told}
 use Rattle.rules.specs.Places.{Each}
-use Rattle.rules.specs.Words.{Party, is, Request, Config, lineLifted, lineHung, carrierHeard, carrierLost, handTakes, handGives, Happened, heard, signal, operator, offHook, Deed, carrierOn, carrierOff, acknowledge, ringBack, unable, dial, releaseLine, Mode}
+use Rattle.rules.specs.Words.{Party, is, Request, Config, lineLifted, lineHung, carrierHeard, carrierLost, handTakes, handGives, Happened, heard, signal, operator, offHook, Deed, carrierOn, carrierOff, acknowledge, ringBack, unable, dial, releaseLine, Mode, isOffHook}
 use Rattle.rules.specs.Heard.{Heard, callRequest, dataRequest, bq, workingCall, endOfCall, nothing, meaning}
 use Rattle.rules.specs.Actions.{Action, does, over, Ender, theShip, theCoast}
 use Rattle.rules.specs.Station.{Kind, offered, firstRing, secondRing, acknowledged, Stage, answeredAt, dialling, answered, Dealing, Slot, free, taken, pending, busy, held, Station, setSlot, dueAfter, kindWait, replyWait, holdWait, carrierWait}
@@ -15,7 +15,7 @@ use Rattle.rules.specs.Calls.{dialNow, workingKind, workingOn, agreed, b
 use Rattle.rules.specs.Book.{Stop, Line, Place, stopOf, callOf, stopsSaid, stopsOn}
 use Rattle.rules.specs.Reading.{close, withWait, withGone, pickUp, lose, signOff, hearSaid, hearLine, settle, tell, rungUp, dialUp, letGo, hush, leave}
 use Rattle.rules.specs.Repeated.{Dials}
-use Rattle.rules.specs.ThreeWords.{Word, idle, ringing, lifted, wordOf}
+use Rattle.rules.specs.ThreeWords.{Word, idle, ringing, answer, wordOf}
 use Rattle.rules.specs.Statement.{deedsOf, chargesOf, owed}
 use Rattle.rules.specs.Sound.{fits, stageFits, lossFits, slotFits}
 use Rattle.rules.proofs.Base.{saidOf, view, silence-is, new-wait}
@@ -54,6 +54,10 @@ pub data Move (i t : ℕ) : Slot → Next → List Action → Type 0 where
   -- the operator's
   to-take : Move i t free (becomes taken) []
   to-give : Move i t taken frees []
+
+-- the word of a line that an event is heard on
+abbrev pub lifted : ℕ → Happened → Word → Word
+lifted t h w = cond (isOffHook h) (answer t w) w
 
 -- what a move gives
 abbrev pub played : ℕ → Station → Next → List Action → Out

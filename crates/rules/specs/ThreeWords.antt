@@ -3,7 +3,7 @@ use mathlib.Core.List.{List, [], _∷_}
 use mathlib.Core.Bool.{cond}
 use Prim.Native.Nat.{ℕ}
 use lib.Dec.{eqb}
-use Rattle.rules.specs.Words.{Happened, What, Deed, carrierOn, carrierOff, acknowledge, ringBack, unable, dial, releaseLine, isOffHook, isOffHookOn}
+use Rattle.rules.specs.Words.{What, Deed, carrierOn, carrierOff, acknowledge, ringBack, unable, dial, releaseLine, isOffHookOn}
 use Rattle.rules.specs.Book.{Note, Call, quiet, dialled, talking}
 
 pub data Word : Type 0 where
@@ -15,9 +15,6 @@ abbrev pub answer : ℕ → Word → Word
 answer t idle = idle
 answer t ringing = since t
 answer t (since b) = since b
-
-abbrev pub lifted : ℕ → Happened → Word → Word
-lifted t h w = cond (isOffHook h) (answer t w) w
 
 -- an off-hook on slot i
 abbrev pub wordHeard : ℕ → ℕ → What → Word → Word
