@@ -16,7 +16,7 @@ use Rattle.rules.specs.Waits.{ofQueue}
 use Rattle.rules.specs.Station as R
 use Rattle.rules.specs.Station.{setClock, dueAfter, carrierWait}
 use Rattle.rules.specs.Requests.{Out, coastEnd, same, isFree, placeOf, ruleA, ruleB, ruleC, ruleF, ruleG, redial, bOrC, eToG, newcomer, dToG}
-use Rattle.rules.specs.Calls.{workingOn, workingKind, bqFor, bqKind, agreed, offHookOn, offHookStage, startLoss, downOn, upOn, shipEnd, shipEndOn, endOn, takeOn, giveOn, pendingDue, replyDue, mainOn, fire, ticked}
+use Rattle.rules.specs.Calls.{workingOn, workingKind, bqFor, bqKind, agreed, offHookOn, offHookStage, startLoss, downOn, upOn, shipEnd, shipEndOn, endOn, signalOn, takeOn, giveOn, handOn, pendingDue, replyDue, mainOn, fire, ticked}
 use Rattle.requests.specs.declared.Mode.{Mode}
 use Rattle.requests.specs.declared.Mode.the-variants.{Simplex, Duplex}
 use Rattle.requests.specs.Views.{modeOf}
@@ -24,13 +24,17 @@ use Rattle.slots.specs.declared.Carrier.{Carrier}
 use Rattle.slots.specs.declared.Carrier.the-variants.{Present, Lost}
 use Rattle.slots.specs.declared.Phase.{Phase}
 use Rattle.slots.specs.declared.Phase.the-variants.{Free, Offered, RingBack, RingAgain, Acknowledged, Dialling, Answered, Hold, Taken}
+use Rattle.slots.specs.declared.Signal.{Signal}
+use Rattle.slots.specs.declared.Signal.the-variants.{LineLifted, LineHung, CarrierHeard, CarrierLost}
+use Rattle.slots.specs.declared.Hand.{Hand}
+use Rattle.slots.specs.declared.Hand.the-variants.{Takes, GivesBack}
 use Rattle.slots.specs.declared.QueuePlace.{QueuePlace}
-use Rattle.slots.specs.Views.{carrierOf, phaseView}
+use Rattle.slots.specs.Views.{carrierOf, phaseView, signalView, handView}
 use Rattle.outcomes.specs.declared.Talk.{Talk}
 use Rattle.outcomes.specs.declared.Talk.the-variants.{Unanswered, Since}
 use Rattle.outcomes.specs.declared.Outcome.the-variants.{Passes, Redials, Joins, Replaces, Unable, Drops}
 use Rattle.outcomes.specs.Does.{sinceOf, outOf, behind, withoutSlot, wholeOf, timeOf}
-use Rattle.outcomes.specs.Decides.{offHookBy, upBy, lossFrom, downBy, coastEndBy, workingBy, shipEndBy, bqBy, takeBy, giveBackBy, mainDueBy, ruleBBy, ruleCBy, askedAgainBy, newcomerBy}
+use Rattle.outcomes.specs.Decides.{offHookBy, upBy, lossFrom, downBy, coastEndBy, workingBy, shipEndBy, bqBy, bySignal, takeBy, giveBackBy, byHand, mainDueBy, ruleBBy, ruleCBy, askedAgainBy, newcomerBy}
 
 -- the limit of every accepted time leaves room for each wait
 pub wait-fits : (t p : ℕ) → t ≤ 4_000_000_000 → p ≤ 9_000 → min (dueAfter t p) 4294967295 ≡ dueAfter t p
@@ -65,11 +69,11 @@ module _ (i : ℕ) (st : R.Station) (r q : Request) where
 
   -- ── the line, the carrier, the operator, a wait that falls due ──
 
-  pub off-hook-is : (p : Phase) → outOf i r q (offHookBy (timeOf st) p) st ≡ offHookOn i st (phaseView p r)
+  off-hook-is : (p : Phase) → outOf i r q (offHookBy (timeOf st) p) st ≡ offHookOn i st (phaseView p r)
   unfolding outOf offHookOn offHookStage
   off-hook-is = by-phase (λ p. outOf i r q (offHookBy (timeOf st) p) st) (offHookOn i st) refl (λ t. refl) (λ t. refl) (λ t. refl) (λ t. refl) (λ t l. refl) (λ t l. refl) (λ t n. refl) refl
 
-  pub up-is : (p : Phase) → outOf i r q (upBy p) st ≡ upOn i st (phaseView p r)
+  up-is : (p : Phase) → outOf i r q (upBy p) st ≡ upOn i st (phaseView p r)
   unfolding outOf upOn
   up-is = by-phase (λ p. outOf i r q (upBy p) st) (upOn i st) refl (λ t. refl) (λ t. refl) (λ t. refl) (λ t. refl) (λ t l. refl) (λ t l. refl) (λ t n. refl) refl
 
@@ -77,7 +81,7 @@ module _ (i : ℕ) (st : R.Station) (r q : Request) where
   loss-is m e h Present = rw e (ap some (wait-fits (st .clock) (carrierWait (r .mode)) h (carrier-short (r .mode))))
   loss-is m e h (Lost d) = refl
 
-  pub down-is : (m : Mode) → modeOf m ≡ r .mode → st .clock ≤ 4_000_000_000 → (p : Phase) → outOf i r q (downBy (timeOf st) m p) st ≡ downOn i st (phaseView p r)
+  down-is : (m : Mode) → modeOf m ≡ r .mode → st .clock ≤ 4_000_000_000 → (p : Phase) → outOf i r q (downBy (timeOf st) m p) st ≡ downOn i st (phaseView p r)
   unfolding outOf downOn
   down-is m e h = by-phase (λ p. outOf i r q (downBy (timeOf st) m p) st) (downOn i st) refl (λ t. refl) (λ t. refl) (λ t. refl) (λ t. refl) (λ t l. rw (loss-is m e h l) refl) (λ t l. rw (loss-is m e h l) refl) (λ t n. refl) refl
 
@@ -85,13 +89,23 @@ module _ (i : ℕ) (st : R.Station) (r q : Request) where
   unfolding outOf endOn coastEnd
   coast-end-is = by-phase (λ p. outOf i r q (coastEndBy p) st) (endOn i st) refl (λ t. refl) (λ t. refl) (λ t. refl) (λ t. refl) (λ t l. refl) (λ t l. refl) (λ t n. refl) refl
 
-  pub take-is : (p : Phase) → outOf i r q (takeBy p) st ≡ takeOn i st (phaseView p r)
+  take-is : (p : Phase) → outOf i r q (takeBy p) st ≡ takeOn i st (phaseView p r)
   unfolding outOf takeOn
   take-is = by-phase (λ p. outOf i r q (takeBy p) st) (takeOn i st) refl (λ t. refl) (λ t. refl) (λ t. refl) (λ t. refl) (λ t l. refl) (λ t l. refl) (λ t n. refl) refl
 
-  pub give-back-is : (p : Phase) → outOf i r q (giveBackBy p) st ≡ giveOn i st (phaseView p r)
+  give-back-is : (p : Phase) → outOf i r q (giveBackBy p) st ≡ giveOn i st (phaseView p r)
   unfolding outOf giveOn
   give-back-is = by-phase (λ p. outOf i r q (giveBackBy p) st) (giveOn i st) refl (λ t. refl) (λ t. refl) (λ t. refl) (λ t. refl) (λ t l. refl) (λ t l. refl) (λ t n. refl) refl
+
+  pub signal-is : (m : Mode) → modeOf m ≡ r .mode → st .clock ≤ 4_000_000_000 → (g : Signal) (p : Phase) → outOf i r q (bySignal g (timeOf st) m p) st ≡ signalOn i st (phaseView p r) (signalView g)
+  signal-is m e h LineLifted p = off-hook-is p
+  signal-is m e h LineHung p = coast-end-is p
+  signal-is m e h CarrierHeard p = up-is p
+  signal-is m e h CarrierLost p = down-is m e h p
+
+  pub hand-is : (h : Hand) (p : Phase) → outOf i r q (byHand h p) st ≡ handOn i st (phaseView p r) (handView h)
+  hand-is Takes p = take-is p
+  hand-is GivesBack p = give-back-is p
 
   pub main-due-is : (p : Phase) → outOf i r q (mainDueBy p) st ≡ mainOn i st (phaseView p r)
   unfolding outOf mainOn pendingDue replyDue coastEnd
@@ -116,11 +130,6 @@ module _ (i : ℕ) (st : R.Station) (r q : Request) where
     bq-is false e h = by-phase (λ p. outOf i r q (bqBy false (timeOf st) p) st) (bqFor i x st) refl (λ t. rw e refl) (λ t. rw e refl) (λ t. rw e refl) (λ t. rw e refl) (λ t l. refl) (λ t l. refl) (λ t n. refl) refl
 
   -- ── a call request ──
-
-  -- c. the coast's end, and d to g on the station that it leaves
-  pub redials-is : (k : Talk) → wholeOf i r q (Redials k) st ≡ redial i r (sinceOf k) st q
-  unfolding wholeOf outOf behind withoutSlot redial
-  redials-is k = refl
 
   rule-b-is : (s : Bool) → same q r ≡ s → wholeOf i r q (ruleBBy s R.offered) st ≡ ruleB i R.offered r st q
   unfolding wholeOf outOf ruleB
@@ -163,11 +172,6 @@ module _ (i : ℕ) (st : R.Station) (r q : Request) where
   pub newcomer-is : none ≡ placeOf (q .who) st → newcomer st q ≡ withoutSlot q st
   unfolding withoutSlot dToG
   newcomer-is h = rw (← h) refl
-
-  -- a
-  pub unable-is : outOf i r q (Unable 109) st ≡ ruleA st (q .who) (q .number)
-  unfolding outOf ruleA
-  unable-is = refl
 
   -- ── a tick ──
 

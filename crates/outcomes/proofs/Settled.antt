@@ -1,15 +1,12 @@
 -- Any two results that meet a contract are equal.
 use mathlib.Core.Path.{_≡_, sym, _∙_}
 use contract.Lifetimes.{Lfts}
-use Rattle.outcomes.proofs.calls.off_hook.Reads as off-hook
-use Rattle.outcomes.proofs.calls.carrier_up.Reads as carrier-up
-use Rattle.outcomes.proofs.calls.carrier_down.Reads as carrier-down
+use Rattle.outcomes.proofs.calls.by_signal.Reads as by-signal
+use Rattle.outcomes.proofs.calls.by_hand.Reads as by-hand
 use Rattle.outcomes.proofs.calls.coast_end.Reads as coast-end
 use Rattle.outcomes.proofs.calls.working_call.Reads as working-call
 use Rattle.outcomes.proofs.calls.ship_end.Reads as ship-end
 use Rattle.outcomes.proofs.calls.bq.Reads as bq
-use Rattle.outcomes.proofs.calls.take.Reads as take
-use Rattle.outcomes.proofs.calls.give_back.Reads as give-back
 use Rattle.outcomes.proofs.calls.main_due.Reads as main-due
 use Rattle.outcomes.proofs.asking.asked_again.Reads as asked-again
 use Rattle.outcomes.proofs.asking.newcomer.Reads as newcomer
@@ -20,14 +17,11 @@ use Rattle.outcomes.proofs.parts.turn_of.Reads as turn-of
 use Rattle.outcomes.proofs.parts.line_of.Reads as line-of
 use Rattle.outcomes.proofs.parts.entered.Reads as entered
 
-pub off-hook-settled : (κs : Lfts 0) (a : _) (r r' : _) (s s' : _) → off-hook.Post κs a r s → off-hook.Post κs a r' s' → r ≡ r'
-off-hook-settled κs a r r' s s' p q = p ∙ sym q
+pub by-signal-settled : (κs : Lfts 0) (a : _) (r r' : _) (s s' : _) → by-signal.Post κs a r s → by-signal.Post κs a r' s' → r ≡ r'
+by-signal-settled κs a r r' s s' p q = p ∙ sym q
 
-pub carrier-up-settled : (κs : Lfts 0) (a : _) (r r' : _) (s s' : _) → carrier-up.Post κs a r s → carrier-up.Post κs a r' s' → r ≡ r'
-carrier-up-settled κs a r r' s s' p q = p ∙ sym q
-
-pub carrier-down-settled : (κs : Lfts 0) (a : _) (r r' : _) (s s' : _) → carrier-down.Post κs a r s → carrier-down.Post κs a r' s' → r ≡ r'
-carrier-down-settled κs a r r' s s' p q = p ∙ sym q
+pub by-hand-settled : (κs : Lfts 0) (a : _) (r r' : _) (s s' : _) → by-hand.Post κs a r s → by-hand.Post κs a r' s' → r ≡ r'
+by-hand-settled κs a r r' s s' p q = p ∙ sym q
 
 pub coast-end-settled : (κs : Lfts 0) (a : _) (r r' : _) (s s' : _) → coast-end.Post κs a r s → coast-end.Post κs a r' s' → r ≡ r'
 coast-end-settled κs a r r' s s' p q = p ∙ sym q
@@ -40,12 +34,6 @@ ship-end-settled κs a r r' s s' p q = p ∙ sym q
 
 pub bq-settled : (κs : Lfts 0) (a : _) (r r' : _) (s s' : _) → bq.Post κs a r s → bq.Post κs a r' s' → r ≡ r'
 bq-settled κs a r r' s s' p q = p ∙ sym q
-
-pub take-settled : (κs : Lfts 0) (a : _) (r r' : _) (s s' : _) → take.Post κs a r s → take.Post κs a r' s' → r ≡ r'
-take-settled κs a r r' s s' p q = p ∙ sym q
-
-pub give-back-settled : (κs : Lfts 0) (a : _) (r r' : _) (s s' : _) → give-back.Post κs a r s → give-back.Post κs a r' s' → r ≡ r'
-give-back-settled κs a r r' s s' p q = p ∙ sym q
 
 pub main-due-settled : (κs : Lfts 0) (a : _) (r r' : _) (s s' : _) → main-due.Post κs a r s → main-due.Post κs a r' s' → r ≡ r'
 main-due-settled κs a r r' s s' p q = p ∙ sym q

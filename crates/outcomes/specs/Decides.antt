@@ -13,6 +13,10 @@ use Rattle.slots.specs.declared.Carrier.{Carrier}
 use Rattle.slots.specs.declared.Carrier.the-variants.{Present, Lost}
 use Rattle.slots.specs.declared.Phase.{Phase}
 use Rattle.slots.specs.declared.Phase.the-variants.{Free, Offered, RingBack, RingAgain, Acknowledged, Dialling, Answered, Hold, Taken}
+use Rattle.slots.specs.declared.Signal.{Signal}
+use Rattle.slots.specs.declared.Signal.the-variants.{LineLifted, LineHung, CarrierHeard, CarrierLost}
+use Rattle.slots.specs.declared.Hand.{Hand}
+use Rattle.slots.specs.declared.Hand.the-variants.{Takes, GivesBack}
 use Rattle.outcomes.specs.declared.Talk.{Talk}
 use Rattle.outcomes.specs.declared.Talk.the-variants.{Unanswered, Since}
 use Rattle.outcomes.specs.declared.Outcome.{Outcome}
@@ -57,6 +61,12 @@ downBy t m = onCall (λ d l. Turns (Dialling d (lossFrom t m l))) (λ b l. Turns
 abbrev pub coastEndBy : Phase → Outcome
 coastEndBy = onCall (λ d l. CoastEnds Unanswered) (λ b l. CoastEnds (Since b))
 
+abbrev pub bySignal : Signal → Tenths → Mode → Phase → Outcome
+bySignal LineLifted t m p = offHookBy t p
+bySignal LineHung t m p = coastEndBy p
+bySignal CarrierHeard t m p = upBy p
+bySignal CarrierLost t m p = downBy t m p
+
 -- ── heard from the slot's own ship, or from another ──────────────────────────
 
 abbrev pub ifOwn : Bool → Outcome → Outcome
@@ -93,6 +103,10 @@ takeBy = on (Turns Taken) Ignored (λ k. Ignored) (λ d l. Ignored) (λ b l. Ign
 
 abbrev pub giveBackBy : Phase → Outcome
 giveBackBy = on Ignored Frees (λ k. Ignored) (λ d l. Ignored) (λ b l. Ignored) (λ n. Ignored)
+
+abbrev pub byHand : Hand → Phase → Outcome
+byHand Takes p = takeBy p
+byHand GivesBack p = giveBackBy p
 
 -- ── the slot's other wait falls due ──────────────────────────────────────────
 

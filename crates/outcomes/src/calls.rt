@@ -1,6 +1,6 @@
 // The events of a slot, each by the slot's phase; what document 01 does not name is ignored.
 ghost use mathlib.Core.Path.{_≡_};
-ghost use Rattle.outcomes.specs.Decides.{offHookBy, upBy, lossFrom, downBy, coastEndBy, workingBy, shipEndBy, bqBy, takeBy, giveBackBy, mainDueBy};
+ghost use Rattle.outcomes.specs.Decides.{offHookBy, upBy, lossFrom, downBy, coastEndBy, workingBy, shipEndBy, bqBy, bySignal, takeBy, giveBackBy, byHand, mainDueBy};
 use crate::Outcome;
 use crate::Talk;
 use crate::parts::wait_from;
@@ -8,11 +8,13 @@ use dues::OFFER_WAIT;
 use dues::carrier_wait;
 use requests::Mode;
 use slots::Carrier;
+use slots::Hand;
 use slots::Phase;
+use slots::Signal;
 use units::Tenths;
 
 // "while dialling: answered, the reply wait ends, a carrier wait runs on"
-pub fn off_hook(t: Tenths, p: Phase) -> Outcome
+fn off_hook(t: Tenths, p: Phase) -> Outcome
     ensures { λ r. ⌜ r ≡ offHookBy t p ⌝ }
 {
     match p {
@@ -23,7 +25,7 @@ pub fn off_hook(t: Tenths, p: Phase) -> Outcome
 }
 
 // "carrier up ends it"
-pub fn carrier_up(p: Phase) -> Outcome
+fn carrier_up(p: Phase) -> Outcome
     ensures { λ r. ⌜ r ≡ upBy p ⌝ }
 {
     match p {
@@ -45,7 +47,7 @@ fn lost_from(t: Tenths, m: Mode, c: Carrier) -> Carrier
 }
 
 // "starts a wait of 50 duplex, 450 simplex"
-pub fn carrier_down(t: Tenths, m: Mode, p: Phase) -> Outcome
+fn carrier_down(t: Tenths, m: Mode, p: Phase) -> Outcome
     ensures { λ r. ⌜ r ≡ downBy t m p ⌝ }
 {
     match p {
@@ -69,6 +71,17 @@ pub fn coast_end(p: Phase) -> Outcome
         Phase::Dialling(_, _) => Outcome::CoastEnds(Talk::Unanswered),
         Phase::Answered(b, _) => Outcome::CoastEnds(Talk::Since(b)),
         _ => Outcome::Ignored,
+    }
+}
+
+pub fn by_signal(g: Signal, t: Tenths, m: Mode, p: Phase) -> Outcome
+    ensures { λ r. ⌜ r ≡ bySignal g t m p ⌝ }
+{
+    match g {
+        Signal::LineLifted => off_hook(t, p),
+        Signal::LineHung => coast_end(p),
+        Signal::CarrierHeard => carrier_up(p),
+        Signal::CarrierLost => carrier_down(t, m, p),
     }
 }
 
@@ -117,7 +130,7 @@ pub fn bq(own: bool, t: Tenths, p: Phase) -> Outcome
 }
 
 // The operator "takes a free slot".
-pub fn take(p: Phase) -> Outcome
+fn take(p: Phase) -> Outcome
     ensures { λ r. ⌜ r ≡ takeBy p ⌝ }
 {
     match p {
@@ -127,12 +140,21 @@ pub fn take(p: Phase) -> Outcome
 }
 
 // "or gives it back (freed)"
-pub fn give_back(p: Phase) -> Outcome
+fn give_back(p: Phase) -> Outcome
     ensures { λ r. ⌜ r ≡ giveBackBy p ⌝ }
 {
     match p {
         Phase::Taken => Outcome::Frees,
         _ => Outcome::Ignored,
+    }
+}
+
+pub fn by_hand(h: Hand, p: Phase) -> Outcome
+    ensures { λ r. ⌜ r ≡ byHand h p ⌝ }
+{
+    match h {
+        Hand::Takes => take(p),
+        Hand::GivesBack => give_back(p),
     }
 }
 

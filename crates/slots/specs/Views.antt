@@ -4,6 +4,7 @@ use mathlib.Core.List.{List, []}
 use mathlib.Core.Option.{Option, none, some}
 use Rattle.units.specs.declared.Channel.{Channel}
 use Rattle.rules.specs.Words as W
+use Rattle.rules.specs.Words.{lineLifted, lineHung, carrierHeard, carrierLost, handTakes, handGives}
 use Rattle.rules.specs.Waits as T
 use Rattle.rules.specs.Waits.{ofQueue, loss, main}
 use Rattle.rules.specs.Station as R
@@ -18,6 +19,10 @@ use Rattle.slots.specs.declared.Carrier.{Carrier}
 use Rattle.slots.specs.declared.Carrier.the-variants.{Present, Lost}
 use Rattle.slots.specs.declared.Phase.{Phase}
 use Rattle.slots.specs.declared.Phase.the-variants.{Free, Offered, RingBack, RingAgain, Acknowledged, Dialling, Answered, Hold, Taken}
+use Rattle.slots.specs.declared.Signal.{Signal}
+use Rattle.slots.specs.declared.Signal.the-variants.{LineLifted, LineHung, CarrierHeard, CarrierLost}
+use Rattle.slots.specs.declared.Hand.{Hand}
+use Rattle.slots.specs.declared.Hand.the-variants.{Takes, GivesBack}
 use Rattle.slots.specs.declared.Slot.{Slot}
 use Rattle.slots.specs.declared.Waiting.{Waiting}
 use Rattle.slots.specs.declared.Wait.{Wait}
@@ -45,6 +50,16 @@ phaseView (Dialling t c) r = busy r (dialling (t .0)) (carrierOf c)
 phaseView (Answered t c) r = busy r (answered (t .0)) (carrierOf c)
 phaseView (Hold t n) r = held r n (t .0)
 phaseView Taken r = taken
+
+abbrev pub signalView : Signal → W.Signal
+signalView LineLifted = lineLifted
+signalView LineHung = lineHung
+signalView CarrierHeard = carrierHeard
+signalView CarrierLost = carrierLost
+
+abbrev pub handView : Hand → W.Hand
+handView Takes = handTakes
+handView GivesBack = handGives
 
 abbrev pub slotView : Slot → R.Slot
 slotView s = phaseView (s .phase) (requestOf (s .request))

@@ -37,6 +37,20 @@ pub enum Phase {
     Taken,
 }
 
+// What is told of a slot's line ashore, and of the ship's carrier.
+pub enum Signal {
+    LineLifted,
+    LineHung,
+    CarrierHeard,
+    CarrierLost,
+}
+
+// What the operator's hand does with a slot.
+pub enum Hand {
+    Takes,
+    GivesBack,
+}
+
 pub struct Slot {
     pub phase: Phase,
     pub channel: Channel,

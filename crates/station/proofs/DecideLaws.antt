@@ -1,5 +1,5 @@
 -- What is decided for an event is what the rules do with it.
-use Prim.Native.Nat.{ℕ, _≤_}
+use Prim.Native.Nat.{ℕ}
 use mathlib.Core.Bool.{Bool}
 use mathlib.Core.Path.{_≡_, refl, _∙_}
 use lib.ListN.{getD}
@@ -7,9 +7,7 @@ use Rattle.units.specs.declared.Tenths.{Tenths}
 use Rattle.rules.specs.Words.{Request, is}
 use Rattle.rules.specs.Station as R
 use Rattle.rules.specs.Station.{free, setClock}
-use Rattle.rules.specs.Calls.{signalOn, handOn, heardOn, fire, ticked}
-use Rattle.requests.specs.declared.Mode.{Mode}
-use Rattle.requests.specs.Views.{modeOf}
+use Rattle.rules.specs.Calls.{heardOn, fire, ticked}
 use Rattle.slots.specs.declared.Phase.{Phase}
 use Rattle.slots.specs.declared.Wait.{Wait}
 use Rattle.slots.specs.declared.Wait.the-variants.{Entry, Loss, Main}
@@ -20,26 +18,10 @@ use Rattle.hearing.specs.declared.Kind.{Kind}
 use Rattle.hearing.specs.declared.Kind.the-variants.{CallRequest, DataRequest, Bq, WorkingCall, EndOfCall, Nothing}
 use Rattle.hearing.specs.Said.{heardAs}
 use Rattle.outcomes.specs.Does.{outOf}
-use Rattle.outcomes.proofs.RuleLaws.{off-hook-is, up-is, down-is, coast-end-is, take-is, give-back-is, main-due-is, working-is, ship-end-is, drops-is, passes-is}
-use Rattle.station.specs.declared.Signal.{Signal}
-use Rattle.station.specs.declared.Signal.the-variants.{LineLifted, LineHung, CarrierHeard, CarrierLost}
-use Rattle.station.specs.declared.Hand.{Hand}
-use Rattle.station.specs.declared.Hand.the-variants.{Takes, GivesBack}
-use Rattle.station.specs.Pieces.{signalView, bySignal, handView, byHand, waitSlot, dueSlot, moment, byWait, byDue, byKind}
+use Rattle.outcomes.proofs.RuleLaws.{coast-end-is, main-due-is, working-is, ship-end-is, drops-is, passes-is}
+use Rattle.station.specs.Pieces.{waitSlot, dueSlot, moment, byWait, byDue, byKind}
 
 module _ (m : R.Station) (r q : Request) where
-  pub signal-is : (i : ℕ) (t : Tenths) → t .0 ≤ 4_000_000_000 → (d : Mode) → modeOf d ≡ r .mode → (g : Signal) (p : Phase)
-      → outOf i r q (bySignal g t d p) (setClock (t .0) m) ≡ signalOn i (setClock (t .0) m) (phaseView p r) (signalView g)
-  unfolding setClock
-  signal-is i t h d e LineLifted p = off-hook-is i (setClock (t .0) m) r q p
-  signal-is i t h d e LineHung p = coast-end-is i (setClock (t .0) m) r q p
-  signal-is i t h d e CarrierHeard p = up-is i (setClock (t .0) m) r q p
-  signal-is i t h d e CarrierLost p = down-is i (setClock (t .0) m) r q d e h p
-
-  pub hand-is : (i : ℕ) (st : R.Station) (h : Hand) (p : Phase) → outOf i r q (byHand h p) st ≡ handOn i st (phaseView p r) (handView h)
-  hand-is i st Takes p = take-is i st r q p
-  hand-is i st GivesBack p = give-back-is i st r q p
-
   pub kind-is : (i : ℕ) (st : R.Station) (k : Kind) (own : Bool) → is (q .who) (r .who) ≡ own → (p : Phase) → outOf i r q (byKind k own p) st ≡ heardOn i st (phaseView p r) (heardAs k q)
   unfolding outOf heardOn
   kind-is i st CallRequest own e p = refl

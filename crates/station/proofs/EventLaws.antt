@@ -20,20 +20,22 @@ use Rattle.rules.specs.Station.{setClock, table, fires}
 use Rattle.rules.specs.Requests.{Out}
 use Rattle.rules.specs.Calls.{heardOn, heardOn70, ticked, happenedOn, actAt, act}
 use Rattle.requests.specs.Views.{requestOf}
+use Rattle.slots.specs.declared.Signal.{Signal}
+use Rattle.slots.specs.declared.Hand.{Hand}
 use Rattle.slots.specs.declared.Slot.{Slot}
 use Rattle.slots.specs.declared.Due.{Due}
 use Rattle.slots.specs.declared.Due.the-variants.{Never, In}
-use Rattle.slots.specs.Views.{slotView, waitView, dueView, configFor}
+use Rattle.slots.specs.Views.{signalView, handView, slotView, waitView, dueView, configFor}
 use Rattle.hearing.specs.declared.Heard.{Heard}
 use Rattle.hearing.specs.Said.{heardOf}
 use Rattle.outcomes.specs.declared.Outcome.{Outcome}
+use Rattle.outcomes.specs.Decides.{bySignal, byHand}
+use Rattle.outcomes.proofs.RuleLaws.{signal-is, hand-is}
 use Rattle.station.specs.declared.Station.{Station}
-use Rattle.station.specs.declared.Signal.{Signal}
-use Rattle.station.specs.declared.Hand.{Hand}
 use Rattle.station.specs.Model.{modelOf, configOf}
-use Rattle.station.specs.Pieces.{slotOf, ownOf, outAt, signalView, bySignal, handView, byHand, dueSlot, moment, byDue, byKind}
+use Rattle.station.specs.Pieces.{slotOf, ownOf, outAt, dueSlot, moment, byDue, byKind}
 use Rattle.station.proofs.PlaceLaws.{slot-view}
-use Rattle.station.proofs.DecideLaws.{signal-is, hand-is, kind-is, due-is}
+use Rattle.station.proofs.DecideLaws.{kind-is, due-is}
 use Rattle.station.proofs.StepLaws.{slot-acts}
 
 -- what symbols say that were read
@@ -59,11 +61,11 @@ module _ (s : Station) (t : Tenths) (n : ℕ) where
   module _ (i : SlotNumber) (x : Slot) (at : x ≡ slotOf s (i .0)) (o : Outcome) where
     pub signal-acts : t .0 ≤ 4_000_000_000 → (q : W.Request) (g : Signal) → o ≡ bySignal g t (x .request .mode) (x .phase)
         → outAt s t i q o ≡ act (configOf s) (modelOf s) (record { time = t .0; room = n; what = onSlot (i .0) (signal (signalView g)) })
-    unfolding outAt ownOf happenedOn requestOf
+    unfolding outAt ownOf happenedOn requestOf setClock
     signal-acts late q g e =
         let y = slotOf s (i .0) in
         rw (e, at)
-        (signal-is (modelOf s) (requestOf (y .request)) q (i .0) t late (y .request .mode) refl g (y .phase)
+        (signal-is (i .0) (setClock (t .0) (modelOf s)) (requestOf (y .request)) q (y .request .mode) refl late g (y .phase)
         ∙ slot-acts s (t .0) (i .0) n (signal (signalView g)) (slotView y) (slot-view s (i .0)))
 
     pub hand-acts : (q : W.Request) (h : Hand) → o ≡ byHand h (x .phase)
@@ -72,7 +74,7 @@ module _ (s : Station) (t : Tenths) (n : ℕ) where
     hand-acts q h e =
         let y = slotOf s (i .0) in
         rw (e, at)
-        (hand-is (modelOf s) (requestOf (y .request)) q (i .0) (setClock (t .0) (modelOf s)) h (y .phase)
+        (hand-is (i .0) (setClock (t .0) (modelOf s)) (requestOf (y .request)) q h (y .phase)
         ∙ slot-acts s (t .0) (i .0) n (operator (handView h)) (slotView y) (slot-view s (i .0)))
 
     pub heard-acts : (m : List ℕ) (h : Heard) → heardOf h ≡ meaning (configOf s) m

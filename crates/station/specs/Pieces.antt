@@ -8,13 +8,12 @@ use Rattle.units.specs.declared.Channel.{Channel}
 use Rattle.units.specs.declared.SlotNumber.{SlotNumber}
 use Rattle.units.specs.declared.Tenths.{Tenths}
 use Rattle.rules.specs.Words as W
-use Rattle.rules.specs.Words.{Config, lineLifted, lineHung, carrierHeard, carrierLost, handTakes, handGives}
+use Rattle.rules.specs.Words.{Config}
 use Rattle.rules.specs.Waits.{earliest}
 use Rattle.rules.specs.Sound.{sound}
 use Rattle.rules.specs.Station.{free, setClock, table, nextDue}
 use Rattle.rules.specs.Requests.{Out}
 use Rattle.rules.specs.Actions.{Action}
-use Rattle.requests.specs.declared.Mode.{Mode}
 use Rattle.requests.specs.Views.{viewed, itself, requestOf}
 use Rattle.slots.specs.declared.Slot.{Slot}
 use Rattle.slots.specs.declared.Phase.{Phase}
@@ -32,13 +31,9 @@ use Rattle.hearing.specs.declared.Kind.the-variants.{CallRequest, DataRequest, 
 use Rattle.outcomes.specs.declared.Outcome.{Outcome}
 use Rattle.outcomes.specs.declared.Outcome.the-variants.{Ignored, Passes, Drops}
 use Rattle.outcomes.specs.Does.{outOf, wholeOf}
-use Rattle.outcomes.specs.Decides.{offHookBy, upBy, downBy, coastEndBy, workingBy, shipEndBy, takeBy, giveBackBy, mainDueBy}
+use Rattle.outcomes.specs.Decides.{coastEndBy, workingBy, shipEndBy, mainDueBy}
 use Rattle.station.specs.declared.Station.{Station}
 use Rattle.station.specs.declared.Stepped.{Stepped}
-use Rattle.station.specs.declared.Signal.{Signal}
-use Rattle.station.specs.declared.Signal.the-variants.{LineLifted, LineHung, CarrierHeard, CarrierLost}
-use Rattle.station.specs.declared.Hand.{Hand}
-use Rattle.station.specs.declared.Hand.the-variants.{Takes, GivesBack}
 use Rattle.station.specs.Model.{modelOf, configOf, imageOf}
 use Rattle.station.specs.Step.{recordsKeep, dueImage}
 
@@ -79,26 +74,6 @@ unfoldable pub enacted : Config → Laid → Out → Stepped
 enacted c l o = record { answer = o .answer; count = l .next; due = dueImage (nextDue (o .next)); station = imageOf c (o .next) }
 
 -- ── which rule decides ───────────────────────────────────────────────────────
-
-abbrev pub signalView : Signal → W.Signal
-signalView LineLifted = lineLifted
-signalView LineHung = lineHung
-signalView CarrierHeard = carrierHeard
-signalView CarrierLost = carrierLost
-
-abbrev pub bySignal : Signal → Tenths → Mode → Phase → Outcome
-bySignal LineLifted t m p = offHookBy t p
-bySignal LineHung t m p = coastEndBy p
-bySignal CarrierHeard t m p = upBy p
-bySignal CarrierLost t m p = downBy t m p
-
-abbrev pub handView : Hand → W.Hand
-handView Takes = handTakes
-handView GivesBack = handGives
-
-abbrev pub byHand : Hand → Phase → Outcome
-byHand Takes p = takeBy p
-byHand GivesBack p = giveBackBy p
 
 -- what falls due: the slot that is meant, the time, the outcome; a queue entry and nothing due mean no slot
 abbrev pub waitSlot : Wait → SlotNumber

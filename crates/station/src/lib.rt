@@ -47,20 +47,6 @@ pub struct SetUp {
     pub station: Station,
 }
 
-// Of the line ashore, and of the ship's carrier.
-enum Signal {
-    LineLifted,
-    LineHung,
-    CarrierHeard,
-    CarrierLost,
-}
-
-// The operator's.
-enum Hand {
-    Takes,
-    GivesBack,
-}
-
 // What is done, and to which slot.
 struct Choice {
     slot: SlotNumber,

@@ -3,16 +3,13 @@ ghost use mathlib.Core.Path.{_≡_};
 ghost use mathlib.Core.Bool.{not};
 ghost use Rattle.rules.specs.Words.{takes, givesBack, operator};
 ghost use Rattle.rules.specs.Verdict.{barredHand};
-ghost use Rattle.slots.specs.Views.{slotView};
+ghost use Rattle.slots.specs.Views.{slotView, handView};
 ghost use Rattle.station.specs.Step.{slotAt, steppedBy, roomAfter};
-ghost use Rattle.station.specs.Pieces.{handView, byHand};
-use crate::Hand;
 use crate::Station;
 use crate::Stepped;
 use gate::Verdict;
-use outcomes::Outcome;
-use outcomes::calls;
-use slots::Phase;
+use outcomes::calls::by_hand;
+use slots::Hand;
 use slots::Slot;
 use slots::phases::is_free;
 use slots::phases::is_taken;
@@ -29,17 +26,9 @@ fn is_open(h: Hand, x: Slot) -> bool
     }
 }
 
-fn by_hand(h: Hand, p: Phase) -> Outcome
-    ensures { λ r. ⌜ r ≡ byHand h p ⌝ }
-{
-    match h {
-        Hand::Takes => calls::take(p),
-        Hand::GivesBack => calls::give_back(p),
-    }
-}
-
 impl Station {
-    fn handled(self, h: Hand, time: Tenths, slot: SlotNumber, room: &mut [u8]) -> Stepped
+    // Either of the two.
+    pub fn handled(self, h: Hand, time: Tenths, slot: SlotNumber, room: &mut [u8]) -> Stepped
         ensures { λ r. ⌜ r ≡ steppedBy self (slotAt time slot (operator (handView h)) (now (room .entry))) ⌝ }
         ensures { λ _. ⌜ now (room .exit) ≡ roomAfter self (now (room .entry)) (slotAt time slot (operator (handView h)) (now (room .entry))) ⌝ }
     {

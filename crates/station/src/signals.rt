@@ -1,32 +1,19 @@
 // The signals of a call: off-hook and on-hook ashore, the ship's carrier up and down.
 ghost use mathlib.Core.Path.{_≡_};
 ghost use Rattle.rules.specs.Words.{offHook, onHook, carrierUp, carrierDown, signal};
+ghost use Rattle.slots.specs.Views.{signalView};
 ghost use Rattle.station.specs.Step.{slotAt, steppedBy, roomAfter};
-ghost use Rattle.station.specs.Pieces.{signalView, bySignal};
-use crate::Signal;
 use crate::Station;
 use crate::Stepped;
 use gate::Verdict;
-use outcomes::Outcome;
-use outcomes::calls;
-use requests::Mode;
-use slots::Phase;
+use outcomes::calls::by_signal;
+use slots::Signal;
 use units::SlotNumber;
 use units::Tenths;
 
-fn by_signal(g: Signal, t: Tenths, m: Mode, p: Phase) -> Outcome
-    ensures { λ r. ⌜ r ≡ bySignal g t m p ⌝ }
-{
-    match g {
-        Signal::LineLifted => calls::off_hook(t, p),
-        Signal::LineHung => calls::coast_end(p),
-        Signal::CarrierHeard => calls::carrier_up(p),
-        Signal::CarrierLost => calls::carrier_down(t, m, p),
-    }
-}
-
 impl Station {
-    fn signalled(self, g: Signal, time: Tenths, slot: SlotNumber, room: &mut [u8]) -> Stepped
+    // Any of the four.
+    pub fn signalled(self, g: Signal, time: Tenths, slot: SlotNumber, room: &mut [u8]) -> Stepped
         ensures { λ r. ⌜ r ≡ steppedBy self (slotAt time slot (signal (signalView g)) (now (room .entry))) ⌝ }
         ensures { λ _. ⌜ now (room .exit) ≡ roomAfter self (now (room .entry)) (slotAt time slot (signal (signalView g)) (now (room .entry))) ⌝ }
     {

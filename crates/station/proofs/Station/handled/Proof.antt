@@ -4,9 +4,10 @@ use lib.ListN.{length}
 use Rattle.rules.specs.Words.{Event, operator}
 use Rattle.rules.specs.Calls.{act}
 use Rattle.requests.specs.Views.{requestOf}
+use Rattle.slots.specs.Views.{handView}
 use Rattle.station.specs.Model.{modelOf, configOf}
 use Rattle.station.specs.Step.{slotAt, refusal}
-use Rattle.station.specs.Pieces.{outAt, handView}
+use Rattle.station.specs.Pieces.{outAt}
 use Rattle.station.proofs.PlaceLaws.{slot-view}
 use Rattle.station.proofs.GateLaws.{passed, hand-asked}
 use Rattle.station.proofs.StepLaws.{refused-is, line-fits, accepted-is}

@@ -1,6 +1,6 @@
 use borrow.Author.Needs.{needs}
-use Rattle.station.proofs.signals.by_signal.Statement.{statement}
-use Rattle.station.proofs.signals.by_signal.Tie as tie
+use Rattle.outcomes.proofs.calls.by_signal.Statement.{statement}
+use Rattle.outcomes.proofs.calls.by_signal.Tie as tie
 
 returns : tie.Need-returns
 returns c = rw (c .before .enum-told .given .1) (c .off-hook .ensures)

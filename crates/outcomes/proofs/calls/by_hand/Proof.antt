@@ -1,6 +1,6 @@
 use borrow.Author.Needs.{needs}
-use Rattle.station.proofs.operator.by_hand.Statement.{statement}
-use Rattle.station.proofs.operator.by_hand.Tie as tie
+use Rattle.outcomes.proofs.calls.by_hand.Statement.{statement}
+use Rattle.outcomes.proofs.calls.by_hand.Tie as tie
 
 returns : tie.Need-returns
 returns c = rw (c .before .enum-told .given .1) (c .take .ensures)
