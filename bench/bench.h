@@ -6,6 +6,8 @@
 #include <stddef.h>
 #include <stdint.h>
 
+#include "../tests/c/entries.h"
+
 enum side { LIBRARY, SECOND, SIDES };
 
 /* Does all the work once, and adds up what was returned, so that no call is in vain and both sides can be seen to do the
@@ -24,6 +26,7 @@ uint64_t read_all(enum side side);
 uint64_t write_all(enum side side);
 
 /* ---- events.c: the script lines of standard input ---- */
+extern const struct lent_bytes lent; /* a station, and a room for its actions */
 extern const char event_letters[];
 bool record_events(void); /* false where there are none */
 uint32_t event_count(void);

@@ -13,6 +13,7 @@ static uint32_t count;
 extern const struct entries second; /* of tests/stations/second.c */
 
 static uint8_t station[COAST_STATION_SIZE], room[COAST_ACTIONS_SIZE];
+const struct lent_bytes lent = {station, sizeof station, room, sizeof room};
 
 bool record_events(void) {
     struct line line;
@@ -31,7 +32,6 @@ char letter_of(uint32_t event) {
 }
 
 uint64_t hand_in_one(enum side side, uint32_t event) {
-    struct lent_bytes lent = {station, sizeof station, room, sizeof room};
     return hand_in(side == LIBRARY ? &library : &second, &events[event], &lent);
 }
 
@@ -39,7 +39,7 @@ uint64_t hand_in_all(enum side side) {
     uint64_t sum = 0;
     for (uint32_t i = 0; i < count; i++) {
         sum += hand_in_one(side, i);
-        sum = sum * 3u + room[i % COAST_ACTIONS_SIZE] + station[i % COAST_STATION_SIZE];
+        sum = sum * 3u + room[i % sizeof room] + station[i % sizeof station];
     }
     return sum;
 }

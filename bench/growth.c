@@ -2,7 +2,6 @@
  * bytes, judges it and lays it again. */
 #include "bench.h"
 #include "../include/coast.h"
-#include "../tests/host/event.h"
 
 extern int printf(const char *, ...);
 extern int snprintf(char *, size_t, const char *, ...);
@@ -14,8 +13,6 @@ extern int snprintf(char *, size_t, const char *, ...);
 #define TICKS 1024u
 
 extern const struct entries second; /* of tests/stations/second.c */
-
-static uint8_t station[COAST_STATION_SIZE], room[COAST_ACTIONS_SIZE];
 
 static void put_number(uint8_t *bytes, uint32_t number) {
     for (uint32_t i = 0; i < 4u; i++)
@@ -32,13 +29,14 @@ static bool call_from(uint32_t ship) {
     meaning[COAST_AT_DIGIT_COUNT] = 8;
     meaning[COAST_AT_END] = 117;
     uint32_t written = coast_write_sequence(meaning, sizeof meaning, symbols, sizeof symbols);
-    uint64_t heard = coast_heard_on_channel_70(station, sizeof station, NOW, symbols, written >> 8, room, sizeof room);
-    return (written & 255u) == COAST_DONE && coast_answer(heard) == COAST_DONE;
+    uint64_t heard = coast_heard_on_channel_70(lent.station, lent.size, NOW, symbols, coast_count(written), lent.room,
+                                               lent.room_size);
+    return coast_answer(written) == COAST_DONE && coast_answer(heard) == COAST_DONE;
 }
 
 static bool fill(uint32_t ships) {
     static const uint8_t channels[SLOTS] = {1, 2, 3, 4, 5, 6, 7, 8, 9, 10, 11, 12, 13, 14, 15, 17};
-    bool done = coast_answer(coast_set_up(COAST_IDENTITY, channels, SLOTS, station, sizeof station)) == COAST_DONE;
+    bool done = coast_answer(coast_set_up(COAST_IDENTITY, channels, SLOTS, lent.station, lent.size)) == COAST_DONE;
     for (uint32_t i = 0; i < ships; i++)
         done = done && call_from(FIRST_SHIP + i);
     return done;
@@ -48,7 +46,7 @@ static uint64_t tick_often(enum side side) {
     const struct entries *entries = side == LIBRARY ? &library : &second;
     uint64_t sum = 0;
     for (uint32_t i = 0; i < TICKS; i++)
-        sum = sum * 3u + entries->tick(station, sizeof station, NOW, room, sizeof room);
+        sum = sum * 3u + entries->tick(lent.station, lent.size, NOW, lent.room, lent.room_size);
     return sum;
 }
 

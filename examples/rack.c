@@ -11,13 +11,10 @@ extern int printf(const char *, ...);
 extern int fflush(void *);
 
 #define CALLING_CHANNEL 70u
-#define MOST_SLOTS 16u
 
 struct rack {
     uint8_t station[COAST_STATION_SIZE], actions[COAST_ACTIONS_SIZE];
-    uint32_t identity;
-    uint8_t channels[MOST_SLOTS]; /* of the slots, in their order */
-    uint32_t slots;
+    struct order set_up; /* which the station followed: a channel for each slot, in their order */
     bool timer_runs;
     uint32_t timer; /* the time that it is set for */
     uint32_t late;  /* how much later it rings */
@@ -45,7 +42,7 @@ static bool follow(struct rack *rack, uint64_t returned) {
     }
     if (coast_count(returned) == 0u)
         printf("    %s\n", answer_in_words(answer));
-    print_actions(rack->actions, coast_count(returned), rack->channels);
+    print_actions(rack->actions, coast_count(returned), rack->set_up.bytes);
     set_timer(rack, returned);
     return true;
 }
@@ -74,7 +71,7 @@ static void pass_time(struct rack *rack, uint32_t until) {
 /* The slot of a channel; one that is too high where no slot has it. */
 static uint32_t slot_of(const struct rack *rack, uint32_t channel) {
     uint32_t slot = 0;
-    while (slot < rack->slots && rack->channels[slot] != channel)
+    while (slot < rack->set_up.count && rack->set_up.bytes[slot] != channel)
         slot++;
     return slot;
 }
@@ -102,12 +99,8 @@ static void happen(struct rack *rack, const struct order *order) {
 
 static void set_up(struct rack *rack, const struct order *order) {
     uint64_t returned = coast_set_up(order->number, order->bytes, order->count, rack->station, sizeof rack->station);
-    if (!follow(rack, returned))
-        return;
-    rack->identity = order->number;
-    rack->slots = (uint32_t)order->count;
-    for (uint32_t i = 0; i < rack->slots; i++)
-        rack->channels[i] = order->bytes[i];
+    if (follow(rack, returned))
+        rack->set_up = *order;
 }
 
 static void obey(struct rack *rack, const struct order *order, const char *text) {
@@ -129,7 +122,7 @@ int main(void) {
     for (uint32_t number = 1; next_line(&line); number++) {
         if (says_nothing(&line))
             printf("%s\n", line.text);
-        else if (read_order(&line, rack.identity, &order))
+        else if (read_order(&line, &rack.set_up, &order))
             obey(&rack, &order, line.text);
         else
             printf("line %u is not understood: skipped\n", (unsigned)number);

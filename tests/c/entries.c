@@ -1,7 +1,7 @@
 /* Which entry a letter stands for, what it takes, and its call. */
 #include "entries.h"
 
-enum kind { alone, on_slot, with_symbols, on_slot_with_symbols, no_event };
+enum kind { alone, on_slot, by_hand, with_symbols, on_slot_with_symbols, no_event };
 
 static enum kind kind_of(char letter) {
     switch (letter) {
@@ -15,8 +15,12 @@ bool is_event(char letter) {
     return kind_of(letter) != no_event;
 }
 
+bool is_by_hand(char letter) {
+    return kind_of(letter) == by_hand;
+}
+
 bool takes_slot(char letter) {
-    return kind_of(letter) == on_slot || kind_of(letter) == on_slot_with_symbols;
+    return kind_of(letter) == on_slot || is_by_hand(letter) || kind_of(letter) == on_slot_with_symbols;
 }
 
 bool takes_symbols(char letter) {
@@ -28,6 +32,7 @@ bool takes_symbols(char letter) {
 #define ROOM lent->room, lent->room_size
 #define CALL_alone(entry) entry(STATION, handed->time, ROOM)
 #define CALL_on_slot(entry) entry(STATION, handed->time, handed->slot, ROOM)
+#define CALL_by_hand(entry) CALL_on_slot(entry)
 #define CALL_with_symbols(entry) entry(STATION, handed->time, SYMBOLS, ROOM)
 #define CALL_on_slot_with_symbols(entry) entry(STATION, handed->time, handed->slot, SYMBOLS, ROOM)
 

@@ -7,7 +7,7 @@
 #include <stdint.h>
 
 /* The one list of the events: the letter of the script, the entry, and what it takes beside the station, the time and the
- * room. Those that take symbols come first. */
+ * room; by_hand is on a slot too, but by the operator, who is never ignored. Those that take symbols come first. */
 #define EVENTS(X)                               \
     X('Q', heard_on_channel_70, with_symbols)   \
     X('W', heard_on_slot, on_slot_with_symbols) \
@@ -15,8 +15,8 @@
     X('D', carrier_down, on_slot)               \
     X('O', off_hook, on_slot)                   \
     X('H', on_hook, on_slot)                    \
-    X('M', take, on_slot)                       \
-    X('F', give_back, on_slot)                  \
+    X('M', take, by_hand)                       \
+    X('F', give_back, by_hand)                  \
     X('T', tick, alone)
 
 #define EVENT_LETTER(letter, entry, takes) letter,
@@ -27,6 +27,7 @@
 
 typedef uint64_t alone_entry(uint8_t *station, size_t size, uint32_t time, uint8_t *room, size_t room_size);
 typedef uint64_t on_slot_entry(uint8_t *station, size_t size, uint32_t time, uint32_t slot, uint8_t *room, size_t room_size);
+typedef on_slot_entry by_hand_entry;
 typedef uint64_t with_symbols_entry(uint8_t *station, size_t size, uint32_t time, const uint8_t *symbols, size_t count,
                                     uint8_t *room, size_t room_size);
 typedef uint64_t on_slot_with_symbols_entry(uint8_t *station, size_t size, uint32_t time, uint32_t slot,
@@ -52,6 +53,7 @@ extern const size_t tried_count;
 
 /* ---- entries.c ---- */
 bool is_event(char letter);
+bool is_by_hand(char letter);
 bool takes_slot(char letter);
 bool takes_symbols(char letter);
 

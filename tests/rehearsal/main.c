@@ -5,7 +5,7 @@
 
 #include "rehearsal.h"
 
-/* Weights: call, again, answer, line, carrier, end, tick, hand, stray, leap, noise. */
+/* Weights: call, again, answer, line, carrier, end, time, hand, stray, leap, noise. */
 static const struct mood moods[] = {
     {"a busy day", 16, 4, 48, 1200, {20, 10, 30, 20, 14, 14, 12, 4, 3, 1, 2}, 12, false},
     {"few ships", 3, 2, 6, 600, {14, 16, 26, 22, 22, 16, 14, 4, 2, 2, 1}, 16, false},
@@ -25,10 +25,8 @@ int main(int argc, char **argv) {
     mood = &moods[chance(sizeof moods / sizeof moods[0])];
     stage.lines_left = mood->lines / 2u + chance(mood->lines);
     open_station(mood);
-    if (mood->late) {
-        struct event tick = {.letter = 'T', .time = TIME_LIMIT - chance(one_in(2) ? 20000u : 400u)};
-        play(&tick);
-    }
+    if (mood->late)
+        pass_time(TIME_LIMIT - chance(one_in(2) ? 20000u : 400u));
     while (stage.lines_left > 0u) {
         if (one_in(200))
             play_set_up();

@@ -1,5 +1,4 @@
 /* What the next line is: a ship, the person ashore, the operator or the host does something that fits, or nearly fits. */
-#include "../second/inside.h"
 #include "rehearsal.h"
 
 #define NONE MOST_SLOTS
@@ -145,27 +144,29 @@ static enum move choose(const struct mood *mood) {
             return (enum move)i;
         drawn -= mood->weights[i];
     }
-    return TICK;
+    return TIME;
 }
 
-/* A tick in time, exact or late, or none due. */
-static void tick(uint32_t time) {
-    struct event event = {.letter = 'T', .time = time};
-    uint32_t due = 0;
+void pass_time(uint32_t time) {
+    struct event tick = {.letter = 'T', .time = time};
+    play(&tick);
+}
+
+/* In time, exact or late, or with none due. */
+static void pass_some_time(void) {
+    uint32_t time = soon(OFFER_WAIT, 0), due = 0;
     if (next_due(&due) && !one_in(6))
-        event.time = one_in(2) ? due : one_in(4) ? due - 1u : due + chance(700);
-    if (event.time < stage.station.clock || event.time > TIME_LIMIT)
-        event.time = stage.station.clock;
-    if (one_in(40))
-        event.time = wrong_time();
-    play(&event);
+        time = one_in(2) ? due : one_in(4) ? due - 1u : due + chance(700);
+    if (time < stage.station.clock || time > TIME_LIMIT)
+        time = stage.station.clock;
+    pass_time(one_in(40) ? wrong_time() : time);
 }
 
 void make_move(const struct mood *mood) {
     enum move move = choose(mood);
-    struct event event = {.letter = 'T'};
-    if (move == TICK) {
-        tick(soon(OFFER_WAIT, 0));
+    struct event event = {0};
+    if (move == TIME) {
+        pass_some_time();
         return;
     }
     if (move == LEAP) {

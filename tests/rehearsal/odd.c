@@ -9,7 +9,7 @@ static void play_long_list(void) {
     char text[LINE_MOST + 2u];
     size_t wanted = LINE_MOST - 1u + chance(3), length;
     switch (chance(3)) {
-    case 0: length = (size_t)sprintf(text, "S %09u", stage.station.identity); break;
+    case 0: length = (size_t)sprintf(text, "S %09u", any_coast()); break;
     case 1: length = (size_t)sprintf(text, "Q %u", stage.station.clock); break;
     default: length = (size_t)sprintf(text, "W %u 0", stage.station.clock);
     }

@@ -17,9 +17,7 @@ static void put_channels(struct event *event, uint32_t count) {
 }
 
 static struct event good_set_up(uint32_t most_channels) {
-    static const uint32_t edges[] = {2000000u, 7999999u, 2001234u};
-    struct event event = {.letter = SET_UP_LETTER};
-    event.slot = one_in(2) ? edges[chance(3)] : 2000000u + chance(6000000u);
+    struct event event = {.letter = SET_UP_LETTER, .slot = any_coast()};
     put_channels(&event, one_in(4) ? most_channels : 1u + chance(most_channels));
     return event;
 }

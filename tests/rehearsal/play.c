@@ -50,6 +50,7 @@ static size_t put_zeros(char *text, size_t length) {
 
 #define GIVES_alone
 #define GIVES_on_slot event->slot,
+#define GIVES_by_hand GIVES_on_slot
 #define GIVES_with_symbols heard,
 #define GIVES_on_slot_with_symbols event->slot, heard,
 

@@ -5,7 +5,7 @@
 
 #include "../c/entries.h"
 #include "../compare/compare.h"
-#include "../second/station.h"
+#include "../second/inside.h"
 
 #define MOST_SHIPS 64u
 #define LINE_MOST 200u
@@ -19,7 +19,7 @@ struct event {
 };
 
 /* The kinds of move; a mood gives each its weight. */
-enum move { CALL, AGAIN, ANSWER, LINE, CARRIER, END, TICK, HAND, STRAY, LEAP, NOISE, MOVES };
+enum move { CALL, AGAIN, ANSWER, LINE, CARRIER, END, TIME, HAND, STRAY, LEAP, NOISE, MOVES };
 
 struct mood {
     const char *name;
@@ -56,10 +56,11 @@ void play_set_up(void); /* an S, good or bad, wherever it stands */
 bool next_due(uint32_t *due);
 uint32_t soon(uint32_t wait, uint32_t slot); /* a time for an event that begins this wait, on that slot if on any */
 uint32_t leap(void);                         /* a time far off */
-void catch_up(uint32_t time);                /* ticks, exact or late, until nothing is due at that time */
+void catch_up(uint32_t time);                /* exact or late, until nothing is due at that time */
 uint32_t wrong_time(void);                   /* before the clock, a tenth late, or over the limit */
 
 /* ---- sequences.c: what ships send ---- */
+uint32_t any_coast(void);
 struct meaning new_request(uint32_t ship);
 struct meaning varied(struct meaning request); /* another number, mode or second telecommand */
 struct meaning as_working_call(struct meaning request);
@@ -70,17 +71,9 @@ void put_sequence(struct event *event, const struct meaning *m);
 void put_stray(struct event *event); /* any valid sequence, or one overheard */
 void spoil_sequence(struct event *event);
 
-/* ---- phases.c ---- */
-bool is_free(enum phase phase);
-bool is_taken(enum phase phase);
-bool expects_ship(enum phase phase); /* to call on the channel, or to answer there when it is rung back */
-bool expects_working_call(enum phase phase);
-bool expects_reply(enum phase phase); /* from the line that is dialled */
-bool talks(enum phase phase);
-bool is_held(enum phase phase);
-
 /* ---- moves.c ---- */
 void make_move(const struct mood *mood);
+void pass_time(uint32_t time); /* the host says so */
 
 /* ---- situations.c: what was reached ---- */
 void note_step(const struct station *before, const struct event *event, const struct step *step);

@@ -1,5 +1,4 @@
 /* What ships send, as it should be, mistaken, and spoilt. */
-#include "../second/sequence.h"
 #include "rehearsal.h"
 
 static void new_number(struct meaning *m) {
@@ -8,15 +7,18 @@ static void new_number(struct meaning *m) {
         m->digits[i] = i < m->count ? (uint8_t)chance(10) : 0u;
 }
 
+uint32_t any_coast(void) {
+    static const uint32_t edges[] = {2000000u, 7999999u, 2001234u};
+    return one_in(2) ? edges[chance(3)] : 2000000u + chance(6000000u);
+}
+
 struct meaning new_request(uint32_t ship) {
-    struct meaning m = {0};
-    m.address = stage.station.identity;
-    m.self = ship;
+    struct meaning m = {.self = ship};
     m.first = one_in(24) ? DATA : one_in(2) ? SIMPLEX : DUPLEX;
     m.second = one_in(6) ? (uint8_t)(100u + chance(27)) : NO_INFORMATION;
     m.end = RQ;
     new_number(&m);
-    return m;
+    return to_ours(&stage.station, m);
 }
 
 struct meaning varied(struct meaning request) {
@@ -103,8 +105,11 @@ void put_stray(struct event *event) {
     event->count = draw_sequence(event->symbols);
     if (one_in(4) || second_read(event->symbols, event->count, &m) != 0)
         return;
-    m.address = second_is_coast(m.address) ? stage.station.identity : stage.ships[chance(stage.ship_count)];
-    m.self = second_is_ship(m.self) ? stage.ships[chance(stage.ship_count)] : stage.station.identity;
+    bool from_a_ship = second_is_ship(m.self);
+    m.self = stage.ships[chance(stage.ship_count)];
+    m = to_ours(&stage.station, m);
+    if (!from_a_ship)
+        m = exchanged(&m);
     put_sequence(event, &m);
 }
 

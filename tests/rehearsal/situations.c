@@ -1,7 +1,6 @@
 /* What a script has reached: each situation that document 01 names, counted from the station before and after a step. */
 #include <stdio.h>
 
-#include "../second/inside.h"
 #include "rehearsal.h"
 
 #define SITUATIONS(X) \
@@ -54,10 +53,19 @@ static void note_if(bool so, enum situation situation) {
     times[situation] += so ? 1u : 0u;
 }
 
+/* The second ring-back, and what follows a ring-back that the ship has answered. */
+static bool is_rung_again(enum phase phase) {
+    return is_rung(phase) && !is_rung_once(phase);
+}
+
+static bool agreed(enum phase phase) {
+    return expects_working_call(phase) && !is_offered(phase);
+}
+
 static uint32_t slot_of(const struct station *station, uint32_t ship, bool hold) {
     for (uint32_t i = 0; i < station->channel_count; i++) {
         enum phase phase = station->slots[i].phase;
-        if ((hold ? phase == PHASE_HOLD : holds_ship(phase)) && station->slots[i].request.self == ship)
+        if ((hold ? is_held(phase) : holds_ship(phase)) && station->slots[i].request.self == ship)
             return i;
     }
     return MOST_SLOTS;
@@ -80,11 +88,11 @@ static void note_placed(const struct station *before, const struct meaning *m, c
 /* Rule b, by what the slot was. */
 static void note_asked_again(const struct slot *held, const struct step *step, uint32_t slot) {
     bool same = step->station.slots[slot].due == held->due;
-    note_if(held->phase == PHASE_OFFERED && same, SEEN_B_SAME);
-    note_if(held->phase == PHASE_OFFERED && !same, SEEN_B_OTHER);
-    note_if(held->phase == PHASE_RING_BACK, SEEN_B_RING);
-    note_if(held->phase == PHASE_RING_BACK_REPEATED, SEEN_B_RING_AGAIN);
-    note_if(held->phase == PHASE_ACKNOWLEDGED, SEEN_B_AGREED);
+    note_if(is_offered(held->phase) && same, SEEN_B_SAME);
+    note_if(is_offered(held->phase) && !same, SEEN_B_OTHER);
+    note_if(is_rung_once(held->phase), SEEN_B_RING);
+    note_if(is_rung_again(held->phase), SEEN_B_RING_AGAIN);
+    note_if(agreed(held->phase), SEEN_B_AGREED);
 }
 
 /* Rule c, with what follows it. */
@@ -92,10 +100,10 @@ static void note_in_call(const struct slot *held, const struct step *step, uint3
     bool ended = step->answer == DONE;
     note_if(held->request.first == DUPLEX && held->carrier == CARRIER_ABSENT, SEEN_C_DUPLEX);
     note_if(held->request.first == SIMPLEX && held->carrier == CARRIER_PRESENT, SEEN_C_PRESENT);
-    note_if(ended && held->phase == PHASE_DIALLING, SEEN_C_DIALLING);
-    note_if(ended && held->phase == PHASE_ANSWERED, SEEN_C_ANSWERED);
+    note_if(ended && expects_reply(held->phase), SEEN_C_DIALLING);
+    note_if(ended && talks(held->phase), SEEN_C_ANSWERED);
     note_if(ended && step->actions == 7u, SEEN_C_SEVEN);
-    note_if(ended && step->station.slots[slot].phase == PHASE_OFFERED, SEEN_C_OFFERED);
+    note_if(ended && is_offered(step->station.slots[slot].phase), SEEN_C_OFFERED);
 }
 
 static void note_request(const struct station *before, const struct meaning *m, const struct step *step) {
@@ -128,10 +136,10 @@ static void note_calling(const struct station *before, const struct event *event
     if (m.end != BQ || m.kind != FIELD_CHANNEL || slot == MOST_SLOTS || m.first == DATA)
         return;
     phase = before->slots[slot].phase;
-    note_if(phase == PHASE_RING_BACK && step->answer == DONE, SEEN_BQ_FIRST);
-    note_if(phase == PHASE_RING_BACK_REPEATED && step->answer == DONE, SEEN_BQ_SECOND);
-    note_if(phase == PHASE_ACKNOWLEDGED, SEEN_BQ_TWICE);
-    note_if(phase == PHASE_RING_BACK && step->answer == IGNORED, SEEN_BQ_CHANNEL);
+    note_if(is_rung_once(phase) && step->answer == DONE, SEEN_BQ_FIRST);
+    note_if(is_rung_again(phase) && step->answer == DONE, SEEN_BQ_SECOND);
+    note_if(agreed(phase), SEEN_BQ_TWICE);
+    note_if(is_rung_once(phase) && step->answer == IGNORED, SEEN_BQ_CHANNEL);
 }
 
 static void note_working(const struct station *before, const struct event *event, const struct step *step) {
@@ -142,15 +150,15 @@ static void note_working(const struct station *before, const struct event *event
     if (second_read(event->symbols, event->count, &m) != 0 || !is_ours(before, &m))
         return;
     call = m.end == OTHER_END && m.first != END_OF_CALL;
-    note_if(done && phase == PHASE_OFFERED, SEEN_DIAL);
-    note_if(done && phase == PHASE_ACKNOWLEDGED, SEEN_DIAL_AGREED);
+    note_if(done && is_offered(phase), SEEN_DIAL);
+    note_if(done && agreed(phase), SEEN_DIAL_AGREED);
     note_if(done && call && event->time + 1u == held->due, SEEN_DIAL_LAST);
     note_if(done && call && m.first != held->request.first, SEEN_DIAL_OTHER_MODE);
-    note_if(call && phase == PHASE_RING_BACK && m.self == held->request.self, SEEN_WORKING_IN_RING);
-    note_if(done && phase == PHASE_DIALLING, SEEN_END_DIALLING);
-    note_if(done && phase == PHASE_ANSWERED, SEEN_END_ANSWERED);
-    note_if(done && phase == PHASE_HOLD, SEEN_END_HOLD);
-    note_if(done && phase == PHASE_HOLD && event->time + 1u == held->due, SEEN_END_HOLD_LAST);
+    note_if(call && is_rung_once(phase) && m.self == held->request.self, SEEN_WORKING_IN_RING);
+    note_if(done && expects_reply(phase), SEEN_END_DIALLING);
+    note_if(done && talks(phase), SEEN_END_ANSWERED);
+    note_if(done && is_held(phase), SEEN_END_HOLD);
+    note_if(done && is_held(phase) && event->time + 1u == held->due, SEEN_END_HOLD_LAST);
     note_if(!done && has_call(phase) && m.first == END_OF_CALL && m.self != held->request.self, SEEN_END_OTHER);
     note_if(!done && has_call(phase) && m.kind == FIELD_DURATION, SEEN_END_FIELD);
 }
@@ -158,7 +166,7 @@ static void note_working(const struct station *before, const struct event *event
 static void note_slot_event(const struct station *before, const struct event *event, const struct step *step) {
     const struct slot *held = &before->slots[event->slot];
     enum phase phase = held->phase;
-    bool dialling = phase == PHASE_DIALLING, answered = phase == PHASE_ANSWERED, present = held->carrier == CARRIER_PRESENT;
+    bool dialling = expects_reply(phase), answered = talks(phase), present = held->carrier == CARRIER_PRESENT;
     bool call = dialling || answered, down = event->letter == 'D', up = event->letter == 'U';
     bool duplex = held->request.first == DUPLEX;
     note_if(event->letter == 'O' && dialling && present, SEEN_LIFT);
@@ -197,13 +205,13 @@ static void note_together(const struct station *before, uint32_t due) {
 static void note_fired(const struct station *before, const struct event *event, struct wait wait) {
     const struct slot *held = &before->slots[wait.place];
     bool own = wait.kind == WAIT_SLOT, silent = wait.kind == WAIT_CARRIER, duplex = held->request.first == DUPLEX;
-    bool answered = silent && held->phase == PHASE_ANSWERED, late = event->time > wait.due;
-    note_if(own && held->phase == PHASE_OFFERED, SEEN_DUE_OFFER);
-    note_if(own && held->phase == PHASE_ACKNOWLEDGED, SEEN_DUE_AGREED);
-    note_if(own && held->phase == PHASE_RING_BACK, SEEN_DUE_RING);
-    note_if(own && held->phase == PHASE_RING_BACK_REPEATED, SEEN_DUE_RING_AGAIN);
-    note_if(own && held->phase == PHASE_DIALLING, SEEN_DUE_REPLY);
-    note_if(own && held->phase == PHASE_HOLD, SEEN_DUE_HOLD);
+    bool answered = silent && talks(held->phase), late = event->time > wait.due;
+    note_if(own && is_offered(held->phase), SEEN_DUE_OFFER);
+    note_if(own && agreed(held->phase), SEEN_DUE_AGREED);
+    note_if(own && is_rung_once(held->phase), SEEN_DUE_RING);
+    note_if(own && is_rung_again(held->phase), SEEN_DUE_RING_AGAIN);
+    note_if(own && expects_reply(held->phase), SEEN_DUE_REPLY);
+    note_if(own && is_held(held->phase), SEEN_DUE_HOLD);
     note_if(silent && !duplex, SEEN_DUE_SIMPLEX);
     note_if(silent && duplex, SEEN_DUE_DUPLEX);
     note_if(answered, SEEN_DUE_ANSWERED);
@@ -225,12 +233,12 @@ static void note_tick(const struct station *before, const struct event *event) {
 static void note_changes(const struct station *before, const struct station *after) {
     for (uint32_t i = 0; i < before->channel_count; i++) {
         const struct slot *was = &before->slots[i], *is = &after->slots[i];
-        uint32_t seconds = was->phase == PHASE_ANSWERED ? charged_seconds(after->clock - was->start) : 0u;
-        bool stopped = was->phase == PHASE_ANSWERED && is->phase != PHASE_ANSWERED;
-        note_if(stopped && seconds >= 360000u && is->phase == PHASE_HOLD, SEEN_HUNDRED_SHIP);
-        note_if(stopped && seconds >= 360000u && is->phase != PHASE_HOLD, SEEN_HUNDRED_COAST);
+        uint32_t seconds = talks(was->phase) ? charged_seconds(after->clock - was->start) : 0u;
+        bool stopped = talks(was->phase) && !talks(is->phase);
+        note_if(stopped && seconds >= 360000u && is_held(is->phase), SEEN_HUNDRED_SHIP);
+        note_if(stopped && seconds >= 360000u && !is_held(is->phase), SEEN_HUNDRED_COAST);
         note_if(stopped && seconds >= 324000u && seconds < 360000u, SEEN_NINETY);
-        note_if(i > 0u && is->phase == PHASE_RING_BACK && was->phase != PHASE_RING_BACK, SEEN_RING_HIGH);
+        note_if(i > 0u && is_rung_once(is->phase) && !is_rung_once(was->phase), SEEN_RING_HIGH);
     }
 }
 

@@ -1,5 +1,4 @@
 /* When things happen: at once, soon, in the last tenth, together with another wait, a tenth late, far off. */
-#include "../second/inside.h"
 #include "rehearsal.h"
 
 #define MOST_WAITS (MOST_WAITING + 2u * MOST_SLOTS)
@@ -83,10 +82,8 @@ uint32_t leap(void) {
 void catch_up(uint32_t time) {
     uint32_t due = 0;
     bool exact = one_in(2);
-    while (next_due(&due) && due <= time && stage.lines_left > 0u) {
-        struct event tick = {.letter = 'T', .time = exact ? due : time};
-        play(&tick);
-    }
+    while (next_due(&due) && due <= time && stage.lines_left > 0u)
+        pass_time(exact ? due : time);
 }
 
 uint32_t wrong_time(void) {

@@ -14,30 +14,6 @@ uint32_t charged_seconds(uint32_t tenths)
     return tenths / TENTHS_A_SECOND;
 }
 
-/* A line was dialled and is not released. */
-bool has_call(enum phase phase)
-{
-    return phase == PHASE_DIALLING || phase == PHASE_ANSWERED;
-}
-
-/* Sent once, or once more. */
-bool is_rung(enum phase phase)
-{
-    return phase == PHASE_RING_BACK || phase == PHASE_RING_BACK_REPEATED;
-}
-
-/* "the offered, ring-back, acknowledged, dialling and answered slots" */
-bool holds_ship(enum phase phase)
-{
-    return phase == PHASE_OFFERED || is_rung(phase) ||
-           phase == PHASE_ACKNOWLEDGED || has_call(phase);
-}
-
-bool stores_request(enum phase phase)
-{
-    return holds_ship(phase) || phase == PHASE_HOLD;
-}
-
 static struct slot *slot_at(struct work *work, uint32_t slot)
 {
     return &work->station->slots[slot];
@@ -100,6 +76,13 @@ void repeat_ring_back(struct work *work, uint32_t slot)
     send_able(work, slot, RQ);
 }
 
+/* "acknowledged, wait 160" */
+void acknowledge(struct work *work, uint32_t slot)
+{
+    struct meaning request = slot_at(work, slot)->request;
+    store(work, slot, PHASE_ACKNOWLEDGED, &request);
+}
+
 /* "Whenever a slot is freed and a ship waits, the same event takes the
  * oldest." */
 void free_slot(struct work *work, uint32_t slot)
@@ -127,13 +110,23 @@ void dial(struct work *work, uint32_t slot)
     act_dial(work, slot);
 }
 
+/* "Off-hook while dialling: answered, the reply wait ends, a carrier wait
+ * runs on." */
+void begin_talk(struct work *work, uint32_t slot)
+{
+    struct slot *held = slot_at(work, slot);
+    held->phase = PHASE_ANSWERED;
+    held->start = work->station->clock;
+    held->due = 0;
+}
+
 /* "Duration: whole seconds, rounded down; unanswered, or 100 hours and over:
  * 126s." */
 static struct duration call_duration(const struct slot *call, uint32_t clock)
 {
     struct duration result = {FIELD_NONE, 0, 0, 0};
     uint32_t seconds, hours;
-    if (call->phase != PHASE_ANSWERED)
+    if (!talks(call->phase))
         return result;
     seconds = charged_seconds(clock - call->start);
     hours = seconds / SECONDS_AN_HOUR;
@@ -168,7 +161,7 @@ static struct duration end_call(struct work *work, uint32_t slot, uint8_t end)
 {
     struct duration duration =
         call_duration(slot_at(work, slot), work->station->clock);
-    if (slot_at(work, slot)->phase == PHASE_ANSWERED)
+    if (talks(slot_at(work, slot)->phase))
         act_charge(work, slot);
     act_release(work, slot);
     send_end(work, slot, duration, end);

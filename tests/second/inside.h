@@ -12,6 +12,23 @@ struct work {
     uint32_t actions;
 };
 
+/* ---- phases.c ---- */
+bool is_free(enum phase phase);
+bool is_taken(enum phase phase);
+bool is_offered(enum phase phase);
+bool is_rung_once(enum phase phase);
+bool is_rung(enum phase phase);
+bool expects_working_call(enum phase phase);
+bool expects_ship(enum phase phase);  /* to call on the channel, or to answer there when it is rung back */
+bool expects_reply(enum phase phase); /* from the line that is dialled */
+bool talks(enum phase phase);
+bool has_call(enum phase phase);
+bool holds_ship(enum phase phase);
+bool is_held(enum phase phase);
+bool stores_request(enum phase phase);
+bool has_slot_wait(enum phase phase);
+uint32_t slot_wait(enum phase phase);
+
 /* ---- actions.c: blocks of 40 bytes ---- */
 void act_carrier_on(struct work *work, uint32_t slot);
 void act_carrier_off(struct work *work, uint32_t slot);
@@ -34,8 +51,6 @@ struct wait {
 
 /* "a wait begun at s falls due at s + p + 1 tenth" */
 uint32_t due_after(uint32_t begun, uint32_t wait);
-bool has_slot_wait(enum phase phase);
-uint32_t slot_wait(enum phase phase);
 uint32_t carrier_wait(const struct slot *slot);
 struct wait earliest_wait(const struct station *station);
 void fire_wait(struct work *work, struct wait wait);
@@ -47,23 +62,24 @@ void queue_join(struct station *station, const struct meaning *request);
 
 /* ---- calls.c: what happens to a slot and its call ---- */
 uint32_t charged_seconds(uint32_t tenths);
-bool has_call(enum phase phase);
-bool is_rung(enum phase phase);
-bool holds_ship(enum phase phase);
-bool stores_request(enum phase phase);
 struct meaning exchanged(const struct meaning *request);
 void send_able(struct work *work, uint32_t slot, uint8_t end);
 void offer(struct work *work, uint32_t slot, const struct meaning *request);
 void free_slot(struct work *work, uint32_t slot);
 void close_unused(struct work *work, uint32_t slot);
 void repeat_ring_back(struct work *work, uint32_t slot);
+void acknowledge(struct work *work, uint32_t slot);
 void coasts_end(struct work *work, uint32_t slot);
 void ships_end(struct work *work, uint32_t slot);
 void repeat_ships_end(struct work *work, uint32_t slot);
 void dial(struct work *work, uint32_t slot);
+void begin_talk(struct work *work, uint32_t slot);
+
+/* ---- station.c ---- */
+bool is_ours(const struct station *station, const struct meaning *m);
+struct meaning to_ours(const struct station *station, struct meaning m);
 
 /* ---- request.c: sequences heard, addressed to this station ---- */
-bool is_ours(const struct station *station, const struct meaning *m);
 int heard_on_calling(struct work *work, const struct meaning *m);
 int heard_on_working(struct work *work, uint32_t slot,
                      const struct meaning *m);

@@ -6,10 +6,6 @@
 #define NOTHING_TOLD 0u
 #define DURATION_TOLD 1u
 
-#define PHASES 9u
-static const enum phase phases[PHASES] = {PHASE_FREE, PHASE_OFFERED, PHASE_RING_BACK, PHASE_RING_BACK_REPEATED,
-    PHASE_ACKNOWLEDGED, PHASE_DIALLING, PHASE_ANSWERED, PHASE_HOLD, PHASE_TAKEN};
-
 static void put_four(uint8_t *bytes, uint32_t number) {
     for (size_t i = 0; i < 4u; i++)
         bytes[i] = (uint8_t)(number >> (8u * i) & 255u);
@@ -56,14 +52,15 @@ static bool get_duration(const uint8_t *bytes, struct duration *duration) {
 
 static bool get_slot(const uint8_t *bytes, struct slot *slot) {
     bool known = bytes[PHASE_AT] < PHASES;
-    slot->phase = known ? phases[bytes[PHASE_AT]] : PHASE_FREE;
+    if (known)
+        slot->phase = (enum phase)bytes[PHASE_AT];
     if (has_slot_wait(slot->phase))
         slot->due = get_four(bytes + TIME_AT);
-    if (slot->phase == PHASE_ANSWERED)
+    if (talks(slot->phase))
         slot->start = get_four(bytes + TIME_AT);
     if (has_call(slot->phase))
         known = get_carrier(bytes, slot) && known;
-    if (slot->phase == PHASE_HOLD)
+    if (is_held(slot->phase))
         known = get_duration(bytes, &slot->duration) && known;
     if (stores_request(slot->phase))
         known = get_request(bytes + SLOT_REQUEST_AT, &slot->request) && known;
@@ -132,23 +129,16 @@ static void put_duration(uint8_t *bytes, const struct duration *duration) {
     bytes[SECONDS_AT] = duration->seconds;
 }
 
-static uint8_t number_of(enum phase phase) {
-    uint8_t number = 0;
-    while (phases[number] != phase)
-        number++;
-    return number;
-}
-
 static void put_slot(uint8_t *bytes, const struct slot *slot, uint8_t channel) {
-    bytes[PHASE_AT] = number_of(slot->phase);
+    bytes[PHASE_AT] = (uint8_t)slot->phase;
     put_four(bytes + CHANNEL_AT, channel);
     if (has_slot_wait(slot->phase))
         put_four(bytes + TIME_AT, slot->due);
-    if (slot->phase == PHASE_ANSWERED)
+    if (talks(slot->phase))
         put_four(bytes + TIME_AT, slot->start);
     if (has_call(slot->phase))
         put_carrier(bytes, slot);
-    if (slot->phase == PHASE_HOLD)
+    if (is_held(slot->phase))
         put_duration(bytes, &slot->duration);
     if (stores_request(slot->phase))
         put_request(bytes + SLOT_REQUEST_AT, &slot->request);
@@ -209,11 +199,13 @@ uint64_t second_next_due_bytes(const uint8_t *station, size_t size) {
 
 #define TAKES_alone
 #define TAKES_on_slot uint32_t slot,
+#define TAKES_by_hand TAKES_on_slot
 #define TAKES_with_symbols const uint8_t *symbols, size_t count,
 #define TAKES_on_slot_with_symbols uint32_t slot, const uint8_t *symbols, size_t count,
 
 #define GIVES_alone
 #define GIVES_on_slot slot,
+#define GIVES_by_hand GIVES_on_slot
 #define GIVES_with_symbols (struct heard){symbols, count},
 #define GIVES_on_slot_with_symbols slot, (struct heard){symbols, count},
 

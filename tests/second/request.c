@@ -8,12 +8,6 @@
 #define QUEUED 103u
 #define MODE_NOT_USABLE 109u
 
-/* "to this station" */
-bool is_ours(const struct station *station, const struct meaning *m)
-{
-    return m->address == station->identity;
-}
-
 static bool same_number(const struct meaning *a, const struct meaning *b)
 {
     bool same = a->count == b->count;
@@ -52,7 +46,7 @@ static uint32_t ships_slot(const struct station *station, uint32_t ship)
 static uint32_t lowest_free(const struct station *station)
 {
     for (uint32_t i = 0; i < station->channel_count; i++)
-        if (station->slots[i].phase == PHASE_FREE)
+        if (is_free(station->slots[i].phase))
             return i;
     return NO_SLOT;
 }
@@ -82,7 +76,7 @@ static void ask_again(struct work *work, uint32_t slot,
                       const struct meaning *request)
 {
     const struct slot *held = &work->station->slots[slot];
-    if (held->phase == PHASE_OFFERED && same_request(&held->request, request))
+    if (is_offered(held->phase) && same_request(&held->request, request))
         send_able(work, slot, BQ);
     else
         offer(work, slot, request);
@@ -117,14 +111,11 @@ static int ring_back_answer(struct work *work, const struct meaning *m)
 {
     struct station *station = work->station;
     uint32_t slot = ships_slot(station, m->self);
-    struct slot *held;
     if (slot == NO_SLOT || m->channel != station->channels[slot])
         return IGNORED;
-    held = &station->slots[slot];
-    if (!is_rung(held->phase))
+    if (!is_rung(station->slots[slot].phase))
         return IGNORED;
-    held->phase = PHASE_ACKNOWLEDGED;
-    held->due = due_after(station->clock, slot_wait(PHASE_ACKNOWLEDGED));
+    acknowledge(work, slot);
     return DONE;
 }
 
@@ -158,12 +149,11 @@ int heard_on_working(struct work *work, uint32_t slot,
     if (!is_ours(work->station, m) || m->kind != FIELD_NONE ||
         !stores_request(phase) || m->self != held->request.self)
         return IGNORED;
-    if (working_call &&
-        (phase == PHASE_OFFERED || phase == PHASE_ACKNOWLEDGED))
+    if (working_call && expects_working_call(phase))
         dial(work, slot);
     else if (ends && has_call(phase))
         ships_end(work, slot);
-    else if (ends && phase == PHASE_HOLD)
+    else if (ends && is_held(phase))
         repeat_ships_end(work, slot);
     else
         return IGNORED;

@@ -54,9 +54,9 @@ static bool duration_fits(const struct duration *duration)
 static bool slot_fits(const struct station *station, const struct slot *slot)
 {
     enum phase phase = slot->phase;
-    if (phase == PHASE_FREE || phase == PHASE_TAKEN)
+    if (is_free(phase) || is_taken(phase))
         return true;
-    if (!holds_ship(phase) && phase != PHASE_HOLD)
+    if (!stores_request(phase))
         return false;
     if (!request_fits(station, &slot->request))
         return false;
@@ -64,9 +64,9 @@ static bool slot_fits(const struct station *station, const struct slot *slot)
         return false;
     if (has_call(phase) && !carrier_fits(station, slot))
         return false;
-    if (phase == PHASE_HOLD && !duration_fits(&slot->duration))
+    if (is_held(phase) && !duration_fits(&slot->duration))
         return false;
-    return phase != PHASE_ANSWERED || slot->start <= station->clock;
+    return !talks(phase) || slot->start <= station->clock;
 }
 
 static bool slots_fit(const struct station *station)

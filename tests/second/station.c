@@ -33,6 +33,18 @@ struct step second_set_up(uint32_t identity, const uint32_t *channels,
     return step;
 }
 
+/* "to this station" */
+bool is_ours(const struct station *station, const struct meaning *m)
+{
+    return m->address == station->identity;
+}
+
+struct meaning to_ours(const struct station *station, struct meaning m)
+{
+    m.address = station->identity;
+    return m;
+}
+
 /* ---- refusals that every event shares, in order ---- */
 
 /* 29 to 32: every event. */
@@ -158,16 +170,11 @@ static int carrier_goes(struct work *work, uint32_t slot)
 
 /* ---- the line ---- */
 
-/* "Off-hook while dialling: answered, the reply wait ends, a carrier wait
- * runs on." */
 static int handset_lifted(struct work *work, uint32_t slot)
 {
-    struct slot *held = &work->station->slots[slot];
-    if (held->phase != PHASE_DIALLING)
+    if (!expects_reply(work->station->slots[slot].phase))
         return IGNORED;
-    held->phase = PHASE_ANSWERED;
-    held->start = work->station->clock;
-    held->due = 0;
+    begin_talk(work, slot);
     return DONE;
 }
 
@@ -214,11 +221,11 @@ static struct step slot_event(struct station *station, uint32_t time,
 /* 35 comes after 29 to 34. */
 static struct step operator_event(struct station *station, uint32_t time,
                                   uint32_t slot, struct lent room,
-                                  enum phase wanted)
+                                  bool (*wanted)(enum phase),
+                                  slot_rule *rule)
 {
-    slot_rule *rule = wanted == PHASE_FREE ? taken_by_hand : given_back;
     int refusal = judge_slot_event(station, time, slot, room);
-    if (refusal == DONE && station->slots[slot].phase != wanted)
+    if (refusal == DONE && !wanted(station->slots[slot].phase))
         refusal = OPERATOR_REFUSED;
     if (refusal != DONE)
         return unchanged(refusal, station);
@@ -253,14 +260,14 @@ struct step second_on_hook(struct station station, uint32_t time,
 struct step second_take(struct station station, uint32_t time, uint32_t slot,
                         struct lent room)
 {
-    return operator_event(&station, time, slot, room, PHASE_FREE);
+    return operator_event(&station, time, slot, room, is_free, taken_by_hand);
 }
 
 /* "or gives back one not taken": 35 */
 struct step second_give_back(struct station station, uint32_t time,
                              uint32_t slot, struct lent room)
 {
-    return operator_event(&station, time, slot, room, PHASE_TAKEN);
+    return operator_event(&station, time, slot, room, is_taken, given_back);
 }
 
 /* "The tick event at t fires the earliest wait due at or before t, one only,

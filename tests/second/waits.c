@@ -6,30 +6,6 @@ uint32_t due_after(uint32_t begun, uint32_t wait)
     return begun + wait + 1u;
 }
 
-bool has_slot_wait(enum phase phase)
-{
-    return phase == PHASE_HOLD ||
-           (holds_ship(phase) && phase != PHASE_ANSWERED);
-}
-
-uint32_t slot_wait(enum phase phase)
-{
-    switch (phase) {
-    case PHASE_OFFERED:
-    case PHASE_ACKNOWLEDGED:
-        return OFFER_WAIT;
-    case PHASE_RING_BACK:
-    case PHASE_RING_BACK_REPEATED:
-        return RING_BACK_WAIT;
-    case PHASE_DIALLING:
-        return REPLY_WAIT;
-    case PHASE_HOLD:
-        return HOLD_WAIT;
-    default:
-        return 0;
-    }
-}
-
 /* "a wait of 50 duplex, 450 simplex"; "The stored request's mode holds". */
 uint32_t carrier_wait(const struct slot *slot)
 {
@@ -76,24 +52,15 @@ bool second_next_due(const struct station *station, uint32_t *due)
 /* What a slot's own wait does when it falls due. */
 static void fire_slot(struct work *work, uint32_t slot)
 {
-    switch (work->station->slots[slot].phase) {
-    case PHASE_OFFERED:
-    case PHASE_ACKNOWLEDGED:
-    case PHASE_RING_BACK_REPEATED:
-        close_unused(work, slot);
-        break;
-    case PHASE_RING_BACK:
+    enum phase phase = work->station->slots[slot].phase;
+    if (is_rung_once(phase))
         repeat_ring_back(work, slot);
-        break;
-    case PHASE_DIALLING:
+    else if (expects_ship(phase))
+        close_unused(work, slot);
+    else if (expects_reply(phase))
         coasts_end(work, slot);
-        break;
-    case PHASE_HOLD:
+    else if (is_held(phase))
         free_slot(work, slot);
-        break;
-    default:
-        break;
-    }
 }
 
 /* The clock already stands at the due time. "A queue entry due is dropped." */

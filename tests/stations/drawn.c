@@ -8,7 +8,7 @@
 static bool due_now;      /* whether a wait of this station may be due at its clock */
 static uint32_t together; /* tenths until the time at which many of its waits are due */
 
-uint32_t any_clock(void) {
+static uint32_t any_clock(void) {
     switch (chance(6)) {
     case 0: return chance(3);
     case 1: return chance(20000);
@@ -17,11 +17,6 @@ uint32_t any_clock(void) {
     case 4: return HUNDRED_HOURS + chance(HUNDRED_HOURS);
     default: return chance(TIME_LIMIT + 1u);
     }
-}
-
-uint32_t any_coast(void) {
-    static const uint32_t edges[] = {2000000u, 7999999u, 2001234u};
-    return one_in(2) ? edges[chance(3)] : 2000000u + chance(6000000u);
 }
 
 /* From the clock to the clock plus the wait and 1. */
@@ -71,8 +66,8 @@ void draw_slot(uint32_t slot, enum phase phase) {
     struct slot next = {0};
     next.phase = phase;
     if (stores_request(phase))
-        next.request = any_stored(stage.ships[phase == PHASE_HOLD ? chance(MOST_SHIPS) : slot]);
-    if (phase == PHASE_ANSWERED)
+        next.request = any_stored(stage.ships[is_held(phase) ? chance(MOST_SHIPS) : slot]);
+    if (talks(phase))
         next.start = any_start();
     else if (has_slot_wait(phase))
         next.due = any_due(slot_wait(phase));
@@ -80,7 +75,7 @@ void draw_slot(uint32_t slot, enum phase phase) {
         next.carrier = CARRIER_ABSENT;
         next.carrier_due = any_due(next.request.first == DUPLEX ? DUPLEX_CARRIER_WAIT : SIMPLEX_CARRIER_WAIT);
     }
-    if (phase == PHASE_HOLD)
+    if (is_held(phase))
         next.duration = any_duration();
     stage.station.slots[slot] = next;
 }
@@ -117,51 +112,64 @@ static void choose_channels(uint32_t count) {
     }
 }
 
-static enum phase any_phase(bool with_free) {
-    static const enum phase phases[] = {PHASE_FREE, PHASE_FREE, PHASE_OFFERED, PHASE_OFFERED, PHASE_RING_BACK,
-        PHASE_RING_BACK_REPEATED, PHASE_ACKNOWLEDGED, PHASE_DIALLING, PHASE_DIALLING, PHASE_DIALLING, PHASE_ANSWERED,
-        PHASE_ANSWERED, PHASE_ANSWERED, PHASE_HOLD, PHASE_HOLD, PHASE_TAKEN};
-    return phases[with_free ? chance(16) : 2u + chance(14)];
+static bool is_busy(enum phase phase) {
+    return !is_free(phase);
+}
+
+static bool is_idle(enum phase phase) {
+    return !stores_request(phase);
+}
+
+static enum phase any_phase(void) {
+    return (enum phase)chance(PHASES);
 }
 
 enum phase draw_phase(bool (*wanted)(enum phase)) {
-    uint32_t phase = chance(PHASE_HOLD + 1u);
-    while (!wanted((enum phase)phase))
-        phase = chance(PHASE_HOLD + 1u);
-    return (enum phase)phase;
+    enum phase phase = any_phase();
+    while (!wanted(phase))
+        phase = any_phase();
+    return phase;
+}
+
+/* More of them with a call, in which the most can happen. */
+static enum phase usual_phase(bool with_free) {
+    return one_in(4) ? draw_phase(has_call) : with_free ? any_phase() : draw_phase(is_busy);
 }
 
 void draw_idle(void) {
     for (uint32_t i = 0; i < stage.station.channel_count; i++)
-        draw_slot(i, one_in(2) ? PHASE_FREE : PHASE_TAKEN);
+        draw_slot(i, draw_phase(is_idle));
     stage.station.waiting_count = 0;
 }
 
-void draw_station_of(uint32_t clock, uint32_t identity, uint32_t slots, uint32_t waiting) {
+void begin_station(void) {
     static const struct station blank = {0};
-    bool with_free = one_in(2);
     stage.station = blank;
-    stage.station.clock = clock;
-    stage.station.identity = identity;
+    stage.station.clock = any_clock();
+    stage.station.identity = any_coast();
+}
+
+void fill_station(uint32_t slots, uint32_t waiting) {
+    bool with_free = one_in(2);
     stage.lines_left = 0;
     due_now = one_in(8);
     together = 1u + chance(HOLD_WAIT + 1u);
     choose_ships();
     choose_channels(slots);
     for (uint32_t i = 0; i < slots; i++)
-        draw_slot(i, any_phase(with_free));
+        draw_slot(i, usual_phase(with_free));
     stage.station.waiting_count = waiting;
     for (uint32_t i = 0; i < waiting; i++)
         draw_waiting(i);
 }
 
-void draw_station(uint32_t clock, uint32_t identity) {
+void fill_as_usual(void) {
     uint32_t slots = one_in(12) ? MOST_SLOTS : 1u + chance(one_in(6) ? MOST_SLOTS : 4u);
     uint32_t waiting = one_in(12) ? MOST_WAITING : chance(one_in(6) ? MOST_WAITING : 4u);
-    draw_station_of(clock, identity, slots, waiting);
+    fill_station(slots, waiting);
 }
 
 void draw_any_station(void) {
-    uint32_t clock = any_clock(), identity = any_coast();
-    draw_station(clock, identity);
+    begin_station();
+    fill_as_usual();
 }

@@ -18,7 +18,7 @@ void play_odd(void) {
 
 struct event draw_event(void) {
     static const struct mood mood = {.weights = {[CALL] = 5, [AGAIN] = 4, [ANSWER] = 4, [LINE] = 4, [CARRIER] = 4, [END] = 4,
-        [TICK] = 6, [HAND] = 4, [STRAY] = 1, [LEAP] = 1}, .spoilt = 4};
+        [TIME] = 6, [HAND] = 4, [STRAY] = 1, [LEAP] = 1}, .spoilt = 4};
     make_move(&mood);
     if (one_in(24)) /* a slot's number whose low byte alone is one */
         kept.slot += 256u << (8u * chance(3));

@@ -3,7 +3,7 @@
 
 extern int printf(const char *, ...);
 
-enum part { WHOLE_AT_CLOCK, WHOLE_OF_IDENTITY, STATION, SLOT, WAITING, SHIP_TWICE, CHANNEL_TWICE };
+enum part { WHOLE_AT_CLOCK, WHOLE_OF_IDENTITY, HEAD, SLOT, WAITING, SHIP_TWICE, CHANNEL_TWICE };
 enum from { PLAINLY, FROM_CLOCK, FROM_IDENTITY };
 
 /* How the part is drawn before one of its fields is moved. */
@@ -44,10 +44,10 @@ static const struct field fields[] = {
      {1999999, 2000000, 7999999, 8000000, 200000000}},
     {"identity of an idle station", WHOLE_OF_IDENTITY, IDLE, ANY_PHASE, 0, 0, PLAINLY, 5,
      {1999999, 2000000, 7999999, 8000000, 200000000}},
-    {"clock", STATION, AS_DRAWN, ANY_PHASE, CLOCK_AT, 4, FROM_CLOCK, 2, {-1, 1}},
-    {"identity", STATION, AS_DRAWN, ANY_PHASE, IDENTITY_AT, 4, FROM_IDENTITY, 3, {-1, 0, 1}},
-    {"count of slots", STATION, FULL, ANY_PHASE, SLOT_COUNT_AT, 1, PLAINLY, 7, {0, 1, 15, 16, 17, 18, 255}},
-    {"count of waiting ships", STATION, FULL, ANY_PHASE, WAITING_COUNT_AT, 1, PLAINLY, 7, {0, 1, 31, 32, 33, 34, 255}},
+    {"clock", HEAD, AS_DRAWN, ANY_PHASE, CLOCK_AT, 4, FROM_CLOCK, 2, {-1, 1}},
+    {"identity", HEAD, AS_DRAWN, ANY_PHASE, IDENTITY_AT, 4, FROM_IDENTITY, 3, {-1, 0, 1}},
+    {"count of slots", HEAD, FULL, ANY_PHASE, SLOT_COUNT_AT, 1, PLAINLY, 7, {0, 1, 15, 16, 17, 18, 255}},
+    {"count of waiting ships", HEAD, FULL, ANY_PHASE, WAITING_COUNT_AT, 1, PLAINLY, 7, {0, 1, 31, 32, 33, 34, 255}},
     {"channel", SLOT, AS_DRAWN, ANY_PHASE, CHANNEL_AT, 4, PLAINLY, 20,
      {0, 1, 15, 16, 17, 28, 29, 59, 60, 69, 70, 71, 88, 89, 255, 256 + 26, 26 << 8, (1 << 16) + 26, (1 << 24) + 26,
       26 << 24}},
@@ -107,8 +107,6 @@ static void bring_to(enum state state, struct slot *slot, struct meaning *reques
 static size_t draw_part(const struct field *field) {
     struct station *station = &stage.station;
     uint32_t slot = chance(station->channel_count), place = chance(station->waiting_count);
-    if (field->state == FULL)
-        draw_station_of(station->clock, station->identity, MOST_SLOTS, MOST_WAITING);
     if (field->state == IDLE)
         draw_idle();
     if (field->part == SLOT) {
@@ -124,6 +122,19 @@ static size_t draw_part(const struct field *field) {
         return waiting_begins(place);
     }
     return 0;
+}
+
+/* Drawn with the value that is moved to, where all else goes by it. */
+static void draw_whole(const struct field *field, uint32_t value) {
+    begin_station();
+    if (field->part == WHOLE_AT_CLOCK)
+        stage.station.clock = value;
+    if (field->part == WHOLE_OF_IDENTITY)
+        stage.station.identity = value;
+    if (field->state == FULL)
+        fill_station(MOST_SLOTS, MOST_WAITING);
+    else
+        fill_as_usual();
 }
 
 /* ---- the move ---- */
@@ -148,8 +159,7 @@ void draw_moved(uint8_t *bytes) {
     last = chance(FIELDS);
     const struct field *field = &fields[last];
     uint32_t value = (uint32_t)field->values[chance(field->count)];
-    uint32_t clock = any_clock(), identity = any_coast();
-    draw_station(field->part == WHOLE_AT_CLOCK ? value : clock, field->part == WHOLE_OF_IDENTITY ? value : identity);
+    draw_whole(field, value);
     size_t begins = draw_part(field);
     value += field->from == FROM_CLOCK ? stage.station.clock : field->from == FROM_IDENTITY ? stage.station.identity : 0u;
     second_lay(bytes, &stage.station);
@@ -163,6 +173,14 @@ void draw_moved(uint8_t *bytes) {
 
 const char *field_moved(void) {
     return fields[last].name;
+}
+
+void tell_head(const uint8_t *bytes) {
+    printf(" ");
+    for (size_t i = 0; i < FIELDS; i++)
+        if (fields[i].part == HEAD)
+            printf(" %s %u", fields[i].name, (unsigned)number_at(bytes + fields[i].at, fields[i].width));
+    printf("\n");
 }
 
 void note_moved(bool sound) {

@@ -4,7 +4,6 @@
 #define STATIONS_H
 
 #include "../rehearsal/rehearsal.h"
-#include "../second/inside.h"
 #include "../second/layout.h"
 #include "../c/entries.h"
 
@@ -15,11 +14,10 @@ void put_number(uint8_t *bytes, uint32_t number, size_t width);
 uint32_t number_at(const uint8_t *bytes, size_t width);
 
 /* ---- drawn.c: sound stations that no run need reach, on the stage ---- */
-uint32_t any_clock(void);
-uint32_t any_coast(void);
 void draw_any_station(void);
-void draw_station(uint32_t clock, uint32_t identity);
-void draw_station_of(uint32_t clock, uint32_t identity, uint32_t slots, uint32_t waiting);
+void begin_station(void); /* no slots and ships yet: these are drawn for its clock, and call it */
+void fill_station(uint32_t slots, uint32_t waiting);
+void fill_as_usual(void);
 void draw_slot(uint32_t slot, enum phase phase);
 enum phase draw_phase(bool (*wanted)(enum phase));
 void draw_idle(void); /* no ship stands in the station, or waits */
@@ -28,6 +26,7 @@ void draw_waiting(uint32_t place);
 /* ---- moved.c: a sound station with one field moved to an edge of its rule ---- */
 void draw_moved(uint8_t *bytes);
 const char *field_moved(void);          /* of the one drawn last */
+void tell_head(const uint8_t *bytes);   /* the station's own fields, before its slots */
 void note_moved(bool sound);            /* what it turned out to be */
 bool each_field_moved(uint32_t enough); /* whether each field was both inside and outside so often */
 

@@ -56,7 +56,7 @@ void note_sound(uint64_t returned) {
 
 /* By include/coast.h; 11 to 20 behind a sequence only. */
 static bool may_answer(char letter, uint32_t answer) {
-    bool hand = letter == 'M' || letter == 'F', no_tick = takes_slot(letter) || takes_symbols(letter);
+    bool hand = is_by_hand(letter), no_tick = takes_slot(letter) || takes_symbols(letter);
     switch (answer) {
     case 0: return true;
     case 29: return letter != SET_UP_LETTER;

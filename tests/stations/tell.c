@@ -51,8 +51,7 @@ static void tell_slot(uint32_t slot, const uint8_t *bytes) {
 }
 
 static void tell_station(const uint8_t *bytes) {
-    printf("  clock %u, identity %u, %u slots, %u waiting\n", (unsigned)number_at(bytes + CLOCK_AT, 4),
-           (unsigned)number_at(bytes + IDENTITY_AT, 4), (unsigned)bytes[SLOT_COUNT_AT], (unsigned)bytes[WAITING_COUNT_AT]);
+    tell_head(bytes);
     for (uint32_t i = 0; i < bytes[SLOT_COUNT_AT] && i < MOST_SLOTS; i++)
         tell_slot(i, bytes + slot_begins(i));
     for (uint32_t i = 0; i < bytes[WAITING_COUNT_AT] && i < MOST_WAITING; i++) {

@@ -2,7 +2,7 @@
  * (30), untouched bytes, and the step of eight actions. */
 #include <stdio.h>
 #include <string.h>
-#include "station.h"
+#include "inside.h"
 
 static int failures;
 
@@ -189,21 +189,22 @@ static void try_soundness(void)
     s = busy(); s.slots[1].phase = (enum phase)9; unsound("no such phase", s);
 }
 
+/* Each wait, by the number that include/coast.h gives the phase. */
 static void try_phases(void)
 {
-    static const struct { enum phase phase; uint32_t wait; } each[] = {
-        {PHASE_OFFERED, 160}, {PHASE_RING_BACK, 50},
-        {PHASE_RING_BACK_REPEATED, 50}, {PHASE_ACKNOWLEDGED, 160},
-        {PHASE_DIALLING, 600}, {PHASE_HOLD, 40}};
-    for (size_t i = 0; i < sizeof each / sizeof each[0]; i++) {
+    static const uint32_t waits[PHASES] = {0, 160, 50, 50, 160, 600, 0, 40, 0};
+    for (size_t i = 0; i < PHASES; i++) {
         struct station s = busy();
-        s.slots[1].phase = each[i].phase;
+        enum phase phase = (enum phase)i;
+        if (waits[i] == 0u)
+            continue;
+        s.slots[1].phase = phase;
         s.slots[1].request = p1_meaning();
         s.slots[1].request.self = SHIP + 2;
-        s.slots[1].due = 1000 + each[i].wait + 1;
+        s.slots[1].due = 1000 + waits[i] + 1;
         want("due", second_is_sound(&s), 1);
         s.slots[1].request.self = SHIP;
-        want("ship in a slot too", second_is_sound(&s), each[i].phase == PHASE_HOLD);
+        want("ship in a slot too", second_is_sound(&s), is_held(phase));
         s.slots[1].request.self = SHIP + 2;
         s.slots[1].due++;
         unsound("due late", s);
@@ -212,7 +213,7 @@ static void try_phases(void)
         s.slots[1].due = 1000;
         s.slots[1].duration.kind = FIELD_DURATION;
         s.slots[1].duration.minutes = 60;
-        want("duration", second_is_sound(&s), each[i].phase != PHASE_HOLD);
+        want("duration", second_is_sound(&s), !is_held(phase));
     }
 }
 
