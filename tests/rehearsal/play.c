@@ -55,8 +55,8 @@ static size_t put_zeros(char *text, size_t length) {
 #define GIVES_on_slot_with_symbols event->slot, heard,
 
 static struct step follow(const struct event *event) {
-    static uint8_t bytes[ACTION_ROOM];
-    struct lent room = {bytes, ACTION_ROOM};
+    static struct room actions;
+    struct lent room = {actions.bytes, sizeof actions};
     struct heard heard = {event->symbols, event->count};
     struct station station = stage.station;
     switch (event->letter) {

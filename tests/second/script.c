@@ -29,7 +29,7 @@ struct command {
 struct desk {
     bool stands; /* a station stands */
     struct station station;
-    uint8_t room[ACTION_ROOM];
+    struct room room;
 };
 
 /* ---- reading a line ---- */
@@ -131,7 +131,7 @@ static struct step set_up(const struct command *command)
 static struct step sequence_event(struct desk *desk,
                                   const struct command *command)
 {
-    struct lent room = {desk->room, ACTION_ROOM};
+    struct lent room = {desk->room.bytes, sizeof desk->room};
     bool calling = command->letter == 'Q';
     size_t from = calling ? 1u : 2u;
     uint8_t symbols[NUMBERS_MOST];
@@ -148,7 +148,7 @@ static struct step sequence_event(struct desk *desk,
 static struct step timed_event(struct desk *desk,
                                const struct command *command)
 {
-    struct lent room = {desk->room, ACTION_ROOM};
+    struct lent room = {desk->room.bytes, sizeof desk->room};
     uint32_t time = command->numbers[0];
     uint32_t slot = command->letter == 'T' ? 0u : command->numbers[1];
     switch (command->letter) {
@@ -234,7 +234,7 @@ static void print_answer(const struct desk *desk, int answer,
     }
     putchar(NEW_LINE);
     for (uint32_t i = 0; i < actions; i++)
-        print_action(desk->room + i * ACTION_BYTES);
+        print_action(desk->room.bytes + i * ACTION_BYTES);
 }
 
 int main(void)

@@ -75,6 +75,11 @@ struct step {
     struct station station; /* after a refusal: the one handed in */
 };
 
+/* As much room as every event wants. */
+struct room {
+    uint8_t bytes[ACTION_ROOM];
+};
+
 /* Room lent for actions; a refusal leaves every byte of it. */
 struct lent {
     uint8_t *bytes;

@@ -84,7 +84,7 @@ static bool kept_to_its_answer(struct side *side, const struct call *call, const
 
 /* Beside 29 the due time counts only where the bytes were none of a station. */
 static bool same_returned(uint64_t a, uint64_t b, size_t size) {
-    bool unsound = (b & 255u) == NOT_SOUND && size == STATION_BYTES;
+    bool unsound = (b & 255u) == NOT_SOUND && size == station_ends();
     return unsound ? (a & 65535u) == (b & 65535u) : a == b;
 }
 

@@ -142,11 +142,11 @@ void draw_idle(void) {
     stage.station.waiting_count = 0;
 }
 
+/* Its channels are drawn with its slots. */
 void begin_station(void) {
-    static const struct station blank = {0};
-    stage.station = blank;
+    static const uint32_t channel = 26;
+    stage.station = second_set_up(any_coast(), &channel, 1).station;
     stage.station.clock = any_clock();
-    stage.station.identity = any_coast();
 }
 
 void fill_station(uint32_t slots, uint32_t waiting) {

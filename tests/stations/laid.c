@@ -9,6 +9,10 @@ size_t waiting_begins(uint32_t place) {
     return QUEUE_AT + (size_t)place * WAITING_BYTES;
 }
 
+size_t station_ends(void) {
+    return waiting_begins(MOST_WAITING);
+}
+
 void put_number(uint8_t *bytes, uint32_t number, size_t width) {
     for (size_t i = 0; i < width; i++)
         bytes[i] = (uint8_t)(number >> (8u * i) & 255u);

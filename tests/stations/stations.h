@@ -10,6 +10,7 @@
 /* ---- laid.c ---- */
 size_t slot_begins(uint32_t slot);
 size_t waiting_begins(uint32_t place);
+size_t station_ends(void);
 void put_number(uint8_t *bytes, uint32_t number, size_t width);
 uint32_t number_at(const uint8_t *bytes, size_t width);
 

@@ -74,12 +74,12 @@ static void tell_event(const struct event *event) {
 void tell_call(const struct call *call) {
     tell_event(call->event);
     printf("\n  a station of %u bytes, a room of %u\n", (unsigned)call->size, (unsigned)call->room_size);
-    if (call->size >= STATION_BYTES)
+    if (call->size >= station_ends())
         tell_station(call->station);
 }
 
 static void tell_place(size_t at) {
-    if (at < SLOTS_AT || at >= STATION_BYTES)
+    if (at < SLOTS_AT || at >= station_ends())
         printf("  station's byte %u", (unsigned)at);
     else if (at < QUEUE_AT)
         printf("  byte %u of slot %u", (unsigned)((at - SLOTS_AT) % SLOT_BYTES), (unsigned)((at - SLOTS_AT) / SLOT_BYTES));

@@ -10,7 +10,8 @@
 #define SLOT 10   /* where the first slot begins */
 #define QUEUE 730 /* and the first waiting ship */
 
-static uint8_t station[SIZE + 1u], wanted[SIZE + 1u], room[ACTION_ROOM];
+static uint8_t station[SIZE + 1u], wanted[SIZE + 1u];
+static struct room room;
 static int failures;
 
 extern const struct entries second; /* of ../stations/second.c */
@@ -40,7 +41,7 @@ static void want(const char *what, uint64_t got, uint64_t answer) {
             printf("  byte %zu: got %d, wanted %d\n", i, station[i], wanted[i]);
 }
 
-static const struct lent_bytes whole = {station, SIZE, room, ACTION_ROOM};
+static const struct lent_bytes whole = {station, SIZE, room.bytes, sizeof room};
 
 /* Hands in a line of a script, the symbols of a sequence behind it where there are any. */
 static uint64_t hand_in_line(const char *text, const uint8_t *symbols, const struct lent_bytes *lent) {
@@ -96,7 +97,8 @@ static void set_up(void) {
 }
 
 static void offer(void) {
-    static const struct lent_bytes small_room = {station, SIZE, room, ACTION_ROOM - 1u}, cut_off = {station, SIZE - 1u, room, ACTION_ROOM};
+    static const struct lent_bytes small_room = {station, SIZE, room.bytes, sizeof room - 1u};
+    static const struct lent_bytes cut_off = {station, SIZE - 1u, room.bytes, sizeof room};
     want_time(0, 100, 0);
     wanted[SLOT] = 1;
     want_time(SLOT + 1, 5, 1); /* 261 */
