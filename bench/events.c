@@ -12,8 +12,12 @@ static uint32_t count;
 
 extern const struct entries second; /* of tests/stations/second.c */
 
-static uint8_t station[COAST_STATION_SIZE], room[COAST_ACTIONS_SIZE];
-const struct lent_bytes lent = {station, sizeof station, room, sizeof room};
+const struct entries *entries_of(enum side side) {
+    return side == LIBRARY ? &library : &second;
+}
+
+static struct coast_lent whole;
+const struct lent_bytes lent = {whole.station, sizeof whole.station, whole.room, sizeof whole.room};
 
 bool record_events(void) {
     struct line line;
@@ -32,14 +36,14 @@ char letter_of(uint32_t event) {
 }
 
 uint64_t hand_in_one(enum side side, uint32_t event) {
-    return hand_in(side == LIBRARY ? &library : &second, &events[event], &lent);
+    return hand_in(entries_of(side), &events[event], &lent);
 }
 
 uint64_t hand_in_all(enum side side) {
     uint64_t sum = 0;
     for (uint32_t i = 0; i < count; i++) {
         sum += hand_in_one(side, i);
-        sum = sum * 3u + room[i % sizeof room] + station[i % sizeof station];
+        sum = sum * 3u + lent.room[i % lent.room_size] + lent.station[i % lent.size];
     }
     return sum;
 }

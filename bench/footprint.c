@@ -1,41 +1,40 @@
 /* What an event copies by calls of memcpy and memmove, and how deep each entry reaches into the stack: counted, not timed,
- * so the same in every run. */
+ * so the same in every run. Ends with 1 where the library reaches deeper than its header tells. */
 #include "bench.h"
+#include "../include/coast.h"
+#include "../tests/c/depth.h"
 
 extern int printf(const char *, ...);
 
-#define PAINT UINT64_C(0x5a5a5a5a5a5a5a5a)
-#define WORD sizeof(uint64_t)
-#define SPARED 256u     /* bytes next to the painter's own frame, left alone: no depth under this is told */
-#define PAINTED 131072u /* bytes below, looked at after the call */
+#ifdef __x86_64__
+#define MOST COAST_STACK_SIZE
+#else
+#define MOST UINT32_MAX /* the header tells of the archive alone */
+#endif
 
 static const char *const names[SIDES] = {[LIBRARY] = "library", [SECOND] = "second implementation"};
 
-/* Gives the place from which it painted downwards. A function that its caller calls next begins there too. */
-static __attribute__((noinline)) uintptr_t paint(void) {
-    uintptr_t top = (uintptr_t)__builtin_frame_address(0);
-    for (uintptr_t depth = SPARED; depth <= PAINTED; depth += WORD)
-        *(volatile uint64_t *)(top - depth) = PAINT;
-    return top;
-}
-
-static __attribute__((noinline)) unsigned touched_below(uintptr_t top) {
-    uintptr_t depth = PAINTED;
-    while (depth > SPARED && *(volatile uint64_t *)(top - depth) == PAINT)
-        depth -= WORD;
-    return (unsigned)depth;
-}
-
 static unsigned depth_of(work *all, enum side side) {
-    uintptr_t top = paint();
+    uintptr_t top = paint_stack();
     (void)all(side);
     return touched_below(top);
 }
 
 static unsigned depth_of_event(enum side side, uint32_t event) {
-    uintptr_t top = paint();
+    uintptr_t top = paint_stack();
     (void)hand_in_one(side, event);
     return touched_below(top);
+}
+
+static unsigned depth_of_next_due(enum side side) {
+    static const struct handed nothing;
+    uintptr_t top = paint_stack();
+    (void)call_entry(entries_of(side), NEXT_DUE_LETTER, &nothing, &lent);
+    return touched_below(top);
+}
+
+static unsigned more(unsigned a, unsigned b) {
+    return a > b ? a : b;
 }
 
 static void print_copies(enum side side) {
@@ -46,16 +45,22 @@ static void print_copies(enum side side) {
            (unsigned)(copies.bytes / event_count()));
 }
 
-static void print_depths(enum side side) {
+/* Gives the deepest of them all. */
+static unsigned print_depths(enum side side) {
     unsigned deepest[UINT8_MAX + 1u] = {0}; /* by the event's letter */
-    printf("stack in bytes, %s: read %u, write %u", names[side], depth_of(read_all, side), depth_of(write_all, side));
+    unsigned read = depth_of(read_all, side), written = depth_of(write_all, side), due = 0, all = more(read, written);
     for (uint32_t i = 0; i < event_count(); i++) {
-        unsigned depth = depth_of_event(side, i), *most = &deepest[(uint8_t)letter_of(i)];
-        *most = depth > *most ? depth : *most;
+        unsigned *most = &deepest[(uint8_t)letter_of(i)];
+        *most = more(*most, depth_of_event(side, i));
+        due = more(due, depth_of_next_due(side));
     }
-    for (const char *letter = event_letters; *letter != '\0'; letter++)
+    printf("stack in bytes, %s: read %u, write %u, next due time %u", names[side], read, written, due);
+    for (const char *letter = event_letters; *letter != '\0'; letter++) {
         printf(", %c %u", *letter, deepest[(uint8_t)*letter]);
+        all = more(all, deepest[(uint8_t)*letter]);
+    }
     printf("\n");
+    return more(all, due);
 }
 
 int main(void) {
@@ -64,7 +69,10 @@ int main(void) {
         return 1;
     for (enum side side = LIBRARY; side < SIDES; side++)
         print_copies(side);
-    for (enum side side = LIBRARY; side < SIDES; side++)
-        print_depths(side);
-    return 0;
+    unsigned deepest = print_depths(LIBRARY);
+    (void)print_depths(SECOND);
+    if (deepest <= MOST)
+        return 0;
+    printf("the library reaches %u bytes deep, and include/coast.h tells %u\n", deepest, (unsigned)MOST);
+    return 1;
 }

@@ -1,7 +1,7 @@
 /* How an event's time grows with what stands in the station: a tick with nothing due, which takes the station out of its
  * bytes, judges it and lays it again. */
 #include "bench.h"
-#include "../include/coast.h"
+#include "../include/coast_words.h"
 
 extern int printf(const char *, ...);
 extern int snprintf(char *, size_t, const char *, ...);
@@ -12,18 +12,11 @@ extern int snprintf(char *, size_t, const char *, ...);
 #define NOW 1u
 #define TICKS 1024u
 
-extern const struct entries second; /* of tests/stations/second.c */
-
-static void put_number(uint8_t *bytes, uint32_t number) {
-    for (uint32_t i = 0; i < 4u; i++)
-        bytes[i] = (uint8_t)(number >> (8u * i) & 255u);
-}
-
 /* A ship asks for a number ashore: it gets a slot while one is free, and waits otherwise. */
 static bool call_from(uint32_t ship) {
     uint8_t symbols[COAST_LONGEST_SEQUENCE], meaning[COAST_MEANING_SIZE] = {0};
-    put_number(meaning + COAST_AT_ADDRESS, COAST_IDENTITY);
-    put_number(meaning + COAST_AT_SENDER, ship);
+    coast_put_number(meaning + COAST_AT_ADDRESS, COAST_IDENTITY);
+    coast_put_number(meaning + COAST_AT_SENDER, ship);
     meaning[COAST_AT_FIRST] = 100;
     meaning[COAST_AT_SECOND] = 126;
     meaning[COAST_AT_DIGIT_COUNT] = 8;
@@ -43,7 +36,7 @@ static bool fill(uint32_t ships) {
 }
 
 static uint64_t tick_often(enum side side) {
-    const struct entries *entries = side == LIBRARY ? &library : &second;
+    const struct entries *entries = entries_of(side);
     uint64_t sum = 0;
     for (uint32_t i = 0; i < TICKS; i++)
         sum = sum * 3u + entries->tick(lent.station, lent.size, NOW, lent.room, lent.room_size);

@@ -1,5 +1,5 @@
 /* Lines of the feed to orders. What a ship sends is written by the library from its meaning. */
-#include "../include/coast.h"
+#include "../include/coast_words.h"
 #include "feed.h"
 
 extern int getchar(void);
@@ -99,11 +99,6 @@ static bool take_bytes(const char **at, struct order *order) {
 
 /* ---- what a ship sends ---- */
 
-static void put_number(uint8_t *bytes, uint32_t number) {
-    for (size_t i = 0; i < 4u; i++)
-        bytes[i] = (uint8_t)(number >> 8u * i & 255u);
-}
-
 static bool take_mode(const char **at, uint8_t *meaning) {
     uint8_t mode = 0;
     if (take_word(at, "simplex"))
@@ -157,8 +152,8 @@ static bool take_sequence(const char **at, const struct order *set_up, struct or
     uint32_t ship = 0;
     if (!take_whole(at, UINT32_MAX, &ship) || !take_saying(at, meaning) || !take_digits(at, meaning))
         return false;
-    put_number(meaning + COAST_AT_ADDRESS, set_up->number);
-    put_number(meaning + COAST_AT_SENDER, ship);
+    coast_put_number(meaning + COAST_AT_ADDRESS, set_up->number);
+    coast_put_number(meaning + COAST_AT_SENDER, ship);
     uint32_t returned = coast_write_sequence(meaning, sizeof meaning, order->bytes, sizeof order->bytes);
     order->count = coast_count(returned);
     return coast_answer(returned) == COAST_DONE;

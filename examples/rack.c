@@ -2,7 +2,7 @@
  *
  * Its clock is the feed's: a line happens at its time, and the timer rings in between. The library decides all else; the host
  * lends it bytes, does what the actions say (here: prints them), and sets its timer for the next due time. */
-#include "../include/coast.h"
+#include "../include/coast_words.h"
 #include "feed.h"
 #include "words.h"
 
@@ -13,15 +13,17 @@ extern int fflush(void *);
 #define CALLING_CHANNEL 70u
 
 struct rack {
-    uint8_t station[COAST_STATION_SIZE], actions[COAST_ACTIONS_SIZE];
+    struct coast_lent lent;
     struct order set_up; /* which the station followed: a channel for each slot, in their order */
     bool timer_runs;
     uint32_t timer; /* the time that it is set for */
     uint32_t late;  /* how much later it rings */
 };
 
+/* No wait that falls due past the last time ever fires. */
 static void set_timer(struct rack *rack, uint64_t returned) {
-    bool runs = coast_waits(returned), changed = runs != rack->timer_runs || coast_due(returned) != rack->timer;
+    bool runs = coast_waits(returned) && coast_due(returned) <= COAST_LAST_TIME;
+    bool changed = runs != rack->timer_runs || (runs && coast_due(returned) != rack->timer);
     rack->timer_runs = runs;
     rack->timer = coast_due(returned);
     if (changed && runs) {
@@ -37,21 +39,22 @@ static void set_timer(struct rack *rack, uint64_t returned) {
 static bool follow(struct rack *rack, uint64_t returned) {
     uint32_t answer = coast_answer(returned);
     if (answer > COAST_IGNORED) {
-        printf("    refused, %u: %s\n", (unsigned)answer, answer_in_words(answer));
+        printf("    refused, %u: %s\n", (unsigned)answer, coast_answer_words(answer));
         return false;
     }
     if (coast_count(returned) == 0u)
-        printf("    %s\n", answer_in_words(answer));
-    print_actions(rack->actions, coast_count(returned), rack->set_up.bytes);
+        printf("    %s\n", coast_answer_words(answer));
+    print_actions(rack->lent.room, coast_count(returned), rack->set_up.bytes);
     set_timer(rack, returned);
     return true;
 }
 
 /* Hands in ticks until nothing is due at this time; false where the station refuses one. */
 static bool tick(struct rack *rack, uint32_t time) {
+    struct coast_lent *lent = &rack->lent;
     bool accepted;
     do
-        accepted = follow(rack, coast_tick(rack->station, sizeof rack->station, time, rack->actions, sizeof rack->actions));
+        accepted = follow(rack, coast_tick(lent->station, sizeof lent->station, time, lent->room, sizeof lent->room));
     while (accepted && rack->timer_runs && rack->timer <= time);
     return accepted;
 }
@@ -77,8 +80,8 @@ static uint32_t slot_of(const struct rack *rack, uint32_t channel) {
 }
 
 static uint64_t hand_in(struct rack *rack, const struct order *order) {
-    uint8_t *station = rack->station, *room = rack->actions;
-    size_t size = sizeof rack->station, room_size = sizeof rack->actions;
+    uint8_t *station = rack->lent.station, *room = rack->lent.room;
+    size_t size = sizeof rack->lent.station, room_size = sizeof rack->lent.room;
     uint32_t slot = slot_of(rack, order->channel);
     if (order->kind == ON_SLOT)
         return order->event(station, size, order->time, slot, room, room_size);
@@ -98,7 +101,7 @@ static void happen(struct rack *rack, const struct order *order) {
 }
 
 static void set_up(struct rack *rack, const struct order *order) {
-    uint64_t returned = coast_set_up(order->number, order->bytes, order->count, rack->station, sizeof rack->station);
+    uint64_t returned = coast_set_up(order->number, order->bytes, order->count, rack->lent.station, sizeof rack->lent.station);
     if (follow(rack, returned))
         rack->set_up = *order;
 }

@@ -1,5 +1,5 @@
 /* What the library hands out, in words. */
-#include "../include/coast.h"
+#include "../include/coast_words.h"
 #include "words.h"
 
 extern int printf(const char *, ...);
@@ -10,28 +10,6 @@ extern int printf(const char *, ...);
 struct naming {
     uint32_t number;
     const char *words;
-};
-
-static const struct naming answers[] = {
-    {COAST_DONE, "done"},
-    {COAST_IGNORED, "ignored"},
-    {COAST_BAD_LENGTH, "not 21 to 28 symbols"},
-    {COAST_BAD_SYMBOL, "a symbol over 127"},
-    {COAST_BAD_CHECK, "the check differs"},
-    {COAST_BAD_FORMAT, "not the format of a call"},
-    {COAST_BAD_IDENTITIES, "not one ship and one coast station"},
-    {COAST_BAD_CATEGORY, "not the category of a call"},
-    {COAST_BAD_TELECOMMANDS, "telecommands that do not go together"},
-    {COAST_BAD_CHANNEL_FIELD, "a channel field that does not go with the telecommand"},
-    {COAST_BAD_NUMBER, "no number to dial"},
-    {COAST_BAD_END, "no end of sequence"},
-    {COAST_NOT_SOUND, "no station is set up"},
-    {COAST_TIME_TOO_LATE, "a time past the limit"},
-    {COAST_TIME_BEFORE_CLOCK, "a time before the station's clock"},
-    {COAST_WAIT_DUE, "a wait is due, the tick comes first"},
-    {COAST_NO_SLOT, "no slot has this channel"},
-    {COAST_OPERATOR, "a channel that is not free to take, or not taken"},
-    {COAST_BAD_SET_UP, "not a coast station with 1 to 16 working channels"},
 };
 
 static const struct naming telecommands[] = {
@@ -50,21 +28,8 @@ static const char *name_of(const struct naming *namings, size_t count, uint32_t 
     return "?";
 }
 
-const char *answer_in_words(uint32_t answer) {
-    return NAME_OF(answers, answer);
-}
-
 void print_time(uint32_t tenths) {
     printf("%u.%u", (unsigned)(tenths / 10u), (unsigned)(tenths % 10u));
-}
-
-static uint32_t number_at(const uint8_t *bytes) {
-    return bytes[0] | (uint32_t)bytes[1] << 8 | (uint32_t)bytes[2] << 16 | (uint32_t)bytes[3] << 24;
-}
-
-static void print_digits(const uint8_t *digits, size_t count) {
-    for (size_t i = 0; i < count; i++)
-        printf("%u", (unsigned)digits[i]);
 }
 
 static void print_field(const uint8_t *meaning) {
@@ -77,48 +42,46 @@ static void print_field(const uint8_t *meaning) {
 
 static void print_sequence(const uint8_t *symbols, size_t count) {
     uint8_t meaning[COAST_MEANING_SIZE];
+    char number[COAST_NUMBER_TEXT];
     if (coast_read_sequence(symbols, count, meaning, sizeof meaning) != COAST_DONE)
         return;
-    printf("send to %09u: %s", (unsigned)number_at(meaning + COAST_AT_ADDRESS),
+    printf("send to %09u: %s", (unsigned)coast_number_at(meaning + COAST_AT_ADDRESS),
            NAME_OF(telecommands, meaning[COAST_AT_FIRST]));
     if (meaning[COAST_AT_FIRST] == UNABLE)
         printf(", %s", NAME_OF(reasons, meaning[COAST_AT_SECOND]));
     print_field(meaning);
-    printf(", number ");
-    print_digits(meaning + COAST_AT_DIGITS, meaning[COAST_AT_DIGIT_COUNT]);
-    printf(" (%s)", NAME_OF(ends, meaning[COAST_AT_END]));
+    printf(", number %s (%s)", coast_digits_text(meaning + COAST_AT_DIGITS, meaning[COAST_AT_DIGIT_COUNT], number),
+           NAME_OF(ends, meaning[COAST_AT_END]));
 }
 
-static void print_charge(const uint8_t *payload) {
-    printf("charge %09u from ", (unsigned)number_at(payload));
-    print_time(number_at(payload + 4));
+static void print_charge(const uint8_t *action) {
+    printf(" %09u from ", (unsigned)coast_charge_ship(action));
+    print_time(coast_charge_start(action));
     printf(" to ");
-    print_time(number_at(payload + 8));
-    printf(": %u s", (unsigned)number_at(payload + 12));
+    print_time(coast_charge_stop(action));
+    printf(": %u s", (unsigned)coast_charge_seconds(action));
 }
 
 static void print_order(const uint8_t *action) {
-    const uint8_t *payload = action + COAST_AT_ACTION_PAYLOAD;
-    size_t length = action[COAST_AT_ACTION_LENGTH];
-    switch (action[COAST_AT_ACTION_KIND]) {
-    case COAST_CARRIER_ON: printf("carrier on"); break;
-    case COAST_CARRIER_OFF: printf("carrier off"); break;
-    case COAST_DIAL:
-        printf("dial ");
-        print_digits(payload, length);
-        break;
-    case COAST_RELEASE_LINE: printf("release the line"); break;
-    case COAST_CHARGE: print_charge(payload); break;
-    default: print_sequence(payload, length);
+    uint32_t kind = coast_action_kind(action);
+    char number[COAST_NUMBER_TEXT];
+    if (kind == COAST_SEND_CHANNEL_70 || kind == COAST_SEND_WORKING) {
+        print_sequence(coast_payload(action), coast_payload_length(action));
+        return;
     }
+    printf("%s", coast_action_words(kind));
+    if (kind == COAST_DIAL)
+        printf(" %s", coast_dialled(action, number));
+    if (kind == COAST_CHARGE)
+        print_charge(action);
 }
 
 void print_actions(const uint8_t *actions, size_t count, const uint8_t *channels) {
     for (size_t i = 0; i < count; i++) {
-        const uint8_t *action = actions + i * COAST_ACTION_SIZE;
+        const uint8_t *action = coast_action_at(actions, i);
         uint32_t channel = CALLING_CHANNEL;
-        if (action[COAST_AT_ACTION_KIND] != COAST_SEND_CHANNEL_70)
-            channel = channels[action[COAST_AT_ACTION_SLOT]];
+        if (coast_action_kind(action) != COAST_SEND_CHANNEL_70)
+            channel = channels[coast_action_slot(action)];
         printf("    channel %u: ", (unsigned)channel);
         print_order(action);
         printf("\n");

@@ -5,8 +5,6 @@
 #include <stddef.h>
 #include <stdint.h>
 
-const char *answer_in_words(uint32_t answer);
-
 /* Tenths, as seconds. */
 void print_time(uint32_t tenths);
 

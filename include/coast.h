@@ -1,10 +1,16 @@
 /* The coast station's library for C: the station with its events, and the reader and writer of one channel 70 sequence.
- * Link libexchange.a, built for x86-64.
+ * Link libexchange.a, built for x86-64. coast_words.h has helpers over this header: actions taken apart, answers in words.
  *
- * Every input has an answer: any bytes, any lengths. Nothing is allocated, and nothing is kept from one call to the next:
- * a station lives in bytes that the host lends, and any thread may call at any time with bytes of its own. A pointer must
- * be good for the count of bytes given after it, and may be null where that count is 0. The bytes that are read and the
- * bytes that are written, and two that are written, must not overlap. */
+ * All memory is the host's, lent for one call: a station's bytes, and a room, bytes for the library to write in, one for the
+ * symbols of a sequence or one for the actions of an event. A pointer must be good for the count of bytes given after it, and
+ * may be null where that count is 0. What is read and what is written, and two things that are written, must not overlap.
+ *
+ * Every input has an answer: any bytes, any lengths. 0 and 1 accept; every other answer is a refusal, after which all lent
+ * bytes are as they were.
+ *
+ * What the library needs: memcpy, memmove and memset, and COAST_STACK_SIZE bytes of stack. It calls nothing else, allocates
+ * nothing and keeps nothing from one call to the next. So any number of threads may call at once, each with bytes of its own; a
+ * station is one thread's at a time. */
 #ifndef COAST_H
 #define COAST_H
 
@@ -14,6 +20,9 @@
 #ifdef __cplusplus
 extern "C" {
 #endif
+
+/* The deepest that any entry reaches into the stack, as measured. */
+#define COAST_STACK_SIZE 12800
 
 /* A sequence has 21 to 28 symbols, one a byte. */
 #define COAST_SHORTEST_SEQUENCE 21
@@ -37,7 +46,12 @@ extern "C" {
 #define COAST_FIELD_CHANNEL 1     /* with 100, 101, 106; bytes: channel 1 to 28 or 60 to 88, not 16 or 70; then 0, 0 */
 #define COAST_FIELD_DURATION 2    /* with 105; bytes: hours 0 to 99, minutes 0 to 59, seconds 0 to 59 */
 
-/* Answers. Where several would fit, the entries below say which is given. */
+/* Answers. Where several would fit, the entries below say which is given.
+ *
+ * What a host does after those that have to do with time:
+ *   31  The event is past the end of time, and so is all that follows: see COAST_LAST_TIME.
+ *   32  The event came too late, or the host's clock went back. Hand it in once more at the latest time that was accepted.
+ *   33  The host's timer is late. Hand in ticks at the event's time, as coast_tick tells, and then the event once more. */
 #define COAST_DONE 0
 #define COAST_IGNORED 1            /* an event that does nothing but move the clock on */
 #define COAST_BAD_LENGTH 11        /* fewer than 21 symbols, or more than 28 */
@@ -50,21 +64,25 @@ extern "C" {
 #define COAST_BAD_CHANNEL_FIELD 18 /* the channel field does not go with the first telecommand */
 #define COAST_BAD_NUMBER 19        /* not 1 to 16 digits 0 to 9, or marked odd for even, or not 0 past the count */
 #define COAST_BAD_END 20           /* the end of sequence is not 117, 122 or 127 */
-#define COAST_ROOM_SHORT 21        /* the room to write a sequence in is under 28 bytes */
+#define COAST_ROOM_SHORT 21        /* the room for a sequence is under 28 bytes */
 #define COAST_MEANING_SHORT 22     /* the meaning's bytes are fewer than 32 */
 #define COAST_WRONG_SIZE 23        /* the bytes to set a station up in are not 1722 */
 #define COAST_NOT_SOUND 29         /* the station handed in is not sound, or its bytes are not 1722 */
 #define COAST_ACTIONS_SHORT 30     /* the room for actions is under 320 bytes */
 #define COAST_TIME_TOO_LATE 31     /* the time is over 4,000,000,000 */
 #define COAST_TIME_BEFORE_CLOCK 32 /* the time is before the station's clock */
-#define COAST_WAIT_DUE 33          /* a wait is due by this time, and the event is no tick: hand in ticks first */
+#define COAST_WAIT_DUE 33          /* a wait is due by this time, and the event is no tick */
 #define COAST_NO_SLOT 34           /* there is no slot of this number */
 #define COAST_OPERATOR 35          /* takes a slot that is not free, or gives back one that is not taken */
 #define COAST_BAD_SET_UP 36        /* not a coast station's identity, or not 1 to 16 different working channels */
 
+/* Times are in tenths of a second from the set-up on, up to this one: twelve years and eight months. A host that is to run
+ * for longer sets its station up anew before then, at an hour without calls, and counts its time from 0 again. */
+#define COAST_LAST_TIME 4000000000u
+
 /* Reads the sequence of `count` symbols into the `size` bytes at `meaning`.
  * Returns 0 and fills the first 32 of those bytes; or returns the first of 22, 11, 12, 13, 14, 15, 16, 17, 18, 19, 20
- * that fits, in this order, and leaves every byte as it was. Bytes after the first 32 are never touched.
+ * that fits, in this order. Bytes after the first 32 are never touched.
  * Proved of this and the next: what was written is read back to the same 32 bytes, every one of them; what was read is
  * written to the same symbols; two different meanings never give one sequence, nor two different sequences one meaning. */
 uint32_t coast_read_sequence(const uint8_t *symbols, size_t count, uint8_t *meaning, size_t size);
@@ -74,14 +92,13 @@ uint32_t coast_read_sequence(const uint8_t *symbols, size_t count, uint8_t *mean
  * Returns an answer and a count in one number: coast_answer and coast_count take them apart. The answer is 0 and the
  * count, 21 to 28, is that of the symbols written at the front of the room; or the answer is the first of 21, 22, 15, 17,
  * 18, 19, 20 that fits, in this order, and the count is 0. (18 is given too for a kind of field over 2, and for a byte of
- * the field that its kind does not use and that is not 0.) Bytes of the room after the sequence, and all of them beside a
- * refusal, stay as they were. The room must have 28 bytes even where the sequence is shorter. */
+ * the field that its kind does not use and that is not 0.) Bytes of the room after the sequence stay as they were. The room
+ * must have 28 bytes even where the sequence is shorter. */
 uint32_t coast_write_sequence(const uint8_t *meaning, size_t size, uint8_t *room, size_t room_size);
 
 /* A station lives in 1722 bytes that the host lends; nobody but the library needs to look inside. Numbers stand low byte
- * first. `coast_set_up` fills them, and every event that is answered 0 or 1 leaves the next station there; beside any other
- * answer not a byte changes. They may be copied, kept and handed in again, at any place. Bytes that the library did not
- * leave are judged like any others.
+ * first. `coast_set_up` fills them, and every event that is answered 0 or 1 leaves the next station there. They may be copied,
+ * kept and handed in again, at any place. Bytes that the library did not leave are judged like any others.
  *
  *    0  4  clock, in tenths of a second          in each slot:
  *    4  4  the station's identity                   0  1  phase: 0 free, 1 offered, 2 ring-back, 3 ring-back repeated,
@@ -109,14 +126,20 @@ uint32_t coast_write_sequence(const uint8_t *meaning, size_t size, uint8_t *room
  * All that the library leaves is sound. */
 #define COAST_STATION_SIZE 1722
 
-/* Actions: an event lays at most eight at the front of the lent room, in the order in which they are to be done; coast_count
- * of what it returned says how many. The room must have 320 bytes even where there are fewer. */
+/* Actions: an event lays at most eight at the front of its room, in the order in which they are to be done; coast_count of
+ * what it returned says how many. The room must have 320 bytes even where there are fewer. */
 #define COAST_ACTIONS_SIZE 320
 #define COAST_ACTION_SIZE 40
 #define COAST_AT_ACTION_KIND 0     /* one of the seven kinds below */
 #define COAST_AT_ACTION_SLOT 1     /* the slot's number, or 255 in an answer that gives no slot */
 #define COAST_AT_ACTION_LENGTH 2   /* count of the payload's bytes */
 #define COAST_AT_ACTION_PAYLOAD 4  /* the payload, at most 36 bytes; zeros behind it, and at byte 3 */
+
+/* What a host lends for one station, in one piece; it may as well lend the two from different places. */
+struct coast_lent {
+    uint8_t station[COAST_STATION_SIZE];
+    uint8_t room[COAST_ACTIONS_SIZE];
+};
 
 #define COAST_CARRIER_ON 1
 #define COAST_CARRIER_OFF 2
@@ -129,21 +152,22 @@ uint32_t coast_write_sequence(const uint8_t *meaning, size_t size, uint8_t *room
 /* What the entries below return is one number: coast_answer, coast_count, coast_waits and coast_due take it apart.
  *
  * Sets a station up in the `size` bytes at `station`, with a slot for each of the `count` channels, one a byte: slot 0
- * for the first, and so on; all slots free, the clock at 0. Answers 0; or 23 where the size is not 1722, or else 36, and no byte
- * changes. */
+ * for the first, and so on; all slots free, the clock at 0. Answers 0; or 23 where the size is not 1722, or else 36. */
 uint64_t coast_set_up(uint32_t identity, const uint8_t *channels, size_t count, uint8_t *station, size_t size);
 
-/* When the station must be handed a tick, at the latest: coast_waits and coast_due of what is returned. Answers 0, or 29. */
+/* When the station must be handed a tick, at the latest: coast_waits and coast_due of what is returned. Answers 0, or 29.
+ * Every event tells the same of the station that it leaves; this entry is for a station that was kept or copied. */
 uint64_t coast_next_due(const uint8_t *station, size_t size);
 
-/* The events, each at a time in tenths of a second. Each answers 0 (done) or 1 (ignored), leaves the next station in
- * place of the one that came in, and its actions at the front of the room; bytes behind the last action stay. Or it
- * answers the first that fits of those told below, in the order told; then the count is 0, and not a byte of the station
- * or of the room changes. coast_waits and coast_due tell the next due time of the station as it then stands; beside 29
- * they mean nothing. */
+/* The events, each at a time. Each answers 0 (done) or 1 (ignored), leaves the next station in place of the one that came in,
+ * and its actions at the front of the room; bytes behind the last action stay. Or it refuses with the first that fits of the
+ * answers told below, in the order told; then the count is 0. coast_waits and coast_due tell the next due time of the station
+ * as it then stands, after a refusal too; only with 29 they mean nothing. */
 
-/* The time has come: the earliest wait that is due fires, one a call, at its own due time; with none due the clock moves
- * on. Hand in ticks until coast_waits is 0 or coast_due is past the time. Answers 0; or 29, 30, 31, 32. */
+/* The time has come: the earliest wait that is due fires, one a call, at its own due time; with none due the clock moves on.
+ * A host sets its timer for coast_due while coast_waits is 1, and when it rings hands in a tick; after each that is answered 0
+ * another at the same time while coast_waits is 1 and coast_due is not past that time. After any other answer it stops: a wait
+ * whose due time is past COAST_LAST_TIME never fires, and needs no timer. Answers 0; or 29, 30, 31, 32. */
 uint64_t coast_tick(uint8_t *station, size_t size, uint32_t time, uint8_t *room, size_t room_size);
 
 /* A sequence was heard on channel 70. Answers 0, 1; or 29, 30, 31, 32, 33, 11 to 20. */
@@ -189,5 +213,16 @@ static inline uint32_t coast_due(uint64_t returned) {
 #ifdef __cplusplus
 }
 #endif
+
+/* Sizes that belong together. */
+#if defined(__cplusplus)
+#define COAST_HOLDS(claim) static_assert(claim, #claim)
+#else
+#define COAST_HOLDS(claim) _Static_assert(claim, #claim)
+#endif
+COAST_HOLDS(COAST_ACTIONS_SIZE == 8 * COAST_ACTION_SIZE);
+COAST_HOLDS(COAST_AT_ACTION_PAYLOAD + COAST_LONGEST_SEQUENCE <= COAST_ACTION_SIZE);
+COAST_HOLDS(COAST_AT_DIGITS + 16 == COAST_MEANING_SIZE);
+#undef COAST_HOLDS
 
 #endif

@@ -1,17 +1,23 @@
-/* Uses all of include/coast.h, twice included, in words that are C11 and C++17 alike: what tests/header compiles. It writes
- * computed.h, the sizes and places that the definitions come to. The types of the station's entries are held by library.c. */
+/* Uses all of include/coast.h and of coast_words.h, twice included, in words that are C11 and C++17 alike: what tests/header
+ * compiles. It writes computed.h, the sizes and places that the definitions come to. The types of the station's entries are
+ * held by library.c. */
 #include "coast.h"
+#include "coast_words.h"
 #include "coast.h"
+#include "coast_words.h"
 #include "computed.h"
 
 #if COAST_SHORTEST_SEQUENCE != 21 || COAST_LONGEST_SEQUENCE != 28 || COAST_MEANING_SIZE != MEANING_SIZE || \
-    COAST_STATION_SIZE != STATION_SIZE || COAST_ACTIONS_SIZE != 8 * COAST_ACTION_SIZE || COAST_ACTION_SIZE != 40
+    COAST_STATION_SIZE != STATION_SIZE || COAST_ACTION_SIZE != 40
 #error "a size is wrong"
 #endif
 #if COAST_AT_ADDRESS != ADDRESS || COAST_AT_SENDER != SENDER || COAST_AT_FIRST != FIRST || COAST_AT_SECOND != SECOND || \
     COAST_AT_FIELD_KIND != FIELD_KIND || COAST_AT_FIELD != FIELD || COAST_AT_DIGIT_COUNT != DIGIT_COUNT || \
     COAST_AT_END != END || COAST_AT_DIGITS != DIGITS
 #error "a place in the meaning is wrong"
+#endif
+#if COAST_LAST_TIME != 4000000000u
+#error "the limit of time is wrong"
 #endif
 #if COAST_FIELD_BLANK != 0 || COAST_FIELD_CHANNEL != 1 || COAST_FIELD_DURATION != 2
 #error "a kind of field is wrong"
@@ -39,11 +45,23 @@ struct others {
     size_t (*count)(uint64_t returned);
     int (*waits)(uint64_t returned);
     uint32_t (*due)(uint64_t returned);
+    uint32_t (*number_at)(const uint8_t *bytes);
+    void (*put_number)(uint8_t *bytes, uint32_t number);
+    const uint8_t *(*action_at)(const uint8_t *room, size_t place);
+    uint32_t (*of_action[6])(const uint8_t *action);
+    size_t (*length)(const uint8_t *action);
+    const uint8_t *(*payload)(const uint8_t *action);
+    char *(*text)(const uint8_t *digits, size_t count, char *text);
+    char *(*dialled)(const uint8_t *action, char *text);
+    const char *(*words[2])(uint32_t number);
 };
 
 /* Refused by the compiler where one has another type. */
 extern const struct others others;
-const struct others others = {coast_read_sequence, coast_write_sequence, coast_answer, coast_count, coast_waits, coast_due};
+const struct others others = {coast_read_sequence, coast_write_sequence, coast_answer, coast_count, coast_waits, coast_due,
+    coast_number_at, coast_put_number, coast_action_at,
+    {coast_action_kind, coast_action_slot, coast_charge_ship, coast_charge_start, coast_charge_stop, coast_charge_seconds},
+    coast_payload_length, coast_payload, coast_digits_text, coast_dialled, {coast_answer_words, coast_action_words}};
 
 int main(void) {
     uint8_t meaning[COAST_MEANING_SIZE] = {0}, room[COAST_LONGEST_SEQUENCE] = {0};

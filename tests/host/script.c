@@ -1,6 +1,6 @@
 /* The script program once more, as a host in C: each line goes through the library's entries with lent bytes. It prints what
  * document 01 says, and ends with 1 where the library touches what it may not. */
-#include "../../include/coast.h"
+#include "../../include/coast_words.h"
 #include "event.h"
 #include "lent.h"
 
@@ -15,26 +15,22 @@ extern void *memcpy(void *, const void *, size_t);
 static uint8_t *station;
 static bool stands;
 
-static uint32_t number_at(const uint8_t *bytes) {
-    return bytes[0] | (uint32_t)bytes[1] << 8 | (uint32_t)bytes[2] << 16 | (uint32_t)bytes[3] << 24;
-}
-
 static void print_action(const uint8_t *action) {
-    printf("%u %u", (unsigned)action[COAST_AT_ACTION_KIND], (unsigned)action[COAST_AT_ACTION_SLOT]);
-    for (size_t i = 0; i < action[COAST_AT_ACTION_LENGTH]; i++)
-        printf(" %u", (unsigned)action[COAST_AT_ACTION_PAYLOAD + i]);
+    printf("%u %u", (unsigned)coast_action_kind(action), (unsigned)coast_action_slot(action));
+    for (size_t i = 0; i < coast_payload_length(action); i++)
+        printf(" %u", (unsigned)coast_payload(action)[i]);
     printf("\n");
 }
 
 static void print_answer(uint32_t answer, size_t count, const uint8_t *actions) {
     uint64_t due = stands ? coast_next_due(station, COAST_STATION_SIZE) : 0u;
-    printf("%u %u %u", (unsigned)answer, stands ? (unsigned)number_at(station) : 0u, (unsigned)count);
+    printf("%u %u %u", (unsigned)answer, stands ? (unsigned)coast_number_at(station) : 0u, (unsigned)count);
     if (coast_waits(due))
         printf(" %u\n", (unsigned)coast_due(due));
     else
         printf(" -\n");
     for (size_t i = 0; i < count; i++)
-        print_action(actions + i * COAST_ACTION_SIZE);
+        print_action(coast_action_at(actions, i));
 }
 
 /* Whether what an entry returned tells of the station as it now stands, as coast_next_due does. */

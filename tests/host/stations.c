@@ -1,5 +1,5 @@
 /* The station's entries, called as a host calls them and as it should not. */
-#include "../../include/coast.h"
+#include "../../include/coast_words.h"
 #include "../c/checked.h"
 #include "checks.h"
 #include "event.h"
@@ -97,6 +97,35 @@ static void try_action(void) {
     want_true("the actions' bytes", equal(own.room, wanted, sizeof wanted));
 }
 
+/* The dial and the charge of the course, by the helpers of coast_words.h. */
+static void try_taken_apart(void) {
+    struct own dialling = after(3), ended = after(10);
+    char text[COAST_NUMBER_TEXT];
+    want("the dial's kind", coast_action_kind(dialling.room), COAST_DIAL);
+    want_true("the number dialled", equal((const uint8_t *)coast_dialled(dialling.room, text), (const uint8_t *)"5551234", 8));
+    want("the charge's kind", coast_action_kind(ended.room), COAST_CHARGE);
+    want("the charge's slot", coast_action_slot(ended.room), 0);
+    want("the ship charged", coast_charge_ship(ended.room), 200056789);
+    want("charged from", coast_charge_start(ended.room), 720);
+    want("charged to", coast_charge_stop(ended.room), 4829);
+    want("seconds charged", coast_charge_seconds(ended.room), 410);
+    want("then the line", coast_action_kind(coast_action_at(ended.room, 1)), COAST_RELEASE_LINE);
+    coast_put_number(ended.station, 4000000000u);
+    want("a number put", coast_number_at(ended.station), 4000000000u);
+}
+
+/* The words of the answers and of the kinds of action: some for each, and none twice. */
+static void want_words(const char *(*words)(uint32_t), uint32_t most, uint32_t known) {
+    uint32_t count = 0;
+    for (uint32_t i = 0; i <= most; i++) {
+        bool new = words(i) != words(most);
+        for (uint32_t j = 0; j < i; j++)
+            new = new && words(i) != words(j);
+        count += new ? 1u : 0u;
+    }
+    want("numbers that have words", count, known);
+}
+
 /* These bytes of a station, cut off or with more behind them, must get this refusal and stay as they are. */
 static void want_refused(const char *what, const char *line, const uint8_t *bytes, size_t size, size_t room_size,
                          uint32_t wanted) {
@@ -185,6 +214,21 @@ static void want_same(const char *what, const struct own *a, const struct own *b
     want_true(what, equal(a->station, b->station, sizeof a->station) && equal(a->room, b->room, sizeof a->room));
 }
 
+/* What coast.h tells a host to do after 33 and after 32, and at the end of time. */
+static void try_advice(void) {
+    struct own late = after(1), last = after(0);
+    want("a late event", coast_answer(hand_in_own(&late, "U 300 0")), COAST_WAIT_DUE);
+    want_due("the ticks before it", hand_in_own(&late, "T 300"), NONE);
+    want("the event once more", coast_answer(hand_in_own(&late, "U 300 0")), COAST_IGNORED);
+    want("an event of before", coast_answer(hand_in_own(&late, "U 299 0")), COAST_TIME_BEFORE_CLOCK);
+    want("at the latest time", coast_answer(hand_in_own(&late, "U 300 0")), COAST_IGNORED);
+    hand_in_own(&last, "Q 3999999990 P1");
+    uint64_t returned = hand_in_own(&last, "T 4000000000");
+    want("the last time", coast_answer(returned), COAST_DONE);
+    want_true("a wait that never fires", coast_waits(returned) && coast_due(returned) > COAST_LAST_TIME);
+    want("its due time", coast_answer(hand_in_own(&last, "T 4000000151")), COAST_TIME_TOO_LATE);
+}
+
 /* Two stations, one some steps behind the other, each as it is alone; and a copy goes on as the first one does. */
 static void try_side_by_side(void) {
     for (size_t behind = 0; behind < STEPS; behind++) {
@@ -216,10 +260,14 @@ void try_stations(void) {
     try_course(false);
     try_course(true);
     try_action();
+    try_taken_apart();
+    want_words(coast_answer_words, 255, 23);
+    want_words(coast_action_words, 255, 7);
     try_sizes();
     try_refusals();
     try_bad_set_ups();
     try_unsound();
+    try_advice();
     try_side_by_side();
     try_unused_bytes();
 }

@@ -1,0 +1,113 @@
+/* Small helpers over coast.h, for a host in C or C++: numbers in lent bytes, an action taken apart, answers and actions in
+ * words. Each is a line or two of C; what is right or wrong the library alone decides. */
+#ifndef COAST_WORDS_H
+#define COAST_WORDS_H
+
+#include "coast.h"
+
+/* A number in four bytes, the low byte first: so identities, times and seconds stand in lent bytes. */
+static inline uint32_t coast_number_at(const uint8_t *bytes) {
+    return bytes[0] | (uint32_t)bytes[1] << 8 | (uint32_t)bytes[2] << 16 | (uint32_t)bytes[3] << 24;
+}
+
+static inline void coast_put_number(uint8_t *bytes, uint32_t number) {
+    for (int i = 0; i < 4; i++)
+        bytes[i] = (uint8_t)(number >> 8 * i & 255u);
+}
+
+/* The action at this place of the room, from 0 to one less than coast_count; and its parts. */
+static inline const uint8_t *coast_action_at(const uint8_t *room, size_t place) {
+    return room + place * COAST_ACTION_SIZE;
+}
+
+static inline uint32_t coast_action_kind(const uint8_t *action) {
+    return action[COAST_AT_ACTION_KIND];
+}
+
+static inline uint32_t coast_action_slot(const uint8_t *action) {
+    return action[COAST_AT_ACTION_SLOT];
+}
+
+static inline size_t coast_payload_length(const uint8_t *action) {
+    return action[COAST_AT_ACTION_LENGTH];
+}
+
+static inline const uint8_t *coast_payload(const uint8_t *action) {
+    return action + COAST_AT_ACTION_PAYLOAD;
+}
+
+/* Of a charge: the ship that pays, when the call was answered and when it stopped, in tenths, and the seconds charged. */
+static inline uint32_t coast_charge_ship(const uint8_t *action) {
+    return coast_number_at(coast_payload(action));
+}
+
+static inline uint32_t coast_charge_start(const uint8_t *action) {
+    return coast_number_at(coast_payload(action) + 4);
+}
+
+static inline uint32_t coast_charge_stop(const uint8_t *action) {
+    return coast_number_at(coast_payload(action) + 8);
+}
+
+static inline uint32_t coast_charge_seconds(const uint8_t *action) {
+    return coast_number_at(coast_payload(action) + 12);
+}
+
+/* Digits, one a byte as a meaning and a dial action have them, as text with a final 0; `text` has room for one more than there
+ * are digits. Returns `text`. */
+#define COAST_NUMBER_TEXT 17 /* enough for any number to dial */
+static inline char *coast_digits_text(const uint8_t *digits, size_t count, char *text) {
+    for (size_t i = 0; i < count; i++)
+        text[i] = (char)('0' + digits[i]);
+    text[count] = '\0';
+    return text;
+}
+
+/* The number that a dial action dials, as text in COAST_NUMBER_TEXT characters. */
+static inline char *coast_dialled(const uint8_t *action, char *text) {
+    return coast_digits_text(coast_payload(action), coast_payload_length(action), text);
+}
+
+static inline const char *coast_answer_words(uint32_t answer) {
+    switch (answer) {
+    case COAST_DONE: return "done";
+    case COAST_IGNORED: return "ignored";
+    case COAST_BAD_LENGTH: return "not 21 to 28 symbols";
+    case COAST_BAD_SYMBOL: return "a symbol over 127";
+    case COAST_BAD_CHECK: return "the check differs";
+    case COAST_BAD_FORMAT: return "not the format of a call";
+    case COAST_BAD_IDENTITIES: return "not one ship and one coast station";
+    case COAST_BAD_CATEGORY: return "not the category of a call";
+    case COAST_BAD_TELECOMMANDS: return "telecommands that do not go together";
+    case COAST_BAD_CHANNEL_FIELD: return "a channel field that does not go with the telecommand";
+    case COAST_BAD_NUMBER: return "no number to dial";
+    case COAST_BAD_END: return "no end of sequence";
+    case COAST_ROOM_SHORT: return "too little room for a sequence";
+    case COAST_MEANING_SHORT: return "too few bytes for a meaning";
+    case COAST_WRONG_SIZE: return "not the size of a station";
+    case COAST_NOT_SOUND: return "not a sound station";
+    case COAST_ACTIONS_SHORT: return "too little room for actions";
+    case COAST_TIME_TOO_LATE: return "a time past the limit";
+    case COAST_TIME_BEFORE_CLOCK: return "a time before the station's clock";
+    case COAST_WAIT_DUE: return "a wait is due, the tick comes first";
+    case COAST_NO_SLOT: return "no such slot";
+    case COAST_OPERATOR: return "a slot that is not free to take, or not taken";
+    case COAST_BAD_SET_UP: return "not a coast station with 1 to 16 working channels";
+    default: return "no answer of the library";
+    }
+}
+
+static inline const char *coast_action_words(uint32_t kind) {
+    switch (kind) {
+    case COAST_CARRIER_ON: return "carrier on";
+    case COAST_CARRIER_OFF: return "carrier off";
+    case COAST_SEND_CHANNEL_70: return "send on channel 70";
+    case COAST_SEND_WORKING: return "send on the working channel";
+    case COAST_DIAL: return "dial";
+    case COAST_RELEASE_LINE: return "release the line";
+    case COAST_CHARGE: return "charge";
+    default: return "no action of the library";
+    }
+}
+
+#endif
