@@ -1,0 +1,63 @@
+// A host in C++17: sets a station up, hands in each event once, reads a sequence and writes it again.
+#include "../../include/coast_words.h"
+#include "../c/checked.h"
+#include "../c/entries.c"
+#include "../c/library.c"
+
+extern "C" int printf(const char *, ...);
+extern "C" int memcmp(const void *, const void *, size_t);
+
+namespace {
+
+class Rack {
+public:
+    uint64_t set_up(uint32_t coast, uint8_t channel) { return call(SET_UP_LETTER, {0, coast, &channel, 1}); }
+
+    // On slot 0, with document 01's request P1.
+    uint64_t happens(char letter, uint32_t time) { return call(letter, {time, 0, checked[0], CHECKED_LENGTH}); }
+
+    uint64_t next_due() { return call(NEXT_DUE_LETTER, {}); }
+
+    const uint8_t *action(size_t place) const { return coast_action_at(lent.room, place); }
+
+private:
+    uint64_t call(char letter, const handed &what) {
+        const lent_bytes bytes = {lent.station, sizeof lent.station, lent.room, sizeof lent.room};
+        return call_entry(&library, letter, &what, &bytes);
+    }
+
+    coast_lent lent = {};
+};
+
+// P1 is offered the channel, nobody else is waited for, and the operator finds the slot not free.
+bool plays_events() {
+    static const char letters[] = {EVENTS(EVENT_LETTER)};
+    Rack rack;
+    uint32_t time = 100;
+    bool good = coast_answer(rack.set_up(2001234, 26)) == COAST_DONE;
+    for (char letter : letters) {
+        const uint32_t answer = coast_answer(rack.happens(letter, time++));
+        good = good && (is_by_hand(letter) ? answer == COAST_OPERATOR : answer <= COAST_IGNORED);
+    }
+    const uint64_t due = rack.next_due();
+    printf("cpp_host: %s, %s\n", coast_action_words(coast_action_kind(rack.action(0))),
+           coast_action_words(coast_action_kind(rack.action(1))));
+    return good && coast_waits(due) && coast_due(due) == 261 && coast_action_kind(rack.action(1)) == COAST_SEND_CHANNEL_70;
+}
+
+bool reads_and_writes() {
+    uint8_t meaning[COAST_MEANING_SIZE], symbols[COAST_LONGEST_SEQUENCE];
+    char number[COAST_NUMBER_TEXT];
+    const uint32_t read = coast_read_sequence(checked[0], CHECKED_LENGTH, meaning, sizeof meaning);
+    const uint32_t written = coast_write_sequence(meaning, sizeof meaning, symbols, sizeof symbols);
+    printf("cpp_host: %s, number %s\n", coast_answer_words(read),
+           coast_digits_text(meaning + COAST_AT_DIGITS, meaning[COAST_AT_DIGIT_COUNT], number));
+    return coast_count(written) == CHECKED_LENGTH && memcmp(symbols, checked[0], CHECKED_LENGTH) == 0;
+}
+
+} // namespace
+
+int main() {
+    const bool played = plays_events(), read = reads_and_writes();
+    return played && read ? 0 : 1;
+}
