@@ -2,6 +2,7 @@
 #ifndef SECOND_INSIDE_H
 #define SECOND_INSIDE_H
 
+#include "phases.h"
 #include "station.h"
 
 /* One accepted event at work: the station as it becomes, the actions so far.
@@ -11,23 +12,6 @@ struct work {
     uint8_t *room;
     uint32_t actions;
 };
-
-/* ---- phases.c ---- */
-bool is_free(enum phase phase);
-bool is_taken(enum phase phase);
-bool is_offered(enum phase phase);
-bool is_rung_once(enum phase phase);
-bool is_rung(enum phase phase);
-bool expects_working_call(enum phase phase);
-bool expects_ship(enum phase phase);  /* to call on the channel, or to answer there when it is rung back */
-bool expects_reply(enum phase phase); /* from the line that is dialled */
-bool talks(enum phase phase);
-bool has_call(enum phase phase);
-bool holds_ship(enum phase phase);
-bool is_held(enum phase phase);
-bool stores_request(enum phase phase);
-bool has_slot_wait(enum phase phase);
-uint32_t slot_wait(enum phase phase);
 
 /* ---- actions.c: blocks of 40 bytes ---- */
 void act_carrier_on(struct work *work, uint32_t slot);
