@@ -3,6 +3,7 @@ import collections, concurrent.futures, filecmp, itertools, os, re, shutil, subp
 
 ROOT = os.path.normpath(os.path.join(os.path.dirname(os.path.abspath(__file__)), '..', '..'))
 SECOND = os.path.join(ROOT, 'tests', 'second')
+ENTRIES = os.path.join(ROOT, 'tests', 'c')          # for copies of it, which stand elsewhere
 PROGRAM = os.path.join(ROOT, 'tools', 'rehearse')   # on trial
 FIRST_SEED = 1
 LINES = 200_000          # of the gate's run
@@ -26,7 +27,7 @@ class Room(tempfile.TemporaryDirectory):
         return os.path.join(self.name, name)
 
     def compile(self, *words):
-        subprocess.run([os.environ.get('CC', 'cc'), '-std=c11', '-O0', '-w', *words], check=True)
+        subprocess.run([os.environ.get('CC', 'cc'), '-std=c11', '-O0', '-w', '-I', ENTRIES, *words], check=True)
 
     def build(self, folder, name):
         """The script program of a copy of the second implementation; only what was changed there is compiled anew."""

@@ -100,21 +100,23 @@ static bool symbols_fit(const struct command *command, size_t from)
     return command->count >= from;
 }
 
-/* "S identity channels; Q time symbols; W time slot symbols; then time and
- * slot: U .. F; T time"; "a list may be empty". */
+#define READABLE_alone command->count == 1u
+#define READABLE_on_slot command->count == 2u
+#define READABLE_by_hand command->count == 2u
+#define READABLE_with_symbols symbols_fit(command, 1)
+#define READABLE_on_slot_with_symbols symbols_fit(command, 2)
+
+/* "S identity channels", or an event: its time, its slot if it is on one, its
+ * symbols if it has any; "a list may be empty". */
 static bool is_readable(const struct command *command)
 {
     switch (command->letter) {
     case 'S':
         return command->count >= 1u;
-    case 'Q':
-        return symbols_fit(command, 1);
-    case 'W':
-        return symbols_fit(command, 2);
-    case 'T':
-        return command->count == 1u;
-    case 'U': case 'D': case 'O': case 'H': case 'M': case 'F':
-        return command->count == 2u;
+#define AS_READABLE(letter, entry, takes)                                      \
+    case letter:                                                               \
+        return READABLE_##takes;
+        EVENTS(AS_READABLE)
     default:
         return false;
     }
@@ -128,37 +130,36 @@ static struct step set_up(const struct command *command)
                          command->count - 1u);
 }
 
-static struct step sequence_event(struct desk *desk,
-                                  const struct command *command)
+/* The numbers from this place on, as symbols. */
+static struct heard heard_in(const struct command *command, size_t from,
+                             uint8_t *symbols)
 {
-    struct lent room = {desk->room.bytes, sizeof desk->room};
-    bool calling = command->letter == 'Q';
-    size_t from = calling ? 1u : 2u;
-    uint8_t symbols[NUMBERS_MOST];
     struct heard heard = {symbols, command->count - from};
     for (size_t i = 0; i < heard.count; i++)
         symbols[i] = (uint8_t)command->numbers[from + i];
-    if (calling)
-        return second_heard_on_channel_70(desk->station, command->numbers[0],
-                                          heard, room);
-    return second_heard_on_slot(desk->station, command->numbers[0],
-                                command->numbers[1], heard, room);
+    return heard;
 }
 
-static struct step timed_event(struct desk *desk,
-                               const struct command *command)
+#define GIVEN_alone
+#define GIVEN_on_slot command->numbers[1],
+#define GIVEN_by_hand command->numbers[1],
+#define GIVEN_with_symbols heard_in(command, 1, symbols),
+#define GIVEN_on_slot_with_symbols                                             \
+    command->numbers[1], heard_in(command, 2, symbols),
+
+/* Of a letter that is_readable knows. */
+static struct step happen(struct desk *desk, const struct command *command)
 {
     struct lent room = {desk->room.bytes, sizeof desk->room};
-    uint32_t time = command->numbers[0];
-    uint32_t slot = command->letter == 'T' ? 0u : command->numbers[1];
+    uint8_t symbols[NUMBERS_MOST];
     switch (command->letter) {
-    case 'U': return second_carrier_up(desk->station, time, slot, room);
-    case 'D': return second_carrier_down(desk->station, time, slot, room);
-    case 'O': return second_off_hook(desk->station, time, slot, room);
-    case 'H': return second_on_hook(desk->station, time, slot, room);
-    case 'M': return second_take(desk->station, time, slot, room);
-    case 'F': return second_give_back(desk->station, time, slot, room);
-    default: return second_tick(desk->station, time, room);
+#define AS_STEP(letter, entry, takes)                                          \
+    case letter:                                                               \
+        return second_##entry(desk->station, command->numbers[0],             \
+                              GIVEN_##takes room);
+        EVENTS(AS_STEP)
+    default:
+        return (struct step){0};
     }
 }
 
@@ -173,12 +174,7 @@ static int do_line(struct desk *desk, const struct line *line,
         return UNREADABLE;
     if ((command.letter == 'S') == desk->stands)
         return STATION_WRONG;
-    if (command.letter == 'S')
-        step = set_up(&command);
-    else if (command.letter == 'Q' || command.letter == 'W')
-        step = sequence_event(desk, &command);
-    else
-        step = timed_event(desk, &command);
+    step = command.letter == 'S' ? set_up(&command) : happen(desk, &command);
     if (step.answer != SET_UP_BAD) {
         desk->stands = true;
         desk->station = step.station;

@@ -3,6 +3,7 @@
 #ifndef SECOND_STATION_H
 #define SECOND_STATION_H
 
+#include "../c/entries.h"
 #include "sequence.h"
 
 #define MOST_SLOTS 16u
@@ -100,24 +101,17 @@ bool second_is_sound(const struct station *station);
 /* The earliest due time, if any wait runs. */
 bool second_next_due(const struct station *station, uint32_t *due);
 
-struct step second_heard_on_channel_70(struct station station, uint32_t time,
-                                       struct heard heard, struct lent room);
-struct step second_heard_on_slot(struct station station, uint32_t time,
-                                 uint32_t slot, struct heard heard,
-                                 struct lent room);
-struct step second_carrier_up(struct station station, uint32_t time,
-                              uint32_t slot, struct lent room);
-struct step second_carrier_down(struct station station, uint32_t time,
-                                uint32_t slot, struct lent room);
-struct step second_off_hook(struct station station, uint32_t time,
-                            uint32_t slot, struct lent room);
-struct step second_on_hook(struct station station, uint32_t time,
-                           uint32_t slot, struct lent room);
-struct step second_take(struct station station, uint32_t time, uint32_t slot,
-                        struct lent room);
-struct step second_give_back(struct station station, uint32_t time,
-                             uint32_t slot, struct lent room);
-struct step second_tick(struct station station, uint32_t time,
-                        struct lent room);
+/* The events, as the list of entries.h has them: each is handed the station,
+ * its time, what the list says that it takes, and the room. */
+#define BY_VALUE_alone
+#define BY_VALUE_on_slot uint32_t slot,
+#define BY_VALUE_by_hand uint32_t slot,
+#define BY_VALUE_with_symbols struct heard heard,
+#define BY_VALUE_on_slot_with_symbols uint32_t slot, struct heard heard,
+#define AS_EVENT(letter, entry, takes)                                         \
+    struct step second_##entry(struct station station, uint32_t time,         \
+                               BY_VALUE_##takes struct lent room);
+EVENTS(AS_EVENT)
+#undef AS_EVENT
 
 #endif
