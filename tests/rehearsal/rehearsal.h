@@ -56,7 +56,7 @@ void play_set_up(void); /* an S, good or bad, wherever it stands */
 bool next_due(uint32_t *due);
 uint32_t soon(uint32_t wait, uint32_t slot); /* a time for an event that begins this wait, on that slot if on any */
 uint32_t leap(void);                         /* a time far off */
-void catch_up(uint32_t time);                /* exact or late, until nothing is due at that time */
+void catch_up(uint32_t time);                /* ticks, exact or late, until nothing is due at that time */
 uint32_t wrong_time(void);                   /* before the clock, a tenth late, or over the limit */
 
 /* ---- sequences.c: what ships send ---- */
@@ -73,7 +73,7 @@ void spoil_sequence(struct event *event);
 
 /* ---- moves.c ---- */
 void make_move(const struct mood *mood);
-void pass_time(uint32_t time); /* the host says so */
+void pass_time(uint32_t time); /* a tick at that time */
 
 /* ---- situations.c: what was reached ---- */
 void note_step(const struct station *before, const struct event *event, const struct step *step);
