@@ -1,5 +1,5 @@
 /* Lines of the feed to orders. What a ship sends is written by the library from its meaning. */
-#include "../include/coast_words.h"
+#include <coast_words.h>
 #include "feed.h"
 
 extern int getchar(void);

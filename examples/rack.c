@@ -2,7 +2,7 @@
  *
  * Its clock is the feed's: a line happens at its time, and the timer rings in between. The library decides all else; the host
  * lends it bytes, does what the actions say (here: prints them), and sets its timer for the next due time. */
-#include "../include/coast_words.h"
+#include <coast_words.h>
 #include "feed.h"
 #include "words.h"
 

@@ -1,5 +1,5 @@
 /* What the library hands out, in words. */
-#include "../include/coast_words.h"
+#include <coast_words.h>
 #include "words.h"
 
 extern int printf(const char *, ...);

@@ -1,5 +1,6 @@
 /* The coast station's library for C: the station with its events, and the reader and writer of one channel 70 sequence.
- * Link libexchange.a, built for x86-64. coast_words.h has helpers over this header: actions taken apart, answers in words.
+ * Link libcoast.a, built for x86-64: where tools/install put it, cc host.c $(pkg-config --cflags --libs coast).
+ * coast_words.h has helpers over this header: actions taken apart, answers in words.
  *
  * All memory is the host's, lent for one call: a station's bytes, and a room, bytes for the library to write in, one for the
  * symbols of a sequence or one for the actions of an event. A pointer must be good for the count of bytes given after it, and
