@@ -24,12 +24,12 @@ static bool call_from(uint32_t ship) {
     uint32_t written = coast_write_sequence(meaning, sizeof meaning, symbols, sizeof symbols);
     uint64_t heard = coast_heard_on_channel_70(lent.station, lent.size, NOW, symbols, coast_count(written), lent.room,
                                                lent.room_size);
-    return coast_answer(written) == COAST_DONE && coast_answer(heard) == COAST_DONE;
+    return coast_answer(written) == COAST_ANSWER_DONE && coast_answer(heard) == COAST_ANSWER_DONE;
 }
 
 static bool fill(uint32_t ships) {
     static const uint8_t channels[SLOTS] = {1, 2, 3, 4, 5, 6, 7, 8, 9, 10, 11, 12, 13, 14, 15, 17};
-    bool done = coast_answer(coast_set_up(COAST_IDENTITY, channels, SLOTS, lent.station, lent.size)) == COAST_DONE;
+    bool done = coast_answer(coast_set_up(COAST_IDENTITY, channels, SLOTS, lent.station, lent.size)) == COAST_ANSWER_DONE;
     for (uint32_t i = 0; i < ships; i++)
         done = done && call_from(FIRST_SHIP + i);
     return done;

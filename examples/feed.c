@@ -156,7 +156,7 @@ static bool take_sequence(const char **at, const struct order *set_up, struct or
     coast_put_number(meaning + COAST_AT_SENDER, ship);
     uint32_t returned = coast_write_sequence(meaning, sizeof meaning, order->bytes, sizeof order->bytes);
     order->count = coast_count(returned);
-    return coast_answer(returned) == COAST_DONE;
+    return coast_answer(returned) == COAST_ANSWER_DONE;
 }
 
 /* ---- whole lines ---- */

@@ -38,7 +38,7 @@ static void set_timer(struct rack *rack, uint64_t returned) {
 /* Does what was answered; false where it is a refusal, which leaves everything as it was. */
 static bool follow(struct rack *rack, uint64_t returned) {
     uint32_t answer = coast_answer(returned);
-    if (answer > COAST_IGNORED) {
+    if (answer > COAST_ANSWER_IGNORED) {
         printf("    refused, %u: %s\n", (unsigned)answer, coast_answer_words(answer));
         return false;
     }
@@ -94,7 +94,7 @@ static uint64_t hand_in(struct rack *rack, const struct order *order) {
 static void happen(struct rack *rack, const struct order *order) {
     uint64_t returned = hand_in(rack, order);
     follow(rack, returned);
-    if (coast_answer(returned) == COAST_WAIT_DUE && tick(rack, order->time)) {
+    if (coast_answer(returned) == COAST_ANSWER_WAIT_DUE && tick(rack, order->time)) {
         printf("    the event once more:\n");
         follow(rack, hand_in(rack, order));
     }

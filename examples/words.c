@@ -43,7 +43,7 @@ static void print_field(const uint8_t *meaning) {
 static void print_sequence(const uint8_t *symbols, size_t count) {
     uint8_t meaning[COAST_MEANING_SIZE];
     char number[COAST_NUMBER_TEXT];
-    if (coast_read_sequence(symbols, count, meaning, sizeof meaning) != COAST_DONE)
+    if (coast_read_sequence(symbols, count, meaning, sizeof meaning) != COAST_ANSWER_DONE)
         return;
     printf("send to %09u: %s", (unsigned)coast_number_at(meaning + COAST_AT_ADDRESS),
            NAME_OF(telecommands, meaning[COAST_AT_FIRST]));
@@ -65,14 +65,14 @@ static void print_charge(const uint8_t *action) {
 static void print_order(const uint8_t *action) {
     uint32_t kind = coast_action_kind(action);
     char number[COAST_NUMBER_TEXT];
-    if (kind == COAST_SEND_CHANNEL_70 || kind == COAST_SEND_WORKING) {
+    if (kind == COAST_ACTION_SEND_CHANNEL_70 || kind == COAST_ACTION_SEND_WORKING) {
         print_sequence(coast_payload(action), coast_payload_length(action));
         return;
     }
     printf("%s", coast_action_words(kind));
-    if (kind == COAST_DIAL)
+    if (kind == COAST_ACTION_DIAL)
         printf(" %s", coast_dialled(action, number));
-    if (kind == COAST_CHARGE)
+    if (kind == COAST_ACTION_CHARGE)
         print_charge(action);
 }
 
@@ -80,7 +80,7 @@ void print_actions(const uint8_t *actions, size_t count, const uint8_t *channels
     for (size_t i = 0; i < count; i++) {
         const uint8_t *action = coast_action_at(actions, i);
         uint32_t channel = CALLING_CHANNEL;
-        if (coast_action_kind(action) != COAST_SEND_CHANNEL_70)
+        if (coast_action_kind(action) != COAST_ACTION_SEND_CHANNEL_70)
             channel = channels[coast_action_slot(action)];
         printf("    channel %u: ", (unsigned)channel);
         print_order(action);

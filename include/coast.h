@@ -22,6 +22,9 @@
 extern "C" {
 #endif
 
+/* Names: COAST_ANSWER_.. is an answer, COAST_ACTION_.. the kind of an action, COAST_AT_.. a place in lent bytes,
+ * COAST_.._SIZE a count of bytes. */
+
 /* The deepest that any entry reaches into the stack, as measured. */
 #define COAST_STACK_SIZE 12800
 
@@ -53,29 +56,29 @@ extern "C" {
  *   31  The event is past the end of time, and so is all that follows: see COAST_LAST_TIME.
  *   32  The event came too late, or the host's clock went back. Hand it in once more at the latest time that was accepted.
  *   33  The host's timer is late. Hand in ticks at the event's time, as coast_tick tells, and then the event once more. */
-#define COAST_DONE 0
-#define COAST_IGNORED 1            /* an event that does nothing but move the clock on */
-#define COAST_BAD_LENGTH 11        /* fewer than 21 symbols, or more than 28 */
-#define COAST_BAD_SYMBOL 12        /* a symbol over 127 */
-#define COAST_BAD_CHECK 13         /* the last symbol is not the exclusive-or of all before it */
-#define COAST_BAD_FORMAT 14        /* the format is not 123 */
-#define COAST_BAD_IDENTITIES 15    /* not nine digits and a final 0 each, or not one ship and one coast station */
-#define COAST_BAD_CATEGORY 16      /* the category is not 100 */
-#define COAST_BAD_TELECOMMANDS 17  /* the two telecommands do not go together */
-#define COAST_BAD_CHANNEL_FIELD 18 /* the channel field does not go with the first telecommand */
-#define COAST_BAD_NUMBER 19        /* not 1 to 16 digits 0 to 9, or marked odd for even, or not 0 past the count */
-#define COAST_BAD_END 20           /* the end of sequence is not 117, 122 or 127 */
-#define COAST_ROOM_SHORT 21        /* the room for a sequence is under 28 bytes */
-#define COAST_MEANING_SHORT 22     /* the meaning's bytes are fewer than 32 */
-#define COAST_WRONG_SIZE 23        /* the bytes to set a station up in are not 1722 */
-#define COAST_NOT_SOUND 29         /* the station handed in is not sound, or its bytes are not 1722 */
-#define COAST_ACTIONS_SHORT 30     /* the room for actions is under 320 bytes */
-#define COAST_TIME_TOO_LATE 31     /* the time is over 4,000,000,000 */
-#define COAST_TIME_BEFORE_CLOCK 32 /* the time is before the station's clock */
-#define COAST_WAIT_DUE 33          /* a wait is due by this time, and the event is no tick */
-#define COAST_NO_SLOT 34           /* there is no slot of this number */
-#define COAST_OPERATOR 35          /* takes a slot that is not free, or gives back one that is not taken */
-#define COAST_BAD_SET_UP 36        /* not a coast station's identity, or not 1 to 16 different working channels */
+#define COAST_ANSWER_DONE 0
+#define COAST_ANSWER_IGNORED 1            /* an event that does nothing but move the clock on */
+#define COAST_ANSWER_BAD_LENGTH 11        /* fewer than 21 symbols, or more than 28 */
+#define COAST_ANSWER_BAD_SYMBOL 12        /* a symbol over 127 */
+#define COAST_ANSWER_BAD_CHECK 13         /* the last symbol is not the exclusive-or of all before it */
+#define COAST_ANSWER_BAD_FORMAT 14        /* the format is not 123 */
+#define COAST_ANSWER_BAD_IDENTITIES 15    /* not nine digits and a final 0 each, or not one ship and one coast station */
+#define COAST_ANSWER_BAD_CATEGORY 16      /* the category is not 100 */
+#define COAST_ANSWER_BAD_TELECOMMANDS 17  /* the two telecommands do not go together */
+#define COAST_ANSWER_BAD_CHANNEL_FIELD 18 /* the channel field does not go with the first telecommand */
+#define COAST_ANSWER_BAD_NUMBER 19        /* not 1 to 16 digits 0 to 9, or marked odd for even, or not 0 past the count */
+#define COAST_ANSWER_BAD_END 20           /* the end of sequence is not 117, 122 or 127 */
+#define COAST_ANSWER_ROOM_SHORT 21        /* the room for a sequence is under 28 bytes */
+#define COAST_ANSWER_MEANING_SHORT 22     /* the meaning's bytes are fewer than 32 */
+#define COAST_ANSWER_WRONG_SIZE 23        /* the bytes to set a station up in are not 1722 */
+#define COAST_ANSWER_NOT_SOUND 29         /* the station handed in is not sound, or its bytes are not 1722 */
+#define COAST_ANSWER_ACTIONS_SHORT 30     /* the room for actions is under 320 bytes */
+#define COAST_ANSWER_TIME_TOO_LATE 31     /* the time is over 4,000,000,000 */
+#define COAST_ANSWER_TIME_BEFORE_CLOCK 32 /* the time is before the station's clock */
+#define COAST_ANSWER_WAIT_DUE 33          /* a wait is due by this time, and the event is no tick */
+#define COAST_ANSWER_NO_SLOT 34           /* there is no slot of this number */
+#define COAST_ANSWER_OPERATOR 35          /* takes a slot that is not free, or gives back one that is not taken */
+#define COAST_ANSWER_BAD_SET_UP 36        /* not a coast station's identity, or not 1 to 16 different working channels */
 
 /* Times are in tenths of a second from the set-up on, up to this one: twelve years and eight months. A host that is to run
  * for longer sets its station up anew before then, at an hour without calls, and counts its time from 0 again. */
@@ -130,7 +133,7 @@ uint32_t coast_write_sequence(const uint8_t *meaning, size_t size, uint8_t *room
 /* Actions: an event lays at most eight at the front of its room, in the order in which they are to be done; coast_count of
  * what it returned says how many. The room must have 320 bytes even where there are fewer. */
 #define COAST_ACTIONS_SIZE 320
-#define COAST_ACTION_SIZE 40
+#define COAST_ONE_ACTION_SIZE 40
 #define COAST_AT_ACTION_KIND 0     /* one of the seven kinds below */
 #define COAST_AT_ACTION_SLOT 1     /* the slot's number, or 255 in an answer that gives no slot */
 #define COAST_AT_ACTION_LENGTH 2   /* count of the payload's bytes */
@@ -142,13 +145,13 @@ struct coast_lent {
     uint8_t room[COAST_ACTIONS_SIZE];
 };
 
-#define COAST_CARRIER_ON 1
-#define COAST_CARRIER_OFF 2
-#define COAST_SEND_CHANNEL_70 3    /* payload: a sequence of 21 to 28 symbols, to send on channel 70 */
-#define COAST_SEND_WORKING 4       /* payload: a sequence, to send on the slot's working channel */
-#define COAST_DIAL 5               /* payload: the digits 0 to 9 to dial, one a byte */
-#define COAST_RELEASE_LINE 6
-#define COAST_CHARGE 7             /* payload: ship, start and stop in tenths, seconds; four bytes each, low byte first */
+#define COAST_ACTION_CARRIER_ON 1
+#define COAST_ACTION_CARRIER_OFF 2
+#define COAST_ACTION_SEND_CHANNEL_70 3    /* payload: a sequence of 21 to 28 symbols, to send on channel 70 */
+#define COAST_ACTION_SEND_WORKING 4       /* payload: a sequence, to send on the slot's working channel */
+#define COAST_ACTION_DIAL 5               /* payload: the digits 0 to 9 to dial, one a byte */
+#define COAST_ACTION_RELEASE_LINE 6
+#define COAST_ACTION_CHARGE 7             /* payload: ship, start and stop in tenths, seconds; four bytes each, low byte first */
 
 /* What the entries below return is one number: coast_answer, coast_count, coast_waits and coast_due take it apart.
  *
@@ -221,8 +224,8 @@ static inline uint32_t coast_due(uint64_t returned) {
 #else
 #define COAST_HOLDS(claim) _Static_assert(claim, #claim)
 #endif
-COAST_HOLDS(COAST_ACTIONS_SIZE == 8 * COAST_ACTION_SIZE);
-COAST_HOLDS(COAST_AT_ACTION_PAYLOAD + COAST_LONGEST_SEQUENCE <= COAST_ACTION_SIZE);
+COAST_HOLDS(COAST_ACTIONS_SIZE == 8 * COAST_ONE_ACTION_SIZE);
+COAST_HOLDS(COAST_AT_ACTION_PAYLOAD + COAST_LONGEST_SEQUENCE <= COAST_ONE_ACTION_SIZE);
 COAST_HOLDS(COAST_AT_DIGITS + 16 == COAST_MEANING_SIZE);
 #undef COAST_HOLDS
 

@@ -17,7 +17,7 @@ static inline void coast_put_number(uint8_t *bytes, uint32_t number) {
 
 /* The action at this place of the room, from 0 to one less than coast_count; and its parts. */
 static inline const uint8_t *coast_action_at(const uint8_t *room, size_t place) {
-    return room + place * COAST_ACTION_SIZE;
+    return room + place * COAST_ONE_ACTION_SIZE;
 }
 
 static inline uint32_t coast_action_kind(const uint8_t *action) {
@@ -70,42 +70,42 @@ static inline char *coast_dialled(const uint8_t *action, char *text) {
 
 static inline const char *coast_answer_words(uint32_t answer) {
     switch (answer) {
-    case COAST_DONE: return "done";
-    case COAST_IGNORED: return "ignored";
-    case COAST_BAD_LENGTH: return "not 21 to 28 symbols";
-    case COAST_BAD_SYMBOL: return "a symbol over 127";
-    case COAST_BAD_CHECK: return "the check differs";
-    case COAST_BAD_FORMAT: return "not the format of a call";
-    case COAST_BAD_IDENTITIES: return "not one ship and one coast station";
-    case COAST_BAD_CATEGORY: return "not the category of a call";
-    case COAST_BAD_TELECOMMANDS: return "telecommands that do not go together";
-    case COAST_BAD_CHANNEL_FIELD: return "a channel field that does not go with the telecommand";
-    case COAST_BAD_NUMBER: return "no number to dial";
-    case COAST_BAD_END: return "no end of sequence";
-    case COAST_ROOM_SHORT: return "too little room for a sequence";
-    case COAST_MEANING_SHORT: return "too few bytes for a meaning";
-    case COAST_WRONG_SIZE: return "not the size of a station";
-    case COAST_NOT_SOUND: return "not a sound station";
-    case COAST_ACTIONS_SHORT: return "too little room for actions";
-    case COAST_TIME_TOO_LATE: return "a time past the limit";
-    case COAST_TIME_BEFORE_CLOCK: return "a time before the station's clock";
-    case COAST_WAIT_DUE: return "a wait is due, the tick comes first";
-    case COAST_NO_SLOT: return "no such slot";
-    case COAST_OPERATOR: return "a slot that is not free to take, or not taken";
-    case COAST_BAD_SET_UP: return "not a coast station with 1 to 16 working channels";
+    case COAST_ANSWER_DONE: return "done";
+    case COAST_ANSWER_IGNORED: return "ignored";
+    case COAST_ANSWER_BAD_LENGTH: return "not 21 to 28 symbols";
+    case COAST_ANSWER_BAD_SYMBOL: return "a symbol over 127";
+    case COAST_ANSWER_BAD_CHECK: return "the check differs";
+    case COAST_ANSWER_BAD_FORMAT: return "not the format of a call";
+    case COAST_ANSWER_BAD_IDENTITIES: return "not one ship and one coast station";
+    case COAST_ANSWER_BAD_CATEGORY: return "not the category of a call";
+    case COAST_ANSWER_BAD_TELECOMMANDS: return "telecommands that do not go together";
+    case COAST_ANSWER_BAD_CHANNEL_FIELD: return "a channel field that does not go with the telecommand";
+    case COAST_ANSWER_BAD_NUMBER: return "no number to dial";
+    case COAST_ANSWER_BAD_END: return "no end of sequence";
+    case COAST_ANSWER_ROOM_SHORT: return "too little room for a sequence";
+    case COAST_ANSWER_MEANING_SHORT: return "too few bytes for a meaning";
+    case COAST_ANSWER_WRONG_SIZE: return "not the size of a station";
+    case COAST_ANSWER_NOT_SOUND: return "not a sound station";
+    case COAST_ANSWER_ACTIONS_SHORT: return "too little room for actions";
+    case COAST_ANSWER_TIME_TOO_LATE: return "a time past the limit";
+    case COAST_ANSWER_TIME_BEFORE_CLOCK: return "a time before the station's clock";
+    case COAST_ANSWER_WAIT_DUE: return "a wait is due, the tick comes first";
+    case COAST_ANSWER_NO_SLOT: return "no such slot";
+    case COAST_ANSWER_OPERATOR: return "a slot that is not free to take, or not taken";
+    case COAST_ANSWER_BAD_SET_UP: return "not a coast station with 1 to 16 working channels";
     default: return "no answer of the library";
     }
 }
 
 static inline const char *coast_action_words(uint32_t kind) {
     switch (kind) {
-    case COAST_CARRIER_ON: return "carrier on";
-    case COAST_CARRIER_OFF: return "carrier off";
-    case COAST_SEND_CHANNEL_70: return "send on channel 70";
-    case COAST_SEND_WORKING: return "send on the working channel";
-    case COAST_DIAL: return "dial";
-    case COAST_RELEASE_LINE: return "release the line";
-    case COAST_CHARGE: return "charge";
+    case COAST_ACTION_CARRIER_ON: return "carrier on";
+    case COAST_ACTION_CARRIER_OFF: return "carrier off";
+    case COAST_ACTION_SEND_CHANNEL_70: return "send on channel 70";
+    case COAST_ACTION_SEND_WORKING: return "send on the working channel";
+    case COAST_ACTION_DIAL: return "dial";
+    case COAST_ACTION_RELEASE_LINE: return "release the line";
+    case COAST_ACTION_CHARGE: return "charge";
     default: return "no action of the library";
     }
 }

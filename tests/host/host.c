@@ -31,7 +31,7 @@ static uint32_t read_lent(const uint8_t *symbols, size_t count, size_t size, boo
     copy(in, symbols, count);
     uint32_t answer = coast_read_sequence(in, count, out, size);
     want_true("the symbols stay", equal(in, symbols, count) && left_alone(FOR_SYMBOLS, in, count, 170));
-    size_t written = answer == COAST_DONE ? COAST_MEANING_SIZE : 0u;
+    size_t written = answer == COAST_ANSWER_DONE ? COAST_MEANING_SIZE : 0u;
     want_true("only the meaning is written", left_alone(FOR_MEANING, out, written, 85));
     copy(meaning, out, written);
     return answer;
@@ -44,7 +44,7 @@ static uint32_t write_lent(const uint8_t *meaning, size_t size, size_t room_size
     uint32_t returned = coast_write_sequence(in, size, out, room_size);
     size_t count = coast_count(returned);
     bool of_a_sequence = count >= COAST_SHORTEST_SEQUENCE && count <= COAST_LONGEST_SEQUENCE;
-    want_true("the count goes with the answer", coast_answer(returned) == COAST_DONE ? of_a_sequence : count == 0u);
+    want_true("the count goes with the answer", coast_answer(returned) == COAST_ANSWER_DONE ? of_a_sequence : count == 0u);
     want_true("the meaning stays", equal(in, meaning, size) && left_alone(FOR_MEANING, in, size, 170));
     want_true("only the sequence is written", left_alone(FOR_ROOM, out, count, 85));
     copy(symbols, out, of_a_sequence ? count : 0u);
@@ -56,10 +56,10 @@ static void try_checked(void) {
     for (size_t i = 0; i < 2u * CHECKED_COUNT; i++) {
         const uint8_t *p = checked[i / 2u], *m = meant[i / 2u];
         bool at_end = i % 2u == 1u;
-        want("P read", read_lent(p, CHECKED_LENGTH, COAST_MEANING_SIZE, at_end, meaning), COAST_DONE);
+        want("P read", read_lent(p, CHECKED_LENGTH, COAST_MEANING_SIZE, at_end, meaning), COAST_ANSWER_DONE);
         want_true("what P means", equal(meaning, m, COAST_MEANING_SIZE));
         uint32_t returned = write_lent(m, COAST_MEANING_SIZE, COAST_LONGEST_SEQUENCE, at_end, symbols);
-        want("P written", coast_answer(returned), COAST_DONE);
+        want("P written", coast_answer(returned), COAST_ANSWER_DONE);
         want("P's length", (uint32_t)coast_count(returned), CHECKED_LENGTH);
         want_true("P's symbols", equal(symbols, p, CHECKED_LENGTH));
     }
@@ -69,28 +69,28 @@ static void try_no_bytes(void) {
     const uint8_t *p1 = checked[0];
     uint8_t *meaning = lend(FOR_MEANING, COAST_MEANING_SIZE, true, 85);
     uint8_t *room = lend(FOR_ROOM, COAST_LONGEST_SEQUENCE, true, 85);
-    want("read null", coast_read_sequence(NULL, 0, meaning, COAST_MEANING_SIZE), COAST_BAD_LENGTH);
-    want("read P1 into null", coast_read_sequence(p1, CHECKED_LENGTH, NULL, 0), COAST_MEANING_SHORT);
-    want("read null into null", coast_read_sequence(NULL, 0, NULL, 0), COAST_MEANING_SHORT);
-    want("write to null", coast_write_sequence(meant[0], COAST_MEANING_SIZE, NULL, 0), COAST_ROOM_SHORT);
-    want("write null", coast_write_sequence(NULL, 0, room, COAST_LONGEST_SEQUENCE), COAST_MEANING_SHORT);
-    want("write null to null", coast_write_sequence(NULL, 0, NULL, 0), COAST_ROOM_SHORT);
+    want("read null", coast_read_sequence(NULL, 0, meaning, COAST_MEANING_SIZE), COAST_ANSWER_BAD_LENGTH);
+    want("read P1 into null", coast_read_sequence(p1, CHECKED_LENGTH, NULL, 0), COAST_ANSWER_MEANING_SHORT);
+    want("read null into null", coast_read_sequence(NULL, 0, NULL, 0), COAST_ANSWER_MEANING_SHORT);
+    want("write to null", coast_write_sequence(meant[0], COAST_MEANING_SIZE, NULL, 0), COAST_ANSWER_ROOM_SHORT);
+    want("write null", coast_write_sequence(NULL, 0, room, COAST_LONGEST_SEQUENCE), COAST_ANSWER_MEANING_SHORT);
+    want("write null to null", coast_write_sequence(NULL, 0, NULL, 0), COAST_ANSWER_ROOM_SHORT);
     want_true("nothing is written", left_alone(FOR_MEANING, meaning, 0, 85) && left_alone(FOR_ROOM, room, 0, 85));
 }
 
 /* What is answered to so many bytes of P2, told over and over, and to so many of its meaning. */
 static uint32_t wanted_of_read(size_t count, size_t size) {
     if (size < COAST_MEANING_SIZE)
-        return COAST_MEANING_SHORT;
+        return COAST_ANSWER_MEANING_SHORT;
     if (count < COAST_SHORTEST_SEQUENCE || count > COAST_LONGEST_SEQUENCE)
-        return COAST_BAD_LENGTH;
-    return count == CHECKED_LENGTH ? COAST_DONE : COAST_BAD_CHECK;
+        return COAST_ANSWER_BAD_LENGTH;
+    return count == CHECKED_LENGTH ? COAST_ANSWER_DONE : COAST_ANSWER_BAD_CHECK;
 }
 
 static uint32_t wanted_of_write(size_t size, size_t room_size) {
     if (room_size < COAST_LONGEST_SEQUENCE)
-        return COAST_ROOM_SHORT;
-    return size < COAST_MEANING_SIZE ? COAST_MEANING_SHORT : COAST_DONE;
+        return COAST_ANSWER_ROOM_SHORT;
+    return size < COAST_MEANING_SIZE ? COAST_ANSWER_MEANING_SHORT : COAST_ANSWER_DONE;
 }
 
 /* Every length from 0 to 40 of what is read and of what is written, each at both ends of its memory. */
@@ -116,19 +116,19 @@ struct faults {
 };
 
 static const struct faults of_symbols[] = {
-    {0, 128, 1, 100, COAST_BAD_SYMBOL},         {0, 122, 1, 100, COAST_BAD_FORMAT},
-    {5, 41, 6, 101, COAST_BAD_IDENTITIES},      {1, 20, 6, 101, COAST_BAD_IDENTITIES},
-    {6, 101, 12, 102, COAST_BAD_CATEGORY},      {12, 102, 14, 90, COAST_BAD_TELECOMMANDS},
-    {14, 90, 17, 107, COAST_BAD_CHANNEL_FIELD}, {17, 107, 22, 118, COAST_BAD_NUMBER},
-    {18, 10, 22, 118, COAST_BAD_NUMBER},        {22, 118, 22, 118, COAST_BAD_END}};
+    {0, 128, 1, 100, COAST_ANSWER_BAD_SYMBOL},         {0, 122, 1, 100, COAST_ANSWER_BAD_FORMAT},
+    {5, 41, 6, 101, COAST_ANSWER_BAD_IDENTITIES},      {1, 20, 6, 101, COAST_ANSWER_BAD_IDENTITIES},
+    {6, 101, 12, 102, COAST_ANSWER_BAD_CATEGORY},      {12, 102, 14, 90, COAST_ANSWER_BAD_TELECOMMANDS},
+    {14, 90, 17, 107, COAST_ANSWER_BAD_CHANNEL_FIELD}, {17, 107, 22, 118, COAST_ANSWER_BAD_NUMBER},
+    {18, 10, 22, 118, COAST_ANSWER_BAD_NUMBER},        {22, 118, 22, 118, COAST_ANSWER_BAD_END}};
 
 static const struct faults of_bytes[] = {
-    {3, 1, 8, 102, COAST_BAD_IDENTITIES},    {7, 0, 8, 102, COAST_BAD_IDENTITIES},
-    {8, 102, 10, 3, COAST_BAD_TELECOMMANDS}, {9, 127, 10, 3, COAST_BAD_TELECOMMANDS},
-    {10, 3, 14, 0, COAST_BAD_CHANNEL_FIELD}, {13, 1, 14, 0, COAST_BAD_CHANNEL_FIELD},
-    {10, 1, 11, 16, COAST_BAD_CHANNEL_FIELD}, {14, 0, 15, 0, COAST_BAD_NUMBER},
-    {14, 17, 15, 0, COAST_BAD_NUMBER},       {22, 10, 15, 0, COAST_BAD_NUMBER},
-    {23, 1, 15, 0, COAST_BAD_NUMBER},        {15, 118, 15, 118, COAST_BAD_END}};
+    {3, 1, 8, 102, COAST_ANSWER_BAD_IDENTITIES},    {7, 0, 8, 102, COAST_ANSWER_BAD_IDENTITIES},
+    {8, 102, 10, 3, COAST_ANSWER_BAD_TELECOMMANDS}, {9, 127, 10, 3, COAST_ANSWER_BAD_TELECOMMANDS},
+    {10, 3, 14, 0, COAST_ANSWER_BAD_CHANNEL_FIELD}, {13, 1, 14, 0, COAST_ANSWER_BAD_CHANNEL_FIELD},
+    {10, 1, 11, 16, COAST_ANSWER_BAD_CHANNEL_FIELD}, {14, 0, 15, 0, COAST_ANSWER_BAD_NUMBER},
+    {14, 17, 15, 0, COAST_ANSWER_BAD_NUMBER},       {22, 10, 15, 0, COAST_ANSWER_BAD_NUMBER},
+    {23, 1, 15, 0, COAST_ANSWER_BAD_NUMBER},        {15, 118, 15, 118, COAST_ANSWER_BAD_END}};
 
 /* Each with the check put right, and with a wrong check. */
 static void try_refusals_to_read(void) {
@@ -143,7 +143,8 @@ static void try_refusals_to_read(void) {
         want("a refusal to read", answer, faults->answer);
         symbols[CHECKED_LENGTH - 1] ^= 1u;
         answer = read_lent(symbols, CHECKED_LENGTH, COAST_MEANING_SIZE, true, meaning);
-        want("with a wrong check", answer, faults->answer == COAST_BAD_SYMBOL ? COAST_BAD_SYMBOL : COAST_BAD_CHECK);
+        want("with a wrong check", answer,
+             faults->answer == COAST_ANSWER_BAD_SYMBOL ? COAST_ANSWER_BAD_SYMBOL : COAST_ANSWER_BAD_CHECK);
     }
 }
 
@@ -178,8 +179,9 @@ static void spoil(uint8_t *to, const uint8_t *from, size_t count, bool wholly) {
 static void read_garbage(const uint8_t *symbols, size_t count) {
     uint8_t meaning[COAST_MEANING_SIZE], again[COAST_LONGEST_SEQUENCE];
     uint32_t answer = read_lent(symbols, count, COAST_MEANING_SIZE, true, meaning);
-    want_true("an answer of the list", answer == COAST_DONE || (answer >= COAST_BAD_LENGTH && answer <= COAST_BAD_END));
-    if (answer != COAST_DONE)
+    want_true("an answer of the list", answer == COAST_ANSWER_DONE ||
+                                           (answer >= COAST_ANSWER_BAD_LENGTH && answer <= COAST_ANSWER_BAD_END));
+    if (answer != COAST_ANSWER_DONE)
         return;
     want("written again", write_lent(meaning, COAST_MEANING_SIZE, 40, true, again), (uint32_t)(count << 8));
     want_true("the same symbols", equal(again, symbols, count));
@@ -189,9 +191,9 @@ static void read_garbage(const uint8_t *symbols, size_t count) {
 static void write_garbage(const uint8_t *meaning) {
     uint8_t again[COAST_MEANING_SIZE], symbols[COAST_LONGEST_SEQUENCE];
     uint32_t returned = write_lent(meaning, COAST_MEANING_SIZE, COAST_LONGEST_SEQUENCE, true, symbols);
-    if (coast_answer(returned) != COAST_DONE)
+    if (coast_answer(returned) != COAST_ANSWER_DONE)
         return;
-    want("read again", read_lent(symbols, coast_count(returned), COAST_MEANING_SIZE, true, again), COAST_DONE);
+    want("read again", read_lent(symbols, coast_count(returned), COAST_MEANING_SIZE, true, again), COAST_ANSWER_DONE);
     want_true("the same meaning", equal(again, meaning, COAST_MEANING_SIZE));
 }
 

@@ -34,15 +34,15 @@ bool plays_events() {
     static const char letters[] = {EVENTS(EVENT_LETTER)};
     Rack rack;
     uint32_t time = 100;
-    bool good = coast_answer(rack.set_up(2001234, 26)) == COAST_DONE;
+    bool good = coast_answer(rack.set_up(2001234, 26)) == COAST_ANSWER_DONE;
     for (char letter : letters) {
         const uint32_t answer = coast_answer(rack.happens(letter, time++));
-        good = good && (is_by_hand(letter) ? answer == COAST_OPERATOR : answer <= COAST_IGNORED);
+        good = good && (is_by_hand(letter) ? answer == COAST_ANSWER_OPERATOR : answer <= COAST_ANSWER_IGNORED);
     }
     const uint64_t due = rack.next_due();
     printf("cpp_host: %s, %s\n", coast_action_words(coast_action_kind(rack.action(0))),
            coast_action_words(coast_action_kind(rack.action(1))));
-    return good && coast_waits(due) && coast_due(due) == 261 && coast_action_kind(rack.action(1)) == COAST_SEND_CHANNEL_70;
+    return good && coast_waits(due) && coast_due(due) == 261 && coast_action_kind(rack.action(1)) == COAST_ACTION_SEND_CHANNEL_70;
 }
 
 bool reads_and_writes() {

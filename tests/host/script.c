@@ -36,18 +36,18 @@ static void print_answer(uint32_t answer, size_t count, const uint8_t *actions) 
 /* Whether what an entry returned tells of the station as it now stands, as coast_next_due does. */
 static bool tells_due(uint64_t returned) {
     uint64_t due = stands ? coast_next_due(station, COAST_STATION_SIZE) : 0u;
-    return coast_answer(due) == COAST_DONE && coast_waits(returned) == coast_waits(due) &&
+    return coast_answer(due) == COAST_ANSWER_DONE && coast_waits(returned) == coast_waits(due) &&
            coast_due(returned) == coast_due(due);
 }
 
 /* A refusal leaves the station; nobody touches the list, the room behind the actions, or what lies beside lent bytes. */
 static bool kept_to(uint64_t returned, const uint8_t *before, const struct event *event, const uint8_t *list,
                     const uint8_t *room) {
-    bool refused = coast_answer(returned) > COAST_IGNORED;
+    bool refused = coast_answer(returned) > COAST_ANSWER_IGNORED;
     return (!refused || (coast_count(returned) == 0u && memcmp(station, before, COAST_STATION_SIZE) == 0)) &&
            left_alone(FOR_STATION, station, COAST_STATION_SIZE, FILLING) &&
            memcmp(event->list, list, event->count) == 0 && left_alone(FOR_SYMBOLS, event->list, event->count, FILLING) &&
-           left_alone(FOR_ACTIONS, room, coast_count(returned) * COAST_ACTION_SIZE, FILLING);
+           left_alone(FOR_ACTIONS, room, coast_count(returned) * COAST_ONE_ACTION_SIZE, FILLING);
 }
 
 static bool do_event(struct event *event, const uint8_t *list) {
@@ -58,7 +58,7 @@ static bool do_event(struct event *event, const uint8_t *list) {
     event->list = symbols;
     struct lent_bytes bytes = {station, COAST_STATION_SIZE, room, COAST_ACTIONS_SIZE};
     uint64_t returned = hand_in(&library, event, &bytes);
-    stands = stands || coast_answer(returned) == COAST_DONE;
+    stands = stands || coast_answer(returned) == COAST_ANSWER_DONE;
     print_answer(coast_answer(returned), coast_count(returned), room);
     return tells_due(returned) && kept_to(returned, before, event, list, room);
 }

@@ -18,10 +18,12 @@ struct step {
 
 /* From a fresh station on. */
 static const struct step course[] = {
-    {"Q 100 P1", COAST_DONE, 2, 261},   {"Q 110 P2", COAST_IGNORED, 0, 261}, {"W 250 0 P4", COAST_DONE, 1, 851},
-    {"M 260 1", COAST_DONE, 0, 851},    {"D 300 0", COAST_DONE, 0, 351},     {"U 310 0", COAST_DONE, 0, 851},
-    {"O 720 0", COAST_DONE, 0, NONE},   {"F 730 1", COAST_DONE, 0, NONE},    {"T 900", COAST_DONE, 0, NONE},
-    {"W 4829 0 P5", COAST_DONE, 4, 4870}, {"H 4830 0", COAST_IGNORED, 0, 4870}, {"T 9000", COAST_DONE, 0, NONE},
+    {"Q 100 P1", COAST_ANSWER_DONE, 2, 261},       {"Q 110 P2", COAST_ANSWER_IGNORED, 0, 261},
+    {"W 250 0 P4", COAST_ANSWER_DONE, 1, 851},     {"M 260 1", COAST_ANSWER_DONE, 0, 851},
+    {"D 300 0", COAST_ANSWER_DONE, 0, 351},        {"U 310 0", COAST_ANSWER_DONE, 0, 851},
+    {"O 720 0", COAST_ANSWER_DONE, 0, NONE},       {"F 730 1", COAST_ANSWER_DONE, 0, NONE},
+    {"T 900", COAST_ANSWER_DONE, 0, NONE},         {"W 4829 0 P5", COAST_ANSWER_DONE, 4, 4870},
+    {"H 4830 0", COAST_ANSWER_IGNORED, 0, 4870},   {"T 9000", COAST_ANSWER_DONE, 0, NONE},
 };
 #define STEPS (sizeof course / sizeof course[0])
 
@@ -71,7 +73,7 @@ static void want_due(const char *what, uint64_t returned, uint32_t due) {
 static void try_course(bool at_end) {
     uint8_t *station = lend(FOR_STATION, COAST_STATION_SIZE, at_end, FILLING);
     struct lent_bytes lent = {station, COAST_STATION_SIZE, NULL, 0};
-    want("set-up", (uint32_t)hand_in_line(SET_UP, &lent), COAST_DONE);
+    want("set-up", (uint32_t)hand_in_line(SET_UP, &lent), COAST_ANSWER_DONE);
     lent.room_size = COAST_ACTIONS_SIZE;
     for (size_t i = 0; i < STEPS; i++) {
         lent.room = lend(FOR_ACTIONS, COAST_ACTIONS_SIZE, at_end, FILLING);
@@ -81,17 +83,17 @@ static void try_course(bool at_end) {
         want_due("a step's due time", returned, course[i].due);
         want_due("the next due time", coast_next_due(station, COAST_STATION_SIZE), course[i].due);
         want_true("bytes behind the actions stay",
-                  left_alone(FOR_ACTIONS, lent.room, coast_count(returned) * COAST_ACTION_SIZE, FILLING));
+                  left_alone(FOR_ACTIONS, lent.room, coast_count(returned) * COAST_ONE_ACTION_SIZE, FILLING));
     }
     want_true("bytes beside a station stay", left_alone(FOR_STATION, station, COAST_STATION_SIZE, FILLING));
 }
 
 /* Document 01's answer P2, as the second action of its request. */
 static void try_action(void) {
-    uint8_t wanted[2 * COAST_ACTION_SIZE] = {COAST_CARRIER_ON, 0, 0, 0};
-    uint8_t *send = wanted + COAST_ACTION_SIZE;
+    uint8_t wanted[2 * COAST_ONE_ACTION_SIZE] = {COAST_ACTION_CARRIER_ON, 0, 0, 0};
+    uint8_t *send = wanted + COAST_ONE_ACTION_SIZE;
     struct own own = after(1);
-    send[COAST_AT_ACTION_KIND] = COAST_SEND_CHANNEL_70;
+    send[COAST_AT_ACTION_KIND] = COAST_ACTION_SEND_CHANNEL_70;
     send[COAST_AT_ACTION_LENGTH] = CHECKED_LENGTH;
     copy(send + COAST_AT_ACTION_PAYLOAD, checked[1], CHECKED_LENGTH);
     want_true("the actions' bytes", equal(own.room, wanted, sizeof wanted));
@@ -101,15 +103,15 @@ static void try_action(void) {
 static void try_taken_apart(void) {
     struct own dialling = after(3), ended = after(10);
     char text[COAST_NUMBER_TEXT];
-    want("the dial's kind", coast_action_kind(dialling.room), COAST_DIAL);
+    want("the dial's kind", coast_action_kind(dialling.room), COAST_ACTION_DIAL);
     want_true("the number dialled", equal((const uint8_t *)coast_dialled(dialling.room, text), (const uint8_t *)"5551234", 8));
-    want("the charge's kind", coast_action_kind(ended.room), COAST_CHARGE);
+    want("the charge's kind", coast_action_kind(ended.room), COAST_ACTION_CHARGE);
     want("the charge's slot", coast_action_slot(ended.room), 0);
     want("the ship charged", coast_charge_ship(ended.room), 200056789);
     want("charged from", coast_charge_start(ended.room), 720);
     want("charged to", coast_charge_stop(ended.room), 4829);
     want("seconds charged", coast_charge_seconds(ended.room), 410);
-    want("then the line", coast_action_kind(coast_action_at(ended.room, 1)), COAST_RELEASE_LINE);
+    want("then the line", coast_action_kind(coast_action_at(ended.room, 1)), COAST_ACTION_RELEASE_LINE);
     coast_put_number(ended.station, 4000000000u);
     want("a number put", coast_number_at(ended.station), 4000000000u);
 }
@@ -141,7 +143,7 @@ static void want_refused(const char *what, const char *line, const uint8_t *byte
         want_true("a refusal leaves the station",
                   equal(station, bytes, whole) && left_alone(FOR_STATION, station, whole, FILLING));
         want_true("a refusal leaves the room", left_alone(FOR_ACTIONS, room, 0, FILLING));
-        if (size == COAST_STATION_SIZE && wanted != COAST_NOT_SOUND && wanted != COAST_BAD_SET_UP)
+        if (size == COAST_STATION_SIZE && wanted != COAST_ANSWER_NOT_SOUND && wanted != COAST_ANSWER_BAD_SET_UP)
             want_due("a refusal tells the due time", returned, due_of(coast_next_due(station, size)));
     }
 }
@@ -152,14 +154,14 @@ static void try_sizes(void) {
     for (size_t i = 0; i < STEPS; i++) {
         struct own own = after(i);
         for (size_t j = 0; j < sizeof sizes / sizeof sizes[0]; j++) {
-            want_refused("a size", course[i].line, own.station, sizes[j], COAST_ACTIONS_SIZE, COAST_NOT_SOUND);
-            want_refused("a size and no room", course[i].line, own.station, sizes[j], 0, COAST_NOT_SOUND);
-            want_refused("a size to set up", SET_UP, own.station, sizes[j], 0, COAST_WRONG_SIZE);
+            want_refused("a size", course[i].line, own.station, sizes[j], COAST_ACTIONS_SIZE, COAST_ANSWER_NOT_SOUND);
+            want_refused("a size and no room", course[i].line, own.station, sizes[j], 0, COAST_ANSWER_NOT_SOUND);
+            want_refused("a size to set up", SET_UP, own.station, sizes[j], 0, COAST_ANSWER_WRONG_SIZE);
         }
         for (size_t j = 0; j < sizeof rooms / sizeof rooms[0]; j++)
-            want_refused("a room", course[i].line, own.station, COAST_STATION_SIZE, rooms[j], COAST_ACTIONS_SHORT);
+            want_refused("a room", course[i].line, own.station, COAST_STATION_SIZE, rooms[j], COAST_ANSWER_ACTIONS_SHORT);
     }
-    want("due in no bytes", coast_answer(coast_next_due(NULL, 0)), COAST_NOT_SOUND);
+    want("due in no bytes", coast_answer(coast_next_due(NULL, 0)), COAST_ANSWER_NOT_SOUND);
 }
 
 /* Fills the bytes of slots and waiting ships past the counts, which nobody may look at. */
@@ -171,13 +173,13 @@ static void litter(struct own *own) {
 /* To the station of the course's first step, at clock 100 with a wait due at 261. */
 static void try_refusals(void) {
     static const struct step refused[] = {
-        {"T 4000000001", COAST_TIME_TOO_LATE, 0, 0},  {"T 99", COAST_TIME_BEFORE_CLOCK, 0, 0},
-        {"Q 261" SPOILT, COAST_WAIT_DUE, 0, 0},       {"W 261 9 P4", COAST_WAIT_DUE, 0, 0},
-        {"W 260 2" SPOILT, COAST_NO_SLOT, 0, 0},      {"O 260 4294967295", COAST_NO_SLOT, 0, 0},
-        {"W 260 65536 P4", COAST_NO_SLOT, 0, 0},      {"M 260 257", COAST_NO_SLOT, 0, 0},
-        {"Q 260", COAST_BAD_LENGTH, 0, 0},            {"W 260 0", COAST_BAD_LENGTH, 0, 0},
-        {"Q 260" SPOILT, COAST_BAD_SYMBOL, 0, 0},     {"M 260 0", COAST_OPERATOR, 0, 0},
-        {"F 260 1", COAST_OPERATOR, 0, 0}};
+        {"T 4000000001", COAST_ANSWER_TIME_TOO_LATE, 0, 0},  {"T 99", COAST_ANSWER_TIME_BEFORE_CLOCK, 0, 0},
+        {"Q 261" SPOILT, COAST_ANSWER_WAIT_DUE, 0, 0},       {"W 261 9 P4", COAST_ANSWER_WAIT_DUE, 0, 0},
+        {"W 260 2" SPOILT, COAST_ANSWER_NO_SLOT, 0, 0},      {"O 260 4294967295", COAST_ANSWER_NO_SLOT, 0, 0},
+        {"W 260 65536 P4", COAST_ANSWER_NO_SLOT, 0, 0},      {"M 260 257", COAST_ANSWER_NO_SLOT, 0, 0},
+        {"Q 260", COAST_ANSWER_BAD_LENGTH, 0, 0},            {"W 260 0", COAST_ANSWER_BAD_LENGTH, 0, 0},
+        {"Q 260" SPOILT, COAST_ANSWER_BAD_SYMBOL, 0, 0},     {"M 260 0", COAST_ANSWER_OPERATOR, 0, 0},
+        {"F 260 1", COAST_ANSWER_OPERATOR, 0, 0}};
     struct own own = after(1);
     litter(&own);
     for (size_t i = 0; i < sizeof refused / sizeof refused[0]; i++)
@@ -190,7 +192,7 @@ static void try_bad_set_ups(void) {
         "S 2001234 255", "S 2001234 1 2 3 4 5 6 7 8 9 10 11 12 13 14 15 17 18"};
     struct own own = after(3);
     for (size_t i = 0; i < sizeof bad / sizeof bad[0]; i++)
-        want_refused("a set-up", bad[i], own.station, COAST_STATION_SIZE, 0, COAST_BAD_SET_UP);
+        want_refused("a set-up", bad[i], own.station, COAST_STATION_SIZE, 0, COAST_ANSWER_BAD_SET_UP);
 }
 
 /* One byte made wrong in the station after so many steps: 3 dials on slot 0, 5 lost the carrier there, 10 holds. */
@@ -205,8 +207,8 @@ static void try_unsound(void) {
         struct own own = after(wrong[i].steps);
         own.station[wrong[i].place] = wrong[i].value;
         for (size_t j = 0; j < STEPS; j++)
-            want_refused("an unsound station", course[j].line, own.station, COAST_STATION_SIZE, 0, COAST_NOT_SOUND);
-        want("due in an unsound one", coast_answer(coast_next_due(own.station, COAST_STATION_SIZE)), COAST_NOT_SOUND);
+            want_refused("an unsound station", course[j].line, own.station, COAST_STATION_SIZE, 0, COAST_ANSWER_NOT_SOUND);
+        want("due in an unsound one", coast_answer(coast_next_due(own.station, COAST_STATION_SIZE)), COAST_ANSWER_NOT_SOUND);
     }
 }
 
@@ -217,16 +219,16 @@ static void want_same(const char *what, const struct own *a, const struct own *b
 /* What coast.h tells a host to do after 33 and after 32, and at the end of time. */
 static void try_advice(void) {
     struct own late = after(1), last = after(0);
-    want("a late event", coast_answer(hand_in_own(&late, "U 300 0")), COAST_WAIT_DUE);
+    want("a late event", coast_answer(hand_in_own(&late, "U 300 0")), COAST_ANSWER_WAIT_DUE);
     want_due("the ticks before it", hand_in_own(&late, "T 300"), NONE);
-    want("the event once more", coast_answer(hand_in_own(&late, "U 300 0")), COAST_IGNORED);
-    want("an event of before", coast_answer(hand_in_own(&late, "U 299 0")), COAST_TIME_BEFORE_CLOCK);
-    want("at the latest time", coast_answer(hand_in_own(&late, "U 300 0")), COAST_IGNORED);
+    want("the event once more", coast_answer(hand_in_own(&late, "U 300 0")), COAST_ANSWER_IGNORED);
+    want("an event of before", coast_answer(hand_in_own(&late, "U 299 0")), COAST_ANSWER_TIME_BEFORE_CLOCK);
+    want("at the latest time", coast_answer(hand_in_own(&late, "U 300 0")), COAST_ANSWER_IGNORED);
     hand_in_own(&last, "Q 3999999990 P1");
     uint64_t returned = hand_in_own(&last, "T 4000000000");
-    want("the last time", coast_answer(returned), COAST_DONE);
+    want("the last time", coast_answer(returned), COAST_ANSWER_DONE);
     want_true("a wait that never fires", coast_waits(returned) && coast_due(returned) > COAST_LAST_TIME);
-    want("its due time", coast_answer(hand_in_own(&last, "T 4000000151")), COAST_TIME_TOO_LATE);
+    want("its due time", coast_answer(hand_in_own(&last, "T 4000000151")), COAST_ANSWER_TIME_TOO_LATE);
 }
 
 /* Two stations, one some steps behind the other, each as it is alone; and a copy goes on as the first one does. */
