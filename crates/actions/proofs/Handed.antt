@@ -27,7 +27,8 @@ use Rattle.rules.specs.Sound.{configKeeps, numberKeeps, requestKeeps, sound}
 use Rattle.rules.specs.Requests.{standing, ruleA, Out}
 use Rattle.rules.specs.Calls.{act}
 use Rattle.rules.specs.Verdict.{readIn, verdict}
-use Rattle.rules.specs.Book.{Stop, Book, moment}
+use Rattle.rules.specs.Book.{Stop, Book}
+use Rattle.rules.specs.Reading.{moment}
 use Rattle.rules.specs.ThreeWords.{Word}
 use Rattle.rules.proofs.KindLaws.{only-these}
 use Rattle.rules.proofs.Readable.{heard-keeps, from-ship}

@@ -12,9 +12,9 @@ use Rattle.sequence.proofs.Tests.{both-true}
 use Rattle.rules.specs.Places.{all, Each, lowest}
 use Rattle.rules.specs.Words.{Request, Config, unable}
 use Rattle.rules.specs.Actions.{Action, Ender, theShip, theCoast, does}
-use Rattle.rules.specs.Station.{Slot, pending, busy, Waiting, Station, theSlot, answeredAt}
+use Rattle.rules.specs.Station.{Slot, pending, busy, Waiting, Station, theSlot, answeredAt, isFree}
 use Rattle.rules.specs.Sound.{configKeeps, requestKeeps, durationKeeps, slotKeeps, waitingKeeps, queueRoom}
-use Rattle.rules.specs.Requests.{Out, rungBack, freedFor, freed, lasted, endActs, coastEnd, Standing, nowhere, holds, waits, placeOf, repeated, afresh, ruleD, offer, ruleF, ruleG, isFree, eToG, newcomer, dToG, redial, requested}
+use Rattle.rules.specs.Requests.{Out, rungBack, freedFor, freed, lasted, endActs, coastEnd, Standing, nowhere, holds, waits, placeOf, repeated, afresh, ruleD, offer, ruleF, ruleG, eToG, newcomer, dToG, redial, requested}
 use Rattle.rules.specs.Book.{Stop, Line}
 use Rattle.rules.specs.ThreeWords.{Word}
 use Rattle.rules.proofs.PlaceLaws.{each-append, lowest-there}

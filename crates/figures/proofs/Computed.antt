@@ -7,15 +7,9 @@ use Rattle.sequence.specs.Number.{numberOk, parity, evened}
 use Rattle.sequence.specs.Layout.{endOk, valid, front, body, layout}
 use Rattle.sequence.specs.Reading as Reader
 use Rattle.sequence.specs.Writing.{meaningRefusals, writingAnswer, writtenOf, roomAfter}
-use Rattle.rules.specs.Words.{is}
-use Rattle.rules.specs.Heard.{kindOf, addressed, meaning}
-use Rattle.rules.specs.Station.{fresh, setSlot, setClock, setQueue, table, fires, nextDue}
-use Rattle.rules.specs.Sound.{identityKeeps, channelsKeep, configKeeps, oneSlotEach, numberKeeps, requestKeeps, durationKeeps, noShipTwice, storedKeeps, timesFit, sound}
-use Rattle.rules.specs.Requests.{rungBack, freedFor, freed, coastEnd, standing, ruleA, repeated, afresh, same, ruleB, ruleD, offer, ruleF, ruleG, eToG, newcomer, dToG, redial, ruleC, bOrC, requested}
-use Rattle.rules.specs.Calls.{dialNow, workingKind, workingOn, agreed, bqKind, bqFor, offHookStage, offHookOn, downOn, upOn, shipEnd, sayAgain, shipEndOn, endOn, takeOn, giveOn, offerDue, ringAgain, pendingDue, replyDue, mainOn, fire, ticked, heardOn70, heardOn, happenedOn, actAt}
-use Rattle.rules.specs.Verdict.{refusals, verdict, setUpVerdict, step, play, final}
-use Rattle.rules.specs.Bytes.{block, blockOf, padded, answerTo, ableSaid, unableSaid, overSaid, payloadOf}
-use Rattle.rules.specs.Printed.{printed, lastPrinted}
+use Rattle.rules.specs.Station.{fresh}
+use Rattle.rules.specs.Verdict.{play}
+use Rattle.rules.specs.Printed.{runsOpen}
 use Rattle.rules.specs.Book.{alike, blankBook, falls}
 use Rattle.rules.specs.Reading.{reads, turn, stopsIn, stops, readAll, counted, countedByCalls}
 use Rattle.rules.specs.Repeated.{lastAsked}
@@ -34,25 +28,25 @@ bounds-computed = refl
 
 -- events: on both sides of a boundary, and in other slots, places and stations
 pub bound-cases-computed : map (λ r. r .computed) boundCases ≡ map (λ r. r .expected) boundCases
-unfolding block blockOf printed lastPrinted isShip isCoast identitiesOk identityPairs identityOf isCall unableSecond telecommandsOk channelOk durationOk fieldOk numberOk parity evened endOk valid front body layout Reader.lengthIn Reader.checkIn Reader.formatIn Reader.identityAt Reader.identityPairsAt Reader.identitiesIn Reader.categoryIn Reader.telecommandsIn Reader.blankSymbols Reader.channelSymbols Reader.durationSymbols Reader.fieldSymbols Reader.fieldOf Reader.fieldIn Reader.pairsIn Reader.parityOk Reader.pairsOk Reader.numberIn Reader.zeroBefore Reader.sixteen Reader.numberOf Reader.endIn Reader.refusals Reader.answerOf Reader.meaningOf Reader.blankMeaning Reader.readingOf padded answerTo ableSaid unableSaid overSaid payloadOf is kindOf addressed meaning fresh setSlot setClock setQueue table fires nextDue identityKeeps channelsKeep configKeeps oneSlotEach numberKeeps requestKeeps durationKeeps noShipTwice storedKeeps timesFit sound rungBack freedFor freed coastEnd standing ruleA repeated afresh same ruleB ruleD offer ruleF ruleG eToG newcomer dToG redial ruleC bOrC requested dialNow workingKind workingOn agreed bqKind bqFor offHookStage offHookOn downOn upOn shipEnd sayAgain shipEndOn endOn takeOn giveOn offerDue ringAgain pendingDue replyDue mainOn fire ticked heardOn70 heardOn happenedOn actAt refusals verdict setUpVerdict step play final
+unfolding runsOpen
 bound-cases-computed = as-expected boundCases refl
 
 -- soundness and set-up
 pub bound-sounds-computed : map (λ j. j .given) boundSounds ≡ map (λ j. j .expected) boundSounds
-unfolding printed lastPrinted isShip isCoast identitiesOk identityPairs identityOf isCall unableSecond telecommandsOk channelOk durationOk fieldOk numberOk parity evened endOk valid front body layout Reader.lengthIn Reader.checkIn Reader.formatIn Reader.identityAt Reader.identityPairsAt Reader.identitiesIn Reader.categoryIn Reader.telecommandsIn Reader.blankSymbols Reader.channelSymbols Reader.durationSymbols Reader.fieldSymbols Reader.fieldOf Reader.fieldIn Reader.pairsIn Reader.parityOk Reader.pairsOk Reader.numberIn Reader.zeroBefore Reader.sixteen Reader.numberOf Reader.endIn Reader.refusals Reader.answerOf Reader.meaningOf Reader.blankMeaning Reader.readingOf padded answerTo ableSaid unableSaid overSaid payloadOf is kindOf addressed meaning fresh setSlot setClock setQueue table fires nextDue identityKeeps channelsKeep configKeeps oneSlotEach numberKeeps requestKeeps durationKeeps noShipTwice storedKeeps timesFit sound rungBack freedFor freed coastEnd standing ruleA repeated afresh same ruleB ruleD offer ruleF ruleG eToG newcomer dToG redial ruleC bOrC requested dialNow workingKind workingOn agreed bqKind bqFor offHookStage offHookOn downOn upOn shipEnd sayAgain shipEndOn endOn takeOn giveOn offerDue ringAgain pendingDue replyDue mainOn fire ticked heardOn70 heardOn happenedOn actAt refusals verdict setUpVerdict step play final
+unfolding runsOpen
 bound-sounds-computed = refl
 
 -- what the list of each run tells after each entry, and what it counts
 pub pages-computed : map (λ r. r .computed) pageCases ≡ map (λ r. r .expected) pageCases
-unfolding charged notes isShip isCoast identitiesOk identityPairs identityOf isCall unableSecond telecommandsOk channelOk durationOk fieldOk numberOk parity evened endOk valid front body layout Reader.lengthIn Reader.checkIn Reader.formatIn Reader.identityAt Reader.identityPairsAt Reader.identitiesIn Reader.categoryIn Reader.telecommandsIn Reader.blankSymbols Reader.channelSymbols Reader.durationSymbols Reader.fieldSymbols Reader.fieldOf Reader.fieldIn Reader.pairsIn Reader.parityOk Reader.pairsOk Reader.numberIn Reader.zeroBefore Reader.sixteen Reader.numberOf Reader.endIn Reader.refusals Reader.answerOf Reader.meaningOf Reader.blankMeaning Reader.readingOf padded answerTo ableSaid unableSaid overSaid payloadOf is kindOf addressed meaning fresh setSlot setClock setQueue table fires nextDue identityKeeps channelsKeep configKeeps oneSlotEach numberKeeps requestKeeps durationKeeps noShipTwice storedKeeps timesFit sound rungBack freedFor freed coastEnd standing ruleA repeated afresh same ruleB ruleD offer ruleF ruleG eToG newcomer dToG redial ruleC bOrC requested dialNow workingKind workingOn agreed bqKind bqFor offHookStage offHookOn downOn upOn shipEnd sayAgain shipEndOn endOn takeOn giveOn offerDue ringAgain pendingDue replyDue mainOn fire ticked heardOn70 heardOn happenedOn actAt refusals verdict setUpVerdict step play final alike blankBook falls reads turn stopsIn stops counted countedByCalls readAll heldTenths wordAfter wordsDone lastAsked
+unfolding runsOpen charged notes alike blankBook falls reads turn stopsIn stops counted countedByCalls readAll heldTenths wordAfter wordsDone lastAsked
 pages-computed = as-expected pageCases refl
 
 -- what is charged in each run
 pub page-charges-computed : map (λ r. charged 0 (play (station (r .slots)) (r .events) (fresh (station (r .slots))))) pageRuns ≡ map (λ r. r .owing) pageRuns
-unfolding charged isShip isCoast identitiesOk identityPairs identityOf isCall unableSecond telecommandsOk channelOk durationOk fieldOk numberOk parity evened endOk valid front body layout Reader.lengthIn Reader.checkIn Reader.formatIn Reader.identityAt Reader.identityPairsAt Reader.identitiesIn Reader.categoryIn Reader.telecommandsIn Reader.blankSymbols Reader.channelSymbols Reader.durationSymbols Reader.fieldSymbols Reader.fieldOf Reader.fieldIn Reader.pairsIn Reader.parityOk Reader.pairsOk Reader.numberIn Reader.zeroBefore Reader.sixteen Reader.numberOf Reader.endIn Reader.refusals Reader.answerOf Reader.meaningOf Reader.blankMeaning Reader.readingOf padded answerTo ableSaid unableSaid overSaid payloadOf is kindOf addressed meaning fresh setSlot setClock setQueue table fires nextDue identityKeeps channelsKeep configKeeps oneSlotEach numberKeeps requestKeeps durationKeeps noShipTwice storedKeeps timesFit sound rungBack freedFor freed coastEnd standing ruleA repeated afresh same ruleB ruleD offer ruleF ruleG eToG newcomer dToG redial ruleC bOrC requested dialNow workingKind workingOn agreed bqKind bqFor offHookStage offHookOn downOn upOn shipEnd sayAgain shipEndOn endOn takeOn giveOn offerDue ringAgain pendingDue replyDue mainOn fire ticked heardOn70 heardOn happenedOn actAt refusals verdict setUpVerdict step play final
+unfolding runsOpen charged
 page-charges-computed = refl
 
 -- what the list of each run alone calls for
 pub page-stops-computed : map (λ r. owedFor (stops (station (r .slots)) 0 (notes (play (station (r .slots)) (r .events) (fresh (station (r .slots))))) (blankBook (station (r .slots))))) pageRuns ≡ map (λ r. r .owing) pageRuns
-unfolding notes isShip isCoast identitiesOk identityPairs identityOf isCall unableSecond telecommandsOk channelOk durationOk fieldOk numberOk parity evened endOk valid front body layout Reader.lengthIn Reader.checkIn Reader.formatIn Reader.identityAt Reader.identityPairsAt Reader.identitiesIn Reader.categoryIn Reader.telecommandsIn Reader.blankSymbols Reader.channelSymbols Reader.durationSymbols Reader.fieldSymbols Reader.fieldOf Reader.fieldIn Reader.pairsIn Reader.parityOk Reader.pairsOk Reader.numberIn Reader.zeroBefore Reader.sixteen Reader.numberOf Reader.endIn Reader.refusals Reader.answerOf Reader.meaningOf Reader.blankMeaning Reader.readingOf padded answerTo ableSaid unableSaid overSaid payloadOf is kindOf addressed meaning fresh setSlot setClock setQueue table fires nextDue identityKeeps channelsKeep configKeeps oneSlotEach numberKeeps requestKeeps durationKeeps noShipTwice storedKeeps timesFit sound rungBack freedFor freed coastEnd standing ruleA repeated afresh same ruleB ruleD offer ruleF ruleG eToG newcomer dToG redial ruleC bOrC requested dialNow workingKind workingOn agreed bqKind bqFor offHookStage offHookOn downOn upOn shipEnd sayAgain shipEndOn endOn takeOn giveOn offerDue ringAgain pendingDue replyDue mainOn fire ticked heardOn70 heardOn happenedOn actAt refusals verdict setUpVerdict step play final alike blankBook falls reads turn stopsIn stops
+unfolding runsOpen notes alike blankBook falls reads turn stopsIn stops
 page-stops-computed = refl

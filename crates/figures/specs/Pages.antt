@@ -9,8 +9,6 @@ use Rattle.sequence.specs.declared.Field.the-variants.{Blank}
 use Rattle.rules.specs.Words.{Party, simplex, duplex, modeNumber, Request, Config, Event, Deed, carrierOn, carrierOff, acknowledge, ringBack, unable, dial, releaseLine}
 use Rattle.rules.specs.Heard.{Heard, callRequest, dataRequest, bq, workingCall, endOfCall, nothing}
 use Rattle.rules.specs.Actions.{theShip, Action, does, over, charge}
-use Rattle.rules.specs.Station.{offered, dialling, answered, free, taken}
-use Rattle.rules.specs.Slots.{pending, busy, held}
 use Rattle.rules.specs.Book.{Note, Said, silent, toldBQ, toldRQ, settled, Call, quiet, dialled, talking, Line, Place, Book, blankBook, alike}
 use Rattle.rules.specs.Reading.{turn, numbered, counted, countedByCalls}
 use Rattle.rules.specs.ThreeWords.{Word, idle, ringing, since, wordHeard, wordsDone, wordAfter, wordOf}
@@ -20,6 +18,7 @@ use Rattle.rules.specs.Runs.{station, seven, eight, nine, sends, usual, callsFo
 use Rattle.rules.specs.Cases.{Row}
 use Rattle.rules.specs.Requests.{same}
 use Rattle.rules.specs.SoundCases.{asking, from}
+use Rattle.rules.specs.Phases.{phases}
 use Rattle.figures.specs.BoundCases.{told, callsAs}
 
 -- ── a book as numbers ────────────────────────────────────────────────────────
@@ -455,17 +454,11 @@ dialledOnly = record {
   expected = (0 ∷ 0 ∷ 0 ∷ []) ∷ [];
 }
 
--- of a station the answered calls alone are held, whatever stands before them
+-- of a station with two slots in every phase the answered calls alone are held: six, since 900
 abbrev pub heldShown : Row
 heldShown = record {
-  computed = (heldTenths (record {
-    clock = 1000;
-    slots = free ∷ taken ∷ pending offered (from seven duplex) 1161 ∷
-        held (from seven duplex) Nothing 1041 ∷ busy (from eight duplex) (dialling 1601) none ∷
-        busy (from nine duplex) (answered 900) none ∷ busy (from seven duplex) (answered 950) (some 1051) ∷ [];
-    queue = [];
-  }) ∷ []) ∷ [];
-  expected = (150 ∷ []) ∷ [];
+  computed = (heldTenths (record { clock = 1010; slots = map (λ p. p .slot) (phases ++ phases); queue = [] }) ∷ []) ∷ [];
+  expected = (660 ∷ []) ∷ [];
 }
 
 -- each stop with the number of its entry; two of one entry with the same

@@ -14,8 +14,8 @@ use Rattle.rules.specs.Words as W
 use Rattle.rules.specs.Words.{Party, is, Request, simplex, duplex}
 use Rattle.rules.specs.Waits.{ofQueue}
 use Rattle.rules.specs.Station as R
-use Rattle.rules.specs.Station.{setClock, dueAfter, carrierWait}
-use Rattle.rules.specs.Requests.{Out, coastEnd, same, isFree, placeOf, ruleA, ruleB, ruleC, ruleF, ruleG, redial, bOrC, eToG, newcomer, dToG}
+use Rattle.rules.specs.Station.{setClock, dueAfter, carrierWait, isFree}
+use Rattle.rules.specs.Requests.{Out, coastEnd, same, placeOf, ruleA, ruleB, ruleC, ruleF, ruleG, redial, bOrC, eToG, newcomer, dToG}
 use Rattle.rules.specs.Calls.{workingOn, workingKind, bqFor, bqKind, agreed, offHookOn, offHookStage, startLoss, downOn, upOn, shipEnd, shipEndOn, endOn, signalOn, takeOn, giveOn, handOn, pendingDue, replyDue, mainOn, fire, ticked}
 use Rattle.requests.specs.declared.Mode.{Mode}
 use Rattle.requests.specs.declared.Mode.the-variants.{Simplex, Duplex}

@@ -12,8 +12,7 @@ use Rattle.sequence.specs.Symbols.{allAtMost}
 use Rattle.rules.specs.Words.{Request, Config, Event}
 use Rattle.rules.specs.Places.{shift, lowest, all, Each}
 use Rattle.rules.specs.Station as R
-use Rattle.rules.specs.Station.{free, taken, pending, busy, held, offered, firstRing, secondRing, acknowledged, dialling, answered}
-use Rattle.rules.specs.Requests.{isFree}
+use Rattle.rules.specs.Station.{free, taken, pending, busy, held, offered, firstRing, secondRing, acknowledged, dialling, answered, isFree}
 use Rattle.rules.specs.Verdict.{verdict}
 use Rattle.rules.specs.Bytes.{padded, numberOf}
 use Rattle.rules.specs.Statement.{heldSlot, heldSlots, heldTenths}

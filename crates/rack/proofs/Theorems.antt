@@ -9,9 +9,8 @@ use lib.ListN.{length, take}
 use Rattle.rules.specs.Places.{lowest}
 use Rattle.rules.specs.Words.{Config}
 use Rattle.rules.specs.Station as R
-use Rattle.rules.specs.Station.{fresh}
+use Rattle.rules.specs.Station.{fresh, isFree}
 use Rattle.rules.specs.Sound.{sound}
-use Rattle.rules.specs.Requests.{isFree}
 use Rattle.rules.specs.Calls.{act}
 use Rattle.rules.specs.Book.{Note}
 use Rattle.rules.specs.Bytes.{blocks}

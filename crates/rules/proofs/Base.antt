@@ -7,10 +7,11 @@ use Prim.Native.Nat.{ℕ, suc, _*_, _+_, _≤_, zero, _<_}
 use lib.Dec.{eqb, leb}
 use lib.ListN.{List·getD-map, getD, length, replicate, length-replicate}
 use borrow.Author.Tests.{eq-eqb, eqb-true, leb-true, le-leb}
+use Rattle.units.specs.declared.Told.{Told}
 use Rattle.rules.specs.Words.{Party, is, Mode, simplex, duplex, Request, Deed, Config}
 use Rattle.rules.specs.Actions.{Action, does, over, charge}
-use Rattle.rules.specs.Station.{Kind, offered, firstRing, secondRing, acknowledged, Slot, free, taken, pending, busy, held, Waiting, Station, theSlot, setSlot, carrierWait, lossDue, mainDue, slotTable, table, fires, answeredAt, answeredIn, Dealing, Stage, dialling, answered, fresh, dueAfter, kindWait, replyWait, holdWait}
-use Rattle.rules.specs.Requests.{sameMode, sameNumber, same, isFree, offerOf, ringOf}
+use Rattle.rules.specs.Station.{bySlot, shipOf, Kind, offered, firstRing, secondRing, acknowledged, Slot, free, taken, pending, busy, held, Waiting, Station, theSlot, setSlot, carrierWait, lossDue, mainDue, slotTable, table, fires, answeredAt, answeredIn, Dealing, Stage, dialling, answered, fresh, dueAfter, kindWait, replyWait, holdWait, isFree, offerOf, ringOf}
+use Rattle.rules.specs.Requests.{sameMode, sameNumber, same}
 use Rattle.rules.specs.Book.{silence, alikeMode, alikeDigits, alike, Said, silent, toldBQ, toldRQ, settled, Call, quiet, dialled, talking, Line, Place, Book, atLine, line, lineTable, falls}
 use Rattle.rules.specs.Reading.{read, reads}
 use Rattle.rules.specs.Statement.{deedsOf, chargesOf}
@@ -18,6 +19,28 @@ use Rattle.rules.specs.Places.{lowest, all, Each, modAt}
 use Rattle.rules.specs.Sound.{fits, stageFits, lossFits, slotFits}
 use Rattle.rules.proofs.PlaceLaws.{modAt-modAt, modAt-map, modAt-same, and-true, all-at, each-at, lowest-is}
 use native.Mathlib.Omega.{arith}
+
+-- ── a law on every slot, on every kind before the dialling, on every stage of a call ──
+
+pub by-slot : (P : Slot → Type 0) → P free → P taken → ((k : Kind) (r : Dealing) (d : ℕ) → P (pending k r d)) → ((r : Dealing) (g : Stage) (c : Option ℕ) → P (busy r g c))
+    → ((r : Dealing) (n : Told) (d : ℕ) → P (held r n d)) → (s : Slot) → P s
+by-slot P a b f g h free = a
+by-slot P a b f g h taken = b
+by-slot P a b f g h (pending k r d) = f k r d
+by-slot P a b f g h (busy r s c) = g r s c
+by-slot P a b f g h (held r n d) = h r n d
+
+pub by-kind : (P : Kind → Type 0) → P offered → P firstRing → P secondRing → P acknowledged → (k : Kind) → P k
+by-kind P a b c d offered = a
+by-kind P a b c d firstRing = b
+by-kind P a b c d secondRing = c
+by-kind P a b c d acknowledged = d
+
+pub by-stage : (P : Stage → Type 0) → ((d : ℕ) → P (dialling d)) → ((b : ℕ) → P (answered b)) → (g : Stage) → P g
+by-stage P f g (dialling d) = f d
+by-stage P f g (answered b) = g b
+
+-- ── what the list shows of a slot ────────────────────────────────────────────
 
 abbrev pub saidOf : Kind → Request → Said
 saidOf offered r = toldBQ r
@@ -29,22 +52,13 @@ abbrev pub callIn : Request → Option ℕ → Call
 callIn r none = dialled (r .who) (r .mode)
 callIn r (some b) = talking (r .who) (r .mode) b
 
-abbrev saidIn : Slot → Said
-saidIn free = silent
-saidIn taken = silent
-saidIn (pending k r d) = saidOf k (r .request)
-saidIn (busy r g c) = silent
-saidIn (held r n d) = silent
-
-abbrev callOn : Slot → Call
-callOn free = quiet
-callOn taken = quiet
-callOn (pending k r d) = quiet
-callOn (busy r g c) = callIn (r .request) (answeredAt g)
-callOn (held r n d) = quiet
-
 abbrev pub view : Slot → Line
-view s = record { said = saidIn s; wait = mainDue s; call = callOn s; gone = lossDue s }
+view s = record {
+  said = bySlot silent (λ k r. saidOf k (r .request)) (λ r g c. silent) s;
+  wait = mainDue s;
+  call = bySlot quiet (λ k r. quiet) (λ r g c. callIn (r .request) (answeredAt g)) s;
+  gone = lossDue s;
+}
 
 -- the call of a slot: none, or that of its request
 pub data Calling : Slot → Call → Type 0 where
@@ -52,11 +66,20 @@ pub data Calling : Slot → Call → Type 0 where
   a-call : (r : Dealing) (g : Stage) (c : Option ℕ) → Calling (busy r g c) (callIn (r .request) (answeredAt g))
 
 pub calling : (s : Slot) → Calling s (view s .call)
-calling free = no-call free refl
-calling taken = no-call taken refl
-calling (pending k r d) = no-call (pending k r d) refl
-calling (busy r g c) = a-call r g c
-calling (held r n d) = no-call (held r n d) refl
+calling = by-slot (λ s. Calling s (view s .call)) (no-call _ refl) (no-call _ refl) (λ k r d. no-call _ refl) a-call (λ r n d. no-call _ refl)
+
+-- the call of a slot that is rung back once, and whose it is
+abbrev firstRung : Kind → Dealing → Option Dealing
+firstRung offered r = none
+firstRung firstRing r = some r
+firstRung secondRing r = none
+firstRung acknowledged r = none
+
+abbrev pub rungOnce : Slot → Option Dealing
+rungOnce s = bySlot none firstRung (λ r g c. none) s
+
+pub rung-owns : (s : Slot) (o : Dealing) → rungOnce s ≡ some o → shipOf s ≡ some (o .request .who)
+rung-owns s o = by-slot (λ p. rungOnce p ≡ some o → shipOf p ≡ some (o .request .who)) (λ h. cc) (λ h. cc) (λ k r d. by-kind (λ x. firstRung x r ≡ some o → some (r .request .who) ≡ some (o .request .who)) (λ h. cc) (λ h. cc) (λ h. cc) (λ h. cc) k) (λ r g c h. cc) (λ r n d h. cc) s
 
 abbrev pub place : Waiting → Place
 place w = record { who = w .request .who; due = w .due }
@@ -215,11 +238,7 @@ module _ (cfg : Config) where
 
 -- the free slot
 pub free-is : (s : Slot) → isFree s ≡ true → s ≡ free
-free-is free h = refl
-free-is taken h = cc
-free-is (pending k r d) h = cc
-free-is (busy r g c) h = cc
-free-is (held r n d) h = cc
+free-is = by-slot (λ s. isFree s ≡ true → s ≡ free) (λ h. refl) (λ h. cc) (λ k r d h. cc) (λ r g c h. cc) (λ r n d h. cc)
 
 -- ── the times of a slot that fit the clock c ─────────────────────────────────
 

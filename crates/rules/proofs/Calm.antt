@@ -8,15 +8,15 @@ use Rattle.rules.specs.Places.{dropAt, Each}
 use Rattle.rules.specs.Words.{Party, Request, Deed}
 use Rattle.rules.specs.Heard.{Heard, callRequest}
 use Rattle.rules.specs.Actions.{Ender, theShip, theCoast, Action}
-use Rattle.rules.specs.Station.{Dealing, dealing, firstRing, Slot, pending, Waiting, Station, theSlot, setSlot, setClock, setQueue, answeredAt}
-use Rattle.rules.specs.Requests.{Out, also, rungBack, freedFor, freed, endActs, coastEnd, done, ringOf}
+use Rattle.rules.specs.Station.{Dealing, dealing, Slot, Waiting, Station, theSlot, setSlot, setClock, setQueue, answeredAt, ringOf}
+use Rattle.rules.specs.Requests.{Out, also, rungBack, freedFor, freed, endActs, coastEnd, done}
 use Rattle.rules.specs.Book.{silent, Stop, Line, Book, atLine, line}
 use Rattle.rules.specs.Reading.{letGo, hush, read, reads}
 use Rattle.rules.specs.Repeated.{putsOff, toldToWait, Repeats, switchedOn, RingsSame, DialsNamed, EachRead}
 use Rattle.rules.specs.ThreeWords.{Word}
 use Rattle.rules.specs.Statement.{deedsOf}
 use Rattle.rules.proofs.PlaceLaws.{each-set, each-dropped, each-append}
-use Rattle.rules.proofs.Base.{view, deeds-append, slot-each, slot-mapped}
+use Rattle.rules.proofs.Base.{rungOnce, view, deeds-append, slot-each, slot-mapped}
 use Rattle.rules.proofs.Outcome.{Next, stays, becomes, frees, Move, to-dial, to-agree, to-ring, to-drop, to-answer, to-lose, to-regain, to-hold, to-end, to-repeat, to-run-out, to-take, to-give, played, Outcome, passed, moved}
 use Rattle.rules.proofs.Laws.{there}
 
@@ -27,7 +27,7 @@ Asked a w = a (w .request .who) ≡ callRequest (w .request)
 
 -- a slot rung back once, whose ring-back may be repeated
 abbrev pub Rung : (Party → Heard) → Slot → Type 0
-Rung a s = (r : Dealing) (d : ℕ) → s ≡ pending firstRing r d → a (r .request .who) ≡ callRequest (r .request)
+Rung a s = (r : Dealing) → rungOnce s ≡ some r → a (r .request .who) ≡ callRequest (r .request)
 
 pub record Known (a : Party → Heard) (st : Station) : Type 0 where
   pub waiting : Each (Asked a) (st .queue)
@@ -94,12 +94,12 @@ module _ (h : Heard) (a : Party → Heard) where
   -- the oldest is rung back with its request
   freedFor-calm : (b : Book) (i : ℕ) (st : Station) → line b i .said ≡ silent → Known a st → (q : List Waiting) → st .queue ≡ q → Calm h a b (freedFor i st q)
   unfolding freedFor rungBack
-  freedFor-calm b i st quiet k [] e = record { mild = record { repeats = tt; fits = λ t on. tt; untold = λ x. refl }; known = set-known a i _ st (λ r d h. cc) k }
+  freedFor-calm b i st quiet k [] e = record { mild = record { repeats = tt; fits = λ t on. tt; untold = λ x. refl }; known = set-known a i _ st (λ r h. cc) k }
   freedFor-calm b i st quiet k (w ∷ q) e =
       let p : Each (Asked a) (w ∷ q) = rw e at (k .waiting) in
       record {
         mild = record { repeats = (tt, (p .0, tt)); fits = λ t on. ((tt, tt), ((rw quiet refl, tt), tt)); untold = λ x. refl };
-        known = set-known a i (ringOf (w .request) st) (setQueue q st) (λ r d h. let y : dealing (w .request) ≡ r = cc in rw (← y) (p .0)) (queue-known a q st (p .1) k);
+        known = set-known a i (ringOf (w .request) st) (setQueue q st) (λ r h. let y : dealing (w .request) ≡ r = cc in rw (← y) (p .0)) (queue-known a q st (p .1) k);
       }
 
   freed-calm : (b : Book) (i : ℕ) (st : Station) → line b i .said ≡ silent → Known a st → Calm h a b (freed i st)
@@ -138,18 +138,18 @@ module _ (h : Heard) (a : Party → Heard) where
 
     move-calm : (i t : ℕ) (p : Slot) (n : Next) (acts : List Action) → Move i t p n acts → Rung a p → line b i .said ≡ view p .said → Mild h a b (deedsOf acts) × ((u : ℕ) → Leaves i n (reads u (deedsOf acts) b))
     unfolding reads
-    move-calm i t _ _ _ (to-dial k r d z) g s = (record { repeats = (tt, tt); fits = λ u on. ((tt, rw s z), tt); untold = λ x. refl }, λ u o e x. cc)
-    move-calm i t _ _ _ (to-agree k r d) g s = (no-deed, λ u o e x. cc)
-    move-calm i t _ _ _ (to-ring r d) g s = (record { repeats = (g r d refl, tt); fits = λ u on. ((rw s refl, tt), tt); untold = λ x. refl }, λ u o e x. cc)
+    move-calm i t _ _ _ (to-dial k r d z) g s = (record { repeats = (tt, tt); fits = λ u on. ((tt, rw s z), tt); untold = λ x. refl }, λ u o x. cc)
+    move-calm i t _ _ _ (to-agree k r d) g s = (no-deed, λ u o x. cc)
+    move-calm i t _ _ _ (to-ring r d) g s = (record { repeats = (g r refl, tt); fits = λ u on. ((rw s refl, tt), tt); untold = λ x. refl }, λ u o x. cc)
     move-calm i t _ _ _ (to-drop k r d) g s = (record { repeats = (tt, tt); fits = λ u on. ((tt, tt), tt); untold = λ x. refl }, λ u. hushed i b)
-    move-calm i t _ _ _ (to-answer r d c) g s = (no-deed, λ u o e x. cc)
-    move-calm i t _ _ _ (to-lose r g c) k s = (no-deed, λ u o e x. cc)
-    move-calm i t _ _ _ (to-regain r g c) k s = (no-deed, λ u o e x. cc)
-    move-calm i t _ _ _ (to-hold r g c) k s = (end-mild i theShip (r .request) (answeredAt g) t, λ u o e x. cc)
+    move-calm i t _ _ _ (to-answer r d c) g s = (no-deed, λ u o x. cc)
+    move-calm i t _ _ _ (to-lose r g c) k s = (no-deed, λ u o x. cc)
+    move-calm i t _ _ _ (to-regain r g c) k s = (no-deed, λ u o x. cc)
+    move-calm i t _ _ _ (to-hold r g c) k s = (end-mild i theShip (r .request) (answeredAt g) t, λ u o x. cc)
     move-calm i t _ _ _ (to-end r g c) k s = (end-mild i theCoast (r .request) (answeredAt g) t, λ u. end-quiet i theCoast (r .request) (answeredAt g) t u)
     move-calm i t _ _ _ (to-repeat r n d) g s = (record { repeats = (tt, (tt, tt)); fits = λ u on. ((tt, tt), ((tt, tt), tt)); untold = λ x. refl }, λ u. tt)
     move-calm i t _ _ _ (to-run-out r n d) g s = (no-deed, λ u. s)
-    move-calm i t _ _ _ to-take g s = (no-deed, λ u o e x. cc)
+    move-calm i t _ _ _ to-take g s = (no-deed, λ u o x. cc)
     move-calm i t _ _ _ to-give g s = (no-deed, λ u. s)
 
     module _ (i : ℕ) (st : Station) (k : Known a st) where
@@ -160,7 +160,7 @@ module _ (h : Heard) (a : Party → Heard) where
 
       pub outcome-calm : b .lines ≡ map view (st .slots) → {f : Line → Line} {w : Word → Word} {cs : List Stop} {o : Out} → Outcome i st f w cs (theSlot st i) o → Calm h a b o
       outcome-calm v (passed x y z) = still 1 st k
-      outcome-calm v (moved {n} {acts} u x y z) = played-calm n acts (move-calm i (st .clock) _ n acts u (slot-each st (Rung a) (λ r d x. cc) i (k .ringing)) (rw v (ap (λ (l : Line). l .said) (slot-mapped st view i))))
+      outcome-calm v (moved {n} {acts} u x y z) = played-calm n acts (move-calm i (st .clock) _ n acts u (slot-each st (Rung a) (λ r x. cc) i (k .ringing)) (rw v (ap (λ (l : Line). l .said) (slot-mapped st view i))))
 
     -- the time of a waiting ship is over
     pub drop-calm : (st : Station) → Known a st → (j : ℕ) → Calm h a b (done (setQueue (dropAt j (st .queue)) st))

@@ -14,8 +14,8 @@ use Rattle.rules.specs.Station.{Slot, Station, answeredAt}
 use Rattle.rules.specs.Sound.{requestKeeps, slotKeeps, limit}
 use Rattle.rules.specs.Calls.{act}
 use Rattle.rules.specs.Verdict.{verdict}
-use Rattle.rules.specs.Book.{Stop, Call, quiet, dialled, talking, falling, moment, stopOf}
-use Rattle.rules.specs.Reading.{stopsIn}
+use Rattle.rules.specs.Book.{Stop, Call, quiet, dialled, talking}
+use Rattle.rules.specs.Reading.{stopsIn, falling, moment, stopOf}
 use Rattle.rules.specs.Statement.{owed, InOrder, ChargesFit, FourBytes, EndsAt}
 use Rattle.rules.proofs.PlaceLaws.{and-true}
 use Rattle.rules.proofs.Base.{callIn, view, seen, Calling, no-call, a-call, calling}

@@ -10,16 +10,15 @@ use lib.Dec.{eqb}
 use Rattle.sequence.specs.Answers.{isDone}
 use Rattle.sequence.specs.Reading.{readingOf}
 use Rattle.rules.specs.Places.{modAt, dropAt, isSome}
-use Rattle.rules.specs.Words.{Party, Request, Config, What, tick, onChannel70, onSlot, Event, isOffHook}
+use Rattle.rules.specs.Words.{Party, Request, Config, What, tick, onChannel70, onSlot, Event, isAnswering}
 use Rattle.rules.specs.Waits.{Wait, ofQueue, loss, main, Due}
 use Rattle.rules.specs.Heard.{Heard, callRequest, dataRequest, bq, workingCall, endOfCall, nothing, meaning}
 use Rattle.rules.specs.Station.{Station, theSlot, setClock, setQueue, fires}
 use Rattle.rules.specs.Requests.{Out, done, standing, ruleA, requested}
 use Rattle.rules.specs.Calls.{fire, ticked, heardOn70, actAt}
 use Rattle.rules.specs.Verdict.{overtaken, readIn, verdict}
-use Rattle.rules.specs.Book.{Stop, Line, Book, atLine, atPlaces, fallsAt, momentOf, moment, stopsDue, stopsAgain, stopsHeard, stopsAt}
-use Rattle.rules.specs.Reading.{hearHeard, hearDue, hear, setNow}
-use Rattle.rules.specs.Repeated.{heardAt}
+use Rattle.rules.specs.Book.{Stop, Line, Book, atLine, atPlaces}
+use Rattle.rules.specs.Reading.{hearHeard, hearDue, hear, setNow, fallsAt, momentOf, moment, stopsDue, stopsAgain, stopsHeard, stopsAt, heardAt}
 use Rattle.rules.specs.ThreeWords.{Word, idle, wordHeard, answer}
 use Rattle.rules.proofs.PlaceLaws.{modAt-length, modAt-none}
 use Rattle.rules.proofs.Base.{seen, falls-fires, line-is}
@@ -66,7 +65,7 @@ unfolding ticked setClock seen
 tick-effect st t none = rests nothing 0 (omega arith)
 tick-effect st t (some p) = fire-effect st (p .what) (p .at)
 
--- the words of all slots, an off-hook on one of them being heard
+-- the words of all slots, one of them being answered
 abbrev pub heardBy : ℕ → What → List Word → List Word
 heardBy t tick ws = ws
 heardBy t (onChannel70 m) ws = ws
@@ -107,7 +106,7 @@ lifted-one i t tick ws h = refl
 lifted-one i t (onChannel70 x) ws h = refl
 lifted-one i t (onSlot j x) ws h = both (eqb i j) ∙ one-of (lifted t x) i j ws h
   where
-    both : (b : Bool) → cond (b && isOffHook x) (answer t (getD ws i idle)) (getD ws i idle) ≡ cond b (lifted t x (getD ws i idle)) (getD ws i idle)
+    both : (b : Bool) → cond (b && isAnswering x) (answer t (getD ws i idle)) (getD ws i idle) ≡ cond b (lifted t x (getD ws i idle)) (getD ws i idle)
     both true = refl
     both false = refl
 

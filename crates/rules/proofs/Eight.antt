@@ -11,9 +11,9 @@ use Rattle.rules.specs.Places.{lowest, all, Each}
 use Rattle.rules.specs.Words.{Request, Config, What, Event, carrierOn}
 use Rattle.rules.specs.Heard.{Heard}
 use Rattle.rules.specs.Actions.{Ender, theShip, theCoast, Action, does}
-use Rattle.rules.specs.Station.{Slot, Waiting, Station, theSlot, setClock, answeredAt}
+use Rattle.rules.specs.Station.{Slot, Waiting, Station, theSlot, setClock, answeredAt, isFree}
 use Rattle.rules.specs.Sound.{slotKeeps, sound}
-use Rattle.rules.specs.Requests.{Out, also, rungBack, freedFor, freed, bill, lasted, endActs, coastEnd, Standing, nowhere, holds, waits, placeOf, standing, ruleA, repeated, afresh, ruleD, offer, ruleF, ruleG, isFree, eToG, newcomer, dToG, redial, requested}
+use Rattle.rules.specs.Requests.{Out, also, rungBack, freedFor, freed, bill, lasted, endActs, coastEnd, Standing, nowhere, holds, waits, placeOf, standing, ruleA, repeated, afresh, ruleD, offer, ruleF, ruleG, eToG, newcomer, dToG, redial, requested}
 use Rattle.rules.specs.Calls.{actAt, act}
 use Rattle.rules.specs.Book.{Stop, Line, Book}
 use Rattle.rules.specs.ThreeWords.{Word}

@@ -6,10 +6,10 @@ use mathlib.Core.Option.{Option, none, some}
 use Prim.Native.Nat.{ℕ}
 use lib.Dec.{eqb}
 use Rattle.rules.specs.Places.{modAt, dropAt}
-use Rattle.rules.specs.Words.{Party, is, Mode, Request, Config, lineLifted, lineHung, carrierHeard, carrierLost, Happened, heard, signal, operator, offHook, What, onSlot, Deed, carrierOn, carrierOff, acknowledge, ringBack, unable, dial, releaseLine, tick, onChannel70}
+use Rattle.rules.specs.Words.{Party, is, Mode, Request, Config, lineLifted, lineHung, carrierHeard, carrierLost, Happened, heard, signal, operator, answeringOn, What, onSlot, Deed, carrierOn, carrierOff, acknowledge, ringBack, unable, dial, releaseLine, tick, onChannel70}
 use Rattle.rules.specs.Heard.{Heard, callRequest, dataRequest, bq, workingCall, endOfCall, nothing, meaning}
-use Rattle.rules.specs.Book.{Stop, after, offerTime, alike, Said, silent, toldBQ, toldRQ, settled, Call, quiet, dialled, talking, Line, Book, atPlaces, stopOf, callOf, stopsSaid, stopsOn, Place, line, stopsDue, stopsAgain, stopsHeard, stopsAt}
-use Rattle.rules.specs.Reading.{close, withGone, pickUp, lose, signOff, hearSaid, hearLine, settle, told, tell, rungUp, beginCall, dialUp, letGo, hush, join, queued, read, withWait, again, hearHeard, hearDue, hear, setNow}
+use Rattle.rules.specs.Book.{Stop, after, offerTime, alike, Said, silent, toldBQ, toldRQ, settled, Call, quiet, dialled, talking, Line, Book, atPlaces, Place, line}
+use Rattle.rules.specs.Reading.{close, withGone, pickUp, lose, signOff, hearSaid, hearLine, settle, told, tell, rungUp, beginCall, dialUp, letGo, hush, join, queued, read, withWait, again, hearHeard, hearDue, hear, setNow, stopOf, callOf, stopsSaid, stopsOn, stopsDue, stopsAgain, stopsHeard, stopsAt}
 use Rattle.rules.specs.Waits.{Wait, ofQueue, loss, main, Due}
 
 abbrev pub line-of : Said → Option ℕ → Call → Option ℕ → Line
@@ -111,7 +111,7 @@ read-leaves u (releaseLine i) b = at-line i letGo release-same
 -- it is read by f, and a call k on the line gives the stops s k
 pub data Hears (u i : ℕ) (e : What) : (Line → Line) → (Call → List Stop) → Type 0 where
   says-nothing : (f : Line → Line) → Same f → Hears u i e f (λ k. [])
-  says-begun : e ≡ onSlot i offHook → Hears u i e (pickUp u) (λ k. [])
+  says-begun : e ≡ answeringOn i → Hears u i e (pickUp u) (λ k. [])
   says-over : Hears u i e close (stopOf u i)
   says-end : (x : Party) → Hears u i e (signOff u x) (λ k. cond (callOf x k) (stopOf u i k) [])
 

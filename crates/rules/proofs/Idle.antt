@@ -9,8 +9,8 @@ use native.Mathlib.Omega.{arith}
 use Rattle.rules.specs.Places.{modAt, dropAt, lowest}
 use Rattle.rules.specs.Words.{Request, Config, Event}
 use Rattle.rules.specs.Actions.{Action}
-use Rattle.rules.specs.Station.{Slot, Waiting, Station, fresh, setSlot, setClock, setQueue}
-use Rattle.rules.specs.Requests.{rungBack, freedFor, freed, ruleD, ruleF, isFree, offerOf}
+use Rattle.rules.specs.Station.{Slot, Waiting, Station, fresh, setSlot, setClock, setQueue, isFree, offerOf}
+use Rattle.rules.specs.Requests.{rungBack, freedFor, freed, ruleD, ruleF}
 use Rattle.rules.specs.Calls.{act}
 use Rattle.rules.specs.Verdict.{verdict, final}
 use Rattle.rules.specs.Statement.{NoChannelIdle}

@@ -15,7 +15,7 @@ use Rattle.rules.specs.Station.{Station, fresh, setClock, Slot, shipOf}
 use Rattle.rules.specs.Sound.{identityKeeps, channelsKeep, configKeeps, oneSlotEach, slotKeeps, limit, queueRoom, owners, slotFits, sound, listed}
 use Rattle.rules.specs.Calls.{act}
 use Rattle.rules.specs.Verdict.{unless, verdict, setUpVerdict, final}
-use Rattle.rules.specs.Book.{moment}
+use Rattle.rules.specs.Reading.{moment}
 use Rattle.rules.specs.Statement.{AlwaysSound, AlwaysFits}
 use Rattle.rules.proofs.PlaceLaws.{and-true}
 use Rattle.rules.proofs.Base.{seen, fresh-all, fresh-length}

@@ -1,5 +1,5 @@
 -- What the reading means, said of one entry and one line, with no station in sight.
---     begins   a line talks after an entry only if it talked before, or the entry is an off-hook on it and it was dialled
+--     begins   a line talks after an entry only if it talked before, or the entry answers it and it was dialled
 --     ends     a line that talked talks on, or the entry holds its stop
 use mathlib.Core.Path.{_≡_, refl, sym, ap, _∙_}
 use mathlib.Core.Logic.{_⊎_, inl, inr}
@@ -11,10 +11,10 @@ use native.Mathlib.Nat.{add-zero, add-suc, suc-add, zero-add}
 use native.Mathlib.Omega.{arith}
 use lib.ListN.{getD}
 use Rattle.rules.specs.Places.{modAt}
-use Rattle.rules.specs.Words.{Party, is, Mode, Config, offHook, What, onSlot, Deed}
+use Rattle.rules.specs.Words.{Party, is, Mode, Config, answeringOn, What, Deed}
 use Rattle.rules.specs.Waits.{Due}
-use Rattle.rules.specs.Book.{Note, Stop, after, holdTime, Said, Call, quiet, dialled, talking, Line, Book, blank, line, falling, moment, stopOf, callOf, lost, askedAgain, stopsAgain, stopsAt}
-use Rattle.rules.specs.Reading.{closed, close, pickUp, signOff, again, hear, read, reads, setNow, turn, stopsIn}
+use Rattle.rules.specs.Book.{Note, Stop, after, holdTime, Said, Call, quiet, dialled, talking, Line, Book, blank, line}
+use Rattle.rules.specs.Reading.{closed, close, pickUp, signOff, again, hear, read, reads, setNow, turn, stopsIn, falling, moment, stopOf, callOf, lost, askedAgain, stopsAgain, stopsAt}
 use Rattle.rules.specs.ReadingLaws.{In, stopAt, Begins, Lifts, Ends}
 use Rattle.rules.proofs.Hears.{line-of, talk, talk-is, Same, Leaves, elsewhere, at-line, read-leaves, Hears, says-nothing, says-begun, says-over, says-end, Hearing, no-line, one-line, all-lines, event-hearing}
 
@@ -44,7 +44,7 @@ reads-same u j (d ∷ ds) b = reads-same u j ds (read u d b) ∙ read-same u j d
 -- the call c of line j is, after the entry, the call k
 data After (e : What) (u j : ℕ) (cs : List Stop) (c k : Call) : Type 0 where
   goes-on : talk k ≡ talk c → After e u j cs c k
-  starts : (x : Party) (m : Mode) → e ≡ onSlot j offHook → c ≡ dialled x m → k ≡ talking x m u → After e u j cs c k
+  starts : (x : Party) (m : Mode) → e ≡ answeringOn j → c ≡ dialled x m → k ≡ talking x m u → After e u j cs c k
   stopped : (x : Party) (m : Mode) (t : ℕ) → c ≡ talking x m t → talk k ≡ quiet → In (stopAt j x t u) cs → After e u j cs c k
 
 aside : (f : Line → Line) (i j : ℕ) (ls : List Line) → (j ≡ i) ⊎ (getD (modAt f i ls) j blank ≡ getD ls j blank)
@@ -91,7 +91,7 @@ signOff-after e u x i s w (talking y m t) g = go (is x y)
     go true = stopped y m t refl refl (inl refl)
     go false = goes-on refl
 
-pickUp-after : (e : What) (u i : ℕ) (cs : List Stop) → e ≡ onSlot i offHook → (s : Said) (w : Option ℕ) (c : Call) (g : Option ℕ) → After e u i cs c (pickUp u (line-of s w c g) .call)
+pickUp-after : (e : What) (u i : ℕ) (cs : List Stop) → e ≡ answeringOn i → (s : Said) (w : Option ℕ) (c : Call) (g : Option ℕ) → After e u i cs c (pickUp u (line-of s w c g) .call)
 pickUp-after e u i cs h s w quiet g = goes-on refl
 pickUp-after e u i cs h s w (dialled x m) g = starts x m h refl refl
 pickUp-after e u i cs h s w (talking x m b) g = goes-on refl
@@ -155,7 +155,7 @@ begins cfg b n j x m t h = go (hear-after cfg b (moment b (n .event)) (falling b
     now-talks : mid cfg b n j ≡ talking x m t
     now-talks = talk-is (mid cfg b n j) x m t (sym (turn-mid cfg b n j) ∙ ap talk h)
 
-    go : After (n .event .what) (moment b (n .event)) j (stopsAt cfg (moment b (n .event)) b (falling b (n .event)) (n .event .what)) (line b j .call) (mid cfg b n j) → (line b j .call ≡ talking x m t) ⊎ ((n .event .what ≡ onSlot j offHook) × ((moment b (n .event) ≡ t) × (line b j .call ≡ dialled x m)))
+    go : After (n .event .what) (moment b (n .event)) j (stopsAt cfg (moment b (n .event)) b (falling b (n .event)) (n .event .what)) (line b j .call) (mid cfg b n j) → (line b j .call ≡ talking x m t) ⊎ ((n .event .what ≡ answeringOn j) × ((moment b (n .event) ≡ t) × (line b j .call ≡ dialled x m)))
     go (goes-on p) = inl (talk-is (line b j .call) x m t (sym p ∙ ap talk now-talks))
     go (starts y k p q r) =
         let s : talking y k (moment b (n .event)) ≡ talking x m t = sym r ∙ now-talks in
@@ -178,10 +178,10 @@ ends cfg b n j x m t h = go (hear-after cfg b (moment b (n .event)) (falling b (
         let sv : v ≡ t = cc in
         inr (rw (sx, sv) at r)
 
--- the other half of `begins`: an off-hook on a dialled line makes it talk from then on
+-- the other half of `begins`: a dialled line that is answered talks from then on
 pub lifts : Lifts
 unfolding Lifts mid
-lifts cfg t n ds b j x m h = talk-is _ x m t (turn-mid cfg b (record { event = record { time = t; room = n; what = onSlot j offHook }; deeds = ds }) j ∙ ap (λ (l : Line). talk (l .call)) (there (pickUp t) refl j (b .lines)) ∙ go (line b j) h)
+lifts cfg t n ds b j x m h = talk-is _ x m t (turn-mid cfg b (record { event = record { time = t; room = n; what = answeringOn j }; deeds = ds }) j ∙ ap (λ (l : Line). talk (l .call)) (there (pickUp t) refl j (b .lines)) ∙ go (line b j) h)
   where
     go : (l : Line) → l .call ≡ dialled x m → talk (pickUp t l .call) ≡ talking x m t
     go l e = rw e refl

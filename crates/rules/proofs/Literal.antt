@@ -8,8 +8,8 @@ use lib.ListN.{getD, length, length-map, replicate}
 use Rattle.rules.specs.Places.{lowest}
 use Rattle.rules.specs.Words.{Request, Config, What, Event, Deed, carrierOn, carrierOff, acknowledge, ringBack, unable, dial, releaseLine}
 use Rattle.rules.specs.Heard.{Heard}
-use Rattle.rules.specs.Station.{Slot, Station, theSlot, fresh, setClock, setQueue, answeredAt}
-use Rattle.rules.specs.Requests.{Out, coastEnd, slotOf, placeOf, standsAt, standing, ruleA, repeated, afresh, ruleD, offer, ruleF, ruleG, isFree, eToG, newcomer, dToG, redial, requested, offerOf}
+use Rattle.rules.specs.Station.{Slot, Station, theSlot, fresh, setClock, setQueue, answeredAt, isFree, offerOf}
+use Rattle.rules.specs.Requests.{Out, coastEnd, slotOf, placeOf, standsAt, standing, ruleA, repeated, afresh, ruleD, offer, ruleF, ruleG, eToG, newcomer, dToG, redial, requested}
 use Rattle.rules.specs.Calls.{actAt, act}
 use Rattle.rules.specs.Verdict.{verdict, play}
 use Rattle.rules.specs.Book.{Stop, Line, Book, line}

@@ -12,7 +12,7 @@ use Rattle.rules.specs.Words.{Config, Event}
 use Rattle.rules.specs.Waits.{Due, sooner, earliest, ifDue}
 use Rattle.rules.specs.Station.{Station, table, fires}
 use Rattle.rules.specs.Verdict.{verdict}
-use Rattle.rules.specs.Book.{momentOf, moment}
+use Rattle.rules.specs.Reading.{momentOf, moment}
 use Rattle.rules.proofs.PlaceLaws.{and-true}
 use Rattle.rules.proofs.Base.{seen}
 use Rattle.rules.proofs.Accepted.{accepted, Sound, sounds, due-all}

@@ -8,9 +8,9 @@ use native.Mathlib.Omega.{arith}
 use borrow.Author.Tests.{not-true}
 use Rattle.rules.specs.Places.{modAt, lowest, elem, distinct}
 use Rattle.rules.specs.Words.{Party, is, Request}
-use Rattle.rules.specs.Station.{Slot, shipOf, Waiting, Station, theSlot, setSlot, setQueue}
+use Rattle.rules.specs.Station.{Slot, shipOf, Waiting, Station, theSlot, setSlot, setQueue, ringOf}
 use Rattle.rules.specs.Sound.{listed, owners}
-use Rattle.rules.specs.Requests.{rungBack, freedFor, freed, coastEnd, isOf, owns, waitsFor, ringOf}
+use Rattle.rules.specs.Requests.{rungBack, freedFor, freed, coastEnd, isOf, owns, waitsFor}
 use Rattle.rules.proofs.PlaceLaws.{or-false, and-true, shift-none}
 use Rattle.rules.proofs.Base.{is-same, is-true}
 

@@ -12,8 +12,8 @@ use Rattle.rules.specs.Waits.{Due}
 use Rattle.rules.specs.Station.{Slot, Station, fresh}
 use Rattle.rules.specs.Calls.{act}
 use Rattle.rules.specs.Verdict.{verdict, play, final}
-use Rattle.rules.specs.Book.{Stop, Call, quiet, dialled, talking, Book, blankBook, falling, moment, stopOf, stopsAt}
-use Rattle.rules.specs.Reading.{stopsIn, Numbered, stops, readAll, talkedBy, lengths, countedByCalls}
+use Rattle.rules.specs.Book.{Stop, Call, quiet, dialled, talking, Book, blankBook}
+use Rattle.rules.specs.Reading.{stopsIn, Numbered, stops, readAll, talkedBy, lengths, countedByCalls, falling, moment, stopOf, stopsAt}
 use Rattle.rules.specs.Statement.{notes, owed, owedFor, ChargesAreStops, tenthsIn, heldTenths, TenthsAgree, CountsAgree, InOrder, ClockIsNow, EndsAt}
 use Rattle.rules.proofs.PlaceLaws.{and-true}
 use Rattle.rules.proofs.Base.{view, seen, begunBy}

@@ -6,19 +6,19 @@ use mathlib.Core.Option.{Option, none, some}
 use Prim.Native.Nat.{ℕ}
 use Rattle.units.specs.declared.Told.{Told}
 use Rattle.rules.specs.Places.{Each}
-use Rattle.rules.specs.Words.{Party, is, Request, Config, lineLifted, lineHung, carrierHeard, carrierLost, handTakes, handGives, Happened, heard, signal, operator, offHook, Deed, carrierOn, carrierOff, acknowledge, ringBack, unable, dial, releaseLine, Mode, isOffHook}
+use Rattle.rules.specs.Words.{Party, is, Request, Config, lineLifted, lineHung, carrierHeard, carrierLost, handTakes, handGives, Happened, heard, signal, operator, offHook, Deed, carrierOn, carrierOff, acknowledge, ringBack, unable, dial, releaseLine, Mode, isAnswering}
 use Rattle.rules.specs.Heard.{Heard, callRequest, dataRequest, bq, workingCall, endOfCall, nothing, meaning}
 use Rattle.rules.specs.Actions.{Action, does, over, Ender, theShip, theCoast}
-use Rattle.rules.specs.Station.{Kind, offered, firstRing, secondRing, acknowledged, Stage, answeredAt, dialling, answered, Dealing, Slot, free, taken, pending, busy, held, Station, setSlot, dueAfter, kindWait, replyWait, holdWait, carrierWait}
+use Rattle.rules.specs.Station.{Kind, firstRing, secondRing, acknowledged, Stage, answeredAt, dialling, answered, Dealing, Slot, free, taken, pending, busy, held, Station, setSlot, dueAfter, kindWait, replyWait, holdWait, carrierWait}
 use Rattle.rules.specs.Requests.{Out, ignored, also, freed, lasted, endActs, coastEnd}
 use Rattle.rules.specs.Calls.{dialNow, workingKind, workingOn, agreed, bqKind, bqFor, offHookStage, offHookOn, startLoss, downOn, upOn, shipEnd, sayAgain, shipEndOn, endOn, takeOn, giveOn, offerDue, ringAgain, pendingDue, replyDue, mainOn, heardOn, happenedOn}
-use Rattle.rules.specs.Book.{Stop, Line, Place, stopOf, callOf, stopsSaid, stopsOn}
-use Rattle.rules.specs.Reading.{close, withWait, withGone, pickUp, lose, signOff, hearSaid, hearLine, settle, tell, rungUp, dialUp, letGo, hush, leave}
+use Rattle.rules.specs.Book.{Stop, Line, Place}
+use Rattle.rules.specs.Reading.{close, withWait, withGone, pickUp, lose, signOff, hearSaid, hearLine, settle, tell, rungUp, dialUp, letGo, hush, leave, stopOf, callOf, stopsSaid, stopsOn}
 use Rattle.rules.specs.Repeated.{Dials}
 use Rattle.rules.specs.ThreeWords.{Word, idle, ringing, answer, wordOf}
 use Rattle.rules.specs.Statement.{deedsOf, chargesOf, owed}
 use Rattle.rules.specs.Sound.{fits, stageFits, lossFits, slotFits}
-use Rattle.rules.proofs.Base.{saidOf, view, silence-is, new-wait}
+use Rattle.rules.proofs.Base.{by-kind, saidOf, view, silence-is, new-wait}
 use Rattle.rules.proofs.PlaceLaws.{and-true}
 use borrow.Author.Tests.{le-leb}
 use native.Mathlib.Omega.{arith}
@@ -57,7 +57,7 @@ pub data Move (i t : ℕ) : Slot → Next → List Action → Type 0 where
 
 -- the word of a line that an event is heard on
 abbrev pub lifted : ℕ → Happened → Word → Word
-lifted t h w = cond (isOffHook h) (answer t w) w
+lifted t h w = cond (isAnswering h) (answer t w) w
 
 -- what a move gives
 abbrev pub played : ℕ → Station → Next → List Action → Out
@@ -221,10 +221,7 @@ module _ (i : ℕ) (st : Station) where
   unfolding workingOn workingKind dialNow
   working-outcome x free = passed refl refl refl
   working-outcome x taken = passed refl refl refl
-  working-outcome x (pending offered r d) = outcome-if (is x (r .request .who)) (dialNow i r st) (ignored st) (λ h. moved (to-dial offered r d refl) refl refl refl) (λ h. passed refl refl refl)
-  working-outcome x (pending firstRing r d) = outcome-if (is x (r .request .who)) (ignored st) (ignored st) (λ h. passed refl refl refl) (λ h. passed refl refl refl)
-  working-outcome x (pending secondRing r d) = outcome-if (is x (r .request .who)) (ignored st) (ignored st) (λ h. passed refl refl refl) (λ h. passed refl refl refl)
-  working-outcome x (pending acknowledged r d) = outcome-if (is x (r .request .who)) (dialNow i r st) (ignored st) (λ h. moved (to-dial acknowledged r d refl) refl refl refl) (λ h. passed refl refl refl)
+  working-outcome x (pending k r d) = outcome-if (is x (r .request .who)) (workingKind i k r st) (ignored st) (λ h. by-kind (λ z. Outcome i st (λ l. l) (λ w. w) [] (pending z r d) (workingKind i z r st)) (moved (to-dial _ r d refl) refl refl refl) (passed refl refl refl) (passed refl refl refl) (moved (to-dial _ r d refl) refl refl refl) k) (λ h. passed refl refl refl)
   working-outcome x (busy r g c) = passed refl refl refl
   working-outcome x (held r n d) = passed refl refl refl
 
@@ -233,10 +230,11 @@ module _ (i : ℕ) (st : Station) where
   unfolding bqFor bqKind agreed
   bq-outcome x free = passed refl refl refl
   bq-outcome x taken = passed refl refl refl
-  bq-outcome x (pending offered r d) = outcome-if (is x (r .request .who)) (ignored st) (ignored st) (λ h. passed refl refl refl) (λ h. passed refl refl refl)
-  bq-outcome x (pending firstRing r d) = outcome-if (is x (r .request .who)) (agreed i r st) (ignored st) (λ h. moved (to-agree firstRing r d) (rw h refl) refl refl) (λ h. passed (rw h refl) refl refl)
-  bq-outcome x (pending secondRing r d) = outcome-if (is x (r .request .who)) (agreed i r st) (ignored st) (λ h. moved (to-agree secondRing r d) (rw h refl) refl refl) (λ h. passed (rw h refl) refl refl)
-  bq-outcome x (pending acknowledged r d) = outcome-if (is x (r .request .who)) (ignored st) (ignored st) (λ h. passed refl refl refl) (λ h. passed refl refl refl)
+  bq-outcome x (pending k r d) = by-kind (λ z. Outcome i st (settle (st .clock) x) (λ w. w) [] (pending z r d) (cond (is x (r .request .who)) (bqKind i z r st) (ignored st)))
+      (outcome-if (is x (r .request .who)) (ignored st) (ignored st) (λ h. passed refl refl refl) (λ h. passed refl refl refl))
+      (outcome-if (is x (r .request .who)) (agreed i r st) (ignored st) (λ h. moved (to-agree _ r d) (rw h refl) refl refl) (λ h. passed (rw h refl) refl refl))
+      (outcome-if (is x (r .request .who)) (agreed i r st) (ignored st) (λ h. moved (to-agree _ r d) (rw h refl) refl refl) (λ h. passed (rw h refl) refl refl))
+      (outcome-if (is x (r .request .who)) (ignored st) (ignored st) (λ h. passed refl refl refl) (λ h. passed refl refl refl)) k
   bq-outcome x (busy r g c) = passed refl refl refl
   bq-outcome x (held r n d) = passed refl refl refl
 
@@ -262,10 +260,7 @@ module _ (i : ℕ) (st : Station) where
   unfolding mainOn pendingDue offerDue ringAgain replyDue coastEnd
   main-outcome free = passed refl refl refl
   main-outcome taken = passed refl refl refl
-  main-outcome (pending offered r d) = moved (to-drop offered r d) refl refl refl
-  main-outcome (pending firstRing r d) = moved (to-ring r d) refl refl refl
-  main-outcome (pending secondRing r d) = moved (to-drop secondRing r d) refl refl refl
-  main-outcome (pending acknowledged r d) = moved (to-drop acknowledged r d) refl refl refl
+  main-outcome (pending k r d) = by-kind (λ z. Outcome i st (withWait none) (λ w. w) [] (pending z r d) (pendingDue i z r st)) (moved (to-drop _ r d) refl refl refl) (moved (to-ring r d) refl refl refl) (moved (to-drop _ r d) refl refl refl) (moved (to-drop _ r d) refl refl refl) k
   main-outcome (busy r (dialling d) c) = moved (to-end r (dialling d) c) refl refl refl
   main-outcome (busy r (answered b) c) = passed refl refl refl
   main-outcome (held r n d) = moved (to-run-out r n d) refl refl refl

@@ -10,10 +10,10 @@ use native.Mathlib.Omega.{arith}
 use Rattle.rules.specs.Places.{modAt, shift, lowest}
 use Rattle.rules.specs.Words.{Party, is, Request}
 use Rattle.rules.specs.Actions.{theCoast, Action}
-use Rattle.rules.specs.Station.{Slot, Waiting, Station, theSlot, setSlot, setQueue, dueAfter, queueWait}
-use Rattle.rules.specs.Requests.{Out, done, ignored, also, rungBack, freedFor, freed, endActs, coastEnd, waitsFor, afresh, ruleD, offer, ruleF, ruleG, isFree, eToG, newcomer, ringOf, offerOf}
-use Rattle.rules.specs.Book.{Stop, Line, Place, Book, blank, atLine, stopOf}
-use Rattle.rules.specs.Reading.{tell, rungUp, letGo, hush, leave, join, reads}
+use Rattle.rules.specs.Station.{Slot, Waiting, Station, theSlot, setSlot, setQueue, dueAfter, queueWait, isFree, ringOf, offerOf}
+use Rattle.rules.specs.Requests.{Out, done, ignored, also, rungBack, freedFor, freed, endActs, coastEnd, waitsFor, afresh, ruleD, offer, ruleF, ruleG, eToG, newcomer}
+use Rattle.rules.specs.Book.{Stop, Line, Place, Book, blank, atLine}
+use Rattle.rules.specs.Reading.{tell, rungUp, letGo, hush, leave, join, reads, stopOf}
 use Rattle.rules.specs.Statement.{deedsOf, chargesOf, owed}
 use Rattle.rules.proofs.PlaceLaws.{modAt-modAt, shift-some, shift-none}
 use Rattle.rules.proofs.Base.{callIn, view, place, seen, is-same, is-true, deeds-append, charges-append, reads-append, atLine², moves, free-is, slot-set, slot-lowest}
@@ -39,10 +39,6 @@ good-also t b k cs ds a o h c g = record {
   reading = ap (λ z. reads t z b) (deeds-append a (o .acts)) ∙ reads-append t (deedsOf a) (deedsOf (o .acts)) b ∙ ap (reads t (deedsOf (o .acts))) h ∙ g .reading;
   charging = charges-append a (o .acts) ∙ rw (c, g .charging) (sym (map-append owed cs ds));
 }
-
-pub good-ignored : (st : Station) (b : Book) → b ≡ seen st → Good (st .clock) b [] (ignored st)
-unfolding reads
-good-ignored st b h = record { reading = h; charging = refl }
 
 pub good-done : (st : Station) (b : Book) → b ≡ seen st → Good (st .clock) b [] (done st)
 unfolding reads

@@ -10,17 +10,17 @@ use lib.ListN.{length}
 use Rattle.rules.specs.Places.{modAt, shift, lowest, Each}
 use Rattle.rules.specs.Words.{Party, is, Request, Config, What, Event, Deed}
 use Rattle.rules.specs.Heard.{Heard, callRequest, nothing}
-use Rattle.rules.specs.Station.{Slot, Waiting, Station, theSlot, fresh, setSlot, setClock, setQueue, dueAfter, queueWait, answeredAt}
-use Rattle.rules.specs.Requests.{Out, also, rungBack, freedFor, freed, coastEnd, owns, waitsFor, slotOf, placeOf, standsAt, standing, ruleA, repeated, afresh, ruleD, offer, ruleF, ruleG, isFree, eToG, newcomer, dToG, redial, requested, offerOf}
+use Rattle.rules.specs.Station.{Slot, Waiting, Station, theSlot, fresh, setSlot, setClock, setQueue, dueAfter, queueWait, answeredAt, isFree, offerOf}
+use Rattle.rules.specs.Requests.{Out, also, rungBack, freedFor, freed, coastEnd, owns, waitsFor, slotOf, placeOf, standsAt, standing, ruleA, repeated, afresh, ruleD, offer, ruleF, ruleG, eToG, newcomer, dToG, redial, requested}
 use Rattle.rules.specs.Calls.{actAt, act}
 use Rattle.rules.specs.Verdict.{verdict, play}
 use Rattle.rules.specs.Book.{Note, Stop, Book, blankBook}
-use Rattle.rules.specs.Reading.{read, reads, turn, readAll}
-use Rattle.rules.specs.Repeated.{heardAt, heardIn, toldToWait, lastAsked, Repeats, switchedOn, EachRead}
+use Rattle.rules.specs.Reading.{read, reads, turn, readAll, heardAt}
+use Rattle.rules.specs.Repeated.{heardIn, toldToWait, lastAsked, Repeats, switchedOn, EachRead}
 use Rattle.rules.specs.Statement.{deedsOf, notes, AnswersRepeat, SecondRingRepeats, DialsAsked}
 use Rattle.rules.specs.ThreeWords.{Word}
 use Rattle.rules.proofs.PlaceLaws.{shift-some, each-append}
-use Rattle.rules.proofs.Base.{view, seen, is-same, deeds-append, slot-lowest, fresh-each}
+use Rattle.rules.proofs.Base.{rung-owns, view, seen, is-same, deeds-append, slot-lowest, fresh-each}
 use Rattle.rules.proofs.Accepted.{accepted, sounds}
 use Rattle.rules.proofs.Run.{noteOf, turn-is, play-on, play-past, fresh-seen}
 use Rattle.rules.proofs.Once.{bit, countS, countQ, Once, distinct-once, none-count, waiting-count, coastEnd-gone}
@@ -60,7 +60,7 @@ module _ (r : Request) (a : Party → Heard) (b : Book) where
       go false e ih = let z : 0 + countQ (r .who) q ≡ 0 = rw e at n in (rw e (k .0), ih (omega arith))
 
   other-rings : (s : Slot) → owns (r .who) s ≡ false → Rung a s → Rung now s
-  other-rings s e k o d h = let y : is (r .who) (o .request .who) ≡ false = rw h at e in rw y (k o d h)
+  other-rings s e k o h = let y : is (r .who) (o .request .who) ≡ false = rw (rung-owns s o h) at e in rw y (k o h)
 
   others-ring : (ss : List Slot) → countS (r .who) ss ≡ 0 → Each (Rung a) ss → Each (Rung now) ss
   others-ring [] n k = tt
@@ -99,7 +99,7 @@ module _ (r : Request) (a : Party → Heard) (b : Book) where
 
     eToG-said : placeOf (r .who) st ≡ none → (o : Option ℕ) → Said (callRequest r) a b (eToG st r o)
     unfolding eToG offer afresh ruleG
-    eToG-said h (some i) = calm-said _ a b _ (record { mild = record { repeats = (tt, (refl, tt)); fits = λ t on. ((tt, tt), ((tt, tt), tt)); untold = λ x. refl }; known = set-known a i (offerOf r st) st (λ o d x. cc) k })
+    eToG-said h (some i) = calm-said _ a b _ (record { mild = record { repeats = (tt, (refl, tt)); fits = λ t on. ((tt, tt), ((tt, tt), tt)); untold = λ x. refl }; known = set-known a i (offerOf r st) st (λ o x. cc) k })
     eToG-said h none = go (ltb (length (st .queue)) 32)
       where
         go : (t : Bool) → Said (callRequest r) a b (cond t (ruleF st r) (ruleG st r))
@@ -119,7 +119,7 @@ module _ (r : Request) (a : Party → Heard) (b : Book) where
 
   afresh-calm : (i : ℕ) (st : Station) → Known a st → Calm (callRequest r) a b (afresh i st r)
   unfolding afresh
-  afresh-calm i st k = record { mild = record { repeats = (refl, tt); fits = λ t on. ((tt, tt), tt); untold = λ x. refl }; known = set-known a i (offerOf r st) st (λ o d x. cc) k }
+  afresh-calm i st k = record { mild = record { repeats = (refl, tt); fits = λ t on. ((tt, tt), tt); untold = λ x. refl }; known = set-known a i (offerOf r st) st (λ o x. cc) k }
 
   repeated-calm : (i : ℕ) (st : Station) → Known a st → Calm (callRequest r) a b (repeated i st r)
   unfolding repeated
@@ -219,7 +219,7 @@ run-answered cfg (e ∷ es) a st k = go (verdict cfg st e) refl (λ c s. run-ans
 
 all-answered : (cfg : Config) (es : List Event) → AllAnswered cfg (λ x. nothing) (blankBook cfg) (notes (play cfg es (fresh cfg)))
 unfolding fresh
-all-answered cfg es = rw (← (fresh-seen cfg)) (run-answered cfg es (λ x. nothing) (fresh cfg) (record { waiting = tt; ringing = fresh-each cfg (Rung (λ x. nothing)) (λ r d x. cc) }))
+all-answered cfg es = rw (← (fresh-seen cfg)) (run-answered cfg es (λ x. nothing) (fresh cfg) (record { waiting = tt; ringing = fresh-each cfg (Rung (λ x. nothing)) (λ r x. cc) }))
 
 -- every acknowledgement and every ring-back repeats what was asked
 pub answers-repeat : AnswersRepeat

@@ -1,16 +1,16 @@
--- What rules b and c do with a request of the ship that has the slot, said once: the one walk of the phases. A law on requests goes by ruling.
+-- What rules b and c do with a request of the ship that has the slot, said once. A law on requests goes by ruling.
 use mathlib.Core.Path.{_≡_, refl}
 use mathlib.Core.List.{List, [], map}
 use mathlib.Core.Bool.{Bool, true, false, cond}
 use mathlib.Core.Option.{Option, none, some}
 use Prim.Native.Nat.{ℕ}
 use Rattle.rules.specs.Words.{Party, Mode, simplex, duplex, Request}
-use Rattle.rules.specs.Station.{Kind, offered, firstRing, secondRing, acknowledged, Stage, answeredAt, dialling, answered, Dealing, Slot, free, taken, pending, busy, held, Station}
-use Rattle.rules.specs.Requests.{Out, ignored, owns, repeated, afresh, same, ruleB, redial, ruleC, bOrC, offerOf}
-use Rattle.rules.specs.Book.{Stop, Line, blank, stopOf, askedAgain}
-use Rattle.rules.specs.Reading.{again, tell, letGo, hush}
+use Rattle.rules.specs.Station.{Kind, Stage, answeredAt, Dealing, Slot, pending, busy, Station, offerOf}
+use Rattle.rules.specs.Requests.{Out, ignored, owns, repeated, afresh, same, ruleB, redial, ruleC, bOrC}
+use Rattle.rules.specs.Book.{Stop, Line, blank}
+use Rattle.rules.specs.Reading.{again, tell, letGo, hush, stopOf, askedAgain}
 use Rattle.rules.specs.Statement.{owed}
-use Rattle.rules.proofs.Base.{callIn, view, alike-same}
+use Rattle.rules.proofs.Base.{by-slot, by-kind, by-stage, callIn, view, alike-same}
 
 -- what the request stops on the slot's line
 abbrev pub againOf : ℕ → Party → ℕ → Line → List Stop
@@ -33,22 +33,24 @@ module _ (i : ℕ) (st : Station) (r : Request) where
   ruling-if true x y g h = g refl
   ruling-if false x y g h = h refl
 
-  ruleC-ruling : (o : Dealing) (g : Stage) (m : Mode) (c : Option ℕ) → o .request .mode ≡ m → Ruling i st r (againOf (st .clock) (r .who) i (view (busy o g c))) (busy o g c) (ruleC i (o .request) (answeredAt g) m c st r)
-  unfolding ruleC
-  ruleC-ruling o (dialling d) duplex c e = passes (busy o (dialling d) c) (λ h. (refl, refl))
-  ruleC-ruling o (answered b) duplex c e = passes (busy o (answered b) c) (λ h. (rw (h, e) refl, rw (h, e) refl))
-  ruleC-ruling o (dialling d) simplex none e = passes (busy o (dialling d) none) (λ h. (refl, refl))
-  ruleC-ruling o (answered b) simplex none e = passes (busy o (answered b) none) (λ h. (rw (h, e) refl, rw (h, e) refl))
-  ruleC-ruling o (dialling d) simplex (some u) e = redials o (dialling d) (some u) (λ h. (refl, refl))
-  ruleC-ruling o (answered b) simplex (some u) e = redials o (answered b) (some u) (λ h. (rw (h, e) refl, rw (h, e) refl))
+  abbrev RuledC : Dealing → Mode → Option ℕ → Stage → Type 0
+  RuledC o m c g = Ruling i st r (againOf (st .clock) (r .who) i (view (busy o g c))) (busy o g c) (ruleC i (o .request) (answeredAt g) m c st r)
 
-  pub bOrC-ruling : (p : Slot) → Ruling i st r (againOf (st .clock) (r .who) i (view p)) p (bOrC i p st r)
+  ruleC-ruling : (o : Dealing) (g : Stage) (m : Mode) (c : Option ℕ) → o .request .mode ≡ m → RuledC o m c g
+  unfolding ruleC
+  ruleC-ruling o g duplex c e = by-stage (RuledC o duplex c) (λ d. passes _ (λ h. (refl, refl))) (λ b. passes _ (λ h. (rw (h, e) refl, rw (h, e) refl))) g
+  ruleC-ruling o g simplex none e = by-stage (RuledC o simplex none) (λ d. passes _ (λ h. (refl, refl))) (λ b. passes _ (λ h. (rw (h, e) refl, rw (h, e) refl))) g
+  ruleC-ruling o g simplex (some u) e = by-stage (RuledC o simplex (some u)) (λ d. redials o _ (some u) (λ h. (refl, refl))) (λ b. redials o _ (some u) (λ h. (rw (h, e) refl, rw (h, e) refl))) g
+
+  abbrev Ruled : Slot → Type 0
+  Ruled p = Ruling i st r (againOf (st .clock) (r .who) i (view p)) p (bOrC i p st r)
+
+  ruleB-ruling : (k : Kind) (o : Dealing) (d : ℕ) → Ruled (pending k o d)
   unfolding bOrC ruleB
-  bOrC-ruling free = passes free (λ h. (refl, refl))
-  bOrC-ruling taken = passes taken (λ h. (refl, refl))
-  bOrC-ruling (pending offered o d) = ruling-if (same r (o .request)) (repeated i st r) (afresh i st r) (λ h. repeats offered o d (rw (alike-same r (o .request), h) refl) refl) (λ h. renews offered o d (rw (alike-same r (o .request), h) refl) refl)
-  bOrC-ruling (pending firstRing o d) = renews firstRing o d refl refl
-  bOrC-ruling (pending secondRing o d) = renews secondRing o d refl refl
-  bOrC-ruling (pending acknowledged o d) = renews acknowledged o d refl refl
-  bOrC-ruling (busy o g c) = ruleC-ruling o g (o .request .mode) c refl
-  bOrC-ruling (held o n d) = passes (held o n d) (λ h. (refl, refl))
+  ruleB-ruling k o d = by-kind (λ x. Ruled (pending x o d))
+      (ruling-if (same r (o .request)) (repeated i st r) (afresh i st r) (λ h. repeats _ o d (rw (alike-same r (o .request), h) refl) refl) (λ h. renews _ o d (rw (alike-same r (o .request), h) refl) refl))
+      (renews _ o d refl refl) (renews _ o d refl refl) (renews _ o d refl refl) k
+
+  pub bOrC-ruling : (p : Slot) → Ruled p
+  unfolding bOrC
+  bOrC-ruling = by-slot Ruled (passes _ (λ h. (refl, refl))) (passes _ (λ h. (refl, refl))) ruleB-ruling (λ o g c. ruleC-ruling o g (o .request .mode) c refl) (λ o n d. passes _ (λ h. (refl, refl)))

@@ -13,8 +13,8 @@ use Rattle.rules.specs.Sound.{owners}
 use Rattle.rules.specs.Requests.{Out, slotOf, placeOf, standing, ruleA, owns}
 use Rattle.rules.specs.Calls.{actAt, act}
 use Rattle.rules.specs.Verdict.{verdict, step, play, final}
-use Rattle.rules.specs.Book.{Note, Stop, Line, Place, atLine, blankBook, fallsAt, momentOf, stopsAt, Book}
-use Rattle.rules.specs.Reading.{hear, reads, setNow, turn, stopsIn, Numbered, numbered, stops}
+use Rattle.rules.specs.Book.{Note, Stop, Line, Place, atLine, blankBook, Book}
+use Rattle.rules.specs.Reading.{hear, reads, setNow, turn, stopsIn, Numbered, numbered, stops, fallsAt, momentOf, stopsAt}
 use Rattle.rules.specs.ThreeWords.{Word}
 use Rattle.rules.specs.Statement.{deedsOf, chargesOf, notes, charged, owed, owedFor, ChargesAreStops, RefusedLeavesAll, Accepts, eventsOf, AllPlayed}
 use Rattle.rules.proofs.Base.{view, place, seen, is-same, fresh-mapped}

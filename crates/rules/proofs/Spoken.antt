@@ -9,8 +9,8 @@ use lib.Dec.{eqb}
 use Rattle.rules.specs.Places.{modAt, Each}
 use Rattle.rules.specs.Words.{Request, Deed, carrierOn, carrierOff, acknowledge, ringBack, unable, dial, releaseLine}
 use Rattle.rules.specs.Actions.{theCoast, Action}
-use Rattle.rules.specs.Station.{Slot, Waiting, Station, theSlot, setSlot, setQueue}
-use Rattle.rules.specs.Requests.{Out, done, ignored, also, rungBack, freedFor, freed, endActs, coastEnd, ringOf}
+use Rattle.rules.specs.Station.{Slot, Waiting, Station, theSlot, setSlot, setQueue, ringOf}
+use Rattle.rules.specs.Requests.{Out, done, ignored, also, rungBack, freedFor, freed, endActs, coastEnd}
 use Rattle.rules.specs.Book.{Stop, Line}
 use Rattle.rules.specs.ThreeWords.{Word, idle, ringing}
 use Rattle.rules.specs.Statement.{deedsOf}
@@ -53,10 +53,6 @@ told-also ws vs a o h t = record { telling = ap (λ z. spoken z ws) (deeds-appen
 pub told-if : (ws : List Word) (b : Bool) (x y : Out) → Spoken ws x → Spoken ws y → Spoken ws (cond b x y)
 told-if ws true x y p q = p
 told-if ws false x y p q = q
-
-pub told-next : (ws : List Word) (st : Station) → ws ≡ words st → Spoken ws (done st)
-unfolding spoken
-told-next ws st h = record { telling = h }
 
 pub told-ignored : (ws : List Word) (st : Station) → ws ≡ words st → Spoken ws (ignored st)
 unfolding spoken

@@ -29,15 +29,15 @@ picksUpSecond = record {
 -- a second carrier down does not restart the wait, and answers 0
 abbrev pub downSecond : Row
 downSecond = record {
-  computed = gives 1 (calls 100 seven duplex ∷ works 200 0 seven ∷ loses 300 0 ∷ loses 320 0 ∷ []);
-  expected = (0 ∷ 320 ∷ 0 ∷ 351 ∷ []) ∷ [];
+  computed = gives 1 (calls 100 seven duplex ∷ works 200 0 seven ∷ loses 300 0 ∷ loses 325 0 ∷ []);
+  expected = (0 ∷ 325 ∷ 0 ∷ 351 ∷ []) ∷ [];
 }
 
 -- carrier up ends it
 abbrev pub upEnds : Row
 upEnds = record {
-  computed = gives 1 (calls 100 seven duplex ∷ works 200 0 seven ∷ loses 300 0 ∷ regains 320 0 ∷ []);
-  expected = (0 ∷ 320 ∷ 0 ∷ 801 ∷ []) ∷ [];
+  computed = gives 1 (calls 100 seven duplex ∷ works 200 0 seven ∷ loses 300 0 ∷ regains 325 0 ∷ []);
+  expected = (0 ∷ 325 ∷ 0 ∷ 801 ∷ []) ∷ [];
 }
 
 -- carrier up where none was awaited answers 0

@@ -1,16 +1,16 @@
 -- What each other event does: working call, ring-back acknowledged, off-hook, carrier, both ends, operator, and a wait that falls due. One function for an event, a clause for each phase of the slot.
 use mathlib.Core.List.{[], _∷_}
-use mathlib.Core.Bool.{cond}
+use mathlib.Core.Bool.{Bool, cond, not}
 use mathlib.Core.Option.{Option, none, some}
 use Prim.Native.Nat.{ℕ}
 use Rattle.units.specs.declared.Told.{Told}
 use Rattle.rules.specs.Places.{dropAt}
 use Rattle.rules.specs.Words.{Party, is, Mode, Request, Config, Signal, lineLifted, lineHung, carrierHeard, carrierLost, Hand, handTakes, handGives, Happened, heard, signal, operator, What, tick, onChannel70, onSlot, Event, carrierOn, carrierOff, ringBack, dial}
 use Rattle.rules.specs.Waits.{Wait, ofQueue, loss, main, Due}
-use Rattle.rules.specs.Heard.{Heard, callRequest, dataRequest, bq, workingCall, endOfCall, nothing, meaning}
+use Rattle.rules.specs.Heard.{Heard, callRequest, dataRequest, bq, workingCall, endOfCall, nothing, kindOf, addressed, meaning}
 use Rattle.rules.specs.Actions.{does, over, theShip}
-use Rattle.rules.specs.Station.{Kind, offered, firstRing, secondRing, acknowledged, Stage, dialling, answered, answeredAt, Dealing, Slot, free, taken, pending, busy, held, Station, theSlot, setSlot, setClock, setQueue, dueAfter, kindWait, carrierWait, replyWait, holdWait, fires}
-use Rattle.rules.specs.Requests.{Out, done, ignored, also, freed, lasted, endActs, coastEnd, standing, ruleA, requested}
+use Rattle.rules.specs.Station.{isFree, isTaken, Kind, offered, firstRing, secondRing, acknowledged, Stage, dialling, answered, answeredAt, Dealing, Slot, free, taken, pending, busy, held, Station, theSlot, fresh, setSlot, setClock, setQueue, dueAfter, kindWait, carrierWait, replyWait, holdWait, table, fires, nextDue}
+use Rattle.rules.specs.Requests.{Out, done, ignored, also, rungBack, freedFor, freed, lasted, endActs, coastEnd, standing, ruleA, repeated, afresh, same, ruleB, ruleD, offer, ruleF, ruleG, eToG, newcomer, dToG, redial, ruleC, bOrC, requested}
 
 -- ── working call ─────────────────────────────────────────────────────────────
 
@@ -143,6 +143,11 @@ giveOn i st (pending k r d) = ignored st
 giveOn i st (busy r g c) = ignored st
 giveOn i st (held r n d) = ignored st
 
+-- "operator takes a slot not free, or gives back one not taken"
+abbrev pub barredHand : Slot → Hand → Bool
+barredHand s handTakes = not (isFree s)
+barredHand s handGives = not (isTaken s)
+
 -- ── a wait falls due ─────────────────────────────────────────────────────────
 
 -- "Offer due: carrier off, slot freed."
@@ -232,3 +237,8 @@ actAt c st t (onSlot i h) = happenedOn c i (setClock t st) (theSlot st i) h
 
 abbrev pub act : Config → Station → Event → Out
 act c st e = actAt c st (e .time) (e .what)
+
+-- every rule open, for what computes a run
+unfoldable pub rulesOpen : Unit {0}
+unfolding is kindOf addressed meaning fresh setSlot setClock setQueue table fires nextDue rungBack freedFor freed coastEnd standing ruleA repeated afresh same ruleB ruleD offer ruleF ruleG eToG newcomer dToG redial ruleC bOrC requested dialNow workingKind workingOn agreed bqKind bqFor offHookStage offHookOn downOn upOn shipEnd sayAgain shipEndOn endOn takeOn giveOn offerDue ringAgain pendingDue replyDue mainOn fire ticked heardOn70 heardOn happenedOn actAt
+rulesOpen = tt

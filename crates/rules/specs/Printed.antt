@@ -3,12 +3,19 @@ use mathlib.Core.List.{List, [], _∷_, map}
 use mathlib.Core.Option.{Option, none, some}
 use Prim.Native.Nat.{ℕ}
 use lib.ListN.{length}
+use Rattle.sequence.specs.Identity.{isShip, isCoast, identitiesOk, identityPairs, identityOf}
+use Rattle.sequence.specs.Field.{isCall, unableSecond, telecommandsOk, channelOk, durationOk, fieldOk}
+use Rattle.sequence.specs.Number.{numberOk, parity, evened}
+use Rattle.sequence.specs.Layout.{endOk, valid, front, body, layout}
+use Rattle.sequence.specs.Reading as Reader
 use Rattle.rules.specs.Words.{Config, Event}
 use Rattle.rules.specs.Actions.{Action}
 use Rattle.rules.specs.Station.{Station, nextDue}
+use Rattle.rules.specs.Sound.{identityKeeps, channelsKeep, configKeeps, oneSlotEach, numberKeeps, requestKeeps, durationKeeps, noShipTwice, storedKeeps, timesFit, sound}
 use Rattle.rules.specs.Requests.{Out}
-use Rattle.rules.specs.Verdict.{step}
-use Rattle.rules.specs.Bytes.{kindNumber, slotNumber, payloadOf}
+use Rattle.rules.specs.Calls.{rulesOpen}
+use Rattle.rules.specs.Verdict.{refusals, verdict, setUpVerdict, step, play, final}
+use Rattle.rules.specs.Bytes.{kindNumber, slotNumber, block, blockOf, padded, answerTo, ableSaid, unableSaid, overSaid, payloadOf}
 
 -- "`-` if none": here nothing
 abbrev pub dueShown : Option ℕ → List ℕ
@@ -33,3 +40,8 @@ lastOf x (y ∷ ys) = lastOf y ys
 -- of its last event
 unfoldable pub lastPrinted : Config → List Event → Station → List (List ℕ)
 lastPrinted c es st = lastOf [] (printed c es st)
+
+-- all that a run rests on, open, for the tables that compute one
+unfoldable pub runsOpen : Unit {0}
+unfolding rulesOpen isShip isCoast identitiesOk identityPairs identityOf isCall unableSecond telecommandsOk channelOk durationOk fieldOk numberOk parity evened endOk valid front body layout Reader.lengthIn Reader.checkIn Reader.formatIn Reader.identityAt Reader.identityPairsAt Reader.identitiesIn Reader.categoryIn Reader.telecommandsIn Reader.blankSymbols Reader.channelSymbols Reader.durationSymbols Reader.fieldSymbols Reader.fieldOf Reader.fieldIn Reader.pairsIn Reader.parityOk Reader.pairsOk Reader.numberIn Reader.zeroBefore Reader.sixteen Reader.numberOf Reader.endIn Reader.refusals Reader.answerOf Reader.meaningOf Reader.blankMeaning Reader.readingOf identityKeeps channelsKeep configKeeps oneSlotEach numberKeeps requestKeeps durationKeeps noShipTwice storedKeeps timesFit sound refusals verdict setUpVerdict step play final block blockOf padded answerTo ableSaid unableSaid overSaid payloadOf printed lastPrinted
+runsOpen = tt

@@ -1,15 +1,101 @@
--- The list alone, second part: what an event says, what a deed says, the stops of the list, and the answered tenths counted.
-use mathlib.Core.List.{List, [], _∷_, map}
-use mathlib.Core.Bool.{cond}
+-- The list alone, second part: the moment of an entry, the four stops, what an event says, what a deed says, the list read, and the answered tenths counted. Nothing of the rules is used here.
+use mathlib.Core.List.{List, [], _∷_, _++_, map}
+use mathlib.Core.Bool.{Bool, true, false, cond, _&&_}
 use mathlib.Core.Option.{Option, none, some}
 use Prim.Native.Nat.{ℕ, suc, _+_, _-_, _*_}
 use lib.Dec.{eqb}
 use Rattle.rules.specs.Places.{dropAt}
-use Rattle.rules.specs.Words.{Party, is, Mode, Request, Config, Signal, lineLifted, lineHung, carrierHeard, carrierLost, Happened, heard, signal, operator, What, tick, onChannel70, onSlot, Deed, carrierOn, carrierOff, acknowledge, ringBack, unable, dial, releaseLine}
+use Rattle.rules.specs.Words.{Party, is, Mode, simplex, duplex, Request, Config, Signal, lineLifted, lineHung, carrierHeard, carrierLost, Happened, heard, signal, operator, What, tick, onChannel70, onSlot, Event, Deed, carrierOn, carrierOff, acknowledge, ringBack, unable, dial, releaseLine}
 use Rattle.rules.specs.Waits.{ofQueue, loss, main, Due}
 use Rattle.rules.specs.Heard.{Heard, callRequest, dataRequest, bq, workingCall, endOfCall, nothing, meaning}
-use Rattle.rules.specs.Book.{Note, Stop, after, silence, offerTime, ringTime, replyTime, holdTime, queueTime, Said, silent, toldBQ, toldRQ, settled, Call, quiet, dialled, talking, Line, Place, Book, atLine, atPlaces, falling, moment, callOf, askedAgain, stopsAt}
+use Rattle.rules.specs.Book.{Note, Stop, after, silence, offerTime, ringTime, replyTime, holdTime, queueTime, Said, silent, toldBQ, toldRQ, settled, Call, quiet, dialled, talking, Line, Place, Book, atLine, atPlaces, line, falls}
 unfoldable use Rattle.rules.specs.Book.{alike}
+
+-- ── the moment of an entry ───────────────────────────────────────────────────
+
+-- the wait that it fires: a tick alone fires one
+abbrev pub fallsAt : Book → ℕ → What → Option Due
+fallsAt b t tick = falls t b
+fallsAt b t (onChannel70 m) = none
+fallsAt b t (onSlot i h) = none
+
+abbrev pub falling : Book → Event → Option Due
+falling b e = fallsAt b (e .time) (e .what)
+
+abbrev pub momentOf : ℕ → Option Due → ℕ
+momentOf t none = t
+momentOf t (some p) = p .at
+
+-- the time at which the entry happens: its own, or the due time of the wait that it fires
+abbrev pub moment : Book → Event → ℕ
+moment b e = momentOf (e .time) (falling b e)
+
+-- ── the four stops, of the calls as they stand before the entry ──────────────
+
+abbrev pub stopOf : ℕ → ℕ → Call → List Stop
+stopOf t i quiet = []
+stopOf t i (dialled x m) = []
+stopOf t i (talking x m b) = record { slot = i; ship = x .ship; start = record { 0 = b }; stop = record { 0 = t } } ∷ []
+
+abbrev pub callOf : Party → Call → Bool
+callOf x quiet = false
+callOf x (dialled y m) = is x y
+callOf x (talking y m b) = is x y
+
+-- "its ship's end of call on that slot"
+abbrev pub stopsSaid : ℕ → ℕ → Call → Heard → List Stop
+stopsSaid t i k (callRequest r) = []
+stopsSaid t i k (dataRequest x n) = []
+stopsSaid t i k (bq j x) = []
+stopsSaid t i k (workingCall x) = []
+stopsSaid t i k (endOfCall x) = cond (callOf x k) (stopOf t i k) []
+stopsSaid t i k nothing = []
+
+-- and "on-hook"
+abbrev pub stopsSignal : ℕ → ℕ → Call → Signal → List Stop
+stopsSignal t i k lineLifted = []
+stopsSignal t i k lineHung = stopOf t i k
+stopsSignal t i k carrierHeard = []
+stopsSignal t i k carrierLost = []
+
+abbrev pub stopsOn : Config → ℕ → ℕ → Call → Happened → List Stop
+stopsOn c t i k (heard m) = stopsSaid t i k (meaning c m)
+stopsOn c t i k (signal g) = stopsSignal t i k g
+stopsOn c t i k (operator h) = []
+
+-- "carrier absent until a tick fires its wait"
+abbrev pub stopsDue : ℕ → Book → Option Due → List Stop
+stopsDue t b none = []
+stopsDue t b (some p) = elim (p .what) [ ofQueue k ↦ [] | loss i ↦ stopOf t i (line b i .call) | main i ↦ [] ]
+
+abbrev pub lost : Mode → Option ℕ → Bool
+lost simplex (some d) = true
+lost simplex none = false
+lost duplex g = false
+
+-- "rule c": the ship of an answered simplex call asks again while its carrier is absent
+abbrev pub askedAgain : Party → Call → Option ℕ → Bool
+askedAgain x quiet g = false
+askedAgain x (dialled y m) g = false
+askedAgain x (talking y m b) g = is x y && lost m g
+
+abbrev pub stopsAgain : ℕ → Party → ℕ → List Line → List Stop
+stopsAgain t x i [] = []
+stopsAgain t x i (l ∷ ls) = cond (askedAgain x (l .call) (l .gone)) (stopOf t i (l .call)) [] ++ stopsAgain t x (suc i) ls
+
+abbrev pub stopsHeard : ℕ → List Line → Heard → List Stop
+stopsHeard t ls (callRequest r) = stopsAgain t (r .who) 0 ls
+stopsHeard t ls (dataRequest x n) = []
+stopsHeard t ls (bq i x) = []
+stopsHeard t ls (workingCall x) = []
+stopsHeard t ls (endOfCall x) = []
+stopsHeard t ls nothing = []
+
+-- the calls that an entry stops at the moment t, if it fires the wait f
+abbrev pub stopsAt : Config → ℕ → Book → Option Due → What → List Stop
+stopsAt c t b f tick = stopsDue t b f
+stopsAt c t b f (onChannel70 m) = stopsHeard t (b .lines) (meaning c m)
+stopsAt c t b f (onSlot i h) = stopsOn c t i (line b i .call) h
 
 -- ── what an event says ───────────────────────────────────────────────────────
 
@@ -109,6 +195,12 @@ abbrev pub hear : Config → ℕ → Option Due → What → Book → Book
 hear c t f tick b = hearDue b f
 hear c t f (onChannel70 m) b = hearHeard t (meaning c m) b
 hear c t f (onSlot i h) b = atLine i (hearLine c t h) b
+
+-- what channel 70 says to this station
+abbrev pub heardAt : Config → What → Heard
+heardAt c tick = nothing
+heardAt c (onChannel70 m) = meaning c m
+heardAt c (onSlot i h) = nothing
 
 -- ── what a deed says ─────────────────────────────────────────────────────────
 

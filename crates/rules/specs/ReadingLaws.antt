@@ -6,10 +6,10 @@ use mathlib.Core.Option.{none, some}
 use Prim.Native.Nat.{ℕ, _≤_, _<_}
 use lib.ListN.{getD, length}
 use Rattle.rules.specs.Places.{Each}
-use Rattle.rules.specs.Words.{Party, Mode, Config, offHook, onSlot, Deed}
+use Rattle.rules.specs.Words.{Party, Mode, Config, answeringOn, Deed}
 use Rattle.rules.specs.Waits.{ofQueue, Due, queueTable}
-use Rattle.rules.specs.Book.{Note, Stop, dialled, talking, Book, line, waitsIn, falls, moment}
-use Rattle.rules.specs.Reading.{turn, stopsIn}
+use Rattle.rules.specs.Book.{Note, Stop, dialled, talking, Book, line, waitsIn, falls}
+use Rattle.rules.specs.Reading.{turn, stopsIn, moment}
 
 -- ── 01's order of waits, without the function that finds the earliest ─────────
 
@@ -42,15 +42,15 @@ In s (r ∷ l) = (s ≡ r) ⊎ In s l
 abbrev pub stopAt : ℕ → Party → ℕ → ℕ → Stop
 stopAt i x b t = record { slot = i; ship = x .ship; start = record { 0 = b }; stop = record { 0 = t } }
 
--- a slot talks after an entry only if it talked before, or the entry is an off-hook on it while it was dialled
+-- a slot talks after an entry only if it talked before, or the entry answers it while it was dialled
 unfoldable pub Begins : Type 0
 Begins = (c : Config) (b : Book) (n : Note) (i : ℕ) (x : Party) (m : Mode) (t : ℕ) → line (turn c b n) i .call ≡ talking x m t
-    → (line b i .call ≡ talking x m t) ⊎ ((n .event .what ≡ onSlot i offHook) × ((moment b (n .event) ≡ t) × (line b i .call ≡ dialled x m)))
+    → (line b i .call ≡ talking x m t) ⊎ ((n .event .what ≡ answeringOn i) × ((moment b (n .event) ≡ t) × (line b i .call ≡ dialled x m)))
 
--- an off-hook on a dialled slot makes it talk since that time
+-- a dialled slot that is answered talks since that time
 unfoldable pub Lifts : Type 0
 Lifts = (c : Config) (t room : ℕ) (ds : List Deed) (b : Book) (i : ℕ) (x : Party) (m : Mode) → line b i .call ≡ dialled x m
-    → line (turn c b (record { event = record { time = t; room = room; what = onSlot i offHook }; deeds = ds })) i .call ≡ talking x m t
+    → line (turn c b (record { event = record { time = t; room = room; what = answeringOn i }; deeds = ds })) i .call ≡ talking x m t
 
 -- a slot that talked talks on, or the entry holds its stop, with its beginning and the entry's moment
 unfoldable pub Ends : Type 0

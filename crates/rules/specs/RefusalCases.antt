@@ -3,7 +3,7 @@ use mathlib.Core.List.{List, [], _∷_}
 use lib.ListN.{take}
 use Rattle.rules.specs.Places.{modAt}
 use Rattle.rules.specs.Words.{duplex}
-use Rattle.rules.specs.Runs.{seven, calls, ticks, says, saysOn, hangs, reserves, restores, ticksIn}
+use Rattle.rules.specs.Runs.{seven, calls, ticks, says, saysOn, reserves, restores, ticksIn}
 use Rattle.rules.specs.Cases.{Row}
 use Rattle.rules.specs.Scripts.{gives, call7, rechecked}
 
@@ -117,14 +117,14 @@ refused32 = record {
 -- 33: not a tick, and a wait is due at its time
 abbrev pub refused33 : Row
 refused33 = record {
-  computed = gives 1 (calls 100 seven duplex ∷ hangs 261 0 ∷ []);
+  computed = gives 1 (calls 100 seven duplex ∷ reserves 261 0 ∷ []);
   expected = (33 ∷ 100 ∷ 0 ∷ 261 ∷ []) ∷ [];
 }
 
 -- 34: no such slot
 abbrev pub refused34 : Row
 refused34 = record {
-  computed = gives 1 (hangs 100 1 ∷ []);
+  computed = gives 1 (reserves 100 1 ∷ []);
   expected = (34 ∷ 0 ∷ 0 ∷ []) ∷ [];
 }
 
@@ -154,7 +154,7 @@ order30 = record {
 -- 33 before 34
 abbrev pub order33 : Row
 order33 = record {
-  computed = gives 1 (calls 100 seven duplex ∷ hangs 300 5 ∷ []);
+  computed = gives 1 (calls 100 seven duplex ∷ reserves 300 5 ∷ []);
   expected = (33 ∷ 100 ∷ 0 ∷ 261 ∷ []) ∷ [];
 }
 

@@ -6,18 +6,12 @@ use mathlib.Core.Option.{Option, none, some}
 use Prim.Native.Nat.{ℕ}
 use lib.Dec.{eqb}
 use Rattle.rules.specs.Places.{Each}
-use Rattle.rules.specs.Words.{Party, is, Request, Config, What, tick, onChannel70, onSlot, Deed, carrierOn, carrierOff, acknowledge, ringBack, unable, dial, releaseLine}
-use Rattle.rules.specs.Heard.{Heard, callRequest, dataRequest, bq, workingCall, endOfCall, nothing, meaning}
-use Rattle.rules.specs.Book.{Note, Said, silent, toldBQ, toldRQ, settled, Book, blankBook, line, moment}
-use Rattle.rules.specs.Reading.{read, readAll}
+use Rattle.rules.specs.Words.{Party, is, Request, Config, Deed, carrierOn, carrierOff, acknowledge, ringBack, unable, dial, releaseLine}
+use Rattle.rules.specs.Heard.{Heard, callRequest, dataRequest, bq, workingCall, endOfCall, nothing}
+use Rattle.rules.specs.Book.{Note, Said, silent, toldBQ, toldRQ, settled, Book, blankBook, line}
+use Rattle.rules.specs.Reading.{moment, heardAt, read, readAll}
 
--- what channel 70 says to this station
-abbrev pub heardAt : Config → What → Heard
-heardAt c tick = nothing
-heardAt c (onChannel70 m) = meaning c m
-heardAt c (onSlot i h) = nothing
-
--- in the entry itself
+-- what channel 70 says in the entry itself
 abbrev pub heardIn : Config → Note → Heard
 heardIn c n = heardAt c (n .event .what)
 

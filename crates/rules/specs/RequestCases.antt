@@ -4,16 +4,16 @@ use Rattle.sequence.specs.declared.Field.the-variants.{Blank}
 use Rattle.rules.specs.Words.{simplex, duplex}
 use Rattle.rules.specs.Verdict.{step}
 use Rattle.rules.specs.Printed.{lines}
-use Rattle.rules.specs.Runs.{station, seven, eight, nine, sends, usual, callsFor, calls, accepts, works, ticks, asksAnew, fades, says, saysOn, picksUp, hangs, loses, reserves, restores}
+use Rattle.rules.specs.Runs.{station, seven, eight, nine, sends, usual, callsFor, calls, dataCalls, accepts, works, ticks, asksAnew, fades, says, saysOn, picksUp, loses, reserves, restores}
 use Rattle.rules.specs.Cases.{Row}
-use Rattle.rules.specs.Scripts.{gives, dataCalls, elsewhere, crowded, charges, unable109Seven, ackSeven26, ackSeven26Again, ackSeven26Simplex, ackEight26, overSevenByCoast15, overSevenByCoast55, ringEight26, unable103Seven, ringSeven26, ringSeven26Again, ringSeven26Simplex, ackSeven27, unable103Eight, unable102Nine, ringNine26}
+use Rattle.rules.specs.Scripts.{gives, elsewhere, crowded, charges, unable109Seven, ackSeven26, ackSeven26Again, ackSeven26Simplex, ackEight26, overSevenByCoast15, overSevenByCoast55, ringEight26, unable103Seven, ringSeven26, ringSeven26Again, ringSeven26Simplex, ackSeven27, unable103Eight, unable102Nine, ringNine26}
 
 -- ── what is ignored ───────────────────────────────────────────────────────────
 
 -- an event not named for the phase: accepted, no action, clock moved
 abbrev pub ignoredPhase : Row
 ignoredPhase = record {
-  computed = gives 1 (hangs 100 0 ∷ []);
+  computed = gives 1 (picksUp 100 0 ∷ []);
   expected = (1 ∷ 100 ∷ 0 ∷ []) ∷ [];
 }
 

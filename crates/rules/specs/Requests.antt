@@ -11,7 +11,7 @@ use Rattle.units.specs.declared.Told.the-variants.{Nothing}
 use Rattle.rules.specs.Places.{modAt, lowest}
 use Rattle.rules.specs.Words.{Party, is, Mode, simplex, duplex, Request, Deed, carrierOn, carrierOff, acknowledge, ringBack, unable, releaseLine}
 use Rattle.rules.specs.Actions.{Action, does, over, charge, Ender, theCoast, chargeOf}
-use Rattle.rules.specs.Station.{Kind, offered, firstRing, secondRing, acknowledged, answeredAt, Slot, free, taken, pending, busy, held, dealing, shipOf, Waiting, Station, theSlot, setSlot, setQueue, dueAfter, kindWait, queueWait}
+use Rattle.rules.specs.Station.{Kind, isOffer, answeredAt, Slot, bySlot, shipOf, isFree, Waiting, Station, theSlot, setSlot, emptied, setQueue, dueAfter, offerOf, ringOf, queueWait}
 use Rattle.rules.specs.Sound.{queueRoom}
 
 -- what an accepted event gives: its answer, the next station, the actions in order
@@ -38,10 +38,6 @@ also a o = record { answer = o .answer; next = o .next; acts = a ++ o .acts }
 
 -- ── a slot is freed: ring-back ───────────────────────────────────────────────
 
--- the slot in ring-back, from now on
-abbrev pub ringOf : Request → Station → Slot
-ringOf r st = pending firstRing (dealing r) (dueAfter (st .clock) (kindWait firstRing))
-
 -- "carrier on, the able answer but with RQ; wait 50"
 unfoldable pub rungBack : ℕ → Station → Waiting → List Waiting → Out
 rungBack i st w q =
@@ -53,7 +49,7 @@ rungBack i st w q =
 
 -- "Whenever a slot is freed and a ship waits, the same event takes the oldest"
 unfoldable pub freedFor : ℕ → Station → List Waiting → Out
-freedFor i st [] = done (setSlot i free st)
+freedFor i st [] = done (emptied i st)
 freedFor i st (w ∷ q) = rungBack i st w q
 
 unfoldable pub freed : ℕ → Station → Out
@@ -122,10 +118,6 @@ ruleA st x n = saying (unable 109 x n) st
 unfoldable pub repeated : ℕ → Station → Request → Out
 repeated i st r = saying (acknowledge i r) st
 
--- the slot offered, from now on
-abbrev pub offerOf : Request → Station → Slot
-offerOf r st = pending offered (dealing r) (dueAfter (st .clock) (kindWait offered))
-
 -- b. "that slot is offered afresh: new request stored, acknowledgement sent, no carrier action, wait 160 from now" (house)
 unfoldable pub afresh : ℕ → Station → Request → Out
 afresh i st r =
@@ -153,10 +145,7 @@ same a b = is (a .who) (b .who) && (sameMode (a .mode) (b .mode) && (eqb (a .sec
 
 -- b. "offered a slot by an identical request .. If it differs, or the slot is in ring-back or acknowledged"
 unfoldable pub ruleB : ℕ → Kind → Request → Station → Request → Out
-ruleB i offered o st r = cond (same r o) (repeated i st r) (afresh i st r)
-ruleB i firstRing o st r = afresh i st r
-ruleB i secondRing o st r = afresh i st r
-ruleB i acknowledged o st r = afresh i st r
+ruleB i k o st r = cond (isOffer k && same r o) (repeated i st r) (afresh i st r)
 
 -- d. "replace its request, keep place and due time, answer 104/103"
 unfoldable pub ruleD : ℕ → Station → Request → Out
@@ -184,20 +173,6 @@ ruleF st r =
 unfoldable pub ruleG : Station → Request → Out
 ruleG st r = saying (unable 102 (r .who) (r .number)) st
 
-abbrev pub isFree : Slot → Bool
-isFree free = true
-isFree taken = false
-isFree (pending k r d) = false
-isFree (busy r g c) = false
-isFree (held r n d) = false
-
-abbrev pub isTaken : Slot → Bool
-isTaken free = false
-isTaken taken = true
-isTaken (pending k r d) = false
-isTaken (busy r g c) = false
-isTaken (held r n d) = false
-
 -- e. "A slot is free: offer the lowest"; f. "The queue has room"; g.
 unfoldable pub eToG : Station → Request → Option ℕ → Out
 eToG st r (some i) = offer i st r
@@ -222,11 +197,9 @@ ruleC i o b simplex (some d) st r = redial i o b st r
 
 -- b. the ship's slot is before its dialling; c. "dialling or answered"
 unfoldable pub bOrC : ℕ → Slot → Station → Request → Out
-bOrC i free st r = ignored st
-bOrC i taken st r = ignored st
-bOrC i (pending k o d) st r = ruleB i k (o .request) st r
-bOrC i (busy o g c) st r = ruleC i (o .request) (answeredAt g) (o .request .mode) c st r
-bOrC i (held o n d) st r = ignored st
+bOrC i s st r =
+    bySlot (ignored st) (λ k o. ruleB i k (o .request) st r)
+    (λ o g c. ruleC i (o .request) (answeredAt g) (o .request .mode) c st r) s
 
 -- the first rule that fits, by where the ship stands
 unfoldable pub requested : Station → Request → Standing → Out

@@ -9,6 +9,7 @@ use Rattle.sequence.specs.Layout.{layout}
 use Rattle.rules.specs.Words.{Mode, simplex, duplex, modeNumber, Config, Happened, heard, offHook, onHook, carrierUp, carrierDown, takes, givesBack, tick, onChannel70, onSlot, What, Event}
 use Rattle.rules.specs.Actions.{Charge, chargeOf}
 use Rattle.rules.specs.Bytes.{numberOf}
+use Rattle.rules.specs.Verdict.{roomNeeded}
 use Rattle.rules.specs.Reading.{Numbered}
 
 -- ── how a run is written ─────────────────────────────────────────────────────
@@ -39,8 +40,9 @@ abbrev pub sends : ℕ → ℕ → ℕ → Field → List ℕ → List ℕ
 sends x first end field digits =
     layout (record { address = 2001234; sender = x; first = first; second = 126; field = field; number = numberOf digits; end = end })
 
+-- with just the room that is needed
 abbrev pub at : ℕ → What → Event
-at t w = record { time = t; room = 320; what = w }
+at t w = record { time = t; room = roomNeeded; what = w }
 
 abbrev pub usual : List ℕ
 usual = 5 ∷ 5 ∷ 5 ∷ 1 ∷ 2 ∷ 3 ∷ 4 ∷ []
@@ -55,6 +57,10 @@ callsFor digits t x m = says t (sends x (modeNumber m) 117 Blank digits)
 -- a call request
 abbrev pub calls : ℕ → ℕ → Mode → Event
 calls t x m = callsFor usual t x m
+
+-- a data request
+abbrev pub dataCalls : ℕ → ℕ → Event
+dataCalls t x = says t (sends x 106 117 Blank usual)
 
 -- a BQ that names a channel
 abbrev pub accepts : ℕ → ℕ → ℕ → Event
@@ -122,7 +128,7 @@ pub record Run : Type 0 where
 abbrev pub shipEnded : Run
 shipEnded = record {
   slots = 1;
-  events = calls 100 seven simplex ∷ works 200 0 seven ∷ picksUp 300 0 ∷ picksUp 310 0 ∷ ends 320 0 eight ∷ ends 330 0 seven ∷ ends 340 0 seven ∷ ticks 371 ∷ [];
+  events = calls 100 seven simplex ∷ works 200 0 seven ∷ picksUp 300 0 ∷ picksUp 310 0 ∷ ends 325 0 eight ∷ ends 330 0 seven ∷ ends 340 0 seven ∷ ticks 371 ∷ [];
   owing = paid 5 0 seven 300 330 3 ∷ [];
 }
 

@@ -11,7 +11,7 @@ use Rattle.rules.specs.Words.{duplex, Event}
 use Rattle.rules.specs.Station.{taken, Waiting, Station, fresh}
 use Rattle.rules.specs.Bytes.{numberOf, fours}
 use Rattle.rules.specs.Printed.{lastPrinted}
-use Rattle.rules.specs.Runs.{station, seven, eight, sends, usual, says}
+use Rattle.rules.specs.Runs.{station, seven, eight, sends, usual}
 use Rattle.rules.specs.Actions.{chargeOf, chargeNumbers}
 
 -- ── how a case is written ────────────────────────────────────────────────────
@@ -19,10 +19,6 @@ use Rattle.rules.specs.Actions.{chargeOf, chargeNumbers}
 -- what the last event prints, on a fresh station with so many channels
 abbrev pub gives : ℕ → List Event → List (List ℕ)
 gives n es = lastPrinted (station n) es (fresh (station n))
-
--- a data request
-abbrev pub dataCalls : ℕ → ℕ → Event
-dataCalls t x = says t (sends x 106 117 Blank usual)
 
 -- a call request to another station
 abbrev pub elsewhere : ℕ → List ℕ

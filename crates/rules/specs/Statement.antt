@@ -9,9 +9,8 @@ use Rattle.units.specs.declared.Seconds.{Seconds}
 use Rattle.rules.specs.Places.{lowest, Each}
 use Rattle.rules.specs.Words.{Config, Event, Deed}
 use Rattle.rules.specs.Actions.{Charge, Action, does, over, charge}
-use Rattle.rules.specs.Station.{Slot, Waiting, Station, fresh, answeredIn}
+use Rattle.rules.specs.Station.{Slot, Waiting, Station, fresh, answeredIn, isFree}
 use Rattle.rules.specs.Sound.{sound}
-use Rattle.rules.specs.Requests.{isFree}
 use Rattle.rules.specs.Calls.{act}
 use Rattle.rules.specs.Verdict.{verdict, setUpVerdict, Entry, play, final}
 use Rattle.rules.specs.Bytes.{payloadOf}

@@ -1,6 +1,7 @@
 -- Time and the slots: what a station holds, its waits, and which of them a tick fires.
 use mathlib.Core.List.{List, [], _∷_, map}
 use mathlib.Core.Option.{Option, none, some}
+use mathlib.Core.Bool.{Bool, true, false}
 use Prim.Native.Nat.{ℕ, suc, _+_}
 use lib.ListN.{length, getD, replicate}
 use Rattle.units.specs.declared.Told.{Told}
@@ -13,6 +14,12 @@ use Rattle.rules.specs.Waits.{loss, main, Due, running, earliest, ifDue,
 -- a slot before its line is dialled: offered; in ring-back, sent once or twice; acknowledged
 pub data Kind : Type 0 where
   offered firstRing secondRing acknowledged : Kind
+
+abbrev pub isOffer : Kind → Bool
+isOffer offered = true
+isOffer firstRing = false
+isOffer secondRing = false
+isOffer acknowledged = false
 
 pub data Stage : Type 0 where
   dialling : ℕ → Stage  -- the due time of the reply wait
@@ -37,21 +44,35 @@ pub data Slot : Type 0 where
   busy : Dealing → Stage → Option ℕ → Slot  -- with the due time of the carrier wait: none where the carrier is present
   held : Dealing → Told → ℕ → Slot  -- the hold after a ship's end of call: the duration told, the due time
 
--- the ship that a slot is dealing with: a hold and a taken slot are nobody's
+-- whether a ship's line is still to be dialled, or is dialled: a hold and a taken slot are nobody's
+abbrev pub bySlot : {A : Type 0} → A → (Kind → Dealing → A) → (Dealing → Stage → Option ℕ → A) → Slot → A
+bySlot a f g free = a
+bySlot a f g taken = a
+bySlot a f g (pending k r d) = f k r
+bySlot a f g (busy r s c) = g r s c
+bySlot a f g (held r n d) = a
+
+-- the ship that a slot is dealing with
 abbrev pub shipOf : Slot → Option Party
-shipOf free = none
-shipOf taken = none
-shipOf (pending k r d) = some (r .request .who)
-shipOf (busy r g c) = some (r .request .who)
-shipOf (held r n d) = none
+shipOf s = bySlot none (λ k r. some (r .request .who)) (λ r g c. some (r .request .who)) s
 
 -- since when its call is answered, if it is
 abbrev pub answeredIn : Slot → Option ℕ
-answeredIn free = none
-answeredIn taken = none
-answeredIn (pending k r d) = none
-answeredIn (busy r g c) = answeredAt g
-answeredIn (held r n d) = none
+answeredIn s = bySlot none (λ k r. none) (λ r g c. answeredAt g) s
+
+abbrev pub isFree : Slot → Bool
+isFree free = true
+isFree taken = false
+isFree (pending k r d) = false
+isFree (busy r g c) = false
+isFree (held r n d) = false
+
+abbrev pub isTaken : Slot → Bool
+isTaken free = false
+isTaken taken = true
+isTaken (pending k r d) = false
+isTaken (busy r g c) = false
+isTaken (held r n d) = false
 
 pub record Waiting : Type 0 where
   pub request : Request
@@ -74,6 +95,10 @@ fresh c = record { clock = 0; slots = replicate (length (c .channels)) free; que
 unfoldable pub setSlot : ℕ → Slot → Station → Station
 setSlot i s st = record { clock = st .clock; slots = modAt (λ x. s) i (st .slots); queue = st .queue }
 
+-- the slot i free
+abbrev pub emptied : ℕ → Station → Station
+emptied i st = setSlot i free st
+
 unfoldable pub setClock : ℕ → Station → Station
 setClock t st = record { clock = t; slots = st .slots; queue = st .queue }
 
@@ -93,6 +118,13 @@ kindWait firstRing = 50
 kindWait secondRing = 50
 kindWait acknowledged = 160
 
+-- the slot offered, and in ring-back, from now on
+abbrev pub offerOf : Request → Station → Slot
+offerOf r st = pending offered (dealing r) (dueAfter (st .clock) (kindWait offered))
+
+abbrev pub ringOf : Request → Station → Slot
+ringOf r st = pending firstRing (dealing r) (dueAfter (st .clock) (kindWait firstRing))
+
 -- carrier down: "50 duplex, 450 simplex"
 abbrev pub carrierWait : Mode → ℕ
 carrierWait simplex = 450
@@ -109,11 +141,7 @@ abbrev pub queueWait : ℕ
 queueWait = 9000
 
 abbrev pub lossDue : Slot → Option ℕ
-lossDue free = none
-lossDue taken = none
-lossDue (pending k r d) = none
-lossDue (busy r g c) = c
-lossDue (held r n d) = none
+lossDue s = bySlot none (λ k r. none) (λ r g c. c) s
 
 abbrev pub stageDue : Stage → Option ℕ
 stageDue (dialling d) = some d

@@ -3,7 +3,7 @@ use mathlib.Core.List.{List, [], _∷_}
 use mathlib.Core.Bool.{cond}
 use Prim.Native.Nat.{ℕ}
 use lib.Dec.{eqb}
-use Rattle.rules.specs.Words.{What, Deed, carrierOn, carrierOff, acknowledge, ringBack, unable, dial, releaseLine, isOffHookOn}
+use Rattle.rules.specs.Words.{What, Deed, carrierOn, carrierOff, acknowledge, ringBack, unable, dial, releaseLine, isAnsweringOn}
 use Rattle.rules.specs.Book.{Note, Call, quiet, dialled, talking}
 
 pub data Word : Type 0 where
@@ -16,9 +16,9 @@ answer t idle = idle
 answer t ringing = since t
 answer t (since b) = since b
 
--- an off-hook on slot i
+-- the called person answers on slot i
 abbrev pub wordHeard : ℕ → ℕ → What → Word → Word
-wordHeard i t e w = cond (isOffHookOn i e) (answer t w) w
+wordHeard i t e w = cond (isAnsweringOn i e) (answer t w) w
 
 -- "dial" on slot i; "release line" on slot i
 abbrev pub wordDone : ℕ → Deed → Word → Word

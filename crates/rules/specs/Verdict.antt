@@ -1,6 +1,6 @@
 -- Answer numbers: which event is refused, by the first test that fails; and a run, in which the accepted events are done.
 use mathlib.Core.List.{List, [], _∷_}
-use mathlib.Core.Bool.{Bool, true, false, not}
+use mathlib.Core.Bool.{Bool, true, false, not, _&&_}
 use mathlib.Core.Option.{Option, none, some}
 use Prim.Native.Nat.{ℕ, _*_}
 use lib.Dec.{leb, ltb}
@@ -11,13 +11,13 @@ use Rattle.sequence.specs.Refusals.{Row, row, firstRefusal}
 use Rattle.sequence.specs.Answers.{answerNumber, isDone}
 use Rattle.sequence.specs.Reading.{readingOf}
 use Rattle.rules.specs.Places.{isSome}
-use Rattle.rules.specs.Words.{Config, Hand, handTakes, handGives, Happened, heard, signal, operator, What, tick, onChannel70, onSlot, Event}
+use Rattle.rules.specs.Words.{Config, Hand, Happened, What, happens, slotIn, symbolsOn, symbolsIn, handIn, Event}
 use Rattle.rules.specs.Actions.{Action}
 use Rattle.rules.specs.Bytes.{mostActions, blockSize}
-use Rattle.rules.specs.Station.{Slot, Station, fires, theSlot}
+use Rattle.rules.specs.Station.{Station, fires, theSlot}
 use Rattle.rules.specs.Sound.{configKeeps, limit, sound}
-use Rattle.rules.specs.Requests.{Out, isFree, isTaken}
-use Rattle.rules.specs.Calls.{act}
+use Rattle.rules.specs.Requests.{Out}
+use Rattle.rules.specs.Calls.{barredHand, act}
 
 -- a test, and the number given where it fails
 abbrev pub unless : Bool → ℕ → Row (Option ℕ)
@@ -29,44 +29,38 @@ roomNeeded = mostActions * blockSize
 
 -- 33: "not a tick and a wait is due at or before its time"
 abbrev pub overtaken : Station → ℕ → What → Bool
-overtaken st t tick = false
-overtaken st t (onChannel70 m) = isSome (fires t st)
-overtaken st t (onSlot i h) = isSome (fires t st)
+overtaken st t w = happens w && isSome (fires t st)
 
 -- 34: "no such slot"
+abbrev pub isThere : ℕ → Option ℕ → Bool
+isThere n none = true
+isThere n (some i) = ltb i n
+
 abbrev pub slotThere : ℕ → What → Bool
-slotThere n tick = true
-slotThere n (onChannel70 m) = true
-slotThere n (onSlot i h) = ltb i n
+slotThere n w = isThere n (slotIn w)
 
 -- 11 to 20: "the event's sequence": the reader's answer
 abbrev pub readerSays : List ℕ → Answer
 readerSays m = readingOf m .answer
 
+abbrev pub readOf : Option (List ℕ) → Answer
+readOf none = Done
+readOf (some m) = readerSays m
+
 abbrev pub readOn : Happened → Answer
-readOn (heard m) = readerSays m
-readOn (signal g) = Done
-readOn (operator h) = Done
+readOn h = readOf (symbolsOn h)
 
 abbrev pub readIn : What → Answer
-readIn tick = Done
-readIn (onChannel70 m) = readerSays m
-readIn (onSlot i h) = readOn h
-
-abbrev pub barredHand : Slot → Hand → Bool
-barredHand s handTakes = not (isFree s)
-barredHand s handGives = not (isTaken s)
-
-abbrev pub barredOn : Slot → Happened → Bool
-barredOn s (heard m) = false
-barredOn s (signal g) = false
-barredOn s (operator h) = barredHand s h
+readIn w = readOf (symbolsIn w)
 
 -- 35: "operator takes a slot not free, or gives back one not taken"
+abbrev pub barredAt : Station → Option ℕ → Option Hand → Bool
+barredAt st none h = false
+barredAt st (some i) none = false
+barredAt st (some i) (some h) = barredHand (theSlot st i) h
+
 abbrev pub barred : Station → What → Bool
-barred st tick = false
-barred st (onChannel70 m) = false
-barred st (onSlot i h) = barredOn (theSlot st i) h
+barred st w = barredAt st (slotIn w) (handIn w)
 
 -- "Refusals, in this order"
 unfoldable pub refusals : Config → Station → Event → List (Row (Option ℕ))

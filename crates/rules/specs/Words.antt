@@ -1,6 +1,7 @@
 -- The words of document 01: who asks for what, what comes in, what is done. Nothing here decides, and no wait has its figure here.
 use mathlib.Core.List.{List}
 use mathlib.Core.Bool.{Bool, true, false, _&&_}
+use mathlib.Core.Option.{Option, none, some}
 use mathlib.Core.Path.{_≡_}
 use Prim.Native.Nat.{ℕ}
 use lib.Dec.{eqb}
@@ -80,32 +81,62 @@ takes = operator handTakes
 abbrev pub givesBack : Happened
 givesBack = operator handGives
 
-abbrev pub isOffHook : Happened → Bool
-isOffHook (heard m) = false
-isOffHook (signal lineLifted) = true
-isOffHook (signal lineHung) = false
-isOffHook (signal carrierHeard) = false
-isOffHook (signal carrierLost) = false
-isOffHook (operator h) = false
-
-abbrev pub isOnHook : Happened → Bool
-isOnHook (heard m) = false
-isOnHook (signal lineLifted) = false
-isOnHook (signal lineHung) = true
-isOnHook (signal carrierHeard) = false
-isOnHook (signal carrierLost) = false
-isOnHook (operator h) = false
+-- the called person answers
+abbrev pub isAnswering : Happened → Bool
+isAnswering (heard m) = false
+isAnswering (signal lineLifted) = true
+isAnswering (signal lineHung) = false
+isAnswering (signal carrierHeard) = false
+isAnswering (signal carrierLost) = false
+isAnswering (operator h) = false
 
 pub data What : Type 0 where
   tick : What
   onChannel70 : List ℕ → What  -- symbols
   onSlot : ℕ → Happened → What
 
--- an off-hook on the slot i
-abbrev pub isOffHookOn : ℕ → What → Bool
-isOffHookOn i tick = false
-isOffHookOn i (onChannel70 m) = false
-isOffHookOn i (onSlot j h) = eqb i j && isOffHook h
+-- the called person answers on the slot i
+abbrev pub answeringOn : ℕ → What
+answeringOn i = onSlot i offHook
+
+abbrev pub isAnsweringOn : ℕ → What → Bool
+isAnsweringOn i tick = false
+isAnsweringOn i (onChannel70 m) = false
+isAnsweringOn i (onSlot j h) = eqb i j && isAnswering h
+
+-- something happens, and not time alone goes on
+abbrev pub happens : What → Bool
+happens tick = false
+happens (onChannel70 m) = true
+happens (onSlot i h) = true
+
+-- the slot that it names
+abbrev pub slotIn : What → Option ℕ
+slotIn tick = none
+slotIn (onChannel70 m) = none
+slotIn (onSlot i h) = some i
+
+-- the symbols that it brings
+abbrev pub symbolsOn : Happened → Option (List ℕ)
+symbolsOn (heard m) = some m
+symbolsOn (signal g) = none
+symbolsOn (operator h) = none
+
+abbrev pub symbolsIn : What → Option (List ℕ)
+symbolsIn tick = none
+symbolsIn (onChannel70 m) = some m
+symbolsIn (onSlot i h) = symbolsOn h
+
+-- the operator's hand in it
+abbrev pub handOf : Happened → Option Hand
+handOf (heard m) = none
+handOf (signal g) = none
+handOf (operator h) = some h
+
+abbrev pub handIn : What → Option Hand
+handIn tick = none
+handIn (onChannel70 m) = none
+handIn (onSlot i h) = handOf h
 
 pub record Event : Type 0 where
   pub time : ℕ  -- in tenths

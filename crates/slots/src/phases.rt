@@ -1,6 +1,6 @@
 // What of a phase decides, one question each; every question names every phase, so that a new one is thought of here.
 ghost use mathlib.Core.Path.{_≡_};
-ghost use Rattle.rules.specs.Requests.{isFree, isTaken};
+ghost use Rattle.rules.specs.Station.{isFree, isTaken};
 ghost use Rattle.slots.specs.Views.{slotView};
 ghost use Rattle.slots.specs.Phases.{stored, owned};
 use crate::Phase;

@@ -12,10 +12,11 @@ use Rattle.sequence.specs.Refusals.{firstRefusal}
 use Rattle.rules.specs.Words.{Signal, Hand, heard, signal, operator, tick, onChannel70, onSlot, Event}
 use Rattle.rules.specs.Station.{free, fires}
 use Rattle.rules.specs.Sound.{sound}
+use Rattle.rules.specs.Calls.{barredHand}
 use Rattle.gate.specs.declared.Look.{Look}
 use Rattle.gate.specs.Asked.{andThen, askedAlways, askedNow, askedOnSlot}
 use Rattle.gate.proofs.AskedLaws.{one-more}
-use Rattle.rules.specs.Verdict.{readerSays, barredHand, refusals, verdict}
+use Rattle.rules.specs.Verdict.{readerSays, refusals, verdict}
 use Rattle.station.specs.declared.Station.{Station}
 use Rattle.station.specs.Model.{modelOf, configOf}
 use Rattle.station.specs.Step.{recordsKeep, refusal}

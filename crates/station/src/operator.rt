@@ -2,7 +2,7 @@
 ghost use mathlib.Core.Path.{_≡_};
 ghost use mathlib.Core.Bool.{not};
 ghost use Rattle.rules.specs.Words.{takes, givesBack, operator};
-ghost use Rattle.rules.specs.Verdict.{barredHand};
+ghost use Rattle.rules.specs.Calls.{barredHand};
 ghost use Rattle.slots.specs.Views.{slotView, handView};
 ghost use Rattle.station.specs.Step.{slotAt, steppedBy, roomAfter};
 use crate::Station;

@@ -2,7 +2,7 @@ use Rattle.finding.proofs.SearchLaws.{lowest-all, lowest-hit, lowest-mi
 use Rattle.finding.specs.Searches.{lowestFrom}
 use Rattle.slots.specs.Views.{slotView, noSlot}
 use Rattle.requests.specs.Views.{viewed, left}
-use Rattle.rules.specs.Requests.{isFree}
+use Rattle.rules.specs.Station.{isFree}
 use Rattle.rules.specs.Places.{lowest}
 use borrow.Author.Needs.{needs}
 use lib.ListN.{length}
