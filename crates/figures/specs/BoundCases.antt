@@ -1,6 +1,6 @@
 -- Rows on both sides of a boundary, and for what the other tables see only in its usual value: other slots, places, stations,
 -- second telecommands, kinds of sequence.
-use mathlib.Core.List.{List, [], _∷_, _++_}
+use mathlib.Core.List.{List, [], _∷_, _++_, map}
 use mathlib.Core.Option.{none, some}
 use mathlib.Core.Bool.{Bool, cond}
 use Prim.Native.Nat.{ℕ}
@@ -10,7 +10,7 @@ use Rattle.sequence.specs.declared.Field.the-variants.{Blank, Channel}
 use Rattle.sequence.specs.Layout.{valid, layout}
 use Rattle.rules.specs.Words.{Party, is, Mode, simplex, duplex, modeNumber, Config, Event, carrierOn}
 use Rattle.rules.specs.Actions.{theShip, does, over, charge}
-use Rattle.rules.specs.Station.{offered, firstRing, secondRing, acknowledged, dialling, answered, free, taken, Waiting, Station, fresh}
+use Rattle.rules.specs.Station.{offered, dialling, answered, free, taken, Station, fresh}
 use Rattle.rules.specs.Slots.{pending, busy, held}
 use Rattle.rules.specs.Verdict.{step}
 use Rattle.rules.specs.Bytes.{numberOf, ableSaid, unableSaid, overSaid, blocks}
@@ -18,7 +18,8 @@ use Rattle.rules.specs.Printed.{lines}
 use Rattle.rules.specs.Runs.{channel, station, seven, eight, nine, sends, usual, callsFor, calls, accepts, works, ends, ticks, paid, says, saysOn, picksUp, hangs, regains, loses, reserves, restores, ticksIn, stationOf}
 use Rattle.rules.specs.Cases.{Row}
 use Rattle.rules.specs.Scripts.{gives, waits, waitingShips, charges, ackEight26, ackSeven26, ackSeven26Again, ackSeven26Simplex, ackSeven27, overSeven, overSevenByCoast, ringEight26, ringNine26, ringSeven26, unable102Nine, unable103Eight, unable103Seven}
-use Rattle.rules.specs.SoundCases.{asking, from, lasting, holding, asked, with, queued, setUp, Judged, sounds, unsound, refused36}
+use Rattle.rules.specs.Phases.{waitingWith}
+use Rattle.rules.specs.SoundCases.{kinds, asking, from, lasting, holding, asked, with, queued, setUp, Judged, sounds, unsound, refused36}
 
 -- ── how a row is written ─────────────────────────────────────────────────────
 
@@ -39,10 +40,6 @@ asks station second end digits x m =
 -- a call request with a second telecommand
 abbrev pub callsAs : ℕ → List ℕ → ℕ → ℕ → Mode → Event
 callsAs second digits t x m = says t (asks 2001234 second 117 digits x m)
-
--- what an event prints in a station whose one slot is taken, at the clock 100
-abbrev pub waitingWith : List Waiting → Event → List (List ℕ)
-waitingWith q e = lines (station 1) (step (station 1) (record { clock = 100; slots = taken ∷ []; queue = q }) e)
 
 -- another station, on the channels 60 and 88
 abbrev pub other : Config
@@ -801,22 +798,14 @@ boundSounds =
     ∷ sounds (with (pending offered (asking seven 2001234 duplex 100 usual) 1161))
     -- 99
     ∷ unsound (with (pending offered (asking seven 2001234 duplex 99 usual) 1161))
-    -- a request to another station in ring-back
-    ∷ unsound (with (pending firstRing (asking seven 2001235 duplex 126 usual) 1051))
-    -- a request to another station in ring-back, sent again
-    ∷ unsound (with (pending secondRing (asking seven 2001235 duplex 126 usual) 1051))
-    -- a request to another station that is acknowledged
-    ∷ unsound (with (pending acknowledged (asking seven 2001235 duplex 126 usual) 1051))
     -- the second of two slots holds a request to another station
     ∷ unsound (asked (station 2) (holding (free ∷ pending offered (asking seven 2001235 duplex 126 usual) 1161 ∷ []) []))
     -- so does the second of two waiting ships
     ∷ unsound (queued (waits eight 2000 ∷ record { request = asking seven 2001235 duplex 126 usual; due = 2000 } ∷ []))
-    -- a ship waits and has a slot: in ring-back
-    ∷ unsound (asked (station 2) (holding (free ∷ pending firstRing (from seven duplex) 1051 ∷ []) (waits seven 2000 ∷ [])))
-    -- in ring-back, sent again
-    ∷ unsound (asked (station 2) (holding (taken ∷ pending secondRing (from seven duplex) 1051 ∷ []) (waits seven 2000 ∷ [])))
-    -- acknowledged
-    ∷ unsound (asked (station 2) (holding (held (from eight duplex) Nothing 1041 ∷ pending acknowledged (from seven duplex) 1161 ∷
+    -- a ship waits and has a slot, behind one that is taken
+    ∷ unsound (asked (station 2) (holding (taken ∷ pending offered (from seven duplex) 1051 ∷ []) (waits seven 2000 ∷ [])))
+    -- behind a hold
+    ∷ unsound (asked (station 2) (holding (held (from eight duplex) Nothing 1041 ∷ pending offered (from seven duplex) 1161 ∷
     []) (waits seven 2000 ∷ [])))
     -- dialling
     ∷ unsound (asked (station 2) (holding (free ∷ busy (from seven duplex) (dialling 1601) none ∷ []) (waits seven 2000 ∷ [])))
@@ -842,4 +831,7 @@ boundSounds =
     ∷ unsound (asked (station 1) (record { clock = 5000; slots = pending offered (from seven duplex) 5162 ∷ []; queue = [] }))
     -- a queue entry one tenth further
     ∷ unsound (asked (station 1) (record { clock = 5000; slots = taken ∷ []; queue = waits eight 14002 ∷ [] }))
-    ∷ []
+    -- of each kind: a request to another station
+    ∷ map (λ k. unsound (with (pending k (asking seven 2001235 duplex 126 usual) 1051))) kinds
+    -- a ship that waits besides
+    ++ map (λ k. unsound (asked (station 2) (holding (free ∷ pending k (from seven duplex) 1051 ∷ []) (waits seven 2000 ∷ [])))) kinds

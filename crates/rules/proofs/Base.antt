@@ -10,7 +10,7 @@ use borrow.Author.Tests.{eq-eqb, eqb-true, leb-true, le-leb}
 use Rattle.units.specs.declared.Told.{Told}
 use Rattle.rules.specs.Words.{Party, is, Mode, simplex, duplex, Request, Deed, Config}
 use Rattle.rules.specs.Actions.{Action, does, over, charge}
-use Rattle.rules.specs.Station.{bySlot, shipOf, Kind, offered, firstRing, secondRing, acknowledged, Slot, free, taken, pending, busy, held, Waiting, Station, theSlot, setSlot, carrierWait, lossDue, mainDue, slotTable, table, fires, answeredAt, answeredIn, Dealing, Stage, dialling, answered, fresh, dueAfter, kindWait, replyWait, holdWait, isFree, offerOf, ringOf}
+use Rattle.rules.specs.Station.{bySlot, shipOf, Kind, offered, firstRing, secondRing, acknowledged, Slot, free, taken, pending, busy, held, Waiting, Station, theSlot, setSlot, carrierWait, lossDue, mainDue, slotTable, table, fires, answeredAt, answeredIn, Dealing, Stage, dialling, answered, fresh, dueAfter, kindWait, replyWait, holdWait, isFree, offerOf, ringOf, rungAgain, agreedAt}
 use Rattle.rules.specs.Requests.{sameMode, sameNumber, same}
 use Rattle.rules.specs.Book.{silence, alikeMode, alikeDigits, alike, Said, silent, toldBQ, toldRQ, settled, Call, quiet, dialled, talking, Line, Place, Book, atLine, line, lineTable, falls}
 use Rattle.rules.specs.Reading.{read, reads}
@@ -301,3 +301,9 @@ offer-fits r st = new-wait (st .clock) (kindWait offered)
 
 pub ring-fits : (r : Request) (st : Station) → slotFits (st .clock) (ringOf r st) ≡ true
 ring-fits r st = new-wait (st .clock) (kindWait firstRing)
+
+pub again-fits : (r : Dealing) (t : ℕ) → slotFits t (rungAgain r t) ≡ true
+again-fits r t = new-wait t (kindWait secondRing)
+
+pub agreed-fits : (r : Dealing) (t : ℕ) → slotFits t (agreedAt r t) ≡ true
+agreed-fits r t = new-wait t (kindWait acknowledged)

@@ -9,7 +9,7 @@ use Rattle.rules.specs.Places.{Each}
 use Rattle.rules.specs.Words.{Party, is, Request, Config, lineLifted, lineHung, carrierHeard, carrierLost, handTakes, handGives, Happened, heard, signal, operator, offHook, Deed, carrierOn, carrierOff, acknowledge, ringBack, unable, dial, releaseLine, Mode, isAnswering}
 use Rattle.rules.specs.Heard.{Heard, callRequest, dataRequest, bq, workingCall, endOfCall, nothing, meaning}
 use Rattle.rules.specs.Actions.{Action, does, over, Ender, theShip, theCoast}
-use Rattle.rules.specs.Station.{Kind, firstRing, secondRing, acknowledged, Stage, answeredAt, dialling, answered, Dealing, Slot, free, taken, pending, busy, held, Station, setSlot, dueAfter, kindWait, replyWait, holdWait, carrierWait}
+use Rattle.rules.specs.Station.{Kind, firstRing, rungAgain, agreedAt, Stage, answeredAt, dialling, answered, Dealing, Slot, free, taken, pending, busy, held, Station, setSlot, dueAfter, replyWait, holdWait, carrierWait}
 use Rattle.rules.specs.Requests.{Out, ignored, also, freed, lasted, endActs, coastEnd}
 use Rattle.rules.specs.Calls.{dialNow, workingKind, workingOn, agreed, bqKind, bqFor, offHookStage, offHookOn, startLoss, downOn, upOn, shipEnd, sayAgain, shipEndOn, endOn, takeOn, giveOn, offerDue, ringAgain, pendingDue, replyDue, mainOn, heardOn, happenedOn}
 use Rattle.rules.specs.Book.{Stop, Line, Place}
@@ -18,7 +18,7 @@ use Rattle.rules.specs.Repeated.{Dials}
 use Rattle.rules.specs.ThreeWords.{Word, idle, ringing, answer, wordOf}
 use Rattle.rules.specs.Statement.{deedsOf, chargesOf, owed}
 use Rattle.rules.specs.Sound.{fits, stageFits, lossFits, slotFits}
-use Rattle.rules.proofs.Base.{by-kind, saidOf, view, silence-is, new-wait}
+use Rattle.rules.proofs.Base.{by-kind, saidOf, view, silence-is, new-wait, again-fits, agreed-fits}
 use Rattle.rules.proofs.PlaceLaws.{and-true}
 use borrow.Author.Tests.{le-leb}
 use native.Mathlib.Omega.{arith}
@@ -36,9 +36,9 @@ pub data Move (i t : ℕ) : Slot → Next → List Action → Type 0 where
   to-dial : (k : Kind) (r : Dealing) (d : ℕ) → Dials (r .request .number) (saidOf k (r .request))
       → Move i t (pending k r d) (becomes (busy r (dialling (dueAfter t replyWait)) none)) (does (dial i (r .request .number)) ∷ [])
   to-agree : (k : Kind) (r : Dealing) (d : ℕ)
-      → Move i t (pending k r d) (becomes (pending acknowledged r (dueAfter t (kindWait acknowledged)))) []
+      → Move i t (pending k r d) (becomes (agreedAt r t)) []
   to-ring : (r : Dealing) (d : ℕ)
-      → Move i t (pending firstRing r d) (becomes (pending secondRing r (dueAfter t (kindWait secondRing)))) (does (ringBack i (r .request)) ∷ [])
+      → Move i t (pending firstRing r d) (becomes (rungAgain r t)) (does (ringBack i (r .request)) ∷ [])
   to-drop : (k : Kind) (r : Dealing) (d : ℕ) → Move i t (pending k r d) frees (does (carrierOff i) ∷ [])
   -- dialling or answered
   to-answer : (r : Dealing) (d : ℕ) (c : Option ℕ) → Move i t (busy r (dialling d) c) (becomes (busy r (answered t) c)) []
@@ -144,8 +144,8 @@ down-fits t g m (some d) h k = rw h k
 -- what the slot becomes fits the clock
 pub turned-fits : (i t : ℕ) (p q : Slot) (acts : List Action) → Move i t p (becomes q) acts → slotFits t p ≡ true → slotFits t q ≡ true
 turned-fits i t _ _ _ (to-dial k r d z) h = rw (new-wait t replyWait) refl
-turned-fits i t _ _ _ (to-agree k r d) h = new-wait t (kindWait acknowledged)
-turned-fits i t _ _ _ (to-ring r d) h = new-wait t (kindWait secondRing)
+turned-fits i t _ _ _ (to-agree k r d) h = agreed-fits r t
+turned-fits i t _ _ _ (to-ring r d) h = again-fits r t
 turned-fits i t _ _ _ (to-answer r d c) h = rw (le-leb t t (omega arith)) (and-true (fits t replyWait d) (lossFits t (r .request .mode) c) h .1)
 turned-fits i t _ _ _ (to-lose r g c) h = let f = and-true (stageFits t g) (lossFits t (r .request .mode) c) h in down-fits t g (r .request .mode) c (f .0) (f .1)
 turned-fits i t _ _ _ (to-regain r g c) h = rw (and-true (stageFits t g) (lossFits t (r .request .mode) c) h .0) refl

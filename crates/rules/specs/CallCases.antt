@@ -3,12 +3,11 @@ use mathlib.Core.List.{List, [], _∷_}
 use Rattle.sequence.specs.Reading.{readingOf}
 use Rattle.rules.specs.Words.{simplex, duplex, carrierOn, dial}
 use Rattle.rules.specs.Actions.{does, charge, chargeOf}
-use Rattle.rules.specs.Verdict.{step}
 use Rattle.rules.specs.Bytes.{payloadOf, blockOf}
-use Rattle.rules.specs.Printed.{lines}
 use Rattle.rules.specs.Runs.{station, seven, eight, usual, calls, works, ends, ticks, saysOn, picksUp, hangs, regains, loses, reserves, restores}
 use Rattle.rules.specs.Cases.{Row}
-use Rattle.rules.specs.Scripts.{gives, ninety, fieldTold, charges, crossed, overSevenByCoast15, ringEight26, unable103Seven, unable103Eight, overSeven411, overSeven, overSevenByCoast411, overSevenByCoast, overSevenByCoast0, ringSeven26}
+use Rattle.rules.specs.Phases.{waitingWith}
+use Rattle.rules.specs.Scripts.{gives, ninety, fieldTold, charges, waits, overSevenByCoast15, ringEight26, unable103Seven, unable103Eight, overSeven411, overSeven, overSevenByCoast411, overSevenByCoast, overSevenByCoast0, ringSeven26}
 
 -- ── off-hook and carrier ──────────────────────────────────────────────────────
 
@@ -191,7 +190,7 @@ oneWaitDue = record {
 -- of two queue entries the one due first, here the younger
 abbrev pub youngerDue : Row
 youngerDue = record {
-  computed = lines (station 1) (step (station 1) crossed (ticks 2500));
+  computed = waitingWith (waits seven 3000 ∷ waits eight 2000 ∷ []) (ticks 2500);
   expected = (0 ∷ 2000 ∷ 0 ∷ 3000 ∷ []) ∷ [];
 }
 

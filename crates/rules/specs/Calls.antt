@@ -9,7 +9,7 @@ use Rattle.rules.specs.Words.{Party, is, Mode, Request, Config, Signal, 
 use Rattle.rules.specs.Waits.{Wait, ofQueue, loss, main, Due}
 use Rattle.rules.specs.Heard.{Heard, callRequest, dataRequest, bq, workingCall, endOfCall, nothing, kindOf, addressed, meaning}
 use Rattle.rules.specs.Actions.{does, over, theShip}
-use Rattle.rules.specs.Station.{isFree, isTaken, Kind, offered, firstRing, secondRing, acknowledged, Stage, dialling, answered, answeredAt, Dealing, Slot, free, taken, pending, busy, held, Station, theSlot, fresh, setSlot, setClock, setQueue, dueAfter, kindWait, carrierWait, replyWait, holdWait, table, fires, nextDue}
+use Rattle.rules.specs.Station.{isFree, isTaken, Kind, offered, firstRing, secondRing, acknowledged, Stage, dialling, answered, answeredAt, Dealing, Slot, free, taken, pending, busy, held, Station, theSlot, fresh, setSlot, setClock, setQueue, dueAfter, rungAgain, agreedAt, carrierWait, replyWait, holdWait, table, fires, nextDue}
 use Rattle.rules.specs.Requests.{Out, done, ignored, also, rungBack, freedFor, freed, lasted, endActs, coastEnd, standing, ruleA, repeated, afresh, same, ruleB, ruleD, offer, ruleF, ruleG, eToG, newcomer, dToG, redial, ruleC, bOrC, requested}
 
 -- ── working call ─────────────────────────────────────────────────────────────
@@ -42,7 +42,7 @@ workingOn i x st (held r n d) = ignored st
 
 -- "acknowledged, wait 160" (house)
 unfoldable pub agreed : ℕ → Dealing → Station → Out
-agreed i r st = done (setSlot i (pending acknowledged r (dueAfter (st .clock) (kindWait acknowledged))) st)
+agreed i r st = done (setSlot i (agreedAt r (st .clock)) st)
 
 unfoldable pub bqKind : ℕ → Kind → Dealing → Station → Out
 bqKind i offered r st = ignored st
@@ -159,7 +159,7 @@ unfoldable pub ringAgain : ℕ → Dealing → Station → Out
 ringAgain i r st =
     record {
       answer = 0;
-      next = setSlot i (pending secondRing r (dueAfter (st .clock) (kindWait secondRing))) st;
+      next = setSlot i (rungAgain r (st .clock)) st;
       acts = does (ringBack i (r .request)) ∷ [];
     }
 

@@ -4,12 +4,13 @@ use mathlib.Core.Option.{none, some}
 use Prim.Native.Nat.{ℕ}
 use Rattle.units.specs.declared.Told.the-variants.{Nothing}
 use Rattle.sequence.specs.declared.Field.the-variants.{Blank, Channel}
-use Rattle.rules.specs.Words.{simplex, duplex, Request, heard, offHook, onHook, carrierUp, carrierDown, takes, givesBack, What, tick, onChannel70, onSlot}
-use Rattle.rules.specs.Station.{offered, firstRing, secondRing, acknowledged, dialling, answered, Slot, free, taken, Station}
+use Rattle.rules.specs.Words.{simplex, duplex, Request, heard, offHook, onHook, carrierUp, carrierDown, takes, givesBack, What, tick, onChannel70, onSlot, Event}
+use Rattle.rules.specs.Station.{offered, firstRing, secondRing, acknowledged, dialling, answered, Slot, free, taken, Waiting, Station}
 use Rattle.rules.specs.Slots.{pending, busy, held}
 use Rattle.rules.specs.Requests.{Out}
 use Rattle.rules.specs.Verdict.{step}
 use Rattle.rules.specs.Bytes.{kindNumber}
+use Rattle.rules.specs.Printed.{lines}
 use Rattle.rules.specs.Runs.{channel, station, seven, eight, sends, at, usual}
 use Rattle.rules.specs.SoundCases.{from}
 
@@ -27,6 +28,10 @@ simply = from seven simplex
 -- the slot alone, at the clock 1000
 abbrev pub alone : Slot → Station
 alone s = record { clock = 1000; slots = s ∷ []; queue = [] }
+
+-- what an event prints in a station whose one slot is taken, at the clock 100, while ships wait
+abbrev pub waitingWith : List Waiting → Event → List (List ℕ)
+waitingWith q e = lines (station 1) (step (station 1) (record { clock = 100; slots = taken ∷ []; queue = q }) e)
 
 -- what may happen, in the order of a row
 abbrev pub happenings : List What

@@ -2,11 +2,10 @@
 use mathlib.Core.List.{List, [], _∷_}
 use Rattle.sequence.specs.declared.Field.the-variants.{Blank}
 use Rattle.rules.specs.Words.{simplex, duplex}
-use Rattle.rules.specs.Verdict.{step}
-use Rattle.rules.specs.Printed.{lines}
-use Rattle.rules.specs.Runs.{station, seven, eight, nine, sends, usual, callsFor, calls, dataCalls, accepts, works, ticks, asksAnew, fades, says, saysOn, picksUp, loses, reserves, restores}
+use Rattle.rules.specs.Runs.{seven, eight, nine, sends, usual, callsFor, calls, dataCalls, accepts, works, ticks, asksAnew, fades, says, saysOn, picksUp, loses, reserves, restores}
 use Rattle.rules.specs.Cases.{Row}
-use Rattle.rules.specs.Scripts.{gives, elsewhere, crowded, charges, unable109Seven, ackSeven26, ackSeven26Again, ackSeven26Simplex, ackEight26, overSevenByCoast15, overSevenByCoast55, ringEight26, unable103Seven, ringSeven26, ringSeven26Again, ringSeven26Simplex, ackSeven27, unable103Eight, unable102Nine, ringNine26}
+use Rattle.rules.specs.Phases.{waitingWith}
+use Rattle.rules.specs.Scripts.{gives, elsewhere, waitingShips, charges, unable109Seven, ackSeven26, ackSeven26Again, ackSeven26Simplex, ackEight26, overSevenByCoast15, overSevenByCoast55, ringEight26, unable103Seven, ringSeven26, ringSeven26Again, ringSeven26Simplex, ackSeven27, unable103Eight, unable102Nine, ringNine26}
 
 -- ── what is ignored ───────────────────────────────────────────────────────────
 
@@ -173,7 +172,7 @@ ruleFShown = record {
 -- g. and when 32 ships wait, 104/102
 abbrev pub ruleGShown : Row
 ruleGShown = record {
-  computed = lines (station 1) (step (station 1) crowded (calls 200 nine duplex));
+  computed = waitingWith (waitingShips 32) (calls 200 nine duplex);
   expected = (0 ∷ 200 ∷ 1 ∷ 9101 ∷ []) ∷ (3 ∷ 255 ∷ unable102Nine) ∷ [];
 }
 

@@ -8,10 +8,10 @@ use Rattle.sequence.specs.Symbols.{exclusiveOr}
 use Rattle.sequence.specs.Layout.{layout}
 use Rattle.rules.specs.Places.{modAt}
 use Rattle.rules.specs.Words.{duplex, Event}
-use Rattle.rules.specs.Station.{taken, Waiting, Station, fresh}
+use Rattle.rules.specs.Station.{Waiting, fresh}
 use Rattle.rules.specs.Bytes.{numberOf, fours}
 use Rattle.rules.specs.Printed.{lastPrinted}
-use Rattle.rules.specs.Runs.{station, seven, eight, sends, usual}
+use Rattle.rules.specs.Runs.{station, seven, sends, usual}
 use Rattle.rules.specs.Actions.{chargeOf, chargeNumbers}
 
 -- ── how a case is written ────────────────────────────────────────────────────
@@ -29,17 +29,10 @@ elsewhere end =
 abbrev pub waits : ℕ → ℕ → Waiting
 waits x due = record { request = record { who = record { ship = x; station = 2001234 }; mode = duplex; second = 126; number = usual }; due = due }
 
--- a station whose slot is taken and whose queue is full
+-- so many ships that wait
 abbrev pub waitingShips : ℕ → List Waiting
 waitingShips zero = []
 waitingShips (suc n) = waits (300000000 + n) 9101 ∷ waitingShips n
-
-abbrev pub crowded : Station
-crowded = record { clock = 100; slots = taken ∷ []; queue = waitingShips 32 }
-
--- a station in which the younger of two waiting ships is due first
-abbrev pub crossed : Station
-crossed = record { clock = 100; slots = taken ∷ []; queue = waits seven 3000 ∷ waits eight 2000 ∷ [] }
 
 -- a call request as symbols; and symbols with their check worked out again
 abbrev pub call7 : List ℕ

@@ -6,7 +6,7 @@ use lib.ListN.{replicate}
 use Rattle.units.specs.declared.Told.{Told}
 use Rattle.units.specs.declared.Told.the-variants.{Nothing, Lasting}
 use Rattle.rules.specs.Words.{Mode, simplex, duplex, Request, Config}
-use Rattle.rules.specs.Station.{offered, firstRing, secondRing, acknowledged, dialling, answered, Slot, free, Waiting, Station}
+use Rattle.rules.specs.Station.{Kind, offered, firstRing, secondRing, acknowledged, dialling, answered, Slot, free, Waiting, Station}
 use Rattle.rules.specs.Slots.{pending, busy, held}
 use Rattle.rules.specs.Verdict.{verdict, setUpVerdict}
 use Rattle.rules.specs.Runs.{station, seven, usual, ticks, stationOf}
@@ -23,6 +23,10 @@ from x m = asking x 2001234 m 126 usual
 
 abbrev pub lasting : ℕ → ℕ → ℕ → Told
 lasting h m s = Lasting (record { hours = h; minutes = m; seconds = s })
+
+-- each kind of a slot before its line is dialled
+abbrev pub kinds : List Kind
+kinds = offered ∷ firstRing ∷ secondRing ∷ acknowledged ∷ []
 
 -- at the clock 1000, on two channels
 abbrev pub holding : List Slot → List Waiting → Station

@@ -118,12 +118,18 @@ kindWait firstRing = 50
 kindWait secondRing = 50
 kindWait acknowledged = 160
 
--- the slot offered, and in ring-back, from now on
+-- the slot offered, in ring-back, in ring-back once more, acknowledged: from now on
 abbrev pub offerOf : Request → Station → Slot
 offerOf r st = pending offered (dealing r) (dueAfter (st .clock) (kindWait offered))
 
 abbrev pub ringOf : Request → Station → Slot
 ringOf r st = pending firstRing (dealing r) (dueAfter (st .clock) (kindWait firstRing))
+
+abbrev pub rungAgain : Dealing → ℕ → Slot
+rungAgain r t = pending secondRing r (dueAfter t (kindWait secondRing))
+
+abbrev pub agreedAt : Dealing → ℕ → Slot
+agreedAt r t = pending acknowledged r (dueAfter t (kindWait acknowledged))
 
 -- carrier down: "50 duplex, 450 simplex"
 abbrev pub carrierWait : Mode → ℕ
