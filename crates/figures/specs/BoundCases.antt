@@ -1,24 +1,23 @@
 -- Rows on both sides of a boundary, and for what the other tables see only in its usual value: other slots, places, stations,
 -- second telecommands, kinds of sequence.
 use mathlib.Core.List.{List, [], _∷_, _++_, map}
-use mathlib.Core.Option.{none, some}
 use mathlib.Core.Bool.{Bool, cond}
 use Prim.Native.Nat.{ℕ}
-use lib.ListN.{replicate}
+use lib.ListN.{replicate, take, drop}
 use Rattle.units.specs.declared.Told.the-variants.{Nothing}
 use Rattle.sequence.specs.declared.Field.the-variants.{Blank, Channel}
 use Rattle.sequence.specs.Layout.{valid, layout}
 use Rattle.rules.specs.Words.{Party, is, Mode, simplex, duplex, modeNumber, Config, Event, carrierOn}
 use Rattle.rules.specs.Actions.{theShip, does, over, charge}
-use Rattle.rules.specs.Station.{offered, dialling, answered, free, taken, Station, fresh}
-use Rattle.rules.specs.Slots.{pending, busy, held}
+use Rattle.rules.specs.Station.{offered, free, taken, Station, fresh}
+use Rattle.rules.specs.Slots.{pending, held}
 use Rattle.rules.specs.Verdict.{step}
 use Rattle.rules.specs.Bytes.{numberOf, ableSaid, unableSaid, overSaid, blocks}
 use Rattle.rules.specs.Printed.{lines}
 use Rattle.rules.specs.Runs.{channel, station, seven, eight, nine, sends, usual, callsFor, calls, accepts, works, ends, ticks, paid, says, saysOn, picksUp, hangs, regains, loses, reserves, restores, ticksIn, stationOf}
 use Rattle.rules.specs.Cases.{Row}
 use Rattle.rules.specs.Scripts.{gives, waits, waitingShips, charges, ackEight26, ackSeven26, ackSeven26Again, ackSeven26Simplex, ackSeven27, overSeven, overSevenByCoast, ringEight26, ringNine26, ringSeven26, unable102Nine, unable103Eight, unable103Seven}
-use Rattle.rules.specs.Phases.{waitingWith}
+use Rattle.rules.specs.Phases.{waitingWith, phases}
 use Rattle.rules.specs.SoundCases.{kinds, asking, from, lasting, holding, asked, with, queued, setUp, Judged, sounds, unsound, refused36}
 
 -- ── how a row is written ─────────────────────────────────────────────────────
@@ -807,10 +806,6 @@ boundSounds =
     -- behind a hold
     ∷ unsound (asked (station 2) (holding (held (from eight duplex) Nothing 1041 ∷ pending offered (from seven duplex) 1161 ∷
     []) (waits seven 2000 ∷ [])))
-    -- dialling
-    ∷ unsound (asked (station 2) (holding (free ∷ busy (from seven duplex) (dialling 1601) none ∷ []) (waits seven 2000 ∷ [])))
-    -- answered, its carrier absent
-    ∷ unsound (asked (station 2) (holding (free ∷ busy (from seven duplex) (answered 900) (some 1051) ∷ []) (waits seven 2000 ∷ [])))
     -- behind a slot and a place of others
     ∷ unsound (asked (station 2) (holding (pending offered (from nine duplex) 1161 ∷ pending offered (from seven duplex) 1161 ∷
     []) (waits eight 2000 ∷ waits seven 2000 ∷ [])))
@@ -833,5 +828,5 @@ boundSounds =
     ∷ unsound (asked (station 1) (record { clock = 5000; slots = taken ∷ []; queue = waits eight 14002 ∷ [] }))
     -- of each kind: a request to another station
     ∷ map (λ k. unsound (with (pending k (asking seven 2001235 duplex 126 usual) 1051))) kinds
-    -- a ship that waits besides
-    ++ map (λ k. unsound (asked (station 2) (holding (free ∷ pending k (from seven duplex) 1051 ∷ []) (waits seven 2000 ∷ [])))) kinds
+    -- a ship that waits and has a slot, from its offer to its answered call
+    ++ map (λ p. unsound (asked (station 2) (holding (free ∷ p .slot ∷ []) (waits seven 2000 ∷ [])))) (take 9 (drop 2 phases))
