@@ -11,7 +11,7 @@ use Rattle.rules.specs.Places.{modAt, shift, lowest}
 use Rattle.rules.specs.Words.{Party, is, Request}
 use Rattle.rules.specs.Actions.{theCoast, Action}
 use Rattle.rules.specs.Station.{Slot, Waiting, Station, theSlot, setSlot, setQueue, dueAfter, queueWait, isFree, ringOf, offerOf}
-use Rattle.rules.specs.Requests.{Out, done, ignored, also, rungBack, freedFor, freed, endActs, coastEnd, waitsFor, afresh, ruleD, offer, ruleF, ruleG, eToG, newcomer}
+use Rattle.rules.specs.Requests.{Out, done, also, rungBack, freedFor, freed, endActs, coastEnd, waitsFor, afresh, ruleD, offer, ruleF, ruleG, eToG, newcomer}
 use Rattle.rules.specs.Book.{Stop, Line, Place, Book, blank, atLine}
 use Rattle.rules.specs.Reading.{tell, rungUp, letGo, hush, leave, join, reads, stopOf}
 use Rattle.rules.specs.Statement.{deedsOf, chargesOf, owed}

@@ -10,7 +10,7 @@ use Rattle.rules.specs.Places.{modAt, Each}
 use Rattle.rules.specs.Words.{Request, Deed, carrierOn, carrierOff, acknowledge, ringBack, unable, dial, releaseLine}
 use Rattle.rules.specs.Actions.{theCoast, Action}
 use Rattle.rules.specs.Station.{Slot, Waiting, Station, theSlot, setSlot, setQueue, ringOf}
-use Rattle.rules.specs.Requests.{Out, done, ignored, also, rungBack, freedFor, freed, endActs, coastEnd}
+use Rattle.rules.specs.Requests.{Out, ignored, also, rungBack, freedFor, freed, endActs, coastEnd}
 use Rattle.rules.specs.Book.{Stop, Line}
 use Rattle.rules.specs.ThreeWords.{Word, idle, ringing}
 use Rattle.rules.specs.Statement.{deedsOf}
