@@ -10,12 +10,17 @@ use units::Tenths;
 // What a case gets in place of an answer where a byte was written that should have stayed.
 pub(crate) const CHANGED: u8 = 255;
 
-pub(crate) fn untouched_from(room: [u8; 320], from: usize) -> bool {
+// Whether a room of 165s, 320 of them at most, is still so from a place on.
+pub(crate) fn untouched_from(room: &[u8], from: usize) -> bool {
     let before = [165u8; 320];
-    if 320 < from {
+    let n = room.len();
+    if 320 < n {
         return false;
     }
-    same(&room[from..], &before[from..])
+    if n < from {
+        return false;
+    }
+    same(&room[from..n], &before[from..n])
 }
 
 fn tick_in_part(station: Station, time: Tenths, room: &mut [u8], n: usize) -> Stepped {
@@ -29,14 +34,14 @@ fn tick_in_part(station: Station, time: Tenths, room: &mut [u8], n: usize) -> St
 fn ticked_in(station: Station, time: Tenths, n: usize) -> u8 {
     let mut room = [165u8; 320];
     let stepped = tick_in_part(station, time, &mut room, n);
-    if untouched_from(room, stepped.count as usize * 40) {
+    if untouched_from(&room, stepped.count as usize * 40) {
         return stepped.answer;
     }
     CHANGED
 }
 
-// The answer to a tick at the station's own clock.
-pub(crate) fn ticked(station: Station) -> u8 {
+// The answer at the station's own clock, when nothing happens: 29 where it is not sound.
+pub(crate) fn judged(station: Station) -> u8 {
     let clock = station.clock;
     ticked_in(station, clock, 320)
 }

@@ -1,5 +1,4 @@
 // Stations made by hand: one that is sound, and those that differ from it in one thing.
-use crate::rooms::ticked;
 use requests::Mode;
 use requests::Request;
 use sequence::Number;
@@ -10,6 +9,7 @@ use slots::Waiting;
 use station::Station;
 use units::Channel;
 use units::Tenths;
+use units::Told;
 
 // A number that begins with 5551234, and the digit behind it.
 pub(crate) fn number_of(count: u8, eighth: u8) -> Number {
@@ -79,7 +79,7 @@ fn made(
     let u = Station::set_up(2001234, channels, 2);
     let mut station = u.station;
     station.clock = clock;
-    station.identity = identity;
+    station.mast.identity = identity;
     station.count = count;
     station.waiting = waiting;
     station.slots[0] = slot;
@@ -105,45 +105,78 @@ pub(crate) fn named(identity: u32) -> Station {
     idle(Tenths(1000), identity)
 }
 
-// From here on: how a station answers that has another clock, other counts, another slot or another waiting ship.
-pub(crate) fn at_clock(clock: Tenths) -> u8 {
-    ticked(idle(clock, 2001234))
+// From here on: a station that has another clock, other counts, another slot or another waiting ship.
+pub(crate) fn at_clock(clock: Tenths) -> Station {
+    idle(clock, 2001234)
 }
 
-pub(crate) fn with_counts(count: u8, waiting: u8) -> u8 {
-    ticked(made(
+pub(crate) fn with_counts(count: u8, waiting: u8) -> Station {
+    made(
         Tenths(1000),
         2001234,
         count,
         waiting,
         usual_slot(),
         usual_waiting(),
-    ))
+    )
 }
 
-fn with_slot(phase: Phase, channel: Channel, request: Request) -> u8 {
+fn with_slot(phase: Phase, channel: Channel, request: Request) -> Station {
     let slot = Slot {
         phase: phase,
         channel: channel,
         request: request,
     };
-    ticked(made(Tenths(1000), 2001234, 2, 1, slot, usual_waiting()))
+    made(Tenths(1000), 2001234, 2, 1, slot, usual_waiting())
 }
 
-pub(crate) fn in_phase(phase: Phase) -> u8 {
-    with_slot(phase, Channel(26), usual_request())
-}
-
-pub(crate) fn storing(station: u32, number: Number) -> u8 {
+pub(crate) fn storing(station: u32, number: Number) -> Station {
     let request = request_of(200056789, station, number);
     with_slot(usual_phase(), Channel(26), request)
 }
 
-pub(crate) fn on_channel(channel: Channel) -> u8 {
+pub(crate) fn on_channel(channel: Channel) -> Station {
     with_slot(usual_phase(), channel, usual_request())
 }
 
-pub(crate) fn with_waiting(ship: u32, due: Tenths) -> u8 {
+pub(crate) fn with_waiting(ship: u32, due: Tenths) -> Station {
     let first = waiting(ship, due);
-    ticked(made(Tenths(1000), 2001234, 2, 1, usual_slot(), first))
+    made(Tenths(1000), 2001234, 2, 1, usual_slot(), first)
+}
+
+fn in_phase(phase: Phase) -> Station {
+    with_slot(phase, Channel(26), usual_request())
+}
+
+// And in each phase that has a wait.
+pub(crate) fn offered(due: Tenths) -> Station {
+    in_phase(Phase::Offered(due))
+}
+
+pub(crate) fn rung(due: Tenths) -> Station {
+    in_phase(Phase::RingBack(due))
+}
+
+pub(crate) fn rung_again(due: Tenths) -> Station {
+    in_phase(Phase::RingAgain(due))
+}
+
+pub(crate) fn agreed(due: Tenths) -> Station {
+    in_phase(Phase::Acknowledged(due))
+}
+
+pub(crate) fn dialled(due: Tenths) -> Station {
+    in_phase(Phase::Dialling(due, Carrier::Present))
+}
+
+pub(crate) fn talking(since: Tenths) -> Station {
+    in_phase(Phase::Answered(since, Carrier::Present))
+}
+
+pub(crate) fn silent(due: Tenths) -> Station {
+    in_phase(Phase::Answered(Tenths(900), Carrier::Lost(due)))
+}
+
+pub(crate) fn held(due: Tenths, told: Told) -> Station {
+    in_phase(Phase::Hold(due, told))
 }

@@ -29,10 +29,10 @@ fn written_in(n: usize, address: u32, first: u8, field: Field, number: Number, e
         number: number,
         end: end,
     };
-    let mut room = [165u8; 320];
+    let mut room = [165u8; 40];
     let w = write_in_part(meaning, &mut room, n);
     let answer = w.answer;
-    if untouched_from(room, w.length) {
+    if untouched_from(&room, w.length) {
         return answer.number();
     }
     CHANGED

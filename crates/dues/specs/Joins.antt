@@ -4,12 +4,6 @@ use mathlib.Core.List.{List, [], _∷_}
 use mathlib.Core.Option.{Option, none, some}
 use Rattle.rules.specs.Waits as T
 use Rattle.rules.specs.Waits.{ofQueue, sooner}
-use Rattle.dues.specs.declared.When.{When}
-use Rattle.dues.specs.declared.When.the-variants.{Never, At}
-
-abbrev pub whenView : When → Option ℕ
-whenView Never = none
-whenView (At t) = some (t .0)
 
 -- a wait that may run, set before the others
 abbrev pub joinDue : T.Wait → Option ℕ → Option T.Due → Option T.Due

@@ -6,29 +6,18 @@ ghost use Rattle.rules.specs.Places.{isSome};
 ghost use Rattle.rules.specs.Waits.{loss, main, sooner, ifDue};
 ghost use Rattle.rules.specs.Station.{lossDue, mainDue, carrierWait, dueAfter};
 ghost use Rattle.requests.specs.Views.{modeOf};
-ghost use Rattle.slots.specs.Views.{slotView, carrierOf, waitView, dueView};
-ghost use Rattle.dues.specs.Joins.{whenView, joinDue};
+ghost use Rattle.slots.specs.Views.{slotView, waitView, whenView, dueView};
+ghost use Rattle.dues.specs.Joins.{joinDue};
 use requests::Mode;
-use slots::Carrier;
 use slots::Due;
-use slots::Phase;
 use slots::Slot;
 use slots::Wait;
+use slots::When;
+use slots::loss_of;
+use slots::main_of;
 use units::GREATEST;
 use units::SlotNumber;
 use units::Tenths;
-
-// Rules b and e, and a ring-back acknowledged: "wait 160".
-pub const OFFER_WAIT: Tenths = Tenths(160);
-
-// "wait 50, send once more, wait 50"
-pub const RING_WAIT: Tenths = Tenths(50);
-
-// "wait 600 for a reply"
-pub const REPLY_WAIT: Tenths = Tenths(600);
-
-// "hold for 40"
-pub const HOLD_WAIT: Tenths = Tenths(40);
 
 // "join it, wait 9000"
 pub const QUEUE_WAIT: Tenths = Tenths(9000);
@@ -56,12 +45,6 @@ pub fn due_after(s: Tenths, p: Tenths) -> Tenths
     Tenths(GREATEST)
 }
 
-// When a wait falls due, if it runs.
-enum When {
-    Never,
-    At(Tenths),
-}
-
 // The wait w due at t, or d where that is due before it.
 pub fn sooner_of(t: Tenths, w: Wait, d: Due) -> Due
     ensures { λ r. ⌜ dueView r ≡ sooner (record { what = waitView w; at = t .0 }) (dueView d) ⌝ }
@@ -79,51 +62,6 @@ fn sooner_when(t: When, w: Wait, d: Due) -> Due
     match t {
         When::Never => d,
         When::At(u) => sooner_of(u, w, d),
-    }
-}
-
-fn loss_when(c: Carrier) -> When
-    ensures { λ r. ⌜ whenView r ≡ carrierOf c ⌝ }
-{
-    match c {
-        Carrier::Present => When::Never,
-        Carrier::Lost(t) => When::At(t),
-    }
-}
-
-// When the carrier's absence in a slot falls due.
-fn loss_of(s: Slot) -> When
-    ensures { λ r. ⌜ whenView r ≡ lossDue (slotView s) ⌝ }
-{
-    let p = s.phase;
-    match p {
-        Phase::Free => When::Never,
-        Phase::Offered(_) => When::Never,
-        Phase::RingBack(_) => When::Never,
-        Phase::RingAgain(_) => When::Never,
-        Phase::Acknowledged(_) => When::Never,
-        Phase::Dialling(_, c) => loss_when(c),
-        Phase::Answered(_, c) => loss_when(c),
-        Phase::Hold(_, _) => When::Never,
-        Phase::Taken => When::Never,
-    }
-}
-
-// When the other wait of a slot falls due.
-fn main_of(s: Slot) -> When
-    ensures { λ r. ⌜ whenView r ≡ mainDue (slotView s) ⌝ }
-{
-    let p = s.phase;
-    match p {
-        Phase::Free => When::Never,
-        Phase::Offered(t) => When::At(t),
-        Phase::RingBack(t) => When::At(t),
-        Phase::RingAgain(t) => When::At(t),
-        Phase::Acknowledged(t) => When::At(t),
-        Phase::Dialling(t, _) => When::At(t),
-        Phase::Answered(_, _) => When::Never,
-        Phase::Hold(t, _) => When::At(t),
-        Phase::Taken => When::Never,
     }
 }
 

@@ -3,7 +3,7 @@ use Prim.Native.Nat.{ℕ, _+_, _*_}
 use mathlib.Core.Bool.{cond, _&&_}
 use mathlib.Core.List.{List}
 use lib.Dec.{leb, eqb}
-use Rattle.rules.specs.Words.{Config, Happened, Event}
+use Rattle.rules.specs.Words.{Config, Event}
 use Rattle.rules.specs.Sound.{sound}
 use Rattle.station.specs.declared.NextDue.{NextDue}
 use Rattle.station.specs.declared.NextDue.the-variants.{Never, At}
@@ -12,20 +12,8 @@ use Rattle.station.specs.declared.Stepped.{Stepped}
 use Rattle.station.specs.declared.SetUp.{SetUp}
 use Rattle.rules.specs.Station.{nextDue}
 use Rattle.station.specs.Model.{modelOf, configOf}
-use Rattle.slots.specs.Images.{tenths}
-use Rattle.station.specs.Step.{tickAt, channel70At, slotAt, recordsKeep, dueImage, steppedBy, roomAfter, setUpOf}
+use Rattle.station.specs.Step.{recordsKeep, dueImage, steppedBy, roomAfter, setUpOf}
 use Rattle.lent.specs.Stations.{sized, stationFrom, stationLaid}
-
--- ── the events, from plain numbers ───────────────────────────────────────────
-
-abbrev pub tickIn : ℕ → List ℕ → Event
-tickIn time room = tickAt (tenths time) room
-
-abbrev pub channel70In : ℕ → List ℕ → List ℕ → Event
-channel70In time symbols room = channel70At (tenths time) symbols room
-
-abbrev pub slotIn : ℕ → ℕ → Happened → List ℕ → Event
-slotIn time slot h room = slotAt (tenths time) (record { 0 = slot }) h room
 
 -- ── what an event returns and leaves ─────────────────────────────────────────
 

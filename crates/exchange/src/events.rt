@@ -1,10 +1,14 @@
 // The events, each on a station in lent bytes.
 ghost use mathlib.Core.Path.{_≡_};
 ghost use Prim.Native.Nat.{_≤_};
-ghost use Rattle.rules.specs.Words.{heard, carrierUp, carrierDown, offHook, onHook, takes, givesBack};
-ghost use Rattle.exchange.specs.Events.{dueNumber, told, kept, tickIn, channel70In, slotIn, returned, stationAfter, roomLeft};
+ghost use Rattle.rules.specs.Words.{heard, signal, carrierUp, carrierDown, offHook, onHook, operator, takes, givesBack, tick, onChannel70};
+ghost use Rattle.slots.specs.Views.{signalView, handView};
+ghost use Rattle.station.specs.Step.{eventAt, slotAt};
+ghost use Rattle.exchange.specs.Events.{dueNumber, told, kept, returned, stationAfter, roomLeft};
 use lent::lay_station;
 use lent::station_from;
+use slots::Hand;
+use slots::Signal;
 use station::NextDue;
 use station::Stepped;
 use units::SlotNumber;
@@ -40,9 +44,9 @@ pub(crate) fn hand_back(r: Stepped, station: &mut [u8]) -> u64
 // The time has come.
 #[no_mangle]
 pub extern "C" fn coast_tick(station: &mut [u8], time: u32, room: &mut [u8]) -> u64
-    ensures { λ r. ⌜ r ≡ returned (now (station .entry)) (tickIn time (now (room .entry))) ⌝ }
-    ensures { λ _. ⌜ now (station .exit) ≡ stationAfter (now (station .entry)) (tickIn time (now (room .entry))) ⌝ }
-    ensures { λ _. ⌜ now (room .exit) ≡ roomLeft (now (station .entry)) (now (room .entry)) (tickIn time (now (room .entry))) ⌝ }
+    ensures { λ r. ⌜ r ≡ returned (now (station .entry)) (eventAt time tick (now (room .entry))) ⌝ }
+    ensures { λ _. ⌜ now (station .exit) ≡ stationAfter (now (station .entry)) (eventAt time tick (now (room .entry))) ⌝ }
+    ensures { λ _. ⌜ now (room .exit) ≡ roomLeft (now (station .entry)) (now (room .entry)) (eventAt time tick (now (room .entry))) ⌝ }
 {
     let s = station_from(station);
     let r = s.tick(Tenths(time), room);
@@ -57,9 +61,9 @@ pub extern "C" fn coast_heard_on_channel_70(
     symbols: &[u8],
     room: &mut [u8],
 ) -> u64
-    ensures { λ r. ⌜ r ≡ returned (now (station .entry)) (channel70In time (now (symbols .entry)) (now (room .entry))) ⌝ }
-    ensures { λ _. ⌜ now (station .exit) ≡ stationAfter (now (station .entry)) (channel70In time (now (symbols .entry)) (now (room .entry))) ⌝ }
-    ensures { λ _. ⌜ now (room .exit) ≡ roomLeft (now (station .entry)) (now (room .entry)) (channel70In time (now (symbols .entry)) (now (room .entry))) ⌝ }
+    ensures { λ r. ⌜ r ≡ returned (now (station .entry)) (eventAt time (onChannel70 (now (symbols .entry))) (now (room .entry))) ⌝ }
+    ensures { λ _. ⌜ now (station .exit) ≡ stationAfter (now (station .entry)) (eventAt time (onChannel70 (now (symbols .entry))) (now (room .entry))) ⌝ }
+    ensures { λ _. ⌜ now (room .exit) ≡ roomLeft (now (station .entry)) (now (room .entry)) (eventAt time (onChannel70 (now (symbols .entry))) (now (room .entry))) ⌝ }
 {
     let s = station_from(station);
     let r = s.heard_on_channel_70(Tenths(time), symbols, room);
@@ -75,25 +79,45 @@ pub extern "C" fn coast_heard_on_slot(
     symbols: &[u8],
     room: &mut [u8],
 ) -> u64
-    ensures { λ r. ⌜ r ≡ returned (now (station .entry)) (slotIn time slot (heard (now (symbols .entry))) (now (room .entry))) ⌝ }
-    ensures { λ _. ⌜ now (station .exit) ≡ stationAfter (now (station .entry)) (slotIn time slot (heard (now (symbols .entry))) (now (room .entry))) ⌝ }
-    ensures { λ _. ⌜ now (room .exit) ≡ roomLeft (now (station .entry)) (now (room .entry)) (slotIn time slot (heard (now (symbols .entry))) (now (room .entry))) ⌝ }
+    ensures { λ r. ⌜ r ≡ returned (now (station .entry)) (slotAt time slot (heard (now (symbols .entry))) (now (room .entry))) ⌝ }
+    ensures { λ _. ⌜ now (station .exit) ≡ stationAfter (now (station .entry)) (slotAt time slot (heard (now (symbols .entry))) (now (room .entry))) ⌝ }
+    ensures { λ _. ⌜ now (room .exit) ≡ roomLeft (now (station .entry)) (now (room .entry)) (slotAt time slot (heard (now (symbols .entry))) (now (room .entry))) ⌝ }
 {
     let s = station_from(station);
     let r = s.heard_on_slot(Tenths(time), SlotNumber(slot), symbols, room);
     hand_back(r, station)
 }
 
+// Any of the four signals.
+fn signalled(g: Signal, station: &mut [u8], time: u32, slot: u32, room: &mut [u8]) -> u64
+    ensures { λ r. ⌜ r ≡ returned (now (station .entry)) (slotAt time slot (signal (signalView g)) (now (room .entry))) ⌝ }
+    ensures { λ _. ⌜ now (station .exit) ≡ stationAfter (now (station .entry)) (slotAt time slot (signal (signalView g)) (now (room .entry))) ⌝ }
+    ensures { λ _. ⌜ now (room .exit) ≡ roomLeft (now (station .entry)) (now (room .entry)) (slotAt time slot (signal (signalView g)) (now (room .entry))) ⌝ }
+{
+    let s = station_from(station);
+    let r = s.signalled(g, Tenths(time), SlotNumber(slot), room);
+    hand_back(r, station)
+}
+
+// Either hand of the operator.
+fn handled(h: Hand, station: &mut [u8], time: u32, slot: u32, room: &mut [u8]) -> u64
+    ensures { λ r. ⌜ r ≡ returned (now (station .entry)) (slotAt time slot (operator (handView h)) (now (room .entry))) ⌝ }
+    ensures { λ _. ⌜ now (station .exit) ≡ stationAfter (now (station .entry)) (slotAt time slot (operator (handView h)) (now (room .entry))) ⌝ }
+    ensures { λ _. ⌜ now (room .exit) ≡ roomLeft (now (station .entry)) (now (room .entry)) (slotAt time slot (operator (handView h)) (now (room .entry))) ⌝ }
+{
+    let s = station_from(station);
+    let r = s.handled(h, Tenths(time), SlotNumber(slot), room);
+    hand_back(r, station)
+}
+
 // The ship's carrier comes.
 #[no_mangle]
 pub extern "C" fn coast_carrier_up(station: &mut [u8], time: u32, slot: u32, room: &mut [u8]) -> u64
-    ensures { λ r. ⌜ r ≡ returned (now (station .entry)) (slotIn time slot carrierUp (now (room .entry))) ⌝ }
-    ensures { λ _. ⌜ now (station .exit) ≡ stationAfter (now (station .entry)) (slotIn time slot carrierUp (now (room .entry))) ⌝ }
-    ensures { λ _. ⌜ now (room .exit) ≡ roomLeft (now (station .entry)) (now (room .entry)) (slotIn time slot carrierUp (now (room .entry))) ⌝ }
+    ensures { λ r. ⌜ r ≡ returned (now (station .entry)) (slotAt time slot carrierUp (now (room .entry))) ⌝ }
+    ensures { λ _. ⌜ now (station .exit) ≡ stationAfter (now (station .entry)) (slotAt time slot carrierUp (now (room .entry))) ⌝ }
+    ensures { λ _. ⌜ now (room .exit) ≡ roomLeft (now (station .entry)) (now (room .entry)) (slotAt time slot carrierUp (now (room .entry))) ⌝ }
 {
-    let s = station_from(station);
-    let r = s.carrier_up(Tenths(time), SlotNumber(slot), room);
-    hand_back(r, station)
+    signalled(Signal::CarrierHeard, station, time, slot, room)
 }
 
 // The ship's carrier goes.
@@ -104,59 +128,49 @@ pub extern "C" fn coast_carrier_down(
     slot: u32,
     room: &mut [u8],
 ) -> u64
-    ensures { λ r. ⌜ r ≡ returned (now (station .entry)) (slotIn time slot carrierDown (now (room .entry))) ⌝ }
-    ensures { λ _. ⌜ now (station .exit) ≡ stationAfter (now (station .entry)) (slotIn time slot carrierDown (now (room .entry))) ⌝ }
-    ensures { λ _. ⌜ now (room .exit) ≡ roomLeft (now (station .entry)) (now (room .entry)) (slotIn time slot carrierDown (now (room .entry))) ⌝ }
+    ensures { λ r. ⌜ r ≡ returned (now (station .entry)) (slotAt time slot carrierDown (now (room .entry))) ⌝ }
+    ensures { λ _. ⌜ now (station .exit) ≡ stationAfter (now (station .entry)) (slotAt time slot carrierDown (now (room .entry))) ⌝ }
+    ensures { λ _. ⌜ now (room .exit) ≡ roomLeft (now (station .entry)) (now (room .entry)) (slotAt time slot carrierDown (now (room .entry))) ⌝ }
 {
-    let s = station_from(station);
-    let r = s.carrier_down(Tenths(time), SlotNumber(slot), room);
-    hand_back(r, station)
+    signalled(Signal::CarrierLost, station, time, slot, room)
 }
 
 // Ashore the handset is lifted.
 #[no_mangle]
 pub extern "C" fn coast_off_hook(station: &mut [u8], time: u32, slot: u32, room: &mut [u8]) -> u64
-    ensures { λ r. ⌜ r ≡ returned (now (station .entry)) (slotIn time slot offHook (now (room .entry))) ⌝ }
-    ensures { λ _. ⌜ now (station .exit) ≡ stationAfter (now (station .entry)) (slotIn time slot offHook (now (room .entry))) ⌝ }
-    ensures { λ _. ⌜ now (room .exit) ≡ roomLeft (now (station .entry)) (now (room .entry)) (slotIn time slot offHook (now (room .entry))) ⌝ }
+    ensures { λ r. ⌜ r ≡ returned (now (station .entry)) (slotAt time slot offHook (now (room .entry))) ⌝ }
+    ensures { λ _. ⌜ now (station .exit) ≡ stationAfter (now (station .entry)) (slotAt time slot offHook (now (room .entry))) ⌝ }
+    ensures { λ _. ⌜ now (room .exit) ≡ roomLeft (now (station .entry)) (now (room .entry)) (slotAt time slot offHook (now (room .entry))) ⌝ }
 {
-    let s = station_from(station);
-    let r = s.off_hook(Tenths(time), SlotNumber(slot), room);
-    hand_back(r, station)
+    signalled(Signal::LineLifted, station, time, slot, room)
 }
 
 // Ashore it is put down.
 #[no_mangle]
 pub extern "C" fn coast_on_hook(station: &mut [u8], time: u32, slot: u32, room: &mut [u8]) -> u64
-    ensures { λ r. ⌜ r ≡ returned (now (station .entry)) (slotIn time slot onHook (now (room .entry))) ⌝ }
-    ensures { λ _. ⌜ now (station .exit) ≡ stationAfter (now (station .entry)) (slotIn time slot onHook (now (room .entry))) ⌝ }
-    ensures { λ _. ⌜ now (room .exit) ≡ roomLeft (now (station .entry)) (now (room .entry)) (slotIn time slot onHook (now (room .entry))) ⌝ }
+    ensures { λ r. ⌜ r ≡ returned (now (station .entry)) (slotAt time slot onHook (now (room .entry))) ⌝ }
+    ensures { λ _. ⌜ now (station .exit) ≡ stationAfter (now (station .entry)) (slotAt time slot onHook (now (room .entry))) ⌝ }
+    ensures { λ _. ⌜ now (room .exit) ≡ roomLeft (now (station .entry)) (now (room .entry)) (slotAt time slot onHook (now (room .entry))) ⌝ }
 {
-    let s = station_from(station);
-    let r = s.on_hook(Tenths(time), SlotNumber(slot), room);
-    hand_back(r, station)
+    signalled(Signal::LineHung, station, time, slot, room)
 }
 
 // The operator takes a free slot.
 #[no_mangle]
 pub extern "C" fn coast_take(station: &mut [u8], time: u32, slot: u32, room: &mut [u8]) -> u64
-    ensures { λ r. ⌜ r ≡ returned (now (station .entry)) (slotIn time slot takes (now (room .entry))) ⌝ }
-    ensures { λ _. ⌜ now (station .exit) ≡ stationAfter (now (station .entry)) (slotIn time slot takes (now (room .entry))) ⌝ }
-    ensures { λ _. ⌜ now (room .exit) ≡ roomLeft (now (station .entry)) (now (room .entry)) (slotIn time slot takes (now (room .entry))) ⌝ }
+    ensures { λ r. ⌜ r ≡ returned (now (station .entry)) (slotAt time slot takes (now (room .entry))) ⌝ }
+    ensures { λ _. ⌜ now (station .exit) ≡ stationAfter (now (station .entry)) (slotAt time slot takes (now (room .entry))) ⌝ }
+    ensures { λ _. ⌜ now (room .exit) ≡ roomLeft (now (station .entry)) (now (room .entry)) (slotAt time slot takes (now (room .entry))) ⌝ }
 {
-    let s = station_from(station);
-    let r = s.take(Tenths(time), SlotNumber(slot), room);
-    hand_back(r, station)
+    handled(Hand::Takes, station, time, slot, room)
 }
 
 // The operator gives a taken slot back.
 #[no_mangle]
 pub extern "C" fn coast_give_back(station: &mut [u8], time: u32, slot: u32, room: &mut [u8]) -> u64
-    ensures { λ r. ⌜ r ≡ returned (now (station .entry)) (slotIn time slot givesBack (now (room .entry))) ⌝ }
-    ensures { λ _. ⌜ now (station .exit) ≡ stationAfter (now (station .entry)) (slotIn time slot givesBack (now (room .entry))) ⌝ }
-    ensures { λ _. ⌜ now (room .exit) ≡ roomLeft (now (station .entry)) (now (room .entry)) (slotIn time slot givesBack (now (room .entry))) ⌝ }
+    ensures { λ r. ⌜ r ≡ returned (now (station .entry)) (slotAt time slot givesBack (now (room .entry))) ⌝ }
+    ensures { λ _. ⌜ now (station .exit) ≡ stationAfter (now (station .entry)) (slotAt time slot givesBack (now (room .entry))) ⌝ }
+    ensures { λ _. ⌜ now (room .exit) ≡ roomLeft (now (station .entry)) (now (room .entry)) (slotAt time slot givesBack (now (room .entry))) ⌝ }
 {
-    let s = station_from(station);
-    let r = s.give_back(Tenths(time), SlotNumber(slot), room);
-    hand_back(r, station)
+    handled(Hand::GivesBack, station, time, slot, room)
 }

@@ -21,8 +21,8 @@ use slots::SLOTS;
 use slots::Slot;
 use slots::Standing;
 use slots::Waiting;
-use slots::phases::has_ship;
-use slots::phases::is_free;
+use slots::has_ship;
+use slots::is_free;
 use units::Channel;
 use units::SlotNumber;
 

@@ -1,13 +1,12 @@
 // What a sequence says to a station: its kind, and who asks for what.
 ghost use mathlib.Core.Path.{_≡_};
 ghost use mathlib.Core.Bool.{_||_};
-ghost use Prim.Native.Nat.{ℕ};
-ghost use lib.Dec.{eqb};
 ghost use Rattle.sequence.specs.Figures.{firstSimplex, firstDuplex, endLast};
 ghost use Rattle.rules.specs.Words as W;
 ghost use Rattle.rules.specs.Words.{Config};
 ghost use Rattle.rules.specs.Heard.{isBlank, says, slotNamed, bqOn, agrees, kindOf, addressed};
 ghost use Rattle.requests.specs.Views.{requestOf};
+ghost use Rattle.slots.specs.declared.mast.Mast.{Mast};
 ghost use Rattle.slots.specs.Views.{foundView, configFor};
 ghost use Rattle.hearing.specs.Said.{heardAs, heardOf, modeIn, askedIn};
 use finding::slot_named;
@@ -25,6 +24,8 @@ use sequence::Meaning;
 use slots::Found;
 use slots::SLOTS;
 use slots::Slot;
+use slots::mast::Mast;
+use slots::mast::is_ours;
 use units::SlotNumber;
 
 // Document 01's kinds of sequences; a BQ names the channel of a slot.
@@ -120,7 +121,7 @@ fn asked_in(m: Meaning) -> Request
 
 // The slot whose channel is named.
 fn named(slots: [Slot; SLOTS], count: u8, f: Field) -> Found
-    ensures { λ r. ⌜ ((identity : ℕ) → foundView r ≡ slotNamed (configFor identity count slots) f) ⌝ }
+    ensures { λ r. ⌜ ((mast : Mast) → foundView r ≡ slotNamed (configFor mast count slots) f) ⌝ }
 {
     match f {
         Field::Blank => Found::Nothing,
@@ -164,21 +165,14 @@ fn kind_of(m: Meaning, i: Found) -> Kind
     Kind::Nothing
 }
 
-// Whether a sequence is addressed to the station of an identity.
-fn is_ours(identity: u32, m: Meaning) -> bool
-    ensures { λ r. ⌜ r ≡ eqb (m .address) identity ⌝ }
-{
-    m.address == identity
-}
-
 // "a sequence not addressed to this station" says nothing.
-pub fn told_by(identity: u32, slots: [Slot; SLOTS], count: u8, m: Meaning) -> Heard
+pub fn told_by(mast: Mast, slots: [Slot; SLOTS], count: u8, m: Meaning) -> Heard
     ensures { λ r. ⌜ r .request ≡ askedIn m ⌝ }
-    ensures { λ r. ⌜ heardOf r ≡ addressed (configFor identity count slots) m ⌝ }
+    ensures { λ r. ⌜ heardOf r ≡ addressed (configFor mast count slots) m ⌝ }
 {
     let f = m.field;
     let q = asked_in(m);
-    if is_ours(identity, m) {
+    if is_ours(mast, m.address) {
         let k = kind_of(m, named(slots, count, f));
         return Heard {
             kind: k,

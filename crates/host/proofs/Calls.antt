@@ -1,25 +1,41 @@
--- What the contract of a call's entry says, the answer and the count in the number that it returns; and that every event has its call.
-use Prim.Native.Nat.{ℕ, _<_, _/_, _%_}
+-- What the contract of a call's entry says, the answer and the count in the number that it returns; that every event has its call, and
+-- that the rules accept none that C cannot hand in.
+use Prim.Native.Nat.{ℕ, _≤_, _<_, _/_, _%_}
 use mathlib.Core.Path.{_≡_, refl, ap, _∙_}
-use mathlib.Core.List.{List, []}
+use mathlib.Core.Bool.{true}
+use mathlib.Core.List.{List, [], _∷_}
+use native.Mathlib.Omega.{arith}
+use lib.Dec.{leb}
 use lib.ListN.{length}
+use borrow.Author.Tests.{le-leb, leb-true, ltb-true}
 use contract.Lifetimes.{Lfts}
 use denote.Ref.{RefT}
-use Rattle.rules.specs.Words.{Happened, heard, signal, operator, lineLifted, lineHung, carrierHeard, carrierLost, handTakes, handGives, offHook, onHook, carrierUp, carrierDown, takes, givesBack, What, tick, onChannel70, onSlot, Event}
+use Rattle.sequence.specs.Symbols.{allAtMost}
+use Rattle.sequence.specs.Answers.{isDone}
+use Rattle.sequence.specs.Reading.{readingOf}
+use Rattle.reading.proofs.Passed.{passed}
+use Rattle.rules.specs.Words.{Happened, heard, signal, operator, lineLifted, lineHung, carrierHeard, carrierLost, handTakes, handGives, offHook, onHook, carrierUp, carrierDown, takes, givesBack, What, tick, onChannel70, onSlot}
+use Rattle.rules.specs.Sound.{limit}
+use Rattle.rules.specs.Verdict.{slotThere, readerSays, readOn, readIn}
+use Rattle.rules.proofs.PlaceLaws.{and-true}
+use Rattle.rules.proofs.Accepted.{accepted}
+use Rattle.soundness.proofs.FitLaws.{sound-fits}
 use Rattle.station.specs.declared.Stepped.{Stepped}
-use Rattle.station.specs.Step.{steppedBy}
+use Rattle.station.specs.Step.{eventAt, steppedBy}
 use Rattle.lent.specs.Stations.{stationFrom}
 use Rattle.exchange.specs.Events.{told, returned, stationAfter, roomLeft}
 use Rattle.exchange.proofs.Theorems.{taken-apart}
-use Rattle.rack.proofs.Scripted.{lives, lent}
-use Rattle.host.specs.Calls.{Call, callOf, Entered, by-tick, by-heard-on-channel-70, by-heard-on-slot, by-carrier-up, by-carrier-down, by-off-hook, by-on-hook, by-take-slot, by-give-back}
+use Rattle.rack.proofs.Steps.{lives, lent}
+use Rattle.host.specs.Calls.{Call, callOf, WhatInC, HappenedInC, Entered, by-tick, by-heard-on-channel-70, by-heard-on-slot, by-carrier-up, by-carrier-down, by-off-hook, by-on-hook, by-take-slot, by-give-back}
+use Rattle.host.specs.Sequences.{InBytes}
+use Rattle.host.specs.Scripts.{AcceptedIsInC}
 use Rattle.host.specs.Statement.{answerIn, countIn}
 use Rattle.host.proofs.Small.{stepped-in-byte}
 
 pub record Called (x : Call) : Type 0 where
   pub time : ℕ
   pub what : What
-  pub event-is : x .event ≡ record { time = time; room = length (x .lent); what = what }
+  pub event-is : x .event ≡ eventAt time what (x .lent)
   pub number-is : x .number ≡ returned (x .station) (x .event)
   pub kept-is : x .kept ≡ stationAfter (x .station) (x .event)
   pub left-is : x .left ≡ roomLeft (x .station) (x .lent) (x .event)
@@ -59,11 +75,8 @@ more-lives : Lfts 3
 more-lives = ([], lives)
 
 module _ (b room : List ℕ) (time : ℕ) where
-  abbrev eventOf : What → Event
-  eventOf w = record { time = time; room = length room; what = w }
-
   abbrev pub callFor : What → Call
-  callFor w = callOf (eventOf w) b room (returned b (eventOf w)) (stationAfter b (eventOf w)) (roomLeft b room (eventOf w))
+  callFor w = callOf (eventAt time w room) b room (returned b (eventAt time w room)) (stationAfter b (eventAt time w room)) (roomLeft b room (eventAt time w room))
 
   -- the parameters of an event on a slot
   abbrev onto : ℕ → List ℕ → List ℕ → RefT (List ℕ) × (ℕ × (ℕ × (RefT (List ℕ) × Unit {0})))
@@ -82,3 +95,32 @@ module _ (b room : List ℕ) (time : ℕ) where
   call-entered tick = by-tick lives (lent b, (time, (lent room, tt))) _ (lent _, (time, (lent _, tt))) (refl, (refl, refl))
   call-entered (onChannel70 m) = by-heard-on-channel-70 more-lives (lent b, (time, (lent m, (lent room, tt)))) _ (lent _, (time, (lent m, (lent _, tt)))) (refl, (refl, refl))
   call-entered (onSlot i h) = on-slot i h
+
+-- ── what the rules accept C can hand in ──────────────────────────────────────
+
+in-bytes : (l : List ℕ) → allAtMost 127 l ≡ true → InBytes l
+in-bytes [] h = refl
+in-bytes (a ∷ l) h =
+    let w = and-true (leb a 127) (allAtMost 127 l) h in
+    rw (le-leb a 255 (omega (arith, leb-true a 127 (w .0)))) (in-bytes l (w .1))
+
+read-in-bytes : (m : List ℕ) → isDone (readerSays m) ≡ true → InBytes m
+unfolding readingOf
+read-in-bytes m h = in-bytes m (passed m h .symbols)
+
+happened-in-c : (h : Happened) → isDone (readOn h) ≡ true → HappenedInC h
+happened-in-c (heard m) r = read-in-bytes m r
+happened-in-c (signal g) r = tt
+happened-in-c (operator n) r = tt
+
+what-in-c : (n : ℕ) → n ≤ 16 → (w : What) → slotThere n w ≡ true → isDone (readIn w) ≡ true → WhatInC w
+what-in-c n few tick t r = tt
+what-in-c n few (onChannel70 m) t r = read-in-bytes m r
+what-in-c n few (onSlot i h) t r = let k = ltb-true i n t in (omega arith, happened-in-c h r)
+
+pub accepted-is-in-c : AcceptedIsInC
+unfolding AcceptedIsInC
+accepted-is-in-c c st e v =
+    let a = accepted c st e v in
+    let time : e .time ≤ limit = leb-true (e .time) limit (a .in-limit) in
+    (omega arith, what-in-c (length (st .slots)) (sound-fits c st (a .is-sound) .few) (e .what) (a .there) (a .readable))

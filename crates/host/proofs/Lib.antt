@@ -3,5 +3,4 @@ pub mod Calls
 pub mod Theorems
 pub mod Refusals
 pub mod Scripted
-pub mod InC
 pub mod Sequences

@@ -13,7 +13,7 @@ use Rattle.station.specs.Step.{channelNumber, given, setUpOf}
 use Rattle.lent.specs.Stations.{sized, stationBytes}
 use Rattle.lent.proofs.FoundAgain.{handed-out-is-found-again}
 use Rattle.exchange.specs.Events.{setUpReturned, stationSetUp}
-use Rattle.rack.proofs.Scripted.{lives, lent}
+use Rattle.rack.proofs.Steps.{lives, lent}
 use Rattle.host.specs.Calls.{Call, SetUpIn, by-set-up, HandsOn}
 use Rattle.host.specs.Scripts.{EveryScriptIsHosted}
 use Rattle.host.proofs.Calls.{callFor, call-entered}

@@ -26,7 +26,8 @@ use Rattle.rack.specs.Steps.{Step, stepOf, Allowed, SetUpAs, Trace}
 use Rattle.rack.specs.Steps as Rack
 use Rattle.rack.specs.Statement as Said
 use Rattle.rack.specs.Statement.{OfEveryTrace, Obeys, RackObeys, RackLiterally, RackAnswersRepeat, RackSecondRingRepeats, RackDialsAsked, NoneIdle, RackNoChannelIdle, isSound, RackAlwaysSound}
-use Rattle.rack.proofs.Scripted.{step-allowed, beginning}
+use Rattle.rack.proofs.Steps.{step-allowed}
+use Rattle.rack.proofs.Scripted.{beginning}
 use Rattle.rack.proofs.Theorems.{rack-obeys, rack-literally, rack-answers-repeat, rack-second-ring-repeats, rack-dials-asked, rack-no-channel-idle, rack-always-sound}
 use Rattle.host.specs.Calls as Host
 use Rattle.host.specs.Calls.{Call, HandsOn, lastOf, SetUpIn, HostRun}

@@ -1,8 +1,8 @@
--- What is stored keeps the rules of every station with the same identity; the digits of a number in one pass.
+-- What is stored keeps the rules of every station on the same mast; the digits of a number in one pass.
 use Prim.Native.Nat.{ℕ, zero, suc, _+_, _-_, _<_, _≤_}
 use mathlib.Core.Bool.{Bool, true, false, _&&_}
-use mathlib.Core.List.{List, [], _∷_}
-use mathlib.Core.Path.{_≡_, refl, ap}
+use mathlib.Core.List.{List, [], _∷_, map}
+use mathlib.Core.Path.{_≡_, refl, sym, ap, _∙_}
 use native.Mathlib.Omega.{arith}
 use native.Mathlib.Numerals.{add-one}
 use lib.Dec.{leb, ltb}
@@ -12,30 +12,36 @@ use Rattle.sequence.specs.Symbols.{allAtMost}
 use Rattle.sequence.proofs.Rest.{rest}
 use Rattle.units.specs.declared.Channel.{Channel}
 use Rattle.rules.specs.Places.{all}
-use Rattle.rules.specs.Station as R
-use Rattle.rules.specs.Station.{free, taken, pending, busy, held}
 use Rattle.rules.specs.Sound.{requestKeeps, slotKeeps, waitingKeeps}
-use Rattle.requests.specs.Views.{viewed, itself}
+use Rattle.requests.specs.Views.{viewed, itself, requestOf}
+use Rattle.slots.specs.declared.Slot.{Slot}
+use Rattle.slots.specs.declared.Waiting.{Waiting}
+use Rattle.slots.specs.declared.mast.Mast.{Mast}
+use Rattle.slots.specs.Views.{onMast, slotView, waitingView}
+use Rattle.slots.proofs.PhaseLaws.{keeps-view}
 use Rattle.slots.proofs.ImageLaws.{map-itself}
 use Rattle.keeping.specs.Kept.{mostAt, digitsFit}
 
-module _ (i : ℕ) (c d : List Channel) where
-  slot-alike : (s : R.Slot) → slotKeeps (record { identity = i; channels = c }) s ≡ slotKeeps (record { identity = i; channels = d }) s
+module _ (mast : Mast) (c d : List Channel) where
+  slot-alike : (s : Slot) → slotKeeps (onMast mast c) (slotView s) ≡ slotKeeps (onMast mast d) (slotView s)
   unfolding requestKeeps
-  slot-alike free = refl
-  slot-alike taken = refl
-  slot-alike (pending k r t) = refl
-  slot-alike (busy r g l) = refl
-  slot-alike (held r n t) = refl
+  slot-alike s = keeps-view (onMast mast c) (s .phase) (requestOf (s .request)) ∙ sym (keeps-view (onMast mast d) (s .phase) (requestOf (s .request)))
 
-  pub slots-alike : (l : List R.Slot) → all (slotKeeps (record { identity = i; channels = c })) l ≡ all (slotKeeps (record { identity = i; channels = d })) l
-  slots-alike [] = refl
-  slots-alike (s ∷ l) = rw (slot-alike s, slots-alike l)
+  pub slots-alike : (n : ℕ) (a : List Slot) → all (slotKeeps (onMast mast c)) (viewed slotView n a) ≡ all (slotKeeps (onMast mast d)) (viewed slotView n a)
+  unfolding viewed
+  slots-alike n a = go (take n a)
+    where
+      go : (l : List Slot) → all (slotKeeps (onMast mast c)) (map slotView l) ≡ all (slotKeeps (onMast mast d)) (map slotView l)
+      go [] = refl
+      go (s ∷ l) = rw (slot-alike s, go l)
 
-  pub queue-alike : (l : List R.Waiting) → all (waitingKeeps (record { identity = i; channels = c })) l ≡ all (waitingKeeps (record { identity = i; channels = d })) l
-  unfolding requestKeeps
-  queue-alike [] = refl
-  queue-alike (w ∷ l) = rw (queue-alike l)
+  pub queue-alike : (n : ℕ) (a : List Waiting) → all (waitingKeeps (onMast mast c)) (viewed waitingView n a) ≡ all (waitingKeeps (onMast mast d)) (viewed waitingView n a)
+  unfolding requestKeeps viewed
+  queue-alike n a = go (take n a)
+    where
+      go : (l : List Waiting) → all (waitingKeeps (onMast mast c)) (map waitingView l) ≡ all (waitingKeeps (onMast mast d)) (map waitingView l)
+      go [] = refl
+      go (w ∷ l) = rw (go l)
 
 pub viewed-take : {A : Type 0} (n : ℕ) (l : List A) → viewed itself n l ≡ take n l
 unfolding viewed

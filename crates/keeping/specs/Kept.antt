@@ -9,16 +9,12 @@ use Rattle.sequence.specs.Figures.{mostDigits}
 use Rattle.sequence.specs.Symbols.{allAtMost}
 use Rattle.sequence.specs.Field.{channelOk}
 use Rattle.units.specs.declared.Tenths.{Tenths}
-use Rattle.rules.specs.Words.{Config}
 use Rattle.rules.specs.Sound.{slotKeeps, waitingKeeps, slotFits, placeFits}
 use Rattle.slots.specs.declared.Slot.{Slot}
+use Rattle.slots.specs.declared.mast.Mast.{Mast}
 use Rattle.slots.specs.declared.Waiting.{Waiting}
 use Rattle.slots.specs.Phases.{stored}
-use Rattle.slots.specs.Views.{slotView, waitingView}
-
--- a station of which only the identity is asked
-abbrev pub named : ℕ → Config
-named identity = record { identity = identity; channels = [] }
+use Rattle.slots.specs.Views.{named, slotView, waitingView}
 
 -- "The reader sets unused digits of a number to 0": a count within the sixteen places, and 0 behind it
 unfoldable pub numberExact : Number → Bool
@@ -32,16 +28,16 @@ waitingExact w = numberExact (w .request .number)
 
 -- ── one record, held to all of it ────────────────────────────────────────────
 
-unfoldable pub slotSound : ℕ → Tenths → Slot → Bool
-slotSound identity clock s =
+unfoldable pub slotSound : Mast → Tenths → Slot → Bool
+slotSound mast clock s =
     channelOk (s .channel)
     && (slotFits (clock .0) (slotView s)
-    && (slotKeeps (named identity) (slotView s) && slotExact s))
+    && (slotKeeps (named mast) (slotView s) && slotExact s))
 
-unfoldable pub waitingSound : ℕ → Tenths → Waiting → Bool
-waitingSound identity clock w =
+unfoldable pub waitingSound : Mast → Tenths → Waiting → Bool
+waitingSound mast clock w =
     placeFits (clock .0) (waitingView w)
-    && (waitingKeeps (named identity) (waitingView w) && waitingExact w)
+    && (waitingKeeps (named mast) (waitingView w) && waitingExact w)
 
 -- ── the digits of a number in one pass ───────────────────────────────────────
 

@@ -9,14 +9,15 @@ use dues::QUEUE_WAIT;
 use sequence::parts::channel_ok;
 use slots::Slot;
 use slots::Waiting;
+use slots::mast::Mast;
 use stored::request_stored;
 use stored::slot_stored;
 use times::fits_wait;
 use times::slot_fits;
 use units::Tenths;
 
-pub fn slot_sound(s: Slot, identity: u32, clock: Tenths) -> bool
-    ensures { λ r. ⌜ r ≡ slotSound identity clock s ⌝ }
+pub fn slot_sound(s: Slot, mast: Mast, clock: Tenths) -> bool
+    ensures { λ r. ⌜ r ≡ slotSound mast clock s ⌝ }
 {
     let c = s.channel;
     if !channel_ok(c) {
@@ -25,16 +26,16 @@ pub fn slot_sound(s: Slot, identity: u32, clock: Tenths) -> bool
     if !slot_fits(s, clock) {
         return false;
     }
-    slot_stored(s, identity)
+    slot_stored(s, mast)
 }
 
-pub fn waiting_sound(w: Waiting, identity: u32, clock: Tenths) -> bool
-    ensures { λ r. ⌜ r ≡ waitingSound identity clock w ⌝ }
+pub fn waiting_sound(w: Waiting, mast: Mast, clock: Tenths) -> bool
+    ensures { λ r. ⌜ r ≡ waitingSound mast clock w ⌝ }
 {
     let q = w.request;
     let d = w.due;
     if !fits_wait(clock, QUEUE_WAIT, d) {
         return false;
     }
-    request_stored(q, identity)
+    request_stored(q, mast)
 }

@@ -3,8 +3,8 @@ ghost use mathlib.Core.Path.{_≡_};
 ghost use mathlib.Core.Bool.{_&&_};
 ghost use Rattle.rules.specs.Sound.{numberKeeps, requestKeeps, durationKeeps, slotKeeps};
 ghost use Rattle.requests.specs.Views.{requestOf, digitsOf};
-ghost use Rattle.slots.specs.Views.{slotView};
-ghost use Rattle.keeping.specs.Kept.{named, mostAt, digitsFit, numberExact, slotExact};
+ghost use Rattle.slots.specs.Views.{named, slotView};
+ghost use Rattle.keeping.specs.Kept.{mostAt, digitsFit, numberExact, slotExact};
 use requests::Request;
 use sequence::DIGITS;
 use sequence::LAST_SECOND;
@@ -13,8 +13,11 @@ use sequence::MOST_DIGITS;
 use sequence::Number;
 use sequence::parts::duration_ok;
 use sequence::parts::is_ship;
-use slots::Phase;
 use slots::Slot;
+use slots::mast::Mast;
+use slots::mast::is_ours;
+use slots::stores;
+use slots::told_in;
 use units::Told;
 
 // What may stand at a place of a number with so many digits.
@@ -48,8 +51,8 @@ fn number_stored(number: Number) -> bool
 }
 
 // From a ship, to this station, the second telecommand 100 to 126.
-pub(crate) fn request_stored(q: Request, identity: u32) -> bool
-    ensures { λ r. ⌜ r ≡ (requestKeeps (named identity) (requestOf q) && numberExact (q .number)) ⌝ }
+pub(crate) fn request_stored(q: Request, mast: Mast) -> bool
+    ensures { λ r. ⌜ r ≡ (requestKeeps (named mast) (requestOf q) && numberExact (q .number)) ⌝ }
 {
     let y = q.station;
     let s = q.second;
@@ -57,7 +60,7 @@ pub(crate) fn request_stored(q: Request, identity: u32) -> bool
     if !is_ship(q.ship) {
         return false;
     }
-    if y != identity {
+    if !is_ours(mast, y) {
         return false;
     }
     if s < LEAST_SECOND {
@@ -78,30 +81,17 @@ fn told_keeps(t: Told) -> bool
     }
 }
 
-fn hold_stored(q: Request, identity: u32, t: Told) -> bool
-    ensures { λ r. ⌜ r ≡ ((requestKeeps (named identity) (requestOf q) && durationKeeps t) && numberExact (q .number)) ⌝ }
-{
-    if !told_keeps(t) {
-        return false;
-    }
-    request_stored(q, identity)
-}
-
 // "stored requests (simplex or duplex, to this station) and hold durations keep these rules"
-pub(crate) fn slot_stored(s: Slot, identity: u32) -> bool
-    ensures { λ r. ⌜ r ≡ (slotKeeps (named identity) (slotView s) && slotExact s) ⌝ }
+pub(crate) fn slot_stored(s: Slot, mast: Mast) -> bool
+    ensures { λ r. ⌜ r ≡ (slotKeeps (named mast) (slotView s) && slotExact s) ⌝ }
 {
     let p = s.phase;
     let q = s.request;
-    match p {
-        Phase::Free => true,
-        Phase::Offered(_) => request_stored(q, identity),
-        Phase::RingBack(_) => request_stored(q, identity),
-        Phase::RingAgain(_) => request_stored(q, identity),
-        Phase::Acknowledged(_) => request_stored(q, identity),
-        Phase::Dialling(_, _) => request_stored(q, identity),
-        Phase::Answered(_, _) => request_stored(q, identity),
-        Phase::Hold(_, t) => hold_stored(q, identity, t),
-        Phase::Taken => true,
+    if !stores(p) {
+        return true;
     }
+    if !told_keeps(told_in(p)) {
+        return false;
+    }
+    request_stored(q, mast)
 }

@@ -16,7 +16,7 @@ use Rattle.rules.specs.Words.{Config, Event}
 use Rattle.rules.specs.Words as W
 use Rattle.rules.specs.Bytes.{padded}
 use Rattle.rules.specs.Station as R
-use Rattle.rules.specs.Station.{free, taken, pending, busy, held, fresh}
+use Rattle.rules.specs.Station.{fresh}
 use Rattle.rules.specs.Sound.{identityKeeps, configKeeps, sound}
 use Rattle.rules.specs.Verdict.{refusals, setUpVerdict}
 use Rattle.rules.specs.Calls.{act}
@@ -29,10 +29,11 @@ use Rattle.requests.proofs.ArrayLaws.{padded-length}
 use Rattle.slots.specs.declared.Carrier.{Carrier}
 use Rattle.slots.specs.declared.Carrier.the-variants.{Present, Lost}
 use Rattle.slots.specs.declared.Phase.{Phase}
-use Rattle.slots.specs.declared.Phase.the-variants.{Free, Offered, RingBack, RingAgain, Acknowledged, Dialling, Answered, Hold, Taken}
 use Rattle.slots.specs.declared.Slot.{Slot}
 use Rattle.slots.specs.declared.Waiting.{Waiting}
-use Rattle.slots.specs.Images.{slotImage, slotImages, waitingImage, blankSlot, blankWaiting}
+use Rattle.slots.specs.Phases.{keptIn}
+use Rattle.slots.specs.Images.{imageOr, slotImage, slotImages, waitingImage, blankSlot, blankWaiting}
+use Rattle.slots.proofs.PhaseLaws.{by-phase}
 use Rattle.station.specs.declared.Station.{Station}
 use Rattle.station.specs.Model.{imageOf, configOf, modelOf}
 use Rattle.station.specs.Step.{recordsKeep, refusal, steppedBy, blankStation, given, setUpFor}
@@ -72,15 +73,7 @@ told-back (Lasting d) = refl
 
 phase-back : (p : Phase) → phaseFrom (phaseFields p) ≡ p
 unfolding phaseFrom
-phase-back Free = refl
-phase-back (Offered t) = refl
-phase-back (RingBack t) = refl
-phase-back (RingAgain t) = refl
-phase-back (Acknowledged t) = refl
-phase-back (Dialling t c) = ap (Dialling t) (carrier-back c)
-phase-back (Answered t c) = ap (Answered t) (carrier-back c)
-phase-back (Hold t n) = ap (Hold t) (told-back n)
-phase-back Taken = refl
+phase-back = by-phase _ refl (λ t. refl) (λ t. refl) (λ t. refl) (λ t. refl) (λ t c. rw (carrier-back c)) (λ t c. rw (carrier-back c)) (λ t n. rw (told-back n)) refl
 
 slot-back : (s : Slot) → Wide (s .request) → slotFrom (slotNumbers s) ≡ s
 unfolding slotFrom slotNumbers
@@ -159,11 +152,11 @@ blank-wide = refl
 
 slot-wide : (c : Channel) (s : R.Slot) → Wide (slotImage c s .request)
 unfolding slotImage
-slot-wide c free = blank-wide
-slot-wide c taken = blank-wide
-slot-wide c (pending k r t) = request-wide (r .request)
-slot-wide c (busy r g l) = request-wide (r .request)
-slot-wide c (held r n t) = request-wide (r .request)
+slot-wide c s = go (keptIn s)
+  where
+    go : (o : Option W.Request) → Wide (imageOr o)
+    go none = blank-wide
+    go (some r) = request-wide r
 
 slots-wide : (cs : List Channel) (ss : List R.Slot) → Each (λ x. Wide (x .request)) (slotImages cs ss)
 slots-wide [] ss = tt
@@ -181,12 +174,12 @@ few-images (c ∷ cs) [] = omega arith
 few-images (c ∷ cs) (s ∷ ss) = omega (arith, few-images cs ss)
 
 image-whole : (c : Config) (m : R.Station) → Whole (imageOf c m)
-unfolding imageOf blankSlot blankWaiting
+unfolding imageOf blankSlot blankWaiting slotImage
 image-whole c m =
     record {
       slotsBlank = padded-again blankSlot 16 (length (m .slots)) (slotImages (c .channels) (m .slots)) (few-images (c .channels) (m .slots));
       queueBlank = padded-again blankWaiting 32 (length (m .queue)) (map waitingImage (m .queue)) (omega (arith, length-map (m .queue) waitingImage));
-      slotsWide = each-padded (λ x. Wide (x .request)) blankSlot (slot-wide _ free) 16 (slotImages (c .channels) (m .slots)) (slots-wide (c .channels) (m .slots));
+      slotsWide = each-padded (λ x. Wide (x .request)) blankSlot blank-wide 16 (slotImages (c .channels) (m .slots)) (slots-wide (c .channels) (m .slots));
       queueWide = each-padded (λ x. Wide (x .request)) blankWaiting blank-wide 32 (map waitingImage (m .queue)) (queue-wide (m .queue));
     }
 

@@ -11,6 +11,7 @@ use borrow.Author.Tests.{eq-eqb}
 use Rattle.requests.proofs.ArrayLaws.{padded-length}
 use Rattle.slots.specs.declared.Slot.{Slot}
 use Rattle.slots.specs.declared.Waiting.{Waiting}
+use Rattle.slots.specs.Views.{alone}
 use Rattle.slots.specs.Images.{blankSlot, blankWaiting, tenths}
 use Rattle.station.specs.declared.Station.{Station}
 use Rattle.layouts.specs.Fields.{size, filled, lowFirst, numberAt, encode, decodeFrom, decode, laid}
@@ -54,7 +55,7 @@ pub station-read : (b : List ℕ)
     → stationIn (decode stationFields b 0)
     ≡ record {
       clock = tenths (numberAt b 0 4);
-      identity = numberAt b 4 4;
+      mast = alone (numberAt b 4 4);
       count = getD b 8 0;
       waiting = getD b 9 0;
       slots = inUse blankSlot 16 (getD b 8 0) (recordsAt (λ p. slotFrom (decode slotFields b p)) 16 slotSize slotsPlace);
@@ -115,14 +116,14 @@ module _ (s : Station) where
   unfolding waitingBytes
   queue-bytes = rw queue32 at (encode-repeated waitingNumbers waitingFields waiting-numbers (usedQueue s))
 
-  station-bytes : stationBytes s ≡ lowFirst 4 (s .clock .0) ++ (lowFirst 4 (s .identity) ++ ((s .count ∷ s .waiting ∷ []) ++ (flatMap slotBytes (usedSlots s) ++ flatMap waitingBytes (usedQueue s))))
+  station-bytes : stationBytes s ≡ lowFirst 4 (s .clock .0) ++ (lowFirst 4 (s .mast .identity) ++ ((s .count ∷ s .waiting ∷ []) ++ (flatMap slotBytes (usedSlots s) ++ flatMap waitingBytes (usedQueue s))))
   unfolding stationBytes stationFields headFields stationNumbers
   station-bytes =
       let e : length (flatMap slotNumbers (usedSlots s)) ≡ length (repeated 16 slotFields) = slots-numbers ∙ sym (repeated-length 16 slotFields) in
       rw (encode-behind (repeated 16 slotFields) (repeated 32 waitingFields) (flatMap slotNumbers (usedSlots s)) (flatMap waitingNumbers (usedQueue s)) e, slots-bytes, queue-bytes)
 
   pub station-laid : (b : List ℕ) → length b ≡ stationSize
-      → laid (laid (laid (laid (laid b 0 (lowFirst 4 (s .clock .0))) 4 (lowFirst 4 (s .identity))) 8 (s .count ∷ s .waiting ∷ [])) slotsPlace (flatMap slotBytes (usedSlots s))) queuePlace (flatMap waitingBytes (usedQueue s))
+      → laid (laid (laid (laid (laid b 0 (lowFirst 4 (s .clock .0))) 4 (lowFirst 4 (s .mast .identity))) 8 (s .count ∷ s .waiting ∷ [])) slotsPlace (flatMap slotBytes (usedSlots s))) queuePlace (flatMap waitingBytes (usedQueue s))
       ≡ stationBytes s
   unfolding flatten headFields
   station-laid b w =
@@ -130,6 +131,6 @@ module _ (s : Station) where
       let second = flatMap waitingBytes (usedQueue s) in
       let wide : length first ≡ slotSize * 16 = flatMap-length slotBytes slotSize slot-size (usedSlots s) ∙ ap (λ k. slotSize * k) slots16 in
       let place : queuePlace ≡ 0 + (slotsPlace + length first) = omega (arith, wide) in
-      ap (λ k. laid (laid (laid (laid (laid b 0 (lowFirst 4 (s .clock .0))) 4 (lowFirst 4 (s .identity))) 8 (s .count ∷ s .waiting ∷ [])) slotsPlace first) k second) place
-      ∙ laid-all b 0 (lowFirst 4 (s .clock .0)) (lowFirst 4 (s .identity) ∷ (s .count ∷ s .waiting ∷ []) ∷ first ∷ second ∷ []) (omega arith)
+      ap (λ k. laid (laid (laid (laid (laid b 0 (lowFirst 4 (s .clock .0))) 4 (lowFirst 4 (s .mast .identity))) 8 (s .count ∷ s .waiting ∷ [])) slotsPlace first) k second) place
+      ∙ laid-all b 0 (lowFirst 4 (s .clock .0)) (lowFirst 4 (s .mast .identity) ∷ (s .count ∷ s .waiting ∷ []) ∷ first ∷ second ∷ []) (omega arith)
       ∙ (rw (append-nil second) (ap (laid b 0) (sym station-bytes) ∙ laid-whole b (stationBytes s) (station-size ∙ sym w)))

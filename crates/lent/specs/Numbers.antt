@@ -20,6 +20,7 @@ use Rattle.slots.specs.declared.Phase.{Phase}
 use Rattle.slots.specs.declared.Phase.the-variants.{Free, Offered, RingBack, RingAgain, Acknowledged, Dialling, Answered, Hold, Taken}
 use Rattle.slots.specs.declared.Slot.{Slot}
 use Rattle.slots.specs.declared.Waiting.{Waiting}
+use Rattle.slots.specs.Views.{alone}
 use Rattle.slots.specs.Images.{blankSlot, blankWaiting, tenths}
 use Rattle.station.specs.declared.Station.{Station}
 use Rattle.layouts.specs.Records.{recordsIn}
@@ -133,7 +134,7 @@ inUse blank room n l = padded blank room (take n l)
 
 unfoldable pub stationNumbers : Station → List ℕ
 stationNumbers s =
-    (s .clock .0 ∷ s .identity ∷ s .count ∷ s .waiting ∷ [])
+    (s .clock .0 ∷ s .mast .identity ∷ s .count ∷ s .waiting ∷ [])
     ++ (flatMap slotNumbers (inUse blankSlot mostSlots (s .count) (s .slots))
     ++ flatMap waitingNumbers (inUse blankWaiting queueRoom (s .waiting) (s .queue)))
 
@@ -156,7 +157,7 @@ unfoldable pub stationIn : List ℕ → Station
 stationIn ns =
     record {
       clock = tenths (getD ns 0 0);
-      identity = getD ns 1 0;
+      mast = alone (getD ns 1 0);
       count = getD ns 2 0;
       waiting = getD ns 3 0;
       slots = inUse blankSlot mostSlots (getD ns 2 0) (recordsIn slotFrom mostSlots (length slotFields) (drop (length headFields) ns));

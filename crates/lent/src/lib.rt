@@ -35,6 +35,7 @@ use slots::Slot;
 use slots::Waiting;
 use slots::laying::blank_slot;
 use slots::laying::blank_waiting;
+use slots::mast::Mast;
 use station::Station;
 use units::Tenths;
 
@@ -96,7 +97,9 @@ pub fn station_from(bytes: &[u8]) -> Station
     let b = queue_from(bytes, waiting);
     Station {
         clock: Tenths(four_at(bytes, 0)),
-        identity: four_at(bytes, IDENTITY),
+        mast: Mast {
+            identity: four_at(bytes, IDENTITY),
+        },
         count: count,
         waiting: waiting,
         slots: a,
@@ -113,7 +116,8 @@ pub fn lay_station(s: Station, bytes: &mut [u8])
     }
     let clock = s.clock;
     let time = low_first(clock.0);
-    let identity = low_first(s.identity);
+    let mast = s.mast;
+    let identity = low_first(mast.identity);
     let counts = [s.count, s.waiting];
     lay(&time, 0, bytes);
     lay(&identity, IDENTITY, bytes);

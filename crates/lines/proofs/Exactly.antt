@@ -10,8 +10,8 @@ use borrow.Author.Tests.{le-leb, leb-true}
 use Rattle.rules.specs.Places.{all}
 use Rattle.sequence.proofs.Tests.{Either, yes!, no!, which}
 use Rattle.lines.specs.Decimal.{valueOf}
-use Rattle.lines.specs.Lines.{Said, letterOf, numbersOf, spaced, LineOf, isNumber, inRange}
-use Rattle.lines.specs.Readable.{between, scan, kindOf, says, saysOf, lineSays, readsAs}
+use Rattle.lines.specs.Lines.{Said, letterOf, kindOf, numbersOf, spaced, LineOf, isNumber, inRange}
+use Rattle.lines.specs.Readable.{between, scan, says, saysOf, lineSays, readsAs}
 use Rattle.lines.specs.Statement.{Readable, ReadsExactly, UnreadableExactly}
 use Rattle.lines.proofs.SaidLaws.{no-some, told, its-letter, said-of, numbers-are, in-range}
 use Rattle.lines.proofs.FieldLaws.{Fields, fields-read, fields-of}

@@ -10,8 +10,8 @@ use lib.ListN.{length, take, drop, getD, length-drop}
 use lib.Seq.{take-all}
 use borrow.Author.Tests.{le-leb, lt-leb, ne-eqb}
 use Rattle.rules.specs.Places.{all, isSome}
-use Rattle.rules.specs.Words.{Happened, What}
 use Rattle.sequence.proofs.Rest.{rest}
+use Rattle.lines.specs.declared.Form.{Form}
 use Rattle.lines.specs.Lines.{Said, isSymbol}
 use Rattle.lines.specs.Readable.{saysSetUp, saysSlot, saysSymbols, saysSlotSymbols, saysTime}
 
@@ -33,25 +33,25 @@ pub set-up-fits : (ns : List ℕ) → isSome (saysSetUp ns) ≡ leb 1 (length ns
 set-up-fits [] = refl
 set-up-fits (i ∷ ns) = sym (at-least 1 (i ∷ ns) (omega arith))
 
-pub symbols-fit : (w : List ℕ → What) (ns : List ℕ) → isSome (saysSymbols w ns) ≡ (leb 1 (length ns) && all isSymbol (drop 1 ns))
-symbols-fit w [] = refl
-symbols-fit w (t ∷ ns) = rw (at-least 1 (t ∷ ns) (omega arith)) (of-symbols (all isSymbol ns) _)
+pub symbols-fit : (f : Form) (ns : List ℕ) → isSome (saysSymbols f ns) ≡ (leb 1 (length ns) && all isSymbol (drop 1 ns))
+symbols-fit f [] = refl
+symbols-fit f (t ∷ ns) = rw (at-least 1 (t ∷ ns) (omega arith)) (of-symbols (all isSymbol ns) _)
 
-pub slot-symbols-fit : (h : List ℕ → Happened) (ns : List ℕ) → isSome (saysSlotSymbols h ns) ≡ (leb 2 (length ns) && all isSymbol (drop 2 ns))
-slot-symbols-fit h [] = refl
-slot-symbols-fit h (t ∷ []) = refl
-slot-symbols-fit h (t ∷ i ∷ ns) = rw (at-least 2 (t ∷ i ∷ ns) (omega arith)) (of-symbols (all isSymbol ns) _)
+pub slot-symbols-fit : (f : Form) (ns : List ℕ) → isSome (saysSlotSymbols f ns) ≡ (leb 2 (length ns) && all isSymbol (drop 2 ns))
+slot-symbols-fit f [] = refl
+slot-symbols-fit f (t ∷ []) = refl
+slot-symbols-fit f (t ∷ i ∷ ns) = rw (at-least 2 (t ∷ i ∷ ns) (omega arith)) (of-symbols (all isSymbol ns) _)
 
-pub slot-fits : (h : Happened) (ns : List ℕ) → isSome (saysSlot h ns) ≡ eqb (length ns) 2
-slot-fits h [] = refl
-slot-fits h (t ∷ []) = refl
-slot-fits h (t ∷ i ∷ []) = refl
-slot-fits h (t ∷ i ∷ x ∷ ns) = sym (ne-eqb (length (t ∷ i ∷ x ∷ ns)) 2 (λ e. omega arith))
+pub slot-fits : (f : Form) (ns : List ℕ) → isSome (saysSlot f ns) ≡ eqb (length ns) 2
+slot-fits f [] = refl
+slot-fits f (t ∷ []) = refl
+slot-fits f (t ∷ i ∷ []) = refl
+slot-fits f (t ∷ i ∷ x ∷ ns) = sym (ne-eqb (length (t ∷ i ∷ x ∷ ns)) 2 (λ e. omega arith))
 
-pub time-fits : (w : What) (ns : List ℕ) → isSome (saysTime w ns) ≡ eqb (length ns) 1
-time-fits w [] = refl
-time-fits w (t ∷ []) = refl
-time-fits w (t ∷ x ∷ ns) = sym (ne-eqb (length (t ∷ x ∷ ns)) 1 (λ e. omega arith))
+pub time-fits : (f : Form) (ns : List ℕ) → isSome (saysTime f ns) ≡ eqb (length ns) 1
+time-fits f [] = refl
+time-fits f (t ∷ []) = refl
+time-fits f (t ∷ x ∷ ns) = sym (ne-eqb (length (t ∷ x ∷ ns)) 1 (λ e. omega arith))
 
 -- the part of a list from a place on is all that is left there
 pub part-left : (s : List ℕ) (n : ℕ) → take (length s - n) (drop n s) ≡ drop n s

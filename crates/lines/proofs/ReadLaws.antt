@@ -12,8 +12,8 @@ use Rattle.rules.specs.Bytes.{padded}
 use Rattle.requests.proofs.ArrayLaws.{padded-length, padded-front}
 use Rattle.lines.specs.declared.Kind.{Kind}
 use Rattle.lines.specs.declared.Numbers.{Numbers}
-use Rattle.lines.specs.Lines.{Said}
-use Rattle.lines.specs.Readable.{between, scan, kindOf, says, saysOf, readsAs, numbersImage, lineImage}
+use Rattle.lines.specs.Lines.{Said, kindOf}
+use Rattle.lines.specs.Readable.{between, scan, says, saysOf, readsAs, numbersImage, lineImage}
 use Rattle.lines.proofs.SaidLaws.{told}
 
 module _ (text : List ℕ) where

@@ -3,25 +3,62 @@ use mathlib.Core.Bool.{Bool, true, false, cond, _&&_}
 use mathlib.Core.List.{List, [], _∷_}
 use mathlib.Core.Logic.{_⊎_, inl, inr, ⊎-elim}
 use mathlib.Core.Option.{none, some}
-use mathlib.Core.Path.{_≡_, refl, sym, _∙_, ap}
+use mathlib.Core.Path.{_≡_, refl, sym, _∙_}
 use Prim.Native.Nat.{ℕ}
 use native.Mathlib.Omega.{arith}
 use lib.Dec.{eqb}
 use borrow.Author.Tests.{eqb-true, le-leb, leb-true}
 use Rattle.rules.specs.Places.{all}
-use Rattle.rules.specs.Words.{Happened, lineLifted, lineHung, carrierHeard, carrierLost, handTakes, handGives, heard, signal, operator, offHook, onHook, carrierUp, carrierDown, takes, givesBack, tick, onChannel70, onSlot}
+use Rattle.rules.specs.Words.{lineLifted, lineHung, carrierHeard, carrierLost, handTakes, handGives, heard, signal, operator, What, tick, onChannel70, onSlot}
 use Rattle.sequence.proofs.Tests.{Either, yes!, no!, which, both-true}
+use Rattle.slots.specs.declared.Signal.the-variants.{LineLifted, LineHung, CarrierHeard, CarrierLost}
+use Rattle.slots.specs.declared.Hand.the-variants.{Takes, GivesBack}
+use Rattle.lines.specs.declared.Form.{Form}
+use Rattle.lines.specs.declared.Form.the-variants.{Symbols, SlotSymbols, Signalled, Operated, Alone}
 use Rattle.lines.specs.declared.Kind.{Kind}
-use Rattle.lines.specs.declared.Kind.the-variants.{Unreadable, SetUp, Channel70, Working, OffHook, OnHook, CarrierUp, CarrierDown, Take, GiveBack, Tick}
-use Rattle.lines.specs.Lines.{Said, setsUp, happens, slotLetter, letterOf, symbolsIn, numbersOf, isSymbol, isNumber, inRange}
-use Rattle.lines.specs.Readable.{kindOf, saysSlot, says}
+use Rattle.lines.specs.declared.Kind.the-variants.{Unreadable, SetUp, Happens}
+use Rattle.lines.specs.Lines.{Said, setsUp, happens, whatLetter, setUpLetter, letterOf, formWhat, formLetter, forms, kindAmong, kindOf, symbolsIn, whatNumbers, numbersOf, setUpSaid, isSymbol, isNumber, whatInRange, inRange}
+use Rattle.lines.specs.Readable.{saysSlot, says}
 
 pub no-some : {A : Type 0} {x : A} → none ≡ some x → ⊥
 no-some e = let z : _≡_ {A = ℕ} 0 1 = cc in omega arith
 
+-- ── every letter ─────────────────────────────────────────────────────────────
+
+-- the letter of what a form says names that form
+pub names-form : (f : Form) (slot : ℕ) (symbols : List ℕ) → kindOf (whatLetter (formWhat f slot symbols)) ≡ Happens f
+unfolding kindOf
+names-form Symbols slot symbols = refl
+names-form SlotSymbols slot symbols = refl
+names-form (Signalled LineLifted) slot symbols = refl
+names-form (Signalled LineHung) slot symbols = refl
+names-form (Signalled CarrierHeard) slot symbols = refl
+names-form (Signalled CarrierLost) slot symbols = refl
+names-form (Operated Takes) slot symbols = refl
+names-form (Operated GivesBack) slot symbols = refl
+names-form Alone slot symbols = refl
+
+-- and whatever happens some form says: so what holds of every form holds of all that happens
+pub by-form : (P : What → Type 0) → ((f : Form) (slot : ℕ) (symbols : List ℕ) → P (formWhat f slot symbols)) → (what : What) → P what
+by-form P h tick = h Alone 0 []
+by-form P h (onChannel70 symbols) = h Symbols 0 symbols
+by-form P h (onSlot i (heard symbols)) = h SlotSymbols i symbols
+by-form P h (onSlot i (signal lineLifted)) = h (Signalled LineLifted) i []
+by-form P h (onSlot i (signal lineHung)) = h (Signalled LineHung) i []
+by-form P h (onSlot i (signal carrierHeard)) = h (Signalled CarrierHeard) i []
+by-form P h (onSlot i (signal carrierLost)) = h (Signalled CarrierLost) i []
+by-form P h (onSlot i (operator handTakes)) = h (Operated Takes) i []
+by-form P h (onSlot i (operator handGives)) = h (Operated GivesBack) i []
+
 -- ── of the kind that its letter names, with its numbers ──────────────────────
 
+abbrev letterFor : Kind → ℕ
+letterFor Unreadable = 0
+letterFor SetUp = setUpLetter
+letterFor (Happens f) = formLetter f
+
 pub record Told (k : Kind) (ns : List ℕ) (said : Said) : Type 0 where
+  pub letter : letterFor k ≡ letterOf said
   pub kind : kindOf (letterOf said) ≡ k
   pub numbers : numbersOf said ≡ ns
 
@@ -32,46 +69,40 @@ of-symbols : {k : Kind} {ns : List ℕ} {x said : Said} (b : Bool) → Told k ns
 of-symbols true t e = the-same t e
 of-symbols false t e = absurd (no-some e)
 
-slot-told : (h : Happened) (k : Kind) (ns : List ℕ) (said : Said) → kindOf (slotLetter h) ≡ k → symbolsIn h ≡ [] → saysSlot h ns ≡ some said → Told k ns said
-slot-told h k [] said l s e = absurd (no-some e)
-slot-told h k (time ∷ []) said l s e = absurd (no-some e)
-slot-told h k (time ∷ slot ∷ []) said l s e = the-same (record { kind = l; numbers = rw s }) e
-slot-told h k (time ∷ slot ∷ more ∷ rest) said l s e = absurd (no-some e)
+same-letter : (f : Form) (slot : ℕ) (symbols : List ℕ) → formLetter f ≡ whatLetter (formWhat f slot symbols)
+same-letter Symbols slot symbols = refl
+same-letter SlotSymbols slot symbols = refl
+same-letter (Signalled g) slot symbols = refl
+same-letter (Operated h) slot symbols = refl
+same-letter Alone slot symbols = refl
+
+form-told : (f : Form) (time slot : ℕ) (symbols ns : List ℕ) → numbersOf (happens time (formWhat f slot symbols)) ≡ ns
+    → Told (Happens f) ns (happens time (formWhat f slot symbols))
+form-told f time slot symbols ns e = record { letter = same-letter f slot symbols; kind = names-form f slot symbols; numbers = e }
+
+slot-told : (f : Form) (ns : List ℕ) (said : Said) → ((slot : ℕ) → whatNumbers (formWhat f slot []) ≡ slot ∷ []) → saysSlot f ns ≡ some said → Told (Happens f) ns said
+slot-told f [] said s e = absurd (no-some e)
+slot-told f (time ∷ []) said s e = absurd (no-some e)
+slot-told f (time ∷ slot ∷ []) said s e = the-same (form-told f time slot [] (time ∷ slot ∷ []) (rw (s slot))) e
+slot-told f (time ∷ slot ∷ more ∷ rest) said s e = absurd (no-some e)
 
 pub told : (k : Kind) (ns : List ℕ) (said : Said) → says k ns ≡ some said → Told k ns said
 unfolding kindOf
 told Unreadable ns said e = absurd (no-some e)
 told SetUp [] said e = absurd (no-some e)
-told SetUp (identity ∷ channels) said e = the-same (record { kind = refl; numbers = refl }) e
-told Channel70 [] said e = absurd (no-some e)
-told Channel70 (time ∷ symbols) said e = of-symbols (all isSymbol symbols) (record { kind = refl; numbers = refl }) e
-told Working [] said e = absurd (no-some e)
-told Working (time ∷ []) said e = absurd (no-some e)
-told Working (time ∷ slot ∷ symbols) said e = of-symbols (all isSymbol symbols) (record { kind = refl; numbers = refl }) e
-told OffHook ns said e = slot-told offHook OffHook ns said refl refl e
-told OnHook ns said e = slot-told onHook OnHook ns said refl refl e
-told CarrierUp ns said e = slot-told carrierUp CarrierUp ns said refl refl e
-told CarrierDown ns said e = slot-told carrierDown CarrierDown ns said refl refl e
-told Take ns said e = slot-told takes Take ns said refl refl e
-told GiveBack ns said e = slot-told givesBack GiveBack ns said refl refl e
-told Tick [] said e = absurd (no-some e)
-told Tick (time ∷ []) said e = the-same (record { kind = refl; numbers = refl }) e
-told Tick (time ∷ more ∷ rest) said e = absurd (no-some e)
+told SetUp (n ∷ ns) said e = the-same (record { letter = refl; kind = refl; numbers = refl }) e
+told (Happens Symbols) [] said e = absurd (no-some e)
+told (Happens Symbols) (time ∷ symbols) said e = of-symbols (all isSymbol symbols) (form-told Symbols time 0 symbols (time ∷ symbols) refl) e
+told (Happens SlotSymbols) [] said e = absurd (no-some e)
+told (Happens SlotSymbols) (time ∷ []) said e = absurd (no-some e)
+told (Happens SlotSymbols) (time ∷ slot ∷ symbols) said e = of-symbols (all isSymbol symbols) (form-told SlotSymbols time slot symbols (time ∷ slot ∷ symbols) refl) e
+told (Happens (Signalled g)) ns said e = slot-told (Signalled g) ns said (λ slot. refl) e
+told (Happens (Operated h)) ns said e = slot-told (Operated h) ns said (λ slot. refl) e
+told (Happens Alone) [] said e = absurd (no-some e)
+told (Happens Alone) (time ∷ []) said e = the-same (form-told Alone time 0 [] (time ∷ []) refl) e
+told (Happens Alone) (time ∷ more ∷ rest) said e = absurd (no-some e)
 
 -- ── from a kind to its letter ────────────────────────────────────────────────
-
-abbrev letterFor : Kind → ℕ
-letterFor Unreadable = 0
-letterFor SetUp = 83
-letterFor Channel70 = 81
-letterFor Working = 87
-letterFor OffHook = 79
-letterFor OnHook = 72
-letterFor CarrierUp = 85
-letterFor CarrierDown = 68
-letterFor Take = 77
-letterFor GiveBack = 70
-letterFor Tick = 84
 
 abbrev Named : ℕ → Kind → Type 0
 Named b k = (k ≡ Unreadable) ⊎ (letterFor k ≡ b)
@@ -83,57 +114,43 @@ named-more b n k rest l r = go (which (eqb b n))
     go (yes! e) = rw e (inr (l ∙ sym (eqb-true b n e)))
     go (no! e) = rw e r
 
+named-among : (b : ℕ) (fs : List Form) → Named b (kindAmong b fs)
+named-among b [] = inl refl
+named-among b (f ∷ fs) = named-more b (formLetter f) (Happens f) (kindAmong b fs) refl (named-among b fs)
+
 named : (b : ℕ) → Named b (kindOf b)
 unfolding kindOf
-named b =
-    named-more b 83 SetUp _ refl
-    (named-more b 81 Channel70 _ refl
-    (named-more b 87 Working _ refl
-    (named-more b 85 CarrierUp _ refl
-    (named-more b 68 CarrierDown _ refl
-    (named-more b 79 OffHook _ refl
-    (named-more b 72 OnHook _ refl
-    (named-more b 77 Take _ refl
-    (named-more b 70 GiveBack _ refl
-    (named-more b 84 Tick Unreadable refl (inl refl))))))))))
-
-own : (said : Said) → letterFor (kindOf (letterOf said)) ≡ letterOf said
-unfolding kindOf
-own (setsUp identity channels) = refl
-own (happens time tick) = refl
-own (happens time (onChannel70 symbols)) = refl
-own (happens time (onSlot i (heard symbols))) = refl
-own (happens time (onSlot i (signal lineLifted))) = refl
-own (happens time (onSlot i (signal lineHung))) = refl
-own (happens time (onSlot i (signal carrierHeard))) = refl
-own (happens time (onSlot i (signal carrierLost))) = refl
-own (happens time (onSlot i (operator handTakes))) = refl
-own (happens time (onSlot i (operator handGives))) = refl
+named b = named-more b setUpLetter SetUp (kindAmong b forms) refl (named-among b forms)
 
 -- only its own letter names a kind that says something
 pub its-letter : (b : ℕ) (ns : List ℕ) (said : Said) → says (kindOf b) ns ≡ some said → b ≡ letterOf said
 its-letter b ns said e =
     ⊎-elim
     (λ u. absurd (no-some (rw u at e)))
-    (λ l. sym l ∙ ap letterFor (sym (told (kindOf b) ns said e .kind)) ∙ own said)
+    (λ l. sym l ∙ told (kindOf b) ns said e .letter)
     (named b)
 
 -- ── what is in range is said ─────────────────────────────────────────────────
 
+form-said : (time : ℕ) (f : Form) (slot : ℕ) (symbols : List ℕ) → inRange (happens time (formWhat f slot symbols)) ≡ true
+    → says (Happens f) (numbersOf (happens time (formWhat f slot symbols))) ≡ some (happens time (formWhat f slot symbols))
+unfolding inRange
+form-said time Symbols slot symbols e = rw (both-true (isNumber time) (all isSymbol symbols) e .1)
+form-said time SlotSymbols slot symbols e =
+    let h = both-true (isNumber time) (isNumber slot && all isSymbol symbols) e in
+    rw (both-true (isNumber slot) (all isSymbol symbols) (h .1) .1)
+form-said time (Signalled g) slot symbols e = refl
+form-said time (Operated h) slot symbols e = refl
+form-said time Alone slot symbols e = refl
+
 pub said-of : (said : Said) → inRange said ≡ true → says (kindOf (letterOf said)) (numbersOf said) ≡ some said
-unfolding kindOf inRange
-said-of (setsUp identity channels) e = refl
-said-of (happens time tick) e = refl
-said-of (happens time (onChannel70 symbols)) e = rw (both-true (isNumber time) (all isSymbol symbols) e .1)
-said-of (happens time (onSlot i (heard symbols))) e =
-    let h = both-true (isNumber time) (isNumber i && all isSymbol symbols) e in
-    rw (both-true (isNumber i) (all isSymbol symbols) (h .1) .1)
-said-of (happens time (onSlot i (signal lineLifted))) e = refl
-said-of (happens time (onSlot i (signal lineHung))) e = refl
-said-of (happens time (onSlot i (signal carrierHeard))) e = refl
-said-of (happens time (onSlot i (signal carrierLost))) e = refl
-said-of (happens time (onSlot i (operator handTakes))) e = refl
-said-of (happens time (onSlot i (operator handGives))) e = refl
+unfolding kindOf
+said-of (setsUp a) e = refl
+said-of (happens time what) e =
+    by-form
+    (λ w. inRange (happens time w) ≡ true → says (kindOf (whatLetter w)) (numbersOf (happens time w)) ≡ some (happens time w))
+    (λ f slot symbols e. rw (names-form f slot symbols) (form-said time f slot symbols e))
+    what e
 
 -- and its numbers are numbers; a symbol is a number
 symbols-are : (l : List ℕ) → all isSymbol l ≡ true → all isNumber l ≡ true
@@ -144,7 +161,7 @@ symbols-are (x ∷ l) e =
 
 pub numbers-are : (said : Said) → inRange said ≡ true → all isNumber (numbersOf said) ≡ true
 unfolding inRange
-numbers-are (setsUp identity channels) e = e
+numbers-are (setsUp a) e = e
 numbers-are (happens time tick) e = e
 numbers-are (happens time (onChannel70 symbols)) e =
     let h = both-true (isNumber time) (all isSymbol symbols) e in
@@ -160,36 +177,33 @@ of-symbols-in : (b : Bool) {x said : Said} → cond b (some x) none ≡ some sai
 of-symbols-in true e = (refl, cc)
 of-symbols-in false e = absurd (no-some e)
 
-slot-in : (h : Happened) (ns : List ℕ) (said : Said) → symbolsIn h ≡ [] → all isNumber ns ≡ true → saysSlot h ns ≡ some said → inRange said ≡ true
+slot-in : (f : Form) (ns : List ℕ) (said : Said) → ((slot : ℕ) → whatInRange (formWhat f slot []) ≡ (isNumber slot && true)) → all isNumber ns ≡ true
+    → saysSlot f ns ≡ some said → inRange said ≡ true
 unfolding inRange
-slot-in h [] said s n e = absurd (no-some e)
-slot-in h (time ∷ []) said s n e = absurd (no-some e)
-slot-in h (time ∷ slot ∷ []) said s n e = let q : happens time (onSlot slot h) ≡ said = cc in rw (← q, s) n
-slot-in h (time ∷ slot ∷ more ∷ rest) said s n e = absurd (no-some e)
+slot-in f [] said s n e = absurd (no-some e)
+slot-in f (time ∷ []) said s n e = absurd (no-some e)
+slot-in f (time ∷ slot ∷ []) said s n e = let q : happens time (formWhat f slot []) ≡ said = cc in rw (← q, s slot) n
+slot-in f (time ∷ slot ∷ more ∷ rest) said s n e = absurd (no-some e)
 
 pub in-range : (k : Kind) (ns : List ℕ) (said : Said) → all isNumber ns ≡ true → says k ns ≡ some said → inRange said ≡ true
 unfolding inRange
 in-range Unreadable ns said n e = absurd (no-some e)
 in-range SetUp [] said n e = absurd (no-some e)
-in-range SetUp (identity ∷ channels) said n e = let q : setsUp identity channels ≡ said = cc in rw (← q) n
-in-range Channel70 [] said n e = absurd (no-some e)
-in-range Channel70 (time ∷ symbols) said n e =
+in-range SetUp (x ∷ ns) said n e = let q : setUpSaid x ns ≡ said = cc in rw (← q) n
+in-range (Happens Symbols) [] said n e = absurd (no-some e)
+in-range (Happens Symbols) (time ∷ symbols) said n e =
     let h = of-symbols-in (all isSymbol symbols) e in
     let k = both-true (isNumber time) (all isNumber symbols) n in
     rw (← h .1, k .0) (h .0)
-in-range Working [] said n e = absurd (no-some e)
-in-range Working (time ∷ []) said n e = absurd (no-some e)
-in-range Working (time ∷ slot ∷ symbols) said n e =
+in-range (Happens SlotSymbols) [] said n e = absurd (no-some e)
+in-range (Happens SlotSymbols) (time ∷ []) said n e = absurd (no-some e)
+in-range (Happens SlotSymbols) (time ∷ slot ∷ symbols) said n e =
     let h = of-symbols-in (all isSymbol symbols) e in
     let k = both-true (isNumber time) (isNumber slot && all isNumber symbols) n in
     let l = both-true (isNumber slot) (all isNumber symbols) (k .1) in
     rw (← h .1, k .0, l .0) (h .0)
-in-range OffHook ns said n e = slot-in offHook ns said refl n e
-in-range OnHook ns said n e = slot-in onHook ns said refl n e
-in-range CarrierUp ns said n e = slot-in carrierUp ns said refl n e
-in-range CarrierDown ns said n e = slot-in carrierDown ns said refl n e
-in-range Take ns said n e = slot-in takes ns said refl n e
-in-range GiveBack ns said n e = slot-in givesBack ns said refl n e
-in-range Tick [] said n e = absurd (no-some e)
-in-range Tick (time ∷ []) said n e = let q : happens time tick ≡ said = cc in rw (← q) n
-in-range Tick (time ∷ more ∷ rest) said n e = absurd (no-some e)
+in-range (Happens (Signalled g)) ns said n e = slot-in (Signalled g) ns said (λ slot. refl) n e
+in-range (Happens (Operated h)) ns said n e = slot-in (Operated h) ns said (λ slot. refl) n e
+in-range (Happens Alone) [] said n e = absurd (no-some e)
+in-range (Happens Alone) (time ∷ []) said n e = let q : happens time (formWhat Alone 0 []) ≡ said = cc in rw (← q) n
+in-range (Happens Alone) (time ∷ more ∷ rest) said n e = absurd (no-some e)

@@ -1,17 +1,29 @@
 -- The lines of an event: "S identity channels; Q time symbols; W time slot symbols; then time and slot: U up, D down, O off-hook,
 -- H on-hook, M take, F give back; T time".
-use mathlib.Core.Bool.{Bool, true, _&&_}
+use mathlib.Core.Bool.{Bool, true, cond, _&&_}
 use mathlib.Core.List.{List, [], _∷_, _++_, map}
 use mathlib.Core.Path.{_≡_}
 use Prim.Native.Nat.{ℕ}
-use lib.Dec.{leb}
+use lib.Dec.{leb, eqb}
 use Rattle.rules.specs.Places.{all}
 use Rattle.rules.specs.Words.{Happened, lineLifted, lineHung, carrierHeard, carrierLost, handTakes, handGives, heard, signal, operator, What, tick, onChannel70, onSlot}
+use Rattle.slots.specs.declared.Signal.the-variants.{LineLifted, LineHung, CarrierHeard, CarrierLost}
+use Rattle.slots.specs.declared.Hand.the-variants.{Takes, GivesBack}
+use Rattle.slots.specs.Views.{signalView, handView}
+use Rattle.lines.specs.declared.Form.{Form}
+use Rattle.lines.specs.declared.Form.the-variants.{Symbols, SlotSymbols, Signalled, Operated, Alone}
+use Rattle.lines.specs.declared.Kind.{Kind}
+use Rattle.lines.specs.declared.Kind.the-variants.{Unreadable, SetUp, Happens}
 use Rattle.lines.specs.Decimal.{isDecimal, valueOf}
 
--- what a line says: a set-up with its identity and channels, or what happens at a time
+-- what a set-up asks for, its channels as numbers
+pub record Asked : Type 0 where
+  pub identity : ℕ
+  pub channels : List ℕ
+
+-- what a line says: a set-up, or what happens at a time
 pub data Said : Type 0 where
-  setsUp : ℕ → List ℕ → Said
+  setsUp : Asked → Said
   happens : ℕ → What → Said
 
 -- ── the letter ───────────────────────────────────────────────────────────────
@@ -30,9 +42,39 @@ whatLetter tick = 84
 whatLetter (onChannel70 symbols) = 81
 whatLetter (onSlot i h) = slotLetter h
 
+abbrev pub setUpLetter : ℕ
+setUpLetter = 83
+
 abbrev pub letterOf : Said → ℕ
-letterOf (setsUp identity channels) = 83
+letterOf (setsUp a) = setUpLetter
 letterOf (happens time what) = whatLetter what
+
+-- ── the kind that a letter names ─────────────────────────────────────────────
+
+-- what happens by a line of a form, with the slot and the symbols that it has
+abbrev pub formWhat : Form → ℕ → List ℕ → What
+formWhat Symbols slot symbols = onChannel70 symbols
+formWhat SlotSymbols slot symbols = onSlot slot (heard symbols)
+formWhat (Signalled g) slot symbols = onSlot slot (signal (signalView g))
+formWhat (Operated h) slot symbols = onSlot slot (operator (handView h))
+formWhat Alone slot symbols = tick
+
+abbrev pub formLetter : Form → ℕ
+formLetter f = whatLetter (formWhat f 0 [])
+
+abbrev pub forms : List Form
+forms =
+    Symbols ∷ SlotSymbols
+    ∷ Signalled CarrierHeard ∷ Signalled CarrierLost ∷ Signalled LineLifted ∷ Signalled LineHung
+    ∷ Operated Takes ∷ Operated GivesBack
+    ∷ Alone ∷ []
+
+abbrev pub kindAmong : ℕ → List Form → Kind
+kindAmong b [] = Unreadable
+kindAmong b (f ∷ fs) = cond (eqb b (formLetter f)) (Happens f) (kindAmong b fs)
+
+unfoldable pub kindOf : ℕ → Kind
+kindOf b = cond (eqb b setUpLetter) SetUp (kindAmong b forms)
 
 -- ── the fields ───────────────────────────────────────────────────────────────
 
@@ -48,8 +90,12 @@ whatNumbers (onChannel70 symbols) = symbols
 whatNumbers (onSlot i h) = i ∷ symbolsIn h
 
 abbrev pub numbersOf : Said → List ℕ
-numbersOf (setsUp identity channels) = identity ∷ channels
+numbersOf (setsUp a) = a .identity ∷ a .channels
 numbersOf (happens time what) = time ∷ whatNumbers what
+
+-- and back from the numbers of a set-up
+abbrev pub setUpSaid : ℕ → List ℕ → Said
+setUpSaid identity channels = setsUp (record { identity = identity; channels = channels })
 
 -- "one space apart"
 abbrev pub spaced : List (List ℕ) → List ℕ
@@ -78,5 +124,5 @@ whatInRange (onChannel70 symbols) = all isSymbol symbols
 whatInRange (onSlot i h) = isNumber i && all isSymbol (symbolsIn h)
 
 unfoldable pub inRange : Said → Bool
-inRange (setsUp identity channels) = isNumber identity && all isNumber channels
+inRange (setsUp a) = all isNumber (numbersOf (setsUp a))
 inRange (happens time what) = isNumber time && whatInRange what

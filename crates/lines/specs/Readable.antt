@@ -6,14 +6,15 @@ use Prim.Native.Nat.{ℕ, _+_, _-_, _*_}
 use lib.Dec.{leb, eqb}
 use lib.ListN.{length}
 use Rattle.rules.specs.Places.{all}
-use Rattle.rules.specs.Words.{Happened, heard, offHook, onHook, carrierUp, carrierDown, takes, givesBack, tick, onChannel70, onSlot, What}
 use Rattle.rules.specs.Bytes.{padded}
+use Rattle.lines.specs.declared.Form.{Form}
+use Rattle.lines.specs.declared.Form.the-variants.{Symbols, SlotSymbols, Signalled, Operated, Alone}
 use Rattle.lines.specs.declared.Kind.{Kind}
-use Rattle.lines.specs.declared.Kind.the-variants.{Unreadable, SetUp, Channel70, Working, OffHook, OnHook, CarrierUp, CarrierDown, Take, GiveBack, Tick}
+use Rattle.lines.specs.declared.Kind.the-variants.{Unreadable, SetUp, Happens}
 use Rattle.lines.specs.declared.Line.{Line}
 use Rattle.lines.specs.declared.Numbers.{Numbers}
 use Rattle.lines.specs.Decimal.{isDigit}
-use Rattle.lines.specs.Lines.{Said, setsUp, happens, letterOf, numbersOf, isSymbol, isNumber}
+use Rattle.lines.specs.Lines.{Said, happens, letterOf, formWhat, kindOf, numbersOf, setUpSaid, isSymbol, isNumber}
 
 -- ── the fields, byte by byte ─────────────────────────────────────────────────
 
@@ -37,62 +38,48 @@ scan (inside v) (b ∷ t) =
     (cond (isNumber (v * 10 + (b - 48))) (scan (inside (v * 10 + (b - 48))) t) none)
     (cond (eqb b 32) (with v (scan opened t)) none)
 
--- ── the letter and its fields ────────────────────────────────────────────────
+-- ── the fields of a kind ─────────────────────────────────────────────────────
 
-unfoldable pub kindOf : ℕ → Kind
-kindOf b =
-    cond (eqb b 83) SetUp
-    (cond (eqb b 81) Channel70
-    (cond (eqb b 87) Working
-    (cond (eqb b 85) CarrierUp
-    (cond (eqb b 68) CarrierDown
-    (cond (eqb b 79) OffHook
-    (cond (eqb b 72) OnHook
-    (cond (eqb b 77) Take
-    (cond (eqb b 70) GiveBack
-    (cond (eqb b 84) Tick Unreadable)))))))))
+abbrev pub saysSetUp : List ℕ → Option Said
+saysSetUp [] = none
+saysSetUp (n ∷ channels) = some (setUpSaid n channels)
 
 -- "a symbol over 255 .. : 40"
 abbrev pub ofSymbols : List ℕ → Said → Option Said
 ofSymbols symbols said = cond (all isSymbol symbols) (some said) none
 
--- the fields of a set-up; of a time with symbols, a slot with symbols, a slot, nothing
-abbrev pub saysSetUp : List ℕ → Option Said
-saysSetUp [] = none
-saysSetUp (identity ∷ channels) = some (setsUp identity channels)
+-- a time with symbols, with a slot and symbols, with a slot, and by itself
+abbrev pub saysSymbols : Form → List ℕ → Option Said
+saysSymbols f [] = none
+saysSymbols f (time ∷ symbols) = ofSymbols symbols (happens time (formWhat f 0 symbols))
 
-abbrev pub saysSymbols : (List ℕ → What) → List ℕ → Option Said
-saysSymbols w [] = none
-saysSymbols w (time ∷ symbols) = ofSymbols symbols (happens time (w symbols))
+abbrev pub saysSlotSymbols : Form → List ℕ → Option Said
+saysSlotSymbols f [] = none
+saysSlotSymbols f (time ∷ []) = none
+saysSlotSymbols f (time ∷ slot ∷ symbols) = ofSymbols symbols (happens time (formWhat f slot symbols))
 
-abbrev pub saysSlotSymbols : (List ℕ → Happened) → List ℕ → Option Said
-saysSlotSymbols h [] = none
-saysSlotSymbols h (time ∷ []) = none
-saysSlotSymbols h (time ∷ slot ∷ symbols) = ofSymbols symbols (happens time (onSlot slot (h symbols)))
+abbrev pub saysSlot : Form → List ℕ → Option Said
+saysSlot f [] = none
+saysSlot f (time ∷ []) = none
+saysSlot f (time ∷ slot ∷ []) = some (happens time (formWhat f slot []))
+saysSlot f (time ∷ slot ∷ more ∷ rest) = none
 
-abbrev pub saysSlot : Happened → List ℕ → Option Said
-saysSlot h [] = none
-saysSlot h (time ∷ []) = none
-saysSlot h (time ∷ slot ∷ []) = some (happens time (onSlot slot h))
-saysSlot h (time ∷ slot ∷ more ∷ rest) = none
+abbrev pub saysTime : Form → List ℕ → Option Said
+saysTime f [] = none
+saysTime f (time ∷ []) = some (happens time (formWhat f 0 []))
+saysTime f (time ∷ more ∷ rest) = none
 
-abbrev pub saysTime : What → List ℕ → Option Said
-saysTime w [] = none
-saysTime w (time ∷ []) = some (happens time w)
-saysTime w (time ∷ more ∷ rest) = none
+abbrev pub saysForm : Form → List ℕ → Option Said
+saysForm Symbols ns = saysSymbols Symbols ns
+saysForm SlotSymbols ns = saysSlotSymbols SlotSymbols ns
+saysForm (Signalled g) ns = saysSlot (Signalled g) ns
+saysForm (Operated h) ns = saysSlot (Operated h) ns
+saysForm Alone ns = saysTime Alone ns
 
 abbrev pub says : Kind → List ℕ → Option Said
 says Unreadable ns = none
 says SetUp ns = saysSetUp ns
-says Channel70 ns = saysSymbols onChannel70 ns
-says Working ns = saysSlotSymbols heard ns
-says OffHook ns = saysSlot offHook ns
-says OnHook ns = saysSlot onHook ns
-says CarrierUp ns = saysSlot carrierUp ns
-says CarrierDown ns = saysSlot carrierDown ns
-says Take ns = saysSlot takes ns
-says GiveBack ns = saysSlot givesBack ns
-says Tick ns = saysTime tick ns
+says (Happens f) ns = saysForm f ns
 
 abbrev pub saysOf : Kind → Option (List ℕ) → Option Said
 saysOf k none = none

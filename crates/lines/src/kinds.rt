@@ -4,9 +4,12 @@ ghost use mathlib.Core.Bool.{_&&_};
 ghost use lib.Dec.{leb};
 ghost use lib.ListN.{length, drop};
 ghost use Rattle.rules.specs.Places.{all, isSome};
-ghost use Rattle.lines.specs.Lines.{isSymbol};
-ghost use Rattle.lines.specs.Readable.{kindOf, says};
+ghost use Rattle.lines.specs.Lines.{kindOf, isSymbol};
+ghost use Rattle.lines.specs.Readable.{saysForm, says};
+use crate::Form;
 use crate::Kind;
+use slots::Hand;
+use slots::Signal;
 
 pub(crate) fn kind_of(letter: u8) -> Kind
     ensures { λ r. ⌜ r ≡ kindOf letter ⌝ }
@@ -15,31 +18,31 @@ pub(crate) fn kind_of(letter: u8) -> Kind
         return Kind::SetUp;
     }
     if letter == b'Q' {
-        return Kind::Channel70;
+        return Kind::Happens(Form::Symbols);
     }
     if letter == b'W' {
-        return Kind::Working;
+        return Kind::Happens(Form::SlotSymbols);
     }
     if letter == b'U' {
-        return Kind::CarrierUp;
+        return Kind::Happens(Form::Signalled(Signal::CarrierHeard));
     }
     if letter == b'D' {
-        return Kind::CarrierDown;
+        return Kind::Happens(Form::Signalled(Signal::CarrierLost));
     }
     if letter == b'O' {
-        return Kind::OffHook;
+        return Kind::Happens(Form::Signalled(Signal::LineLifted));
     }
     if letter == b'H' {
-        return Kind::OnHook;
+        return Kind::Happens(Form::Signalled(Signal::LineHung));
     }
     if letter == b'M' {
-        return Kind::Take;
+        return Kind::Happens(Form::Operated(Hand::Takes));
     }
     if letter == b'F' {
-        return Kind::GiveBack;
+        return Kind::Happens(Form::Operated(Hand::GivesBack));
     }
     if letter == b'T' {
-        return Kind::Tick;
+        return Kind::Happens(Form::Alone);
     }
     Kind::Unreadable
 }
@@ -67,22 +70,26 @@ fn then_symbols(s: &[u32], first: usize) -> bool
     are_symbols(&s[first..])
 }
 
+fn form_fits(form: Form, s: &[u32]) -> bool
+    ensures { λ r. ⌜ r ≡ isSome (saysForm form (now (s .entry))) ⌝ }
+{
+    let n = s.len();
+    match form {
+        Form::Symbols => then_symbols(s, 1),
+        Form::SlotSymbols => then_symbols(s, 2),
+        Form::Signalled(_) => n == 2,
+        Form::Operated(_) => n == 2,
+        Form::Alone => n == 1,
+    }
+}
+
 // Whether the numbers are those that a kind of line takes.
 pub(crate) fn fits(kind: Kind, s: &[u32]) -> bool
     ensures { λ r. ⌜ r ≡ isSome (says kind (now (s .entry))) ⌝ }
 {
-    let n = s.len();
     match kind {
         Kind::Unreadable => false,
-        Kind::SetUp => 1 <= n,
-        Kind::Channel70 => then_symbols(s, 1),
-        Kind::Working => then_symbols(s, 2),
-        Kind::OffHook => n == 2,
-        Kind::OnHook => n == 2,
-        Kind::CarrierUp => n == 2,
-        Kind::CarrierDown => n == 2,
-        Kind::Take => n == 2,
-        Kind::GiveBack => n == 2,
-        Kind::Tick => n == 1,
+        Kind::SetUp => 1 <= s.len(),
+        Kind::Happens(form) => form_fits(form, s),
     }
 }

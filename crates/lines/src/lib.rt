@@ -10,6 +10,8 @@ mod kinds;
 use crate::fields::numbers_in;
 use crate::kinds::fits;
 use crate::kinds::kind_of;
+use slots::Hand;
+use slots::Signal;
 
 // "one over 200 characters .. : 40"
 pub const LONGEST_LINE: usize = 200;
@@ -18,15 +20,16 @@ pub const LONGEST_LINE: usize = 200;
 pub enum Kind {
     Unreadable,
     SetUp,
-    Channel70,
-    Working,
-    OffHook,
-    OnHook,
-    CarrierUp,
-    CarrierDown,
-    Take,
-    GiveBack,
-    Tick,
+    Happens(Form),
+}
+
+// What happens at its time, by the fields behind that: symbols, a slot with symbols, a slot alone, or nothing more.
+pub enum Form {
+    Symbols,
+    SlotSymbols,
+    Signalled(Signal),
+    Operated(Hand),
+    Alone,
 }
 
 // What a line says: its kind, and so many numbers behind the letter.

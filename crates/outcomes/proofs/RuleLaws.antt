@@ -6,8 +6,6 @@ use mathlib.Core.Path.{_≡_, refl, ap, sym, _∙_}
 use native.Mathlib.Omega.{arith}
 use lib.ListN.{length}
 use lib.Dec.{ltb}
-use Rattle.units.specs.declared.Tenths.{Tenths}
-use Rattle.units.specs.declared.Told.{Told}
 use Rattle.rules.specs.Places.{lowest}
 use Rattle.rules.specs.Sound.{queueRoom}
 use Rattle.rules.specs.Words as W
@@ -15,7 +13,7 @@ use Rattle.rules.specs.Words.{Party, is, Request, simplex, duplex}
 use Rattle.rules.specs.Waits.{ofQueue}
 use Rattle.rules.specs.Station as R
 use Rattle.rules.specs.Station.{setClock, dueAfter, carrierWait, isFree}
-use Rattle.rules.specs.Requests.{Out, coastEnd, same, placeOf, ruleA, ruleB, ruleC, ruleF, ruleG, redial, bOrC, eToG, newcomer, dToG}
+use Rattle.rules.specs.Requests.{coastEnd, same, placeOf, ruleA, ruleB, ruleC, ruleF, ruleG, redial, bOrC, eToG, newcomer, dToG}
 use Rattle.rules.specs.Calls.{workingOn, workingKind, bqFor, bqKind, agreed, offHookOn, offHookStage, startLoss, downOn, upOn, shipEnd, shipEndOn, endOn, signalOn, takeOn, giveOn, handOn, pendingDue, replyDue, mainOn, fire, ticked}
 use Rattle.requests.specs.declared.Mode.{Mode}
 use Rattle.requests.specs.declared.Mode.the-variants.{Simplex, Duplex}
@@ -23,13 +21,14 @@ use Rattle.requests.specs.Views.{modeOf}
 use Rattle.slots.specs.declared.Carrier.{Carrier}
 use Rattle.slots.specs.declared.Carrier.the-variants.{Present, Lost}
 use Rattle.slots.specs.declared.Phase.{Phase}
-use Rattle.slots.specs.declared.Phase.the-variants.{Free, Offered, RingBack, RingAgain, Acknowledged, Dialling, Answered, Hold, Taken}
 use Rattle.slots.specs.declared.Signal.{Signal}
 use Rattle.slots.specs.declared.Signal.the-variants.{LineLifted, LineHung, CarrierHeard, CarrierLost}
 use Rattle.slots.specs.declared.Hand.{Hand}
 use Rattle.slots.specs.declared.Hand.the-variants.{Takes, GivesBack}
 use Rattle.slots.specs.declared.QueuePlace.{QueuePlace}
-use Rattle.slots.specs.Views.{carrierOf, phaseView, signalView, handView}
+use Rattle.slots.specs.Phases.{carrierOf, phaseView}
+use Rattle.slots.specs.Views.{signalView, handView}
+use Rattle.slots.proofs.PhaseLaws.{by-phase}
 use Rattle.outcomes.specs.declared.Talk.{Talk}
 use Rattle.outcomes.specs.declared.Talk.the-variants.{Unanswered, Since}
 use Rattle.outcomes.specs.declared.Outcome.the-variants.{Passes, Redials, Joins, Replaces, Unable, Drops}
@@ -45,37 +44,15 @@ carrier-short simplex = omega arith
 carrier-short duplex = omega arith
 
 module _ (i : ℕ) (st : R.Station) (r q : Request) where
-  -- what is so in each phase is so
-  by-phase : (f : Phase → Out) (g : R.Slot → Out)
-      → f Free ≡ g (phaseView Free r)
-      → ((t : Tenths) → f (Offered t) ≡ g (phaseView (Offered t) r))
-      → ((t : Tenths) → f (RingBack t) ≡ g (phaseView (RingBack t) r))
-      → ((t : Tenths) → f (RingAgain t) ≡ g (phaseView (RingAgain t) r))
-      → ((t : Tenths) → f (Acknowledged t) ≡ g (phaseView (Acknowledged t) r))
-      → ((t : Tenths) (l : Carrier) → f (Dialling t l) ≡ g (phaseView (Dialling t l) r))
-      → ((t : Tenths) (l : Carrier) → f (Answered t l) ≡ g (phaseView (Answered t l) r))
-      → ((t : Tenths) (n : Told) → f (Hold t n) ≡ g (phaseView (Hold t n) r))
-      → f Taken ≡ g (phaseView Taken r)
-      → (p : Phase) → f p ≡ g (phaseView p r)
-  by-phase f g a b c d e x y z w Free = a
-  by-phase f g a b c d e x y z w (Offered t) = b t
-  by-phase f g a b c d e x y z w (RingBack t) = c t
-  by-phase f g a b c d e x y z w (RingAgain t) = d t
-  by-phase f g a b c d e x y z w (Acknowledged t) = e t
-  by-phase f g a b c d e x y z w (Dialling t l) = x t l
-  by-phase f g a b c d e x y z w (Answered t l) = y t l
-  by-phase f g a b c d e x y z w (Hold t n) = z t n
-  by-phase f g a b c d e x y z w Taken = w
-
   -- ── the line, the carrier, the operator, a wait that falls due ──
 
   off-hook-is : (p : Phase) → outOf i r q (offHookBy (timeOf st) p) st ≡ offHookOn i st (phaseView p r)
   unfolding outOf offHookOn offHookStage
-  off-hook-is = by-phase (λ p. outOf i r q (offHookBy (timeOf st) p) st) (offHookOn i st) refl (λ t. refl) (λ t. refl) (λ t. refl) (λ t. refl) (λ t l. refl) (λ t l. refl) (λ t n. refl) refl
+  off-hook-is = by-phase _ refl (λ t. refl) (λ t. refl) (λ t. refl) (λ t. refl) (λ t l. refl) (λ t l. refl) (λ t n. refl) refl
 
   up-is : (p : Phase) → outOf i r q (upBy p) st ≡ upOn i st (phaseView p r)
   unfolding outOf upOn
-  up-is = by-phase (λ p. outOf i r q (upBy p) st) (upOn i st) refl (λ t. refl) (λ t. refl) (λ t. refl) (λ t. refl) (λ t l. refl) (λ t l. refl) (λ t n. refl) refl
+  up-is = by-phase _ refl (λ t. refl) (λ t. refl) (λ t. refl) (λ t. refl) (λ t l. refl) (λ t l. refl) (λ t n. refl) refl
 
   loss-is : (m : Mode) → modeOf m ≡ r .mode → st .clock ≤ 4_000_000_000 → (l : Carrier) → carrierOf (lossFrom (timeOf st) m l) ≡ startLoss (st .clock) (r .mode) (carrierOf l)
   loss-is m e h Present = rw e (ap some (wait-fits (st .clock) (carrierWait (r .mode)) h (carrier-short (r .mode))))
@@ -83,19 +60,19 @@ module _ (i : ℕ) (st : R.Station) (r q : Request) where
 
   down-is : (m : Mode) → modeOf m ≡ r .mode → st .clock ≤ 4_000_000_000 → (p : Phase) → outOf i r q (downBy (timeOf st) m p) st ≡ downOn i st (phaseView p r)
   unfolding outOf downOn
-  down-is m e h = by-phase (λ p. outOf i r q (downBy (timeOf st) m p) st) (downOn i st) refl (λ t. refl) (λ t. refl) (λ t. refl) (λ t. refl) (λ t l. rw (loss-is m e h l) refl) (λ t l. rw (loss-is m e h l) refl) (λ t n. refl) refl
+  down-is m e h = by-phase _ refl (λ t. refl) (λ t. refl) (λ t. refl) (λ t. refl) (λ t l. rw (loss-is m e h l) refl) (λ t l. rw (loss-is m e h l) refl) (λ t n. refl) refl
 
   pub coast-end-is : (p : Phase) → outOf i r q (coastEndBy p) st ≡ endOn i st (phaseView p r)
   unfolding outOf endOn coastEnd
-  coast-end-is = by-phase (λ p. outOf i r q (coastEndBy p) st) (endOn i st) refl (λ t. refl) (λ t. refl) (λ t. refl) (λ t. refl) (λ t l. refl) (λ t l. refl) (λ t n. refl) refl
+  coast-end-is = by-phase _ refl (λ t. refl) (λ t. refl) (λ t. refl) (λ t. refl) (λ t l. refl) (λ t l. refl) (λ t n. refl) refl
 
   take-is : (p : Phase) → outOf i r q (takeBy p) st ≡ takeOn i st (phaseView p r)
   unfolding outOf takeOn
-  take-is = by-phase (λ p. outOf i r q (takeBy p) st) (takeOn i st) refl (λ t. refl) (λ t. refl) (λ t. refl) (λ t. refl) (λ t l. refl) (λ t l. refl) (λ t n. refl) refl
+  take-is = by-phase _ refl (λ t. refl) (λ t. refl) (λ t. refl) (λ t. refl) (λ t l. refl) (λ t l. refl) (λ t n. refl) refl
 
   give-back-is : (p : Phase) → outOf i r q (giveBackBy p) st ≡ giveOn i st (phaseView p r)
   unfolding outOf giveOn
-  give-back-is = by-phase (λ p. outOf i r q (giveBackBy p) st) (giveOn i st) refl (λ t. refl) (λ t. refl) (λ t. refl) (λ t. refl) (λ t l. refl) (λ t l. refl) (λ t n. refl) refl
+  give-back-is = by-phase _ refl (λ t. refl) (λ t. refl) (λ t. refl) (λ t. refl) (λ t l. refl) (λ t l. refl) (λ t n. refl) refl
 
   pub signal-is : (m : Mode) → modeOf m ≡ r .mode → st .clock ≤ 4_000_000_000 → (g : Signal) (p : Phase) → outOf i r q (bySignal g (timeOf st) m p) st ≡ signalOn i st (phaseView p r) (signalView g)
   signal-is m e h LineLifted p = off-hook-is p
@@ -109,25 +86,25 @@ module _ (i : ℕ) (st : R.Station) (r q : Request) where
 
   pub main-due-is : (p : Phase) → outOf i r q (mainDueBy p) st ≡ mainOn i st (phaseView p r)
   unfolding outOf mainOn pendingDue replyDue coastEnd
-  main-due-is = by-phase (λ p. outOf i r q (mainDueBy p) st) (mainOn i st) refl (λ t. refl) (λ t. refl) (λ t. refl) (λ t. refl) (λ t l. refl) (λ t l. refl) (λ t n. refl) refl
+  main-due-is = by-phase _ refl (λ t. refl) (λ t. refl) (λ t. refl) (λ t. refl) (λ t l. refl) (λ t l. refl) (λ t n. refl) refl
 
   -- ── heard from the ship x ──
 
   module _ (x : Party) where
     pub working-is : (own : Bool) → is x (r .who) ≡ own → (p : Phase) → outOf i r q (workingBy own p) st ≡ workingOn i x st (phaseView p r)
     unfolding outOf workingOn workingKind
-    working-is true e = by-phase (λ p. outOf i r q (workingBy true p) st) (workingOn i x st) refl (λ t. rw e refl) (λ t. rw e refl) (λ t. rw e refl) (λ t. rw e refl) (λ t l. refl) (λ t l. refl) (λ t n. refl) refl
-    working-is false e = by-phase (λ p. outOf i r q (workingBy false p) st) (workingOn i x st) refl (λ t. rw e refl) (λ t. rw e refl) (λ t. rw e refl) (λ t. rw e refl) (λ t l. refl) (λ t l. refl) (λ t n. refl) refl
+    working-is true e = by-phase _ refl (λ t. rw e refl) (λ t. rw e refl) (λ t. rw e refl) (λ t. rw e refl) (λ t l. refl) (λ t l. refl) (λ t n. refl) refl
+    working-is false e = by-phase _ refl (λ t. rw e refl) (λ t. rw e refl) (λ t. rw e refl) (λ t. rw e refl) (λ t l. refl) (λ t l. refl) (λ t n. refl) refl
 
     pub ship-end-is : (own : Bool) → is x (r .who) ≡ own → (p : Phase) → outOf i r q (shipEndBy own p) st ≡ shipEndOn i x st (phaseView p r)
     unfolding outOf shipEndOn shipEnd
-    ship-end-is true e = by-phase (λ p. outOf i r q (shipEndBy true p) st) (shipEndOn i x st) refl (λ t. refl) (λ t. refl) (λ t. refl) (λ t. refl) (λ t l. rw e refl) (λ t l. rw e refl) (λ t n. rw e refl) refl
-    ship-end-is false e = by-phase (λ p. outOf i r q (shipEndBy false p) st) (shipEndOn i x st) refl (λ t. refl) (λ t. refl) (λ t. refl) (λ t. refl) (λ t l. rw e refl) (λ t l. rw e refl) (λ t n. rw e refl) refl
+    ship-end-is true e = by-phase _ refl (λ t. refl) (λ t. refl) (λ t. refl) (λ t. refl) (λ t l. rw e refl) (λ t l. rw e refl) (λ t n. rw e refl) refl
+    ship-end-is false e = by-phase _ refl (λ t. refl) (λ t. refl) (λ t. refl) (λ t. refl) (λ t l. rw e refl) (λ t l. rw e refl) (λ t n. rw e refl) refl
 
     pub bq-is : (own : Bool) → is x (r .who) ≡ own → st .clock ≤ 4_000_000_000 → (p : Phase) → outOf i r q (bqBy own (timeOf st) p) st ≡ bqFor i x st (phaseView p r)
     unfolding outOf bqFor bqKind agreed
-    bq-is true e h = by-phase (λ p. outOf i r q (bqBy true (timeOf st) p) st) (bqFor i x st) refl (λ t. rw e refl) (λ t. rw (e, wait-fits (st .clock) 160 h (omega arith)) refl) (λ t. rw (e, wait-fits (st .clock) 160 h (omega arith)) refl) (λ t. rw e refl) (λ t l. refl) (λ t l. refl) (λ t n. refl) refl
-    bq-is false e h = by-phase (λ p. outOf i r q (bqBy false (timeOf st) p) st) (bqFor i x st) refl (λ t. rw e refl) (λ t. rw e refl) (λ t. rw e refl) (λ t. rw e refl) (λ t l. refl) (λ t l. refl) (λ t n. refl) refl
+    bq-is true e h = by-phase _ refl (λ t. rw e refl) (λ t. rw (e, wait-fits (st .clock) 160 h (omega arith)) refl) (λ t. rw (e, wait-fits (st .clock) 160 h (omega arith)) refl) (λ t. rw e refl) (λ t l. refl) (λ t l. refl) (λ t n. refl) refl
+    bq-is false e h = by-phase _ refl (λ t. rw e refl) (λ t. rw e refl) (λ t. rw e refl) (λ t. rw e refl) (λ t l. refl) (λ t l. refl) (λ t n. refl) refl
 
   -- ── a call request ──
 
@@ -148,7 +125,7 @@ module _ (i : ℕ) (st : R.Station) (r q : Request) where
   -- b and c: the mode is that of the slot's own request
   pub asked-again-is : (m : Mode) → r .mode ≡ modeOf m → (s : Bool) → same q r ≡ s → (p : Phase) → wholeOf i r q (askedAgainBy m s p) st ≡ bOrC i (phaseView p r) st q
   unfolding wholeOf outOf bOrC ruleB
-  asked-again-is m e s h = by-phase (λ p. wholeOf i r q (askedAgainBy m s p) st) (λ x. bOrC i x st q) refl (λ t. rule-b-is s h) (λ t. refl) (λ t. refl) (λ t. refl) (λ t l. rule-c-is m e Unanswered l) (λ t l. rule-c-is m e (Since t) l) (λ t n. refl) refl
+  asked-again-is m e s h = by-phase _ refl (λ t. rule-b-is s h) (λ t. refl) (λ t. refl) (λ t. refl) (λ t l. rule-c-is m e Unanswered l) (λ t l. rule-c-is m e (Since t) l) (λ t n. refl) refl
 
   -- e: i is the lowest free slot; f and g: none is free
   pub offers-is : (line : ℕ) → some i ≡ lowest isFree (st .slots) → outOf i r q (newcomerBy true line) st ≡ newcomer st q

@@ -8,8 +8,8 @@ use Rattle.outcomes.proofs.calls.working_call.Reads as working-call
 use Rattle.outcomes.proofs.calls.ship_end.Reads as ship-end
 use Rattle.outcomes.proofs.calls.bq.Reads as bq
 use Rattle.outcomes.proofs.calls.main_due.Reads as main-due
-use Rattle.outcomes.proofs.asking.asked_again.Reads as asked-again
-use Rattle.outcomes.proofs.asking.newcomer.Reads as newcomer
+use Rattle.outcomes.proofs.calls.asked_again.Reads as asked-again
+use Rattle.outcomes.proofs.calls.newcomer.Reads as newcomer
 use Rattle.outcomes.proofs.parts.told_of.Reads as told-of
 use Rattle.outcomes.proofs.parts.answer_of.Reads as answer-of
 use Rattle.outcomes.proofs.parts.goes_on.Reads as goes-on

@@ -18,7 +18,8 @@ use Rattle.slots.specs.declared.Carrier.the-variants.{Present}
 use Rattle.slots.specs.declared.Phase.the-variants.{Free, Offered, RingBack, RingAgain, Dialling, Hold}
 use Rattle.requests.specs.declared.Request.{Request as Stored}
 use Rattle.slots.specs.declared.Waiting.{Waiting}
-use Rattle.slots.specs.Views.{phaseView, waitingView}
+use Rattle.slots.specs.Phases.{phaseView}
+use Rattle.slots.specs.Views.{waitingView}
 use Rattle.slots.specs.Images.{blankWaiting}
 use Rattle.outcomes.specs.declared.Talk.{Talk}
 use Rattle.outcomes.specs.declared.Talk.the-variants.{Unanswered, Since}

@@ -1,14 +1,15 @@
-// The events of a slot, each by the slot's phase; what document 01 does not name is ignored.
+// What each event does: by the slot's phase, and for a ship that stands nowhere; what document 01 does not name is ignored.
 ghost use mathlib.Core.Path.{_≡_};
-ghost use Rattle.outcomes.specs.Decides.{offHookBy, upBy, lossFrom, downBy, coastEndBy, workingBy, shipEndBy, bqBy, bySignal, takeBy, giveBackBy, byHand, mainDueBy};
+ghost use Rattle.outcomes.specs.Decides.{offHookBy, upBy, lossFrom, downBy, coastEndBy, workingBy, shipEndBy, bqBy, bySignal, takeBy, giveBackBy, byHand, mainDueBy, ruleCBy, askedAgainBy, newcomerBy};
 use crate::Outcome;
 use crate::Talk;
 use crate::parts::wait_from;
-use dues::OFFER_WAIT;
 use dues::carrier_wait;
 use requests::Mode;
 use slots::Carrier;
 use slots::Hand;
+use slots::MOST_WAITING;
+use slots::OFFER_WAIT;
 use slots::Phase;
 use slots::Signal;
 use units::Tenths;
@@ -169,4 +170,47 @@ pub fn main_due(p: Phase) -> Outcome
         Phase::Hold(_, _) => Outcome::Frees,
         _ => Outcome::Ignored,
     }
+}
+
+// c. "ignored if duplex or if its carrier is present. If simplex with carrier absent, .."
+fn rule_c(m: Mode, k: Talk, c: Carrier) -> Outcome
+    ensures { λ r. ⌜ r ≡ ruleCBy m k c ⌝ }
+{
+    match m {
+        Mode::Duplex => Outcome::Ignored,
+        Mode::Simplex => match c {
+            Carrier::Present => Outcome::Ignored,
+            Carrier::Lost(_) => Outcome::Redials(k),
+        },
+    }
+}
+
+// b or c, by the mode of the slot's own request, and whether the one asked is the same.
+pub fn asked_again(m: Mode, same: bool, p: Phase) -> Outcome
+    ensures { λ r. ⌜ r ≡ askedAgainBy m same p ⌝ }
+{
+    match p {
+        Phase::Offered(_) => if same {
+            Outcome::Repeats
+        } else {
+            Outcome::Renews
+        },
+        Phase::RingBack(_) | Phase::RingAgain(_) | Phase::Acknowledged(_) => Outcome::Renews,
+        Phase::Dialling(_, c) => rule_c(m, Talk::Unanswered, c),
+        Phase::Answered(b, c) => rule_c(m, Talk::Since(b), c),
+        _ => Outcome::Ignored,
+    }
+}
+
+// e, f or g, by whether a slot was found free, and how many wait.
+pub fn newcomer(found: bool, line: u8) -> Outcome
+    ensures { λ r. ⌜ r ≡ newcomerBy found line ⌝ }
+{
+    if found {
+        return Outcome::Offers;
+    }
+    if line < MOST_WAITING {
+        return Outcome::Joins;
+    }
+    Outcome::Unable(102)
 }

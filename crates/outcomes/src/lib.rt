@@ -1,5 +1,4 @@
 // What an event does to a station, decided by what one slot shows. No rule holds a station.
-pub mod asking;
 pub mod calls;
 pub mod parts;
 

@@ -3,33 +3,33 @@ use Prim.Native.Nat.{ℕ, zero, suc, _≤_}
 use mathlib.Core.Path.{_≡_, refl, ap}
 use mathlib.Core.Bool.{Bool, true, false, cond, _&&_}
 use mathlib.Core.List.{List, [], _∷_, map}
-use mathlib.Core.Option.{none, some}
+use mathlib.Core.Option.{Option, none, some}
 use native.Mathlib.Omega.{arith}
 use lib.ListN.{length, take, drop}
 use borrow.Author.Tests.{le-leb}
 use Rattle.units.specs.declared.Channel.{Channel}
 use Rattle.sequence.specs.Symbols.{allAtMost}
 use Rattle.rules.specs.Words.{Request, Config, Event}
-use Rattle.rules.specs.Places.{shift, lowest, all, Each}
+use Rattle.rules.specs.Places.{isSome, shift, lowest, all, Each}
 use Rattle.rules.specs.Station as R
-use Rattle.rules.specs.Station.{free, taken, pending, busy, held, offered, firstRing, secondRing, acknowledged, dialling, answered, isFree}
+use Rattle.rules.specs.Station.{isFree}
 use Rattle.rules.specs.Verdict.{verdict}
 use Rattle.rules.specs.Bytes.{padded, numberOf}
-use Rattle.rules.specs.Statement.{heldSlot, heldSlots, heldTenths}
+use Rattle.rules.specs.Statement.{heldSlots, heldTenths}
 use Rattle.rules.proofs.PlaceLaws.{and-true, shift-none}
 use Rattle.requests.specs.Views.{viewed, itself, requestOf}
 use Rattle.requests.specs.Images.{requestImage, blankRequest}
 use Rattle.slots.specs.declared.Slot.{Slot}
-use Rattle.slots.specs.declared.Phase.{Phase}
-use Rattle.slots.specs.declared.Phase.the-variants.{Free, Offered, RingBack, RingAgain, Acknowledged, Dialling, Answered, Hold, Taken}
-use Rattle.slots.specs.Views.{phaseView, slotView}
-use Rattle.slots.specs.Images.{slotImage, waitingImage, blankSlot, blankWaiting, slotImages, Short, ShortSlot, Fits}
+use Rattle.slots.specs.Phases.{keptIn}
+use Rattle.slots.specs.Views.{slotView}
+use Rattle.slots.specs.Images.{imageOr, slotImage, waitingImage, blankSlot, blankWaiting, slotImages, Short, ShortOr, ShortSlot, Fits}
+use Rattle.slots.proofs.PhaseLaws.{stored-kept, since-view}
 use Rattle.keeping.specs.Kept.{numberExact, slotExact, waitingExact}
 use Rattle.station.specs.declared.Station.{Station}
 use Rattle.station.specs.Model.{modelOf, imageOf}
 use Rattle.station.specs.Step.{recordsKeep, refusal}
 use Rattle.station.proofs.ImageLaws.{model-back, config-back}
-use Rattle.rack.specs.Statement.{heldPhase, heldOn, heldBy}
+use Rattle.rack.specs.Statement.{heldOn, heldBy}
 
 -- ── the records ──────────────────────────────────────────────────────────────
 
@@ -67,15 +67,11 @@ number-exact l h = rw (le-leb (length l) 16 h, rest-blank 16 l)
 
 slot-exact : (c : Channel) (s : R.Slot) → ShortSlot s → slotExact (slotImage c s) ≡ true
 unfolding slotExact slotImage requestImage
-slot-exact c free h = refl
-slot-exact c taken h = refl
-slot-exact c (pending offered r d) h = number-exact (r .request .number) h
-slot-exact c (pending firstRing r d) h = number-exact (r .request .number) h
-slot-exact c (pending secondRing r d) h = number-exact (r .request .number) h
-slot-exact c (pending acknowledged r d) h = number-exact (r .request .number) h
-slot-exact c (busy r (dialling d) l) h = number-exact (r .request .number) h
-slot-exact c (busy r (answered b) l) h = number-exact (r .request .number) h
-slot-exact c (held r n d) h = number-exact (r .request .number) h
+slot-exact c s h = rw (stored-kept s) (go (keptIn s) h)
+  where
+    go : (o : Option Request) → ShortOr o → cond (isSome o) (numberExact (imageOr o .number)) true ≡ true
+    go none h = refl
+    go (some r) h = number-exact (r .number) h
 
 slots-exact : (cs : List Channel) (ss : List R.Slot) → Each ShortSlot ss → all slotExact (slotImages cs ss) ≡ true
 slots-exact [] ss h = refl
@@ -111,20 +107,9 @@ module _ (c : Config) (m : R.Station) (f : Fits c m) where
 
 -- ── the tenths held ──────────────────────────────────────────────────────────
 
-phase-held : (t : ℕ) (p : Phase) (r : Request) → heldPhase t p ≡ heldSlot t (phaseView p r)
-phase-held t Free r = refl
-phase-held t (Offered d) r = refl
-phase-held t (RingBack d) r = refl
-phase-held t (RingAgain d) r = refl
-phase-held t (Acknowledged d) r = refl
-phase-held t (Dialling d l) r = refl
-phase-held t (Answered b l) r = refl
-phase-held t (Hold d n) r = refl
-phase-held t Taken r = refl
-
 slots-held : (t : ℕ) (l : List Slot) → heldOn t l ≡ heldSlots t (map slotView l)
 slots-held t [] = refl
-slots-held t (s ∷ l) = rw (phase-held t (s .phase) (requestOf (s .request)), slots-held t l)
+slots-held t (s ∷ l) = rw (since-view (s .phase) (requestOf (s .request)), slots-held t l)
 
 pub held-is : (s : Station) → heldBy s ≡ heldTenths (modelOf s)
 unfolding heldBy heldTenths modelOf viewed
@@ -132,13 +117,11 @@ held-is s = slots-held (s .clock .0) (take (s .count) (s .slots))
 
 -- ── the slots that are free ──────────────────────────────────────────────────
 
-pub none-free : (l : List Slot) → lowest isFree (map slotView l) ≡ none → Each (λ x. x .phase ≡ Free → ⊥) l
+pub none-free : (l : List Slot) → lowest isFree (map slotView l) ≡ none → Each (λ x. isFree (slotView x) ≡ false) l
 none-free [] h = tt
 none-free (x ∷ l) h = go (isFree (slotView x)) refl h (none-free l)
   where
     go : (b : Bool) → isFree (slotView x) ≡ b → cond b (some zero) (shift (lowest isFree (map slotView l))) ≡ none
-        → (lowest isFree (map slotView l) ≡ none → Each (λ x. x .phase ≡ Free → ⊥) l) → Each (λ x. x .phase ≡ Free → ⊥) (x ∷ l)
+        → (lowest isFree (map slotView l) ≡ none → Each (λ x. isFree (slotView x) ≡ false) l) → Each (λ x. isFree (slotView x) ≡ false) (x ∷ l)
     go true f h more = let q : _≡_ {A = ℕ} 0 1 = cc in absurd (omega (arith, q))
-    go false f h more =
-        let busy : x .phase ≡ Free → ⊥ = λ e. let z : true ≡ false = rw e at f in let q : _≡_ {A = ℕ} 0 1 = cc in omega (arith, q) in
-        (busy, more (shift-none (lowest isFree (map slotView l)) h))
+    go false f h more = (f, more (shift-none (lowest isFree (map slotView l)) h))

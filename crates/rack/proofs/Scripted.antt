@@ -16,7 +16,7 @@ use Rattle.station.specs.declared.Station.{Station}
 use Rattle.station.specs.Step.{channelNumber, chosen, setUpFor}
 use Rattle.rack.specs.Steps.{Step, SetUpAs, by-set-up, HandsOn, eventsIn}
 use Rattle.rack.specs.Scripts.{EveryScriptIsTraced}
-pub use Rattle.rack.proofs.Steps.{lives, lent, stepFor, step-allowed}
+use Rattle.rack.proofs.Steps.{stepFor, step-allowed}
 
 -- ── a script ─────────────────────────────────────────────────────────────────
 

@@ -1,12 +1,13 @@
 -- What a step hands back, from its contract: the refusal, or what the rules say; and that there is one for every event.
 use Prim.Native.Nat.{ℕ, _*_, _≤_}
 use mathlib.Core.Path.{_≡_, refl, sym, ap}
-use mathlib.Core.List.{List, _++_, []}
+use mathlib.Core.List.{List, [], _∷_, _++_}
 use mathlib.Core.Option.{Option, none, some}
 use native.Mathlib.Omega.{arith}
 use lib.ListN.{length, drop}
 use borrow.Author.Tests.{leb-false}
-use Rattle.rules.specs.Words.{Config, Event, Happened, lineLifted, lineHung, carrierHeard, carrierLost, handTakes, handGives, heard, signal, operator, What, tick, onChannel70, onSlot}
+use Rattle.rules.specs.Words.{Config, Event, Signal, lineLifted, lineHung, carrierHeard, carrierLost, Hand, handTakes, handGives, Happened, heard, signal, operator, What, tick, onChannel70, onSlot}
+use Rattle.rules.specs.Places.{Each}
 use Rattle.rules.specs.Station as R
 use Rattle.rules.specs.Calls.{act}
 use Rattle.rules.specs.Verdict.{verdict}
@@ -20,7 +21,7 @@ use Rattle.actions.proofs.Handed.{act-says}
 use Rattle.station.specs.declared.Stepped.{Stepped}
 use Rattle.station.specs.declared.Station.{Station}
 use Rattle.station.specs.Model.{modelOf, configOf}
-use Rattle.station.specs.Step.{refusal, steppedFor, steppedBy, roomFor, roomAfter}
+use Rattle.station.specs.Step.{eventAt, refusal, steppedFor, steppedBy, roomFor, roomAfter}
 use Rattle.station.proofs.GateLaws.{passed}
 use Rattle.station.proofs.StepLaws.{reads}
 use Rattle.rack.specs.Rooms.{actionsIn, shownIn}
@@ -60,11 +61,7 @@ abbrev pub lent : List ℕ → RefT (List ℕ)
 lent l = record { ptr = (0, 0); name = 0; now = l }
 
 -- and one for every event on every station
-
 module _ (s : Station) (room : List ℕ) (time : ℕ) where
-  abbrev eventOf : What → Event
-  eventOf w = record { time = time; room = length room; what = w }
-
   abbrev timed : Tenths
   timed = record { 0 = time }
 
@@ -73,7 +70,7 @@ module _ (s : Station) (room : List ℕ) (time : ℕ) where
   onto i l = (s, (timed, (record { 0 = i }, (lent l, tt))))
 
   abbrev pub stepFor : What → Step
-  stepFor w = stepOf (eventOf w) s room (steppedBy s (eventOf w)) (roomAfter s room (eventOf w))
+  stepFor w = stepOf (eventAt time w room) s room (steppedBy s (eventAt time w room)) (roomAfter s room (eventAt time w room))
 
   on-slot : (i : ℕ) (h : Happened) → Allowed (stepFor (onSlot i h))
   on-slot i (signal lineLifted) = by-off-hook life (onto i room) _ (onto i _) (refl, refl)
@@ -88,6 +85,23 @@ module _ (s : Station) (room : List ℕ) (time : ℕ) where
   step-allowed tick = by-tick life (s, (timed, (lent room, tt))) _ (s, (timed, (lent _, tt))) (refl, refl)
   step-allowed (onChannel70 m) = by-heard-on-channel-70 lives (s, (timed, (lent m, (lent room, tt)))) _ (s, (timed, (lent m, (lent _, tt)))) (refl, refl)
   step-allowed (onSlot i h) = on-slot i h
+
+-- every signal and either hand: what holds of each
+abbrev pub signals : List Signal
+signals = lineLifted ∷ lineHung ∷ carrierHeard ∷ carrierLost ∷ []
+
+pub every-signal : (P : Signal → Type 0) → Each P signals → (g : Signal) → P g
+every-signal P h lineLifted = h .0
+every-signal P h lineHung = h .1 .0
+every-signal P h carrierHeard = h .1 .1 .0
+every-signal P h carrierLost = h .1 .1 .1 .0
+
+abbrev pub hands : List Hand
+hands = handTakes ∷ handGives ∷ []
+
+pub every-hand : (P : Hand → Type 0) → Each P hands → (n : Hand) → P n
+every-hand P h handTakes = h .0
+every-hand P h handGives = h .1 .0
 
 -- a refusal given or none, by what the step then is
 module _ (x : Step) (d : Does x) (o : Option ℕ) (e : refusal (x .before) (x .event) ≡ o) where

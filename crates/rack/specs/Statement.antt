@@ -1,5 +1,5 @@
 -- What is claimed of every trace: the theorem on charges and what stands beside it, carried from the rules to the station as it runs.
-use Prim.Native.Nat.{ℕ, _+_, _-_, _*_, _<_}
+use Prim.Native.Nat.{ℕ, _+_, _*_, _<_}
 use mathlib.Core.Path.{_≡_}
 use mathlib.Core.Bool.{Bool, true, false, cond, _&&_}
 use mathlib.Core.List.{List, [], _∷_, _++_}
@@ -10,17 +10,18 @@ use Rattle.rules.specs.Places.{Each}
 use Rattle.rules.specs.Words.{Config, Event}
 use Rattle.rules.specs.Station as R
 use Rattle.rules.specs.Sound.{sound}
+use Rattle.rules.specs.Station.{isFree}
 use Rattle.rules.specs.Calls.{act}
 use Rattle.rules.specs.Verdict.{verdict, Entry}
 use Rattle.rules.specs.Bytes.{block, blocks, blockSize}
 use Rattle.rules.specs.Book.{blankBook}
 use Rattle.rules.specs.Reading.{stops, counted}
 use Rattle.rules.specs.Printed.{printed}
-use Rattle.rules.specs.Statement.{notes, charged, owedFor, tenthsIn, stationAfter, WordsAgree, EveryEntry}
+use Rattle.rules.specs.Statement.{notes, charged, owedFor, heldFrom, tenthsIn, stationAfter, WordsAgree, EveryEntry}
 use Rattle.rules.specs.Repeated.{Answers, RingsSame, DialsNamed, DeedByDeed}
-use Rattle.slots.specs.declared.Phase.{Phase}
-use Rattle.slots.specs.declared.Phase.the-variants.{Free, Offered, RingBack, RingAgain, Acknowledged, Dialling, Answered, Hold, Taken}
 use Rattle.slots.specs.declared.Slot.{Slot}
+use Rattle.slots.specs.Phases.{answeredSince}
+use Rattle.slots.specs.Views.{slotView}
 use Rattle.slots.specs.Images.{Fits}
 use Rattle.station.specs.declared.NextDue.{NextDue}
 use Rattle.station.specs.declared.NextDue.the-variants.{Never, At}
@@ -51,20 +52,9 @@ BlocksTell = (c : Config) (m : R.Station) (e : Event) → verdict c m e ≡ none
 -- ── the theorem on charges ───────────────────────────────────────────────────
 
 -- the calls that a station of the rack holds as answered, up to its clock
-abbrev pub heldPhase : ℕ → Phase → ℕ
-heldPhase t Free = 0
-heldPhase t (Offered d) = 0
-heldPhase t (RingBack d) = 0
-heldPhase t (RingAgain d) = 0
-heldPhase t (Acknowledged d) = 0
-heldPhase t (Dialling d l) = 0
-heldPhase t (Answered since l) = t - since .0
-heldPhase t (Hold d n) = 0
-heldPhase t Taken = 0
-
 abbrev pub heldOn : ℕ → List Slot → ℕ
 heldOn t [] = 0
-heldOn t (s ∷ ss) = heldPhase t (s .phase) + heldOn t ss
+heldOn t (s ∷ ss) = heldFrom t (answeredSince (s .phase)) + heldOn t ss
 
 unfoldable pub heldBy : Station → ℕ
 heldBy s = heldOn (s .clock .0) (take (s .count) (s .slots))
@@ -106,7 +96,7 @@ RackDialsAsked = OfEveryTrace (λ c es s. EveryEntry (DeedByDeed DialsNamed) c (
 
 -- while a ship waits no slot in use is free
 abbrev pub NoneIdle : Station → Type 0
-NoneIdle s = 0 < s .waiting → Each (λ x. x .phase ≡ Free → ⊥) (take (s .count) (s .slots))
+NoneIdle s = 0 < s .waiting → Each (λ x. isFree (slotView x) ≡ false) (take (s .count) (s .slots))
 
 unfoldable pub RackNoChannelIdle : Type 0
 RackNoChannelIdle = OfEveryTrace (λ c es s. NoneIdle s)

@@ -3,10 +3,10 @@ use Prim.Native.Nat.{ℕ}
 use mathlib.Core.Path.{_≡_}
 use mathlib.Core.List.{List, [], _∷_}
 use contract.Lifetimes.{Lfts}
-use Rattle.rules.specs.Words.{Config, heard, offHook, onHook, carrierUp, carrierDown, takes, givesBack, Event}
+use Rattle.rules.specs.Words.{Config, heard, offHook, onHook, carrierUp, carrierDown, takes, givesBack, tick, onChannel70, Event}
 use Rattle.station.specs.declared.Station.{Station}
 use Rattle.station.specs.declared.Stepped.{Stepped}
-use Rattle.station.specs.Step.{tickAt, channel70At, slotAt, chosen}
+use Rattle.station.specs.Step.{eventAt, slotAt, chosen}
 use Rattle.station.proofs.Station.set_up.Reads as set-up
 use Rattle.station.proofs.Station.heard_on_channel_70.Reads as heard-on-channel-70
 use Rattle.station.proofs.Station.heard_on_slot.Reads as heard-on-slot
@@ -16,7 +16,7 @@ use Rattle.station.proofs.Station.carrier_up.Reads as carrier-up
 use Rattle.station.proofs.Station.carrier_down.Reads as carrier-down
 use Rattle.station.proofs.Station.take.Reads as take-slot
 use Rattle.station.proofs.Station.give_back.Reads as give-back
-use Rattle.station.proofs.Station.tick.Reads as tick
+use Rattle.station.proofs.Station.tick.Reads as on-tick
 
 -- what came in, and what was handed back
 pub record Step : Type 0 where
@@ -32,23 +32,23 @@ stepOf event before lent back left = record { event = event; before = before; le
 -- a method's contract allows it: `a` are the arguments, `r` is the result, `s` the parameters at exit
 pub data Allowed : Step → Type 0 where
   by-heard-on-channel-70 : (κs : Lfts 2) (a : _) (r : _) (s : _) → heard-on-channel-70.Post κs a r s
-      → Allowed (stepOf (channel70At (a .1 .0) (a .1 .1 .0 .now) (a .1 .1 .1 .0 .now)) (a .0) (a .1 .1 .1 .0 .now) r (s .1 .1 .1 .0 .now))
+      → Allowed (stepOf (eventAt (a .1 .0 .0) (onChannel70 (a .1 .1 .0 .now)) (a .1 .1 .1 .0 .now)) (a .0) (a .1 .1 .1 .0 .now) r (s .1 .1 .1 .0 .now))
   by-heard-on-slot : (κs : Lfts 2) (a : _) (r : _) (s : _) → heard-on-slot.Post κs a r s
-      → Allowed (stepOf (slotAt (a .1 .0) (a .1 .1 .0) (heard (a .1 .1 .1 .0 .now)) (a .1 .1 .1 .1 .0 .now)) (a .0) (a .1 .1 .1 .1 .0 .now) r (s .1 .1 .1 .1 .0 .now))
+      → Allowed (stepOf (slotAt (a .1 .0 .0) (a .1 .1 .0 .0) (heard (a .1 .1 .1 .0 .now)) (a .1 .1 .1 .1 .0 .now)) (a .0) (a .1 .1 .1 .1 .0 .now) r (s .1 .1 .1 .1 .0 .now))
   by-off-hook : (κs : Lfts 1) (a : _) (r : _) (s : _) → off-hook.Post κs a r s
-      → Allowed (stepOf (slotAt (a .1 .0) (a .1 .1 .0) offHook (a .1 .1 .1 .0 .now)) (a .0) (a .1 .1 .1 .0 .now) r (s .1 .1 .1 .0 .now))
+      → Allowed (stepOf (slotAt (a .1 .0 .0) (a .1 .1 .0 .0) offHook (a .1 .1 .1 .0 .now)) (a .0) (a .1 .1 .1 .0 .now) r (s .1 .1 .1 .0 .now))
   by-on-hook : (κs : Lfts 1) (a : _) (r : _) (s : _) → on-hook.Post κs a r s
-      → Allowed (stepOf (slotAt (a .1 .0) (a .1 .1 .0) onHook (a .1 .1 .1 .0 .now)) (a .0) (a .1 .1 .1 .0 .now) r (s .1 .1 .1 .0 .now))
+      → Allowed (stepOf (slotAt (a .1 .0 .0) (a .1 .1 .0 .0) onHook (a .1 .1 .1 .0 .now)) (a .0) (a .1 .1 .1 .0 .now) r (s .1 .1 .1 .0 .now))
   by-carrier-up : (κs : Lfts 1) (a : _) (r : _) (s : _) → carrier-up.Post κs a r s
-      → Allowed (stepOf (slotAt (a .1 .0) (a .1 .1 .0) carrierUp (a .1 .1 .1 .0 .now)) (a .0) (a .1 .1 .1 .0 .now) r (s .1 .1 .1 .0 .now))
+      → Allowed (stepOf (slotAt (a .1 .0 .0) (a .1 .1 .0 .0) carrierUp (a .1 .1 .1 .0 .now)) (a .0) (a .1 .1 .1 .0 .now) r (s .1 .1 .1 .0 .now))
   by-carrier-down : (κs : Lfts 1) (a : _) (r : _) (s : _) → carrier-down.Post κs a r s
-      → Allowed (stepOf (slotAt (a .1 .0) (a .1 .1 .0) carrierDown (a .1 .1 .1 .0 .now)) (a .0) (a .1 .1 .1 .0 .now) r (s .1 .1 .1 .0 .now))
+      → Allowed (stepOf (slotAt (a .1 .0 .0) (a .1 .1 .0 .0) carrierDown (a .1 .1 .1 .0 .now)) (a .0) (a .1 .1 .1 .0 .now) r (s .1 .1 .1 .0 .now))
   by-take-slot : (κs : Lfts 1) (a : _) (r : _) (s : _) → take-slot.Post κs a r s
-      → Allowed (stepOf (slotAt (a .1 .0) (a .1 .1 .0) takes (a .1 .1 .1 .0 .now)) (a .0) (a .1 .1 .1 .0 .now) r (s .1 .1 .1 .0 .now))
+      → Allowed (stepOf (slotAt (a .1 .0 .0) (a .1 .1 .0 .0) takes (a .1 .1 .1 .0 .now)) (a .0) (a .1 .1 .1 .0 .now) r (s .1 .1 .1 .0 .now))
   by-give-back : (κs : Lfts 1) (a : _) (r : _) (s : _) → give-back.Post κs a r s
-      → Allowed (stepOf (slotAt (a .1 .0) (a .1 .1 .0) givesBack (a .1 .1 .1 .0 .now)) (a .0) (a .1 .1 .1 .0 .now) r (s .1 .1 .1 .0 .now))
-  by-tick : (κs : Lfts 1) (a : _) (r : _) (s : _) → tick.Post κs a r s
-      → Allowed (stepOf (tickAt (a .1 .0) (a .1 .1 .0 .now)) (a .0) (a .1 .1 .0 .now) r (s .1 .1 .0 .now))
+      → Allowed (stepOf (slotAt (a .1 .0 .0) (a .1 .1 .0 .0) givesBack (a .1 .1 .1 .0 .now)) (a .0) (a .1 .1 .1 .0 .now) r (s .1 .1 .1 .0 .now))
+  by-tick : (κs : Lfts 1) (a : _) (r : _) (s : _) → on-tick.Post κs a r s
+      → Allowed (stepOf (eventAt (a .1 .0 .0) tick (a .1 .1 .0 .now)) (a .0) (a .1 .1 .0 .now) r (s .1 .1 .0 .now))
 
 -- what set-up handed back with the answer 0, for an identity and a channel list
 pub data SetUpAs : Config → Station → Type 0 where

@@ -12,19 +12,19 @@ use Rattle.units.specs.declared.Channel.{Channel}
 use Rattle.sequence.proofs.Paste.{front-turn}
 use Rattle.sequence.proofs.Tests.{both-true}
 use Rattle.rules.specs.Places.{all}
-use Rattle.rules.specs.Words.{lineLifted, lineHung, carrierHeard, carrierLost, handTakes, handGives, heard, signal, operator, What, tick, onChannel70, onSlot}
 use Rattle.rules.specs.Bytes.{padded}
 use Rattle.requests.proofs.ArrayLaws.{padded-front}
-use Rattle.lines.specs.declared.Kind.{Kind}
-use Rattle.lines.specs.declared.Line.{Line}
-use Rattle.lines.specs.Lines.{Said, setsUp, happens, whatLetter, numbersOf, isSymbol, isNumber, inRange}
-use Rattle.lines.specs.Readable.{kindOf, lineImage}
+use Rattle.lines.specs.declared.Form.{Form}
+use Rattle.lines.specs.declared.Form.the-variants.{Symbols, SlotSymbols, Signalled, Operated, Alone}
+use Rattle.lines.specs.Lines.{Said, setsUp, happens, formWhat, kindOf, numbersOf, setUpSaid, isSymbol, isNumber, inRange}
+use Rattle.lines.specs.Readable.{lineImage}
+use Rattle.lines.proofs.SaidLaws.{names-form, by-form}
 use Rattle.station.specs.declared.Station.{Station}
 use Rattle.station.specs.declared.SetUp.{SetUp}
-use Rattle.station.specs.Step.{chosen, sixteenOf, setUpOf, setUpBy}
+use Rattle.station.specs.Step.{given, chosen, sixteenOf, setUpOf, setUpBy}
 use Rattle.station.proofs.SetLaws.{set-up-numbers}
-use Rattle.script.specs.Answering.{desk, unchanged, afterSetUp, eventAt, handledFor, blocksFor}
-use Rattle.script.specs.Lining.{byteOf, part, kindWhat, isUnreadable, isSetUp, lineEvent, lineHandled, lineBlocks}
+use Rattle.script.specs.Answering.{desk, unchanged, afterSetUp}
+use Rattle.script.specs.Lining.{byteOf, part, lineWhat, lineSaid}
 
 -- ── the list behind the first numbers ────────────────────────────────────────
 
@@ -72,64 +72,51 @@ symbols-second x y l h e =
 
 -- ── what is said ─────────────────────────────────────────────────────────────
 
-event-as : (time : ℕ) (what : What) (room : List ℕ) → length (numbersOf (happens time what)) ≤ 99 → inRange (happens time what) ≡ true
-    → lineEvent (lineImage (some (happens time what))) room ≡ eventAt time what room
-unfolding lineEvent kindOf padded inRange
-event-as time tick room h e = refl
-event-as time (onChannel70 symbols) room h e =
-    let s = both-true (isNumber time) (all isSymbol symbols) e .1 in
-    ap (λ l. eventAt time (onChannel70 l) room) (symbols-first time symbols (omega arith) s)
-event-as time (onSlot i (heard symbols)) room h e =
-    let s = both-true (isNumber i) (all isSymbol symbols) (both-true (isNumber time) _ e .1) .1 in
-    ap (λ l. eventAt time (onSlot i (heard l)) room) (symbols-second time i symbols (omega arith) s)
-event-as time (onSlot i (signal lineLifted)) room h e = refl
-event-as time (onSlot i (signal lineHung)) room h e = refl
-event-as time (onSlot i (signal carrierHeard)) room h e = refl
-event-as time (onSlot i (signal carrierLost)) room h e = refl
-event-as time (onSlot i (operator handTakes)) room h e = refl
-event-as time (onSlot i (operator handGives)) room h e = refl
+module _ (time : ℕ) where
+  what-back : (f : Form) (slot : ℕ) (symbols : List ℕ) → length (numbersOf (happens time (formWhat f slot symbols))) ≤ 99
+      → inRange (happens time (formWhat f slot symbols)) ≡ true → lineWhat f (lineImage (some (happens time (formWhat f slot symbols)))) ≡ formWhat f slot symbols
+  unfolding padded inRange
+  what-back Symbols slot symbols h e =
+      let s = both-true (isNumber time) (all isSymbol symbols) e .1 in
+      ap (formWhat Symbols slot) (symbols-first time symbols (omega arith) s)
+  what-back SlotSymbols slot symbols h e =
+      let s = both-true (isNumber slot) (all isSymbol symbols) (both-true (isNumber time) _ e .1) .1 in
+      ap (formWhat SlotSymbols slot) (symbols-second time slot symbols (omega arith) s)
+  what-back (Signalled g) slot symbols h e = refl
+  what-back (Operated o) slot symbols h e = refl
+  what-back Alone slot symbols h e = refl
 
-an-event : (what : What) → (isUnreadable (kindOf (whatLetter what)) ≡ false) × (isSetUp (kindOf (whatLetter what)) ≡ false)
-unfolding kindOf
-an-event tick = (refl, refl)
-an-event (onChannel70 symbols) = (refl, refl)
-an-event (onSlot i (heard symbols)) = (refl, refl)
-an-event (onSlot i (signal lineLifted)) = (refl, refl)
-an-event (onSlot i (signal lineHung)) = (refl, refl)
-an-event (onSlot i (signal carrierHeard)) = (refl, refl)
-an-event (onSlot i (signal carrierLost)) = (refl, refl)
-an-event (onSlot i (operator handTakes)) = (refl, refl)
-an-event (onSlot i (operator handGives)) = (refl, refl)
+  form-back : (f : Form) (slot : ℕ) (symbols : List ℕ) → length (numbersOf (happens time (formWhat f slot symbols))) ≤ 99
+      → inRange (happens time (formWhat f slot symbols)) ≡ true
+      → lineSaid (lineImage (some (happens time (formWhat f slot symbols)))) ≡ some (happens time (formWhat f slot symbols))
+  unfolding lineSaid padded
+  form-back f slot symbols h e = rw (names-form f slot symbols) (ap (λ w. some (happens time w)) (what-back f slot symbols h e))
+
+set-up-back : (n : ℕ) (l : List ℕ) → length (numbersOf (setUpSaid n l)) ≤ 99 → lineSaid (lineImage (some (setUpSaid n l))) ≡ some (setUpSaid n l)
+unfolding lineSaid kindOf padded
+set-up-back n l h = ap (λ r. some (setUpSaid n r)) (behind-first n l (omega arith))
 
 -- what an unreadable line says is in range too
 abbrev pub inRangeOf : Option Said → Bool
 inRangeOf none = true
 inRangeOf (some said) = inRange said
 
-module _ (stands : Bool) (station : Station) (room : List ℕ) where
-  pub handled-as : (o : Option Said) → lineImage o .count ≤ 99 → inRangeOf o ≡ true → lineHandled stands station (lineImage o) room ≡ handledFor (desk stands station) room o
-  unfolding lineHandled kindOf padded
-  handled-as none h e = refl
-  handled-as (some (setsUp identity channels)) h e = rw (behind-first identity channels (omega arith))
-  handled-as (some (happens time what)) h e =
-      rw (an-event what .0, an-event what .1, event-as time what room h e)
+pub said-back : (o : Option Said) → lineImage o .count ≤ 99 → inRangeOf o ≡ true → lineSaid (lineImage o) ≡ o
+unfolding lineSaid
+said-back none h e = refl
+said-back (some (setsUp a)) h e = set-up-back _ _ h
+said-back (some (happens time what)) h e =
+    by-form
+    (λ w. length (numbersOf (happens time w)) ≤ 99 → inRange (happens time w) ≡ true → lineSaid (lineImage (some (happens time w))) ≡ some (happens time w))
+    (form-back time)
+    what h e
 
-  pub blocks-as : (o : Option Said) → lineImage o .count ≤ 99 → inRangeOf o ≡ true → lineBlocks stands station (lineImage o) room ≡ blocksFor (desk stands station) room o
-  unfolding lineBlocks kindOf
-  blocks-as none h e = refl
-  blocks-as (some (setsUp identity channels)) h e = refl
-  blocks-as (some (happens time what)) h e =
-      rw (an-event what .0, an-event what .1, event-as time what room h e)
+-- ── a set-up ─────────────────────────────────────────────────────────────────
 
--- ── of a kind ────────────────────────────────────────────────────────────────
-
-pub event-by : (k : Kind) (line : Line) (room : List ℕ) → line .kind ≡ k → lineEvent line room ≡ eventAt (getD (line .numbers) 0 0) (kindWhat k line) room
-unfolding lineEvent
-event-by k line room e = ap (λ x. eventAt (getD (line .numbers) 0 0) (kindWhat x line) room) e
-
--- the numbers behind the identity, as channels
+-- the numbers behind the first, as channels
 pub channels-as : (l : List ℕ) (f k : ℕ) (a : List Channel) → f ≡ min 1 k → a ≡ sixteenOf (take (k - f) (drop f l))
-    → setUpOf (chosen (getD l 0 0) a (length (take (k - f) (drop f l)))) ≡ setUpBy (getD l 0 0) (part 1 k l)
+    → setUpOf (chosen (getD l 0 0) a (length (take (k - f) (drop f l)))) ≡ setUpOf (given (getD l 0 0) (part 1 k l))
+unfolding setUpBy
 channels-as l f k a e g =
     let ns = take (k - f) (drop f l) in
     let u : setUpOf (chosen (getD l 0 0) a (length ns)) ≡ setUpBy (getD l 0 0) ns = rw g (set-up-numbers (getD l 0 0) ns _ refl) in

@@ -22,24 +22,23 @@ use Rattle.rules.proofs.Eight.{at-most-eight}
 use Rattle.rules.proofs.Kept.{stays-sound, always-sound}
 use Rattle.slots.specs.Images.{Fits}
 use Rattle.soundness.proofs.FitLaws.{sound-fits}
-use Rattle.lines.specs.Lines.{Said, setsUp, happens}
+use Rattle.lines.specs.Lines.{Asked, Said, setsUp, happens}
 use Rattle.lines.specs.Readable.{readsAs}
 use Rattle.station.specs.declared.Station.{Station}
 use Rattle.station.specs.declared.NextDue.the-variants.{Never}
 use Rattle.station.specs.Model.{modelOf, imageOf}
-use Rattle.station.specs.Step.{dueImage, given, setUpFor, setUpBy}
+use Rattle.station.specs.Step.{dueImage, setUpFor}
 use Rattle.station.proofs.ImageLaws.{model-back}
 use Rattle.rack.specs.Steps.{Step, Allowed}
 use Rattle.rack.proofs.Laid.{refusal-is}
-use Rattle.rack.proofs.Steps.{allowed-does, left-for}
+use Rattle.rack.proofs.Steps.{allowed-does, left-for, stepFor, step-allowed}
 use Rattle.rack.proofs.Traces.{done-back, done-left, refused-back}
-use Rattle.rack.proofs.Scripted.{stepFor, step-allowed}
 use Rattle.printing.specs.Replies.{actionTexts, replyText}
 use Rattle.printing.specs.Statement.{linesText}
 use Rattle.printing.proofs.PrintedLaws.{first-is, reply-is}
 use Rattle.script.specs.declared.Desk.{Desk}
 use Rattle.script.specs.declared.Handled.{Handled}
-use Rattle.script.specs.Answering.{desk, unchanged, afterSetUp, handledFor, shownFor, noBlocks, deskAfter, replyTo}
+use Rattle.script.specs.Answering.{desk, unchanged, afterSetUp, askedFor, handledFor, shownFor, noBlocks, deskAfter, replyTo}
 use Rattle.script.specs.Session.{begun}
 use Rattle.script.specs.Transcript.{talk, transcript}
 use Rattle.script.specs.Printed.{saidIn, eventOf, nothingBut, outOf, printedOn, noStation, printedFrom, TranscriptIsPrinted, saysEvent, RoomNeeded, EventsArePrinted}
@@ -131,7 +130,7 @@ module _ (c : Config) (m : R.Station) (good : sound c m ≡ true) (time : ℕ) (
 comes : (c : Config) (m : R.Station) → sound c m ≡ true → (said : Option Said) → Comes c m said
 unfolding replyTo deskAfter
 comes c m good none = record { reply = only c m good 40; after = refl; sounds = good }
-comes c m good (some (setsUp identity channels)) = record { reply = only c m good 41; after = refl; sounds = good }
+comes c m good (some (setsUp a)) = record { reply = only c m good 41; after = refl; sounds = good }
 comes c m good (some (happens time what)) = event-comes c m good time what
 
 on-station : (said : List (Option Said)) (c : Config) (m : R.Station) → sound c m ≡ true → answers (desk true (imageOf c m)) said ≡ flatMap linesText (printedOn c m said)
@@ -169,17 +168,16 @@ module _ (s : Station) where
   unfolding replyTo deskAfter
   early time what = (without 41, refl)
 
-  module _ (identity : ℕ) (channels : List ℕ) where
+  module _ (a : Asked) where
     abbrev asked : Config
-    asked = given identity channels
+    asked = askedFor a
 
-    handled : (o : Option ℕ) → setUpVerdict asked ≡ o → handledFor (desk false s) noBlocks (some (setsUp identity channels)) ≡ afterSetUp (desk false s) (setUpFor asked o)
-    unfolding setUpBy
+    handled : (o : Option ℕ) → setUpVerdict asked ≡ o → handledFor (desk false s) noBlocks (some (setsUp a)) ≡ afterSetUp (desk false s) (setUpFor asked o)
     handled o v = ap (λ (x : Option ℕ). afterSetUp (desk false s) (setUpFor asked x)) v
 
     set-up : setUpVerdict asked ≡ none
-        → (replyTo (desk false s) (some (setsUp identity channels)) ≡ linesText (lines asked (done (fresh asked))))
-        × (deskAfter (desk false s) (some (setsUp identity channels)) ≡ desk true (imageOf asked (fresh asked)))
+        → (replyTo (desk false s) (some (setsUp a)) ≡ linesText (lines asked (done (fresh asked))))
+        × (deskAfter (desk false s) (some (setsUp a)) ≡ desk true (imageOf asked (fresh asked)))
     unfolding replyTo deskAfter
     set-up v = (
       ap (λ (h : Handled). shownFor h noBlocks) (handled none v) ∙ only asked (fresh asked) (fresh-sound asked v) 0,
@@ -187,12 +185,12 @@ module _ (s : Station) where
     )
 
     not-set-up : (n : ℕ) → setUpVerdict asked ≡ some n
-        → (replyTo (desk false s) (some (setsUp identity channels)) ≡ linesText (noStation n))
-        × (deskAfter (desk false s) (some (setsUp identity channels)) ≡ desk false s)
+        → (replyTo (desk false s) (some (setsUp a)) ≡ linesText (noStation n))
+        × (deskAfter (desk false s) (some (setsUp a)) ≡ desk false s)
     unfolding replyTo deskAfter
     not-set-up n v =
         let z : eqb n 0 ≡ false = rw (refused-36 asked n v) refl in
-        let same : handledFor (desk false s) noBlocks (some (setsUp identity channels)) ≡ unchanged (desk false s) n = handled (some n) v ∙ rw z refl in
+        let same : handledFor (desk false s) noBlocks (some (setsUp a)) ≡ unchanged (desk false s) n = handled (some n) v ∙ rw z refl in
         (ap (λ (h : Handled). shownFor h noBlocks) same ∙ without n, ap (λ (h : Handled). h .desk) same)
 
 from-begin : (said : List (Option Said)) (s : Station) → answers (desk false s) said ≡ flatMap linesText (printedFrom said)
@@ -200,15 +198,15 @@ unfolding answers printedFrom flatMap
 from-begin [] s = refl
 from-begin (none ∷ more) s = rw (unread s .0, unread s .1, from-begin more s)
 from-begin (some (happens time what) ∷ more) s = rw (early s time what .0, early s time what .1, from-begin more s)
-from-begin (some (setsUp identity channels) ∷ more) s = go (setUpVerdict (given identity channels)) refl (from-begin more s)
+from-begin (some (setsUp a) ∷ more) s = go (setUpVerdict (askedFor a)) refl (from-begin more s)
   where
-    go : (o : Option ℕ) → setUpVerdict (given identity channels) ≡ o → answers (desk false s) more ≡ flatMap linesText (printedFrom more)
-        → answers (desk false s) (some (setsUp identity channels) ∷ more) ≡ flatMap linesText (printedFrom (some (setsUp identity channels) ∷ more))
+    go : (o : Option ℕ) → setUpVerdict (askedFor a) ≡ o → answers (desk false s) more ≡ flatMap linesText (printedFrom more)
+        → answers (desk false s) (some (setsUp a) ∷ more) ≡ flatMap linesText (printedFrom (some (setsUp a) ∷ more))
     go none v later =
-        let c = given identity channels in
-        let x = set-up s identity channels v in
+        let c = askedFor a in
+        let x = set-up s a v in
         rw (v, x .0, x .1, on-station more c (fresh c) (fresh-sound c v))
-    go (some n) v later = let x = not-set-up s identity channels n v in rw (v, x .0, x .1, later)
+    go (some n) v later = let x = not-set-up s a n v in rw (v, x .0, x .1, later)
 
 -- ── the whole ────────────────────────────────────────────────────────────────
 
@@ -225,6 +223,6 @@ as-printed c (e ∷ es) st h =
 
 pub events-are-printed : EventsArePrinted
 unfolding EventsArePrinted TranscriptIsPrinted printedFrom flatMap
-events-are-printed script identity channels es h v said =
-    let c = given identity channels in
+events-are-printed script a es h v said =
+    let c = askedFor a in
     transcript-is-printed script ∙ (rw (said, v, as-printed c es (fresh c) h))

@@ -17,24 +17,21 @@ use Rattle.script.specs.declared.Handled.{Handled}
 use Rattle.script.specs.declared.Session.{Session}
 use Rattle.script.specs.declared.Text.{Text}
 use Rattle.script.specs.Answering.{desk, handledFor, blocksFor, clockOf, dueOf, noBlocks, deskAfter, replyTo}
-use Rattle.script.specs.Lining.{lineHandled, lineBlocks}
+use Rattle.script.specs.Lining.{lineSaid}
 use Rattle.script.specs.Session.{noText, addBytes, saysText, beforeFeed, untaken, answered, fedWith, roomWith, ended, roomEnded}
-use Rattle.script.proofs.LineLaws.{handled-as, blocks-as}
+use Rattle.script.proofs.LineLaws.{said-back}
 use Rattle.script.proofs.TextLaws.{says-in-range}
 
 module _ (stands : Bool) (station : Station) (text : Text) (line : Line) (l : line ≡ lineImage (saysText text)) (few : line .count ≤ 99) where
-  handled : lineHandled stands station line noBlocks ≡ handledFor (desk stands station) noBlocks (saysText text)
-  handled = ap (λ x. lineHandled stands station x noBlocks) l ∙ handled-as stands station noBlocks (saysText text) (rw l at few) (says-in-range text)
+  said-as : lineSaid line ≡ saysText text
+  said-as = ap lineSaid l ∙ said-back (saysText text) (rw l at few) (says-in-range text)
 
-  blocked : lineBlocks stands station line noBlocks ≡ blocksFor (desk stands station) noBlocks (saysText text)
-  blocked = ap (λ x. lineBlocks stands station x noBlocks) l ∙ blocks-as stands station noBlocks (saysText text) (rw l at few) (says-in-range text)
-
-  module _ (h : Handled) (blocks : List ℕ) (clock : Tenths) (due : NextDue) (hh : h ≡ lineHandled stands station line noBlocks)
-      (bb : blocks ≡ lineBlocks stands station line noBlocks) (cc′ : clock ≡ clockOf (desk (h .desk .stands) (h .desk .station)))
+  module _ (h : Handled) (blocks : List ℕ) (clock : Tenths) (due : NextDue) (hh : h ≡ handledFor (desk stands station) noBlocks (lineSaid line))
+      (bb : blocks ≡ blocksFor (desk stands station) noBlocks (lineSaid line)) (cc′ : clock ≡ clockOf (desk (h .desk .stands) (h .desk .station)))
       (dd : due ≡ dueOf (desk (h .desk .stands) (h .desk .station))) where
     shown : replyText (h .answer) (clock .0) (h .count) due blocks ≡ replyTo (desk stands station) (saysText text)
     unfolding replyTo
-    shown = rw (cc′, dd, bb, hh, handled, blocked)
+    shown = rw (cc′, dd, bb, hh, said-as)
 
     pub answer-as : (used count : ℕ) (t : Text) (out out′ : List ℕ) → t ≡ noText
         → count ≡ putLength out (replyText (h .answer) (clock .0) (h .count) due blocks)
@@ -43,7 +40,7 @@ module _ (stands : Bool) (station : Station) (text : Text) (line : Line) (l : li
         × (out′ ≡ putText out (replyTo (desk stands station) (saysText text)))
     unfolding deskAfter
     answer-as used count t out out′ te ke oe =
-        (rw (ke, shown, te, hh, handled), oe ∙ ap (putText out) shown)
+        (rw (ke, shown, te, hh, said-as), oe ∙ ap (putText out) shown)
 
 module _ (s : Session) (bytes out : List ℕ) where
   pub no-room : length out < 4096 → (untaken s ≡ fedWith s bytes out) × (out ≡ roomWith s bytes out)

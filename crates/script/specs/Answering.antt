@@ -5,19 +5,19 @@ use mathlib.Core.Option.{Option, none, some}
 use Prim.Native.Nat.{ℕ}
 use lib.Dec.{eqb}
 use lib.ListN.{length, replicate}
-use Rattle.rules.specs.Words.{What, Event}
+use Rattle.rules.specs.Words.{Config, What, Event}
 use Rattle.rules.specs.Station.{nextDue}
 use Rattle.rules.specs.Verdict.{roomNeeded}
 use Rattle.slots.specs.Images.{tenths}
 use Rattle.units.specs.declared.Tenths.{Tenths}
-use Rattle.lines.specs.Lines.{Said, setsUp, happens}
+use Rattle.lines.specs.Lines.{Asked, Said, setsUp, happens}
 use Rattle.station.specs.declared.NextDue.{NextDue}
 use Rattle.station.specs.declared.NextDue.the-variants.{Never}
 use Rattle.station.specs.declared.SetUp.{SetUp}
 use Rattle.station.specs.declared.Stepped.{Stepped}
 use Rattle.station.specs.declared.Station.{Station}
 use Rattle.station.specs.Model.{modelOf}
-use Rattle.station.specs.Step.{dueImage, steppedBy, roomAfter, setUpBy}
+use Rattle.station.specs.Step.{dueImage, steppedBy, roomAfter, given, setUpOf}
 use Rattle.printing.specs.Replies.{replyText}
 use Rattle.script.specs.declared.Desk.{Desk}
 use Rattle.script.specs.declared.Handled.{Handled}
@@ -37,19 +37,23 @@ afterSetUp d u = cond (eqb (u .answer) 0) (record { answer = 0; count = 0; desk 
 abbrev pub afterEvent : Stepped → Handled
 afterEvent s = record { answer = s .answer; count = s .count; desk = desk true (s .station) }
 
+-- what a set-up asks for, in the words of the rules
+abbrev pub askedFor : Asked → Config
+askedFor a = given (a .identity) (a .channels)
+
 abbrev pub eventAt : ℕ → What → List ℕ → Event
 eventAt time what room = record { time = time; room = length room; what = what }
 
 abbrev pub handledFor : Desk → List ℕ → Option Said → Handled
 handledFor d room none = unchanged d 40
-handledFor d room (some (setsUp identity channels)) = cond (d .stands) (unchanged d 41) (afterSetUp d (setUpBy identity channels))
+handledFor d room (some (setsUp a)) = cond (d .stands) (unchanged d 41) (afterSetUp d (setUpOf (askedFor a)))
 handledFor d room (some (happens time what)) = cond (d .stands) (afterEvent (steppedBy (d .station) (eventAt time what room))) (unchanged d 41)
 
 -- ── the actions ──────────────────────────────────────────────────────────────
 
 abbrev pub blocksFor : Desk → List ℕ → Option Said → List ℕ
 blocksFor d room none = room
-blocksFor d room (some (setsUp identity channels)) = room
+blocksFor d room (some (setsUp a)) = room
 blocksFor d room (some (happens time what)) = cond (d .stands) (roomAfter (d .station) room (eventAt time what room)) room
 
 -- ── what is printed ──────────────────────────────────────────────────────────

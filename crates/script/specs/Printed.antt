@@ -11,10 +11,10 @@ use Rattle.rules.specs.Station.{Station, fresh}
 use Rattle.rules.specs.Requests.{Out, done}
 use Rattle.rules.specs.Verdict.{setUpVerdict, roomNeeded, step}
 use Rattle.rules.specs.Printed.{lines, printed}
-use Rattle.lines.specs.Lines.{Said, setsUp, happens}
+use Rattle.lines.specs.Lines.{Asked, Said, setsUp, happens}
 use Rattle.lines.specs.Readable.{readsAs}
-use Rattle.station.specs.Step.{given}
 use Rattle.printing.specs.Statement.{linesText}
+use Rattle.script.specs.Answering.{askedFor}
 use Rattle.script.specs.Transcript.{transcript}
 
 -- ── the lines of a script, and what each says ────────────────────────────────
@@ -41,7 +41,7 @@ nothingBut answer st = record { answer = answer; next = st; acts = [] }
 -- a line where a station stands: "40, tested first"; "an S when one stands: 41"; or an event
 abbrev pub outOf : Config → Station → Option Said → Out
 outOf c st none = nothingBut 40 st
-outOf c st (some (setsUp identity channels)) = nothingBut 41 st
+outOf c st (some (setsUp a)) = nothingBut 41 st
 outOf c st (some (happens time what)) = step c st (eventOf time what)
 
 unfoldable pub printedOn : Config → Station → List (Option Said) → List (List (List ℕ))
@@ -62,8 +62,7 @@ unfoldable pub printedFrom : List (Option Said) → List (List (List ℕ))
 printedFrom [] = []
 printedFrom (none ∷ more) = noStation 40 ∷ printedFrom more
 printedFrom (some (happens time what) ∷ more) = noStation 41 ∷ printedFrom more
-printedFrom (some (setsUp identity channels) ∷ more) =
-    printedAfter (given identity channels) more (printedFrom more) (setUpVerdict (given identity channels))
+printedFrom (some (setsUp a) ∷ more) = printedAfter (askedFor a) more (printedFrom more) (setUpVerdict (askedFor a))
 
 -- ── what is claimed ──────────────────────────────────────────────────────────
 
@@ -79,8 +78,7 @@ abbrev pub RoomNeeded : Event → Type 0
 RoomNeeded e = e .room ≡ roomNeeded
 
 unfoldable pub EventsArePrinted : Type 0
-EventsArePrinted = (script : List ℕ) (identity : ℕ) (channels : List ℕ) (es : List Event) → Each RoomNeeded es
-    → setUpVerdict (given identity channels) ≡ none → saidIn [] script ≡ some (setsUp identity channels) ∷ map saysEvent es
+EventsArePrinted = (script : List ℕ) (a : Asked) (es : List Event) → Each RoomNeeded es
+    → setUpVerdict (askedFor a) ≡ none → saidIn [] script ≡ some (setsUp a) ∷ map saysEvent es
     → transcript script
-    ≡ linesText (lines (given identity channels) (done (fresh (given identity channels))))
-    ++ flatMap linesText (printed (given identity channels) es (fresh (given identity channels)))
+    ≡ linesText (lines (askedFor a) (done (fresh (askedFor a)))) ++ flatMap linesText (printed (askedFor a) es (fresh (askedFor a)))

@@ -4,12 +4,13 @@ ghost use mathlib.Core.Path.{_≡_};
 ghost use mathlib.Core.List.{map};
 ghost use Prim.Native.Nat.{_≤_, min};
 ghost use lib.ListN.{getD};
-ghost use Rattle.rules.specs.Words.{heard, onChannel70, onSlot};
-ghost use Rattle.station.specs.Step.{sixteenOf, steppedBy, roomAfter, setUpBy};
-ghost use Rattle.script.specs.Answering.{desk, unchanged, afterSetUp, eventAt, clockOf, dueOf};
-ghost use Rattle.script.specs.Lining.{byteOf, part, symbolsFrom, isUnreadable, isSetUp, lineEvent, lineHandled, lineBlocks};
+ghost use Rattle.lines.specs.declared.Form.the-variants.{Symbols, SlotSymbols};
+ghost use Rattle.station.specs.Step.{sixteenOf, steppedBy, roomAfter, given, setUpOf};
+ghost use Rattle.script.specs.Answering.{desk, unchanged, afterSetUp, handledFor, blocksFor, clockOf, dueOf};
+ghost use Rattle.script.specs.Lining.{byteOf, part, lineEvent, lineSaid};
 use crate::Desk;
 use crate::Handled;
+use lines::Form;
 use lines::Kind;
 use lines::Line;
 use slots::SLOTS;
@@ -39,10 +40,11 @@ fn least_of(a: usize, b: usize) -> usize
     if a < b { a } else { b }
 }
 
-fn on_channel_70(station: Station, line: Line, room: &mut [u8]) -> Stepped
+// A time and symbols.
+fn with_symbols(station: Station, line: Line, room: &mut [u8]) -> Stepped
     requires { ⌜ line .count ≤ 99 ⌝ }
-    ensures { λ r. ⌜ r ≡ steppedBy station (eventAt (getD (line .numbers) 0 0) (onChannel70 (symbolsFrom 1 line)) (now (room .entry))) ⌝ }
-    ensures { λ _. ⌜ now (room .exit) ≡ roomAfter station (now (room .entry)) (eventAt (getD (line .numbers) 0 0) (onChannel70 (symbolsFrom 1 line)) (now (room .entry))) ⌝ }
+    ensures { λ r. ⌜ r ≡ steppedBy station (lineEvent Symbols line (now (room .entry))) ⌝ }
+    ensures { λ _. ⌜ now (room .exit) ≡ roomAfter station (now (room .entry)) (lineEvent Symbols line (now (room .entry))) ⌝ }
 {
     let numbers = line.numbers;
     let n = line.count;
@@ -51,10 +53,11 @@ fn on_channel_70(station: Station, line: Line, room: &mut [u8]) -> Stepped
     station.heard_on_channel_70(Tenths(numbers[0]), &symbols[from..n], room)
 }
 
-fn on_working(station: Station, line: Line, room: &mut [u8]) -> Stepped
+// A time, a slot and symbols.
+fn with_slot_symbols(station: Station, line: Line, room: &mut [u8]) -> Stepped
     requires { ⌜ line .count ≤ 99 ⌝ }
-    ensures { λ r. ⌜ r ≡ steppedBy station (eventAt (getD (line .numbers) 0 0) (onSlot (getD (line .numbers) 1 0) (heard (symbolsFrom 2 line))) (now (room .entry))) ⌝ }
-    ensures { λ _. ⌜ now (room .exit) ≡ roomAfter station (now (room .entry)) (eventAt (getD (line .numbers) 0 0) (onSlot (getD (line .numbers) 1 0) (heard (symbolsFrom 2 line))) (now (room .entry))) ⌝ }
+    ensures { λ r. ⌜ r ≡ steppedBy station (lineEvent SlotSymbols line (now (room .entry))) ⌝ }
+    ensures { λ _. ⌜ now (room .exit) ≡ roomAfter station (now (room .entry)) (lineEvent SlotSymbols line (now (room .entry))) ⌝ }
 {
     let numbers = line.numbers;
     let n = line.count;
@@ -68,27 +71,20 @@ fn on_working(station: Station, line: Line, room: &mut [u8]) -> Stepped
     )
 }
 
-fn happening(station: Station, line: Line, room: &mut [u8]) -> Stepped
+fn happening(station: Station, form: Form, line: Line, room: &mut [u8]) -> Stepped
     requires { ⌜ line .count ≤ 99 ⌝ }
-    ensures { λ r. ⌜ r ≡ steppedBy station (lineEvent line (now (room .entry))) ⌝ }
-    ensures { λ _. ⌜ now (room .exit) ≡ roomAfter station (now (room .entry)) (lineEvent line (now (room .entry))) ⌝ }
+    ensures { λ r. ⌜ r ≡ steppedBy station (lineEvent form line (now (room .entry))) ⌝ }
+    ensures { λ _. ⌜ now (room .exit) ≡ roomAfter station (now (room .entry)) (lineEvent form line (now (room .entry))) ⌝ }
 {
-    let kind = line.kind;
     let numbers = line.numbers;
     let time = Tenths(numbers[0]);
     let slot = SlotNumber(numbers[1]);
-    match kind {
-        Kind::Unreadable => station.tick(time, room),
-        Kind::SetUp => station.tick(time, room),
-        Kind::Channel70 => on_channel_70(station, line, room),
-        Kind::Working => on_working(station, line, room),
-        Kind::OffHook => station.off_hook(time, slot, room),
-        Kind::OnHook => station.on_hook(time, slot, room),
-        Kind::CarrierUp => station.carrier_up(time, slot, room),
-        Kind::CarrierDown => station.carrier_down(time, slot, room),
-        Kind::Take => station.take(time, slot, room),
-        Kind::GiveBack => station.give_back(time, slot, room),
-        Kind::Tick => station.tick(time, room),
+    match form {
+        Form::Symbols => with_symbols(station, line, room),
+        Form::SlotSymbols => with_slot_symbols(station, line, room),
+        Form::Signalled(g) => station.signalled(g, time, slot, room),
+        Form::Operated(h) => station.handled(h, time, slot, room),
+        Form::Alone => station.tick(time, room),
     }
 }
 
@@ -123,7 +119,7 @@ fn channels_of(numbers: &[u32]) -> [Channel; SLOTS]
 // "set-up": where no station stands.
 fn setting(station: Station, line: Line) -> Handled
     requires { ⌜ line .count ≤ 99 ⌝ }
-    ensures { λ r. ⌜ r ≡ afterSetUp (desk false station) (setUpBy (getD (line .numbers) 0 0) (part 1 (line .count) (line .numbers))) ⌝ }
+    ensures { λ r. ⌜ r ≡ afterSetUp (desk false station) (setUpOf (given (getD (line .numbers) 0 0) (part 1 (line .count) (line .numbers)))) ⌝ }
 {
     let numbers = line.numbers;
     let n = line.count;
@@ -140,71 +136,37 @@ fn setting(station: Station, line: Line) -> Handled
     kept(false, station, answer)
 }
 
-fn is_unreadable(kind: Kind) -> bool
-    ensures { λ r. ⌜ r ≡ isUnreadable kind ⌝ }
-{
-    match kind {
-        Kind::Unreadable => true,
-        Kind::SetUp => false,
-        Kind::Channel70 => false,
-        Kind::Working => false,
-        Kind::OffHook => false,
-        Kind::OnHook => false,
-        Kind::CarrierUp => false,
-        Kind::CarrierDown => false,
-        Kind::Take => false,
-        Kind::GiveBack => false,
-        Kind::Tick => false,
-    }
-}
-
-fn is_set_up(kind: Kind) -> bool
-    ensures { λ r. ⌜ r ≡ isSetUp kind ⌝ }
-{
-    match kind {
-        Kind::Unreadable => false,
-        Kind::SetUp => true,
-        Kind::Channel70 => false,
-        Kind::Working => false,
-        Kind::OffHook => false,
-        Kind::OnHook => false,
-        Kind::CarrierUp => false,
-        Kind::CarrierDown => false,
-        Kind::Take => false,
-        Kind::GiveBack => false,
-        Kind::Tick => false,
-    }
-}
-
 // "40, tested first", then 41.
 pub(crate) fn handle(stands: bool, station: Station, line: Line, room: &mut [u8]) -> Handled
     requires { ⌜ line .count ≤ 99 ⌝ }
-    ensures { λ r. ⌜ r ≡ lineHandled stands station line (now (room .entry)) ⌝ }
-    ensures { λ _. ⌜ now (room .exit) ≡ lineBlocks stands station line (now (room .entry)) ⌝ }
+    ensures { λ r. ⌜ r ≡ handledFor (desk stands station) (now (room .entry)) (lineSaid line) ⌝ }
+    ensures { λ _. ⌜ now (room .exit) ≡ blocksFor (desk stands station) (now (room .entry)) (lineSaid line) ⌝ }
 {
     let kind = line.kind;
-    if is_unreadable(kind) {
-        return kept(stands, station, 40);
-    }
-    if is_set_up(kind) {
-        if stands {
-            return kept(stands, station, 41);
+    match kind {
+        Kind::Unreadable => kept(stands, station, 40),
+        Kind::SetUp => {
+            if stands {
+                return kept(stands, station, 41);
+            }
+            setting(station, line)
         }
-        return setting(station, line);
-    }
-    if !stands {
-        return kept(stands, station, 41);
-    }
-    let s = happening(station, line, room);
-    let next = s.station;
-    let d = Desk {
-        stands: true,
-        station: next,
-    };
-    Handled {
-        answer: s.answer,
-        count: s.count,
-        desk: d,
+        Kind::Happens(form) => {
+            if !stands {
+                return kept(stands, station, 41);
+            }
+            let s = happening(station, form, line, room);
+            let next = s.station;
+            let d = Desk {
+                stands: true,
+                station: next,
+            };
+            Handled {
+                answer: s.answer,
+                count: s.count,
+                desk: d,
+            }
+        }
     }
 }
 

@@ -12,23 +12,20 @@ use Rattle.rules.specs.Words.{Config, simplex, duplex}
 use Rattle.rules.specs.Places.{Each}
 use Rattle.rules.specs.Bytes.{padded}
 use Rattle.rules.specs.Station as R
-use Rattle.rules.specs.Station.{dealing, free, taken, pending, busy, held, offered, firstRing, secondRing, acknowledged, dialling, answered}
 use Rattle.requests.specs.Views.{viewed, itself, modeOf, digitsOf, requestOf}
 use Rattle.requests.specs.Images.{modeImage, requestImage}
 use Rattle.slots.specs.declared.Slot.{Slot}
 use Rattle.slots.specs.declared.Waiting.{Waiting}
-use Rattle.slots.specs.Views.{carrierOf, slotView, waitingView, channelOf}
-use Rattle.slots.specs.Images.{carrierImage, slotImage, waitingImage, blankSlot, blankWaiting, tidySlot, tidyWaiting, slotImages, Short, ShortSlot, Fits}
+use Rattle.slots.specs.Phases.{keptIn}
+use Rattle.slots.specs.Views.{slotView, waitingView, channelOf}
+use Rattle.slots.specs.Images.{imageOr, storedImage, slotImage, waitingImage, blankSlot, blankWaiting, tidySlot, tidyWaiting, slotImages, Short, ShortOr, ShortSlot, Fits}
+use Rattle.slots.proofs.PhaseLaws.{Keeps, phase-there}
 
 -- ── one record ──
 
 mode-there : (m : W.Mode) → modeOf (modeImage m) ≡ m
 mode-there simplex = refl
 mode-there duplex = refl
-
-carrier-there : (c : Option ℕ) → carrierOf (carrierImage c) ≡ c
-carrier-there none = refl
-carrier-there (some t) = refl
 
 -- the first of an array that was laid out from a list
 read-back : {A B : Type 0} (v : B → A) (b : B) (m : ℕ) (l : List B) → length l ≤ m → viewed v (length l) (padded b m l) ≡ map v l
@@ -48,15 +45,11 @@ request-there r h = rw (mode-there (r .mode), read-back itself 0 16 (r .number) 
 
 pub slot-there : (c : Channel) (s : R.Slot) → ShortSlot s → slotView (slotImage c s) ≡ s
 unfolding slotImage
-slot-there c free h = refl
-slot-there c taken h = refl
-slot-there c (pending offered r t) h = ap (λ x. pending offered (dealing x) t) (request-there (r .request) h)
-slot-there c (pending firstRing r t) h = ap (λ x. pending firstRing (dealing x) t) (request-there (r .request) h)
-slot-there c (pending secondRing r t) h = ap (λ x. pending secondRing (dealing x) t) (request-there (r .request) h)
-slot-there c (pending acknowledged r t) h = ap (λ x. pending acknowledged (dealing x) t) (request-there (r .request) h)
-slot-there c (busy r (dialling d) l) h = rw (request-there (r .request) h, carrier-there l)
-slot-there c (busy r (answered d) l) h = rw (request-there (r .request) h, carrier-there l)
-slot-there c (held r n t) h = ap (λ x. held (dealing x) n t) (request-there (r .request) h)
+slot-there c s h = phase-there s (requestOf (storedImage s)) (go (keptIn s) h)
+  where
+    go : (o : Option W.Request) → ShortOr o → Keeps (requestOf (imageOr o)) o
+    go none h = tt
+    go (some r) h = request-there r h
 
 pub waiting-there : (w : R.Waiting) → Short (w .request) → waitingView (waitingImage w) ≡ w
 unfolding waitingImage

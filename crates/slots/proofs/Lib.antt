@@ -1,4 +1,5 @@
 pub mod QueueLaws
+pub mod PhaseLaws
 pub mod ViewLaws
 pub mod TidyLaws
 pub mod ImageLaws

@@ -10,54 +10,34 @@ use Rattle.sequence.specs.Figures.{mostDigits}
 use Rattle.rules.specs.Words.{Config, Request as Asked}
 use Rattle.rules.specs.Places.{Each}
 use Rattle.rules.specs.Station as R
-use Rattle.rules.specs.Station.{free, taken, pending, busy, held, offered, firstRing, secondRing, acknowledged, dialling, answered}
+use Rattle.rules.specs.Station.{free}
 use Rattle.rules.specs.Sound.{mostSlots, queueRoom}
 use Rattle.requests.specs.declared.Request.{Request}
 use Rattle.requests.specs.Images.{requestImage, blankRequest}
-use Rattle.slots.specs.declared.Carrier.{Carrier}
-use Rattle.slots.specs.declared.Carrier.the-variants.{Present, Lost}
-use Rattle.slots.specs.declared.Phase.{Phase}
-use Rattle.slots.specs.declared.Phase.the-variants.{Free, Offered, RingBack, RingAgain, Acknowledged, Dialling, Answered, Hold, Taken}
 use Rattle.slots.specs.declared.Slot.{Slot}
 use Rattle.slots.specs.declared.Waiting.{Waiting}
+use Rattle.slots.specs.Phases.{phaseImage, keptIn}
 use Rattle.slots.specs.Views.{slotView, waitingView}
 
 abbrev pub tenths : ℕ → Tenths
 tenths n = record { 0 = n }
 
-abbrev pub carrierImage : Option ℕ → Carrier
-carrierImage none = Present
-carrierImage (some t) = Lost (tenths t)
-
-abbrev pub pendingImage : R.Kind → ℕ → Phase
-pendingImage offered t = Offered (tenths t)
-pendingImage firstRing t = RingBack (tenths t)
-pendingImage secondRing t = RingAgain (tenths t)
-pendingImage acknowledged t = Acknowledged (tenths t)
-
-abbrev pub stageImage : R.Stage → Carrier → Phase
-stageImage (dialling t) c = Dialling (tenths t) c
-stageImage (answered t) c = Answered (tenths t) c
-
-abbrev pub phaseImage : R.Slot → Phase
-phaseImage free = Free
-phaseImage taken = Taken
-phaseImage (pending k r t) = pendingImage k t
-phaseImage (busy r g c) = stageImage g (carrierImage c)
-phaseImage (held r n t) = Hold (tenths t) n
+abbrev pub imageOr : Option Asked → Request
+imageOr none = blankRequest
+imageOr (some r) = requestImage r
 
 abbrev pub storedImage : R.Slot → Request
-storedImage free = blankRequest
-storedImage taken = blankRequest
-storedImage (pending k r t) = requestImage (r .request)
-storedImage (busy r g c) = requestImage (r .request)
-storedImage (held r n t) = requestImage (r .request)
+storedImage s = imageOr (keptIn s)
 
 unfoldable pub slotImage : Channel → R.Slot → Slot
 slotImage c s = record { phase = phaseImage s; channel = c; request = storedImage s }
 
 unfoldable pub waitingImage : R.Waiting → Waiting
 waitingImage w = record { due = tenths (w .due); request = requestImage (w .request) }
+
+-- a free slot on a channel
+unfoldable pub freeOn : Channel → Slot
+freeOn c = slotImage c free
 
 unfoldable pub blankSlot : Slot
 blankSlot = slotImage (record { 0 = 0 }) free
@@ -82,12 +62,12 @@ slotImages (c ∷ cs) (s ∷ ss) = slotImage c s ∷ slotImages cs ss
 abbrev pub Short : Asked → Type 0
 Short r = length (r .number) ≤ mostDigits
 
+abbrev pub ShortOr : Option Asked → Type 0
+ShortOr none = Unit {0}
+ShortOr (some r) = Short r
+
 abbrev pub ShortSlot : R.Slot → Type 0
-ShortSlot free = Unit {0}
-ShortSlot taken = Unit {0}
-ShortSlot (pending k r t) = Short (r .request)
-ShortSlot (busy r g c) = Short (r .request)
-ShortSlot (held r n t) = Short (r .request)
+ShortSlot s = ShortOr (keptIn s)
 
 pub record Fits (c : Config) (m : R.Station) : Type 0 where
   pub beside : length (c .channels) ≡ length (m .slots)

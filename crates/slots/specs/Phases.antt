@@ -1,7 +1,70 @@
--- What of a phase decides: whether it stores a request, and whether its slot is its ship's.
+-- A phase: what it stands for, how it is laid out, and what of it decides.
+use Prim.Native.Nat.{ℕ}
 use mathlib.Core.Bool.{Bool, true, false}
+use mathlib.Core.Option.{Option, none, some}
+use lib.Dec.{leb}
+use Rattle.units.specs.declared.Told.{Told}
+use Rattle.units.specs.declared.Told.the-variants.{Nothing}
+use Rattle.rules.specs.Words as W
+use Rattle.rules.specs.Station as R
+use Rattle.rules.specs.Station.{dealing, free, taken, pending, busy, held, offered, firstRing, secondRing, acknowledged, dialling, answered, kindWait, replyWait, holdWait}
+use Rattle.rules.specs.Sound.{fits}
+use Rattle.slots.specs.declared.Carrier.{Carrier}
+use Rattle.slots.specs.declared.Carrier.the-variants.{Present, Lost}
+use Rattle.slots.specs.declared.Span.{Span}
+use Rattle.slots.specs.declared.Span.the-variants.{Untimed, Until, Since}
 use Rattle.slots.specs.declared.Phase.{Phase}
 use Rattle.slots.specs.declared.Phase.the-variants.{Free, Offered, RingBack, RingAgain, Acknowledged, Dialling, Answered, Hold, Taken}
+
+-- ── what it stands for, beside the request that its slot stores ──────────────
+
+abbrev pub carrierOf : Carrier → Option ℕ
+carrierOf Present = none
+carrierOf (Lost t) = some (t .0)
+
+abbrev pub phaseView : Phase → W.Request → R.Slot
+phaseView Free r = free
+phaseView (Offered t) r = pending offered (dealing r) (t .0)
+phaseView (RingBack t) r = pending firstRing (dealing r) (t .0)
+phaseView (RingAgain t) r = pending secondRing (dealing r) (t .0)
+phaseView (Acknowledged t) r = pending acknowledged (dealing r) (t .0)
+phaseView (Dialling t c) r = busy (dealing r) (dialling (t .0)) (carrierOf c)
+phaseView (Answered t c) r = busy (dealing r) (answered (t .0)) (carrierOf c)
+phaseView (Hold t n) r = held (dealing r) n (t .0)
+phaseView Taken r = taken
+
+-- ── how it is laid out ───────────────────────────────────────────────────────
+
+abbrev pub carrierImage : Option ℕ → Carrier
+carrierImage none = Present
+carrierImage (some t) = Lost (record { 0 = t })
+
+abbrev pub pendingImage : R.Kind → ℕ → Phase
+pendingImage offered t = Offered (record { 0 = t })
+pendingImage firstRing t = RingBack (record { 0 = t })
+pendingImage secondRing t = RingAgain (record { 0 = t })
+pendingImage acknowledged t = Acknowledged (record { 0 = t })
+
+abbrev pub stageImage : R.Stage → Carrier → Phase
+stageImage (dialling t) c = Dialling (record { 0 = t }) c
+stageImage (answered t) c = Answered (record { 0 = t }) c
+
+abbrev pub phaseImage : R.Slot → Phase
+phaseImage free = Free
+phaseImage taken = Taken
+phaseImage (pending k r t) = pendingImage k t
+phaseImage (busy r g c) = stageImage g (carrierImage c)
+phaseImage (held r n t) = Hold (record { 0 = t }) n
+
+-- the request that a slot keeps, if it keeps one
+abbrev pub keptIn : R.Slot → Option W.Request
+keptIn free = none
+keptIn taken = none
+keptIn (pending k r t) = some (r .request)
+keptIn (busy r g c) = some (r .request)
+keptIn (held r n t) = some (r .request)
+
+-- ── what of it decides ───────────────────────────────────────────────────────
 
 -- a phase that stores a request
 abbrev pub stored : Phase → Bool
@@ -26,3 +89,62 @@ owned (Dialling t c) = true
 owned (Answered t c) = true
 owned (Hold t n) = false
 owned Taken = false
+
+-- since when its call is answered, if it is
+abbrev pub answeredSince : Phase → Option ℕ
+answeredSince Free = none
+answeredSince (Offered t) = none
+answeredSince (RingBack t) = none
+answeredSince (RingAgain t) = none
+answeredSince (Acknowledged t) = none
+answeredSince (Dialling t c) = none
+answeredSince (Answered t c) = some (t .0)
+answeredSince (Hold t n) = none
+answeredSince Taken = none
+
+-- the duration that a hold tells
+abbrev pub toldIn : Phase → Told
+toldIn Free = Nothing
+toldIn (Offered t) = Nothing
+toldIn (RingBack t) = Nothing
+toldIn (RingAgain t) = Nothing
+toldIn (Acknowledged t) = Nothing
+toldIn (Dialling t c) = Nothing
+toldIn (Answered t c) = Nothing
+toldIn (Hold t n) = n
+toldIn Taken = Nothing
+
+-- its time, and how long its wait is
+abbrev pub spanOf : Phase → Span
+spanOf Free = Untimed
+spanOf (Offered t) = Until t (record { 0 = kindWait offered })
+spanOf (RingBack t) = Until t (record { 0 = kindWait firstRing })
+spanOf (RingAgain t) = Until t (record { 0 = kindWait secondRing })
+spanOf (Acknowledged t) = Until t (record { 0 = kindWait acknowledged })
+spanOf (Dialling t c) = Until t (record { 0 = replyWait })
+spanOf (Answered t c) = Since t
+spanOf (Hold t n) = Until t (record { 0 = holdWait })
+spanOf Taken = Untimed
+
+-- when a wait falls due in it
+abbrev pub dueIn : Span → Option ℕ
+dueIn Untimed = none
+dueIn (Until t w) = some (t .0)
+dueIn (Since t) = none
+
+abbrev pub spanFits : ℕ → Span → Bool
+spanFits c Untimed = true
+spanFits c (Until t w) = fits c (w .0) (t .0)
+spanFits c (Since t) = leb (t .0) c
+
+-- the carrier of its call, present where there is none
+abbrev pub carrierIn : Phase → Carrier
+carrierIn Free = Present
+carrierIn (Offered t) = Present
+carrierIn (RingBack t) = Present
+carrierIn (RingAgain t) = Present
+carrierIn (Acknowledged t) = Present
+carrierIn (Dialling t c) = c
+carrierIn (Answered t c) = c
+carrierIn (Hold t n) = Present
+carrierIn Taken = Present

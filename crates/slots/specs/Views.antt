@@ -8,25 +8,23 @@ use Rattle.rules.specs.Words.{lineLifted, lineHung, carrierHeard, carrierLost, 
 use Rattle.rules.specs.Waits as T
 use Rattle.rules.specs.Waits.{ofQueue, loss, main}
 use Rattle.rules.specs.Station as R
-use Rattle.rules.specs.Station.{free, taken, offered, firstRing, secondRing, acknowledged, dialling, answered}
-use Rattle.rules.specs.Slots.{pending, busy, held}
 use Rattle.rules.specs.Requests as Q
 use Rattle.rules.specs.Requests.{nowhere, holds, waits}
 use Rattle.requests.specs.declared.Mode.the-variants.{Simplex}
 use Rattle.requests.specs.declared.Request.{Request}
 use Rattle.requests.specs.Views.{viewed, requestOf}
-use Rattle.slots.specs.declared.Carrier.{Carrier}
-use Rattle.slots.specs.declared.Carrier.the-variants.{Present, Lost}
-use Rattle.slots.specs.declared.Phase.{Phase}
-use Rattle.slots.specs.declared.Phase.the-variants.{Free, Offered, RingBack, RingAgain, Acknowledged, Dialling, Answered, Hold, Taken}
+use Rattle.slots.specs.declared.Phase.the-variants.{Free}
 use Rattle.slots.specs.declared.Signal.{Signal}
 use Rattle.slots.specs.declared.Signal.the-variants.{LineLifted, LineHung, CarrierHeard, CarrierLost}
 use Rattle.slots.specs.declared.Hand.{Hand}
 use Rattle.slots.specs.declared.Hand.the-variants.{Takes, GivesBack}
 use Rattle.slots.specs.declared.Slot.{Slot}
+use Rattle.slots.specs.declared.mast.Mast.{Mast}
 use Rattle.slots.specs.declared.Waiting.{Waiting}
 use Rattle.slots.specs.declared.Wait.{Wait}
 use Rattle.slots.specs.declared.Wait.the-variants.{Entry, Loss, Main}
+use Rattle.slots.specs.declared.When.{When}
+use Rattle.slots.specs.declared.When.the-variants as H
 use Rattle.slots.specs.declared.Due.{Due}
 use Rattle.slots.specs.declared.Due.the-variants.{Never, In}
 use Rattle.slots.specs.declared.Found.{Found}
@@ -35,21 +33,7 @@ use Rattle.slots.specs.declared.Place.{Place}
 use Rattle.slots.specs.declared.Place.the-variants as P
 use Rattle.slots.specs.declared.Standing.{Standing}
 use Rattle.slots.specs.declared.Standing.the-variants.{Nowhere, Holds, Waits}
-
-abbrev pub carrierOf : Carrier → Option ℕ
-carrierOf Present = none
-carrierOf (Lost t) = some (t .0)
-
-abbrev pub phaseView : Phase → W.Request → R.Slot
-phaseView Free r = free
-phaseView (Offered t) r = pending offered r (t .0)
-phaseView (RingBack t) r = pending firstRing r (t .0)
-phaseView (RingAgain t) r = pending secondRing r (t .0)
-phaseView (Acknowledged t) r = pending acknowledged r (t .0)
-phaseView (Dialling t c) r = busy r (dialling (t .0)) (carrierOf c)
-phaseView (Answered t c) r = busy r (answered (t .0)) (carrierOf c)
-phaseView (Hold t n) r = held r n (t .0)
-phaseView Taken r = taken
+use Rattle.slots.specs.Phases.{phaseView}
 
 abbrev pub signalView : Signal → W.Signal
 signalView LineLifted = lineLifted
@@ -67,9 +51,23 @@ slotView s = phaseView (s .phase) (requestOf (s .request))
 abbrev pub channelOf : Slot → Channel
 channelOf s = s .channel
 
+-- the mast of one station alone
+abbrev pub alone : ℕ → Mast
+alone n = record { identity = n }
+
+abbrev pub mastOf : W.Config → Mast
+mastOf c = alone (c .identity)
+
+abbrev pub onMast : Mast → List Channel → W.Config
+onMast m l = record { identity = m .identity; channels = l }
+
+-- a station of which only the mast is asked
+abbrev pub named : Mast → W.Config
+named m = onMast m []
+
 -- the configuration that the first n slots stand for
-abbrev pub configFor : ℕ → ℕ → List Slot → W.Config
-configFor identity n a = record { identity = identity; channels = viewed channelOf n a }
+abbrev pub configFor : Mast → ℕ → List Slot → W.Config
+configFor m n a = onMast m (viewed channelOf n a)
 
 abbrev pub waitingView : Waiting → R.Waiting
 waitingView w = record { request = requestOf (w .request); due = w .due .0 }
@@ -81,6 +79,10 @@ abbrev pub waitView : Wait → T.Wait
 waitView (Entry k) = ofQueue (k .0)
 waitView (Loss i) = loss (i .0)
 waitView (Main i) = main (i .0)
+
+abbrev pub whenView : When → Option ℕ
+whenView H.Never = none
+whenView (H.At t) = some (t .0)
 
 abbrev pub dueView : Due → Option T.Due
 dueView Never = none

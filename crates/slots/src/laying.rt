@@ -5,11 +5,11 @@ ghost use Rattle.sequence.specs.Figures.{mostDigits};
 ghost use Rattle.rules.specs.Bytes.{padded};
 ghost use Rattle.requests.specs.Views.{viewed, itself};
 ghost use Rattle.requests.specs.Images.{tidyRequest};
-ghost use Rattle.slots.specs.Images.{blankSlot, blankWaiting, tidySlot, tidyWaiting};
+ghost use Rattle.slots.specs.Images.{freeOn, blankSlot, blankWaiting, tidySlot, tidyWaiting};
 use crate::Phase;
 use crate::Slot;
 use crate::Waiting;
-use crate::phases::stores;
+use crate::stores;
 use requests::Request;
 use requests::blank_request;
 use requests::least;
@@ -76,15 +76,21 @@ pub fn tidy_slot(s: Slot) -> Slot
     }
 }
 
-pub fn blank_slot() -> Slot
-    ensures { λ r. ⌜ r ≡ blankSlot ⌝ }
+pub fn free_on(c: Channel) -> Slot
+    ensures { λ r. ⌜ r ≡ freeOn c ⌝ }
 {
     let b = blank_request();
     Slot {
         phase: Phase::Free,
-        channel: Channel(0),
+        channel: c,
         request: b,
     }
+}
+
+pub fn blank_slot() -> Slot
+    ensures { λ r. ⌜ r ≡ blankSlot ⌝ }
+{
+    free_on(Channel(0))
 }
 
 pub fn tidy_waiting(w: Waiting) -> Waiting

@@ -1,7 +1,11 @@
-// The slots and the waiting ships of a station, and what is done with one of them or with an array of them.
+// The slots and the waiting ships of a station, and what of a phase decides, in one place, where a new phase is thought of.
 pub mod laying;
-pub mod phases;
+pub mod mast;
 
+ghost use mathlib.Core.Path.{_≡_};
+ghost use Rattle.rules.specs.Station.{isFree, isTaken, lossDue, mainDue};
+ghost use Rattle.slots.specs.Phases.{carrierOf, stored, owned, toldIn, spanOf, dueIn, carrierIn};
+ghost use Rattle.slots.specs.Views.{slotView, whenView};
 use requests::Request;
 use units::Channel;
 use units::SlotNumber;
@@ -17,6 +21,18 @@ pub const MOST_SLOTS: u8 = SLOTS as u8;
 pub const QUEUE_ROOM: usize = 32;
 
 pub const MOST_WAITING: u8 = QUEUE_ROOM as u8;
+
+// Rules b and e, and a ring-back acknowledged: "wait 160".
+pub const OFFER_WAIT: Tenths = Tenths(160);
+
+// "wait 50, send once more, wait 50"
+pub const RING_WAIT: Tenths = Tenths(50);
+
+// "wait 600 for a reply"
+pub const REPLY_WAIT: Tenths = Tenths(600);
+
+// "hold for 40"
+pub const HOLD_WAIT: Tenths = Tenths(40);
 
 // The carrier of a call, and when its absence falls due.
 pub enum Carrier {
@@ -35,6 +51,13 @@ pub enum Phase {
     Answered(Tenths, Carrier),
     Hold(Tenths, Told),
     Taken,
+}
+
+// The time of a phase: none; the due time of a wait, and how long that is; since when a call is answered.
+pub enum Span {
+    Untimed,
+    Until(Tenths, Tenths),
+    Since(Tenths),
 }
 
 // What is told of a slot's line ashore, and of the ship's carrier.
@@ -72,6 +95,12 @@ pub enum Wait {
     Main(SlotNumber),
 }
 
+// When a wait falls due, if it runs.
+pub enum When {
+    Never,
+    At(Tenths),
+}
+
 pub enum Due {
     Never,
     In(Tenths, Wait),
@@ -94,4 +123,157 @@ pub enum Standing {
     Nowhere,
     Holds(SlotNumber),
     Waits(QueuePlace),
+}
+
+// A phase that stores a request.
+pub fn stores(p: Phase) -> bool
+    ensures { λ r. ⌜ r ≡ stored p ⌝ }
+{
+    match p {
+        Phase::Free => false,
+        Phase::Offered(_) => true,
+        Phase::RingBack(_) => true,
+        Phase::RingAgain(_) => true,
+        Phase::Acknowledged(_) => true,
+        Phase::Dialling(_, _) => true,
+        Phase::Answered(_, _) => true,
+        Phase::Hold(_, _) => true,
+        Phase::Taken => false,
+    }
+}
+
+// A phase in which a slot is its ship's: in a hold it is nobody's.
+pub fn has_ship(p: Phase) -> bool
+    ensures { λ r. ⌜ r ≡ owned p ⌝ }
+{
+    match p {
+        Phase::Free => false,
+        Phase::Offered(_) => true,
+        Phase::RingBack(_) => true,
+        Phase::RingAgain(_) => true,
+        Phase::Acknowledged(_) => true,
+        Phase::Dialling(_, _) => true,
+        Phase::Answered(_, _) => true,
+        Phase::Hold(_, _) => false,
+        Phase::Taken => false,
+    }
+}
+
+pub fn is_free(s: Slot) -> bool
+    ensures { λ r. ⌜ r ≡ isFree (slotView s) ⌝ }
+{
+    let p = s.phase;
+    match p {
+        Phase::Free => true,
+        Phase::Offered(_) => false,
+        Phase::RingBack(_) => false,
+        Phase::RingAgain(_) => false,
+        Phase::Acknowledged(_) => false,
+        Phase::Dialling(_, _) => false,
+        Phase::Answered(_, _) => false,
+        Phase::Hold(_, _) => false,
+        Phase::Taken => false,
+    }
+}
+
+pub fn is_taken(s: Slot) -> bool
+    ensures { λ r. ⌜ r ≡ isTaken (slotView s) ⌝ }
+{
+    let p = s.phase;
+    match p {
+        Phase::Free => false,
+        Phase::Offered(_) => false,
+        Phase::RingBack(_) => false,
+        Phase::RingAgain(_) => false,
+        Phase::Acknowledged(_) => false,
+        Phase::Dialling(_, _) => false,
+        Phase::Answered(_, _) => false,
+        Phase::Hold(_, _) => false,
+        Phase::Taken => true,
+    }
+}
+
+// The duration that a hold tells.
+pub fn told_in(p: Phase) -> Told
+    ensures { λ r. ⌜ r ≡ toldIn p ⌝ }
+{
+    match p {
+        Phase::Free => Told::Nothing,
+        Phase::Offered(_) => Told::Nothing,
+        Phase::RingBack(_) => Told::Nothing,
+        Phase::RingAgain(_) => Told::Nothing,
+        Phase::Acknowledged(_) => Told::Nothing,
+        Phase::Dialling(_, _) => Told::Nothing,
+        Phase::Answered(_, _) => Told::Nothing,
+        Phase::Hold(_, t) => t,
+        Phase::Taken => Told::Nothing,
+    }
+}
+
+pub fn span_of(p: Phase) -> Span
+    ensures { λ r. ⌜ r ≡ spanOf p ⌝ }
+{
+    match p {
+        Phase::Free => Span::Untimed,
+        Phase::Offered(t) => Span::Until(t, OFFER_WAIT),
+        Phase::RingBack(t) => Span::Until(t, RING_WAIT),
+        Phase::RingAgain(t) => Span::Until(t, RING_WAIT),
+        Phase::Acknowledged(t) => Span::Until(t, OFFER_WAIT),
+        Phase::Dialling(t, _) => Span::Until(t, REPLY_WAIT),
+        Phase::Answered(t, _) => Span::Since(t),
+        Phase::Hold(t, _) => Span::Until(t, HOLD_WAIT),
+        Phase::Taken => Span::Untimed,
+    }
+}
+
+// The carrier of a phase's call, present where there is none.
+pub fn carrier_in(p: Phase) -> Carrier
+    ensures { λ r. ⌜ r ≡ carrierIn p ⌝ }
+{
+    match p {
+        Phase::Free => Carrier::Present,
+        Phase::Offered(_) => Carrier::Present,
+        Phase::RingBack(_) => Carrier::Present,
+        Phase::RingAgain(_) => Carrier::Present,
+        Phase::Acknowledged(_) => Carrier::Present,
+        Phase::Dialling(_, c) => c,
+        Phase::Answered(_, c) => c,
+        Phase::Hold(_, _) => Carrier::Present,
+        Phase::Taken => Carrier::Present,
+    }
+}
+
+fn loss_when(c: Carrier) -> When
+    ensures { λ r. ⌜ whenView r ≡ carrierOf c ⌝ }
+{
+    match c {
+        Carrier::Present => When::Never,
+        Carrier::Lost(t) => When::At(t),
+    }
+}
+
+// When the carrier's absence in a slot falls due.
+pub fn loss_of(s: Slot) -> When
+    ensures { λ r. ⌜ whenView r ≡ lossDue (slotView s) ⌝ }
+{
+    let p = s.phase;
+    loss_when(carrier_in(p))
+}
+
+fn main_when(s: Span) -> When
+    ensures { λ r. ⌜ whenView r ≡ dueIn s ⌝ }
+{
+    match s {
+        Span::Untimed => When::Never,
+        Span::Until(t, _) => When::At(t),
+        Span::Since(_) => When::Never,
+    }
+}
+
+// When the other wait of a slot falls due.
+pub fn main_of(s: Slot) -> When
+    ensures { λ r. ⌜ whenView r ≡ mainDue (slotView s) ⌝ }
+{
+    let p = s.phase;
+    main_when(span_of(p))
 }

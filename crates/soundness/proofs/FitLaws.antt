@@ -4,19 +4,19 @@ use mathlib.Core.Bool.{Bool, true}
 use mathlib.Core.List.{List, [], _∷_}
 use mathlib.Core.Path.{_≡_, sym}
 use native.Mathlib.Omega.{arith}
-use lib.Dec.{leb, eqb}
+use lib.Dec.{leb}
 use lib.ListN.{length}
 use borrow.Author.Tests.{leb-true, eqb-true}
 use Rattle.sequence.specs.Identity.{isShip}
 use Rattle.sequence.specs.Symbols.{within}
-use Rattle.rules.specs.Words.{Config, Request}
+use Rattle.rules.specs.Words.{Config, Request, ours}
 use Rattle.rules.specs.Places.{all, Each}
 use Rattle.rules.specs.Station as R
-use Rattle.rules.specs.Station.{free, taken, pending, busy, held}
 use Rattle.rules.specs.Sound.{identityKeeps, channelsKeep, configKeeps, oneSlotEach, numberKeeps, requestKeeps, slotKeeps, waitingKeeps, sound}
 use Rattle.rules.proofs.PlaceLaws.{and-true}
 use Rattle.rules.proofs.Accepted.{sounds}
 use Rattle.slots.specs.Images.{Short, ShortSlot, Fits}
+use Rattle.slots.proofs.PhaseLaws.{short-slot}
 
 each-of : {A : Type 0} (f : A → Bool) (P : A → Type 0) → ((x : A) → f x ≡ true → P x) → (l : List A) → all f l ≡ true → Each P l
 each-of f P g [] h = tt
@@ -27,18 +27,11 @@ module _ (c : Config) where
   unfolding requestKeeps numberKeeps
   short r h =
       let a = and-true (isShip (r .who .ship)) _ h in
-      let b = and-true (eqb (r .who .station) (c .identity)) _ (a .1) in
+      let b = and-true (ours c (r .who .station)) _ (a .1) in
       let d = and-true (within 100 126 (r .second)) _ (b .1) in
       let e = and-true (within 1 16 (length (r .number))) _ (d .1) in
       let f = and-true (leb 1 (length (r .number))) _ (e .0) in
       leb-true (length (r .number)) 16 (f .1)
-
-  short-slot : (s : R.Slot) → slotKeeps c s ≡ true → ShortSlot s
-  short-slot free h = tt
-  short-slot taken h = tt
-  short-slot (pending k r d) h = short (r .request) h
-  short-slot (busy r g l) h = short (r .request) h
-  short-slot (held r n d) h = short (r .request) (and-true (requestKeeps c (r .request)) _ h .0)
 
   few-channels : configKeeps c ≡ true → length (c .channels) ≤ 16
   unfolding configKeeps channelsKeep
@@ -60,6 +53,6 @@ module _ (c : Config) where
         beside = sym e;
         few = omega (arith, few-channels (s .config));
         line = leb-true (length (m .queue)) 32 (s .room);
-        shortSlots = each-of (slotKeeps c) ShortSlot short-slot (m .slots) (s .slots-keep);
+        shortSlots = each-of (slotKeeps c) ShortSlot (short-slot c short) (m .slots) (s .slots-keep);
         shortQueue = each-of (waitingKeeps c) (λ w. Short (w .request)) (λ w k. short (w .request) k) (m .queue) (s .queue-keeps);
       }

@@ -9,22 +9,20 @@ use lib.ListN.{length, take, getD, set, length-append}
 use borrow.Author.Tests.{eqb-true, eq-eqb}
 use Rattle.units.specs.declared.Channel.{Channel}
 use Rattle.sequence.specs.Identity.{isShip}
-use Rattle.rules.specs.Words.{is, Party, Request}
+use Rattle.rules.specs.Words.{is, Party, Request, Config, ours}
 use Rattle.rules.specs.Places.{all, elem, distinct}
 use Rattle.rules.specs.Heard.{sameChannel}
-use Rattle.rules.specs.Station as R
-use Rattle.rules.specs.Station.{free, taken, pending, busy, held}
-use Rattle.rules.specs.Sound.{requestKeeps, slotKeeps, waitingKeeps, owner, owners}
+use Rattle.rules.specs.Sound.{requestKeeps, durationKeeps, slotKeeps, waitingKeeps, owner, owners}
 use Rattle.rules.proofs.PlaceLaws.{and-true}
 use Rattle.rules.specs.Bytes.{padded}
 use Rattle.requests.specs.Views.{viewed, left, itself, requestOf}
 use Rattle.requests.proofs.ArrayLaws.{padded-length, padded-front, padded-snoc, viewed-more, viewed-min, viewed-length, left-all, left-more}
+use Rattle.slots.specs.declared.Phase.{Phase}
 use Rattle.slots.specs.declared.Slot.{Slot}
 use Rattle.slots.specs.declared.Waiting.{Waiting}
 use Rattle.slots.specs.Views.{slotView, waitingView, channelOf, noSlot, noWaiting}
-use Rattle.slots.specs.Phases.{owned}
-use Rattle.slots.proofs.ViewLaws.{owner-view}
-use Rattle.keeping.specs.Kept.{named}
+use Rattle.slots.specs.Phases.{phaseView, owned, toldIn}
+use Rattle.slots.proofs.PhaseLaws.{owner-view, keeps-view, owned-stored}
 use Rattle.soundness.specs.Soundly.{numberOf, shipsOf, shipAt}
 
 abbrev channelNumber : Channel → ℕ
@@ -85,14 +83,14 @@ module _ {A : Type 0} (f : A → Bool) (n : ℕ) (l : List A) (i : ℕ) (d : A) 
   down : left itself n l (i - 1) ≡ getD l (i - 1) d ∷ left itself n l i
   down = let j : i - 1 + 1 ≡ i = omega arith in rw j at (left-more itself n l (i - 1) d (omega arith) (omega arith))
 
-  pub down-on : f (getD l (i - 1) d) ≡ true → {s : Bool} → s ≡ (all f (left itself n l i) && z) → s ≡ (all f (left itself n l (i - 1)) && z)
-  down-on t e = rw (down, t) e
+  pub one-passes : f (getD l (i - 1) d) ≡ true → {s : Bool} → s ≡ (all f (left itself n l i) && z) → s ≡ (all f (left itself n l (i - 1)) && z)
+  one-passes t e = rw (down, t) e
 
-  pub down-off : f (getD l (i - 1) d) ≡ false → false ≡ (all f (left itself n l (i - 1)) && z)
-  down-off t = rw (down, t)
+  pub one-fails : f (getD l (i - 1) d) ≡ false → false ≡ (all f (left itself n l (i - 1)) && z)
+  one-fails t = rw (down, t)
 
-pub down-all : {A : Type 0} (f : A → Bool) (n : ℕ) (l : List A) (i : ℕ) (z : Bool) → i ≡ 0 → {s : Bool} → s ≡ (all f (left itself n l i) && z) → s ≡ (all f (viewed itself n l) && z)
-down-all f n l i z e h = (rw e at h) ∙ ap (λ r. all f r && z) (left-all itself n l)
+pub all-passed : {A : Type 0} (f : A → Bool) (n : ℕ) (l : List A) (i : ℕ) (z : Bool) → i ≡ 0 → {s : Bool} → s ≡ (all f (left itself n l i) && z) → s ≡ (all f (viewed itself n l) && z)
+all-passed f n l i z e h = (rw e at h) ∙ ap (λ r. all f r && z) (left-all itself n l)
 
 -- ── the channels of the slots ──
 
@@ -121,16 +119,16 @@ channels-apart n a = sym (channels-once (map channelOf (take n a)) ∙ ap (disti
     numbers (s ∷ l) = ap (λ r. s .channel .0 ∷ r) (numbers l)
 
 -- ships that call one station are told apart by their own numbers
-module _ (identity : ℕ) where
+module _ (c : Config) where
   abbrev here : Party → Bool
-  here x = eqb (x .station) identity
+  here x = ours c (x .station)
 
   ship-among : (x : Party) (l : List Party) → here x ≡ true → all here l ≡ true → elem is x l ≡ elem eqb (x .ship) (map ship l)
   unfolding is
   ship-among x [] k h = refl
   ship-among x (y ∷ l) k h =
       let a = and-true (here y) (all here l) h in
-      let e : eqb (x .station) (y .station) ≡ true = eq-eqb (x .station) (y .station) (eqb-true (x .station) identity k ∙ sym (eqb-true (y .station) identity (a .0))) in
+      let e : eqb (x .station) (y .station) ≡ true = eq-eqb (x .station) (y .station) (eqb-true (x .station) _ k ∙ sym (eqb-true (y .station) _ (a .0))) in
       rw (e, ship-among x l k (a .1)) (ap (λ b. b || elem eqb (x .ship) (map ship l)) (and-yes (eqb (x .ship) (y .ship))))
     where
       and-yes : (b : Bool) → (b && true) ≡ b
@@ -141,24 +139,26 @@ module _ (identity : ℕ) where
   ships-once [] h = refl
   ships-once (x ∷ l) h = let a = and-true (here x) (all here l) h in rw (ship-among x l (a .0) (a .1), ships-once l (a .1))
 
-  request-here : (r : Request) → requestKeeps (named identity) r ≡ true → here (r .who) ≡ true
+  request-here : (r : Request) → requestKeeps c r ≡ true → here (r .who) ≡ true
   unfolding requestKeeps
   request-here r h = and-true (here (r .who)) _ (and-true (isShip (r .who .ship)) _ h .1) .0
 
-  owner-here : (s : R.Slot) (l : List Party) → slotKeeps (named identity) s ≡ true → all here l ≡ true → all here (owner s l) ≡ true
-  owner-here free l k h = h
-  owner-here taken l k h = h
-  owner-here (pending g r d) l k h = rw (request-here (r .request) k, h)
-  owner-here (busy r g c) l k h = rw (request-here (r .request) k, h)
-  owner-here (held r t d) l k h = h
+  owner-here : (p : Phase) (r : Request) (l : List Party) → slotKeeps c (phaseView p r) ≡ true → all here l ≡ true → all here (owner (phaseView p r) l) ≡ true
+  owner-here p r l k h = rw (owner-view p r l) (go (owned p) refl)
+    where
+      go : (b : Bool) → owned p ≡ b → all here (cond b (r .who ∷ l) l) ≡ true
+      go true e =
+          let keeps : (durationKeeps (toldIn p) && requestKeeps c r) ≡ true = rw (owned-stored p e) at (sym (keeps-view c p r) ∙ k) in
+          rw (request-here r (and-true (durationKeeps (toldIn p)) _ keeps .1), h)
+      go false e = h
 
-  owners-here : (ss : List R.Slot) (l : List Party) → all (slotKeeps (named identity)) ss ≡ true → all here l ≡ true → all here (owners ss l) ≡ true
+  owners-here : (ss : List Slot) (l : List Party) → all (slotKeeps c) (map slotView ss) ≡ true → all here l ≡ true → all here (owners (map slotView ss) l) ≡ true
   owners-here [] l k h = h
-  owners-here (s ∷ ss) l k h = let a = and-true (slotKeeps (named identity) s) _ k in owner-here s (owners ss l) (a .0) (owners-here ss l (a .1) h)
+  owners-here (s ∷ ss) l k h = let a = and-true (slotKeeps c (slotView s)) _ k in owner-here (s .phase) (requestOf (s .request)) (owners (map slotView ss) l) (a .0) (owners-here ss l (a .1) h)
 
-  queue-here : (q : List R.Waiting) → all (waitingKeeps (named identity)) q ≡ true → all here (map (λ w. w .request .who) q) ≡ true
+  queue-here : (q : List Waiting) → all (waitingKeeps c) (map waitingView q) ≡ true → all here (map (λ w. w .request .who) (map waitingView q)) ≡ true
   queue-here [] h = refl
-  queue-here (w ∷ q) h = let a = and-true (requestKeeps (named identity) (w .request)) _ h in rw (request-here (w .request) (a .0), queue-here q (a .1))
+  queue-here (w ∷ q) h = let a = and-true (requestKeeps c (requestOf (w .request))) _ h in rw (request-here (requestOf (w .request)) (a .0), queue-here q (a .1))
 
 -- whose the slots are, and who waits
 owners-ships : (l : List Slot) (q : List Waiting) → map ship (owners (map slotView l) (map (λ w. w .request .who) (map waitingView q))) ≡ shipsOf (map itself l) ++ map shipAt q
@@ -172,8 +172,8 @@ owners-ships (s ∷ l) q = rw (owner-view (s .phase) (requestOf (s .request)) (o
     go false e = e
 
 -- the law: where every stored request is to this station, no number stands twice exactly if no ship does
-pub ships-apart : (identity n : ℕ) (a : List Slot) (m : ℕ) (b : List Waiting) → all (slotKeeps (named identity)) (viewed slotView n a) ≡ true → all (waitingKeeps (named identity)) (viewed waitingView m b) ≡ true → distinct eqb (shipsOf (viewed itself n a) ++ viewed shipAt m b) ≡ distinct is (owners (viewed slotView n a) (map (λ w. w .request .who) (viewed waitingView m b)))
+pub ships-apart : (c : Config) (n : ℕ) (a : List Slot) (m : ℕ) (b : List Waiting) → all (slotKeeps c) (viewed slotView n a) ≡ true → all (waitingKeeps c) (viewed waitingView m b) ≡ true → distinct eqb (shipsOf (viewed itself n a) ++ viewed shipAt m b) ≡ distinct is (owners (viewed slotView n a) (map (λ w. w .request .who) (viewed waitingView m b)))
 unfolding viewed
-ships-apart identity n a m b k h =
+ships-apart c n a m b k h =
     let q = map (λ w. w .request .who) (map waitingView (take m b)) in
-    sym (ships-once identity (owners (map slotView (take n a)) q) (owners-here identity (map slotView (take n a)) q k (queue-here identity (map waitingView (take m b)) h)) ∙ ap (distinct eqb) (owners-ships (take n a) (take m b)))
+    sym (ships-once c (owners (map slotView (take n a)) q) (owners-here c (take n a) q k (queue-here c (take m b) h)) ∙ ap (distinct eqb) (owners-ships (take n a) (take m b)))

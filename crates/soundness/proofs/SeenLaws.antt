@@ -8,7 +8,6 @@ use lib.Dec.{leb, eqb}
 use lib.ListN.{length, take}
 use borrow.Author.Tests.{leb-true, le-leb, eq-eqb}
 use Rattle.units.specs.declared.Tenths.{Tenths}
-use Rattle.sequence.specs.Identity.{isCoast}
 use Rattle.sequence.specs.Symbols.{within}
 use Rattle.sequence.specs.Field.{channelOk}
 use Rattle.rules.specs.Places.{all, distinct}
@@ -21,8 +20,9 @@ use Rattle.requests.specs.Views.{viewed, itself}
 use Rattle.requests.proofs.ArrayLaws.{viewed-length}
 use Rattle.slots.specs.declared.Slot.{Slot}
 use Rattle.slots.specs.declared.Waiting.{Waiting}
-use Rattle.slots.specs.Views.{slotView, waitingView, channelOf, configFor}
-use Rattle.keeping.specs.Kept.{named, slotExact, waitingExact, slotSound, waitingSound}
+use Rattle.slots.specs.declared.mast.Mast.{Mast}
+use Rattle.slots.specs.Views.{named, slotView, waitingView, channelOf, configFor}
+use Rattle.keeping.specs.Kept.{slotExact, waitingExact, slotSound, waitingSound}
 use Rattle.keeping.proofs.KeepLaws.{slots-alike, queue-alike}
 use Rattle.soundness.specs.Soundly.{headSound, numberOf, shipsOf, shipAt}
 use Rattle.soundness.proofs.GatherLaws.{channels-apart, ships-apart}
@@ -52,24 +52,24 @@ same-truth true b f g = sym (f refl)
 same-truth false true f g = g refl
 same-truth false false f g = refl
 
-module _ (identity : ℕ) (clock : Tenths) where
-  slots-parts : (n : ℕ) (a : List Slot) → all (slotSound identity clock) (viewed itself n a) ≡ (all channelOk (viewed channelOf n a) && (all (slotFits (clock .0)) (viewed slotView n a) && (all (slotKeeps (named identity)) (viewed slotView n a) && all slotExact (viewed itself n a))))
+module _ (mast : Mast) (clock : Tenths) where
+  slots-parts : (n : ℕ) (a : List Slot) → all (slotSound mast clock) (viewed itself n a) ≡ (all channelOk (viewed channelOf n a) && (all (slotFits (clock .0)) (viewed slotView n a) && (all (slotKeeps (named mast)) (viewed slotView n a) && all slotExact (viewed itself n a))))
   unfolding slotSound
   slots-parts n a =
       let l = viewed itself n a in
-      let keeps : Slot → Bool = λ s. slotKeeps (named identity) (slotView s) in
+      let keeps : Slot → Bool = λ s. slotKeeps (named mast) (slotView s) in
       let fits : Slot → Bool = λ s. slotFits (clock .0) (slotView s) in
       all-and (λ s. channelOk (channelOf s)) (λ s. fits s && (keeps s && slotExact s)) l
-      ∙ rw (all-and fits (λ s. keeps s && slotExact s) l, all-and keeps slotExact l, all-viewed channelOf channelOk n a, all-viewed slotView (slotFits (clock .0)) n a, all-viewed slotView (slotKeeps (named identity)) n a) refl
+      ∙ rw (all-and fits (λ s. keeps s && slotExact s) l, all-and keeps slotExact l, all-viewed channelOf channelOk n a, all-viewed slotView (slotFits (clock .0)) n a, all-viewed slotView (slotKeeps (named mast)) n a) refl
 
-  queue-parts : (m : ℕ) (b : List Waiting) → all (waitingSound identity clock) (viewed itself m b) ≡ (all (placeFits (clock .0)) (viewed waitingView m b) && (all (waitingKeeps (named identity)) (viewed waitingView m b) && all waitingExact (viewed itself m b)))
+  queue-parts : (m : ℕ) (b : List Waiting) → all (waitingSound mast clock) (viewed itself m b) ≡ (all (placeFits (clock .0)) (viewed waitingView m b) && (all (waitingKeeps (named mast)) (viewed waitingView m b) && all waitingExact (viewed itself m b)))
   unfolding waitingSound
   queue-parts m b =
       let l = viewed itself m b in
-      let keeps : Waiting → Bool = λ w. waitingKeeps (named identity) (waitingView w) in
+      let keeps : Waiting → Bool = λ w. waitingKeeps (named mast) (waitingView w) in
       let fits : Waiting → Bool = λ w. placeFits (clock .0) (waitingView w) in
       all-and fits (λ w. keeps w && waitingExact w) l
-      ∙ rw (all-and keeps waitingExact l, all-viewed waitingView (placeFits (clock .0)) m b, all-viewed waitingView (waitingKeeps (named identity)) m b) refl
+      ∙ rw (all-and keeps waitingExact l, all-viewed waitingView (placeFits (clock .0)) m b, all-viewed waitingView (waitingKeeps (named mast)) m b) refl
 
   module _ (n : ℕ) (a : List Slot) (m : ℕ) (b : List Waiting) (ea : length a ≡ 16) (eb : length b ≡ 32) where
     abbrev pub station : R.Station
@@ -79,14 +79,14 @@ module _ (identity : ℕ) (clock : Tenths) where
     seen =
         distinct eqb (shipsOf (viewed itself n a) ++ viewed shipAt m b)
         && (distinct eqb (viewed numberOf n a)
-        && (all (waitingSound identity clock) (viewed itself m b)
-        && (all (slotSound identity clock) (viewed itself n a)
-        && headSound identity clock n m)))
+        && (all (waitingSound mast clock) (viewed itself m b)
+        && (all (slotSound mast clock) (viewed itself n a)
+        && headSound mast clock n m)))
 
     abbrev pub held : Bool
     held =
         (leb n 16 && (leb m 32 && (all slotExact (viewed itself n a) && all waitingExact (viewed itself m b))))
-        && sound (configFor identity n a) station
+        && sound (configFor mast n a) station
 
     ahead : seen ≡ true → held ≡ true
     unfolding headSound configKeeps identityKeeps channelsKeep oneSlotEach
@@ -95,27 +95,27 @@ module _ (identity : ℕ) (clock : Tenths) where
         let k : length l ≡ min n 16 = viewed-length channelOf n a ∙ ap (min n) ea in
         let ships = and-true (distinct eqb (shipsOf (viewed itself n a) ++ viewed shipAt m b)) _ h in
         let numbers = and-true (distinct eqb (viewed numberOf n a)) _ (ships .1) in
-        let queue = and-true (all (waitingSound identity clock) (viewed itself m b)) _ (numbers .1) in
-        let slots = and-true (all (slotSound identity clock) (viewed itself n a)) _ (queue .1) in
+        let queue = and-true (all (waitingSound mast clock) (viewed itself m b)) _ (numbers .1) in
+        let slots = and-true (all (slotSound mast clock) (viewed itself n a)) _ (queue .1) in
         let counts = and-true (leb n 16) _ (slots .1) in
         let places = and-true (leb m 32) _ (counts .1) in
         let one = and-true (leb 1 n) _ (places .1) in
-        let coast = and-true (isCoast identity) (leb (clock .0) limit) (one .1) in
+        let coast = and-true (identityKeeps (named mast)) (leb (clock .0) limit) (one .1) in
         let channel = and-true (all channelOk l) _ (sym (slots-parts n a) ∙ slots .0) in
         let fit = and-true (all (slotFits (clock .0)) (viewed slotView n a)) _ (channel .1) in
-        let keep = and-true (all (slotKeeps (named identity)) (viewed slotView n a)) (all slotExact (viewed itself n a)) (fit .1) in
+        let keep = and-true (all (slotKeeps (named mast)) (viewed slotView n a)) (all slotExact (viewed itself n a)) (fit .1) in
         let fits = and-true (all (placeFits (clock .0)) (viewed waitingView m b)) _ (sym (queue-parts m b) ∙ queue .0) in
-        let keeps = and-true (all (waitingKeeps (named identity)) (viewed waitingView m b)) (all waitingExact (viewed itself m b)) (fits .1) in
+        let keeps = and-true (all (waitingKeeps (named mast)) (viewed waitingView m b)) (all waitingExact (viewed itself m b)) (fits .1) in
         let least = le-leb 1 (length l) (omega (arith, k, leb-true 1 n (one .0))) in
         let most = le-leb (length l) 16 (omega (arith, k)) in
-        let good = is-sound (configFor identity n a) station (record {
+        let good = is-sound (configFor mast n a) station (record {
           config = rw (coast .0, least, most, channel .0, sym (channels-apart n a) ∙ numbers .0);
           one-each = eq-eqb (length (viewed slotView n a)) (length l) (viewed-length slotView n a ∙ sym (viewed-length channelOf n a));
-          slots-keep = slots-alike identity l [] (viewed slotView n a) ∙ keep .0;
-          queue-keeps = queue-alike identity l [] (viewed waitingView m b) ∙ keeps .0;
+          slots-keep = slots-alike mast l [] n a ∙ keep .0;
+          queue-keeps = queue-alike mast l [] m b ∙ keeps .0;
           in-limit = coast .1;
           room = le-leb (length (viewed waitingView m b)) 32 (omega (arith, viewed-length waitingView m b, eb));
-          no-twice = sym (ships-apart identity n a m b (keep .0) (keeps .0)) ∙ ships .0;
+          no-twice = sym (ships-apart (named mast) n a m b (keep .0) (keeps .0)) ∙ ships .0;
           slots-fit = fit .0;
           places-fit = fits .0;
         }) in
@@ -129,15 +129,15 @@ module _ (identity : ℕ) (clock : Tenths) where
         let counts = and-true (leb n 16) _ (parts .0) in
         let places = and-true (leb m 32) _ (counts .1) in
         let exact = and-true (all slotExact (viewed itself n a)) (all waitingExact (viewed itself m b)) (places .1) in
-        let good = sounds (configFor identity n a) station (parts .1) in
-        let coast = and-true (isCoast identity) _ (good .config) in
+        let good = sounds (configFor mast n a) station (parts .1) in
+        let coast = and-true (identityKeeps (named mast)) _ (good .config) in
         let count = and-true (within 1 16 (length l)) _ (coast .1) in
         let channel = and-true (all channelOk l) (distinct sameChannel l) (count .1) in
         let least = leb-true 1 (length l) (and-true (leb 1 (length l)) _ (count .0) .0) in
         let one = le-leb 1 n (omega (arith, least, viewed-length channelOf n a)) in
-        let keep = sym (slots-alike identity l [] (viewed slotView n a)) ∙ good .slots-keep in
-        let keeps = sym (queue-alike identity l [] (viewed waitingView m b)) ∙ good .queue-keeps in
-        rw (ships-apart identity n a m b keep keeps ∙ good .no-twice, channels-apart n a ∙ channel .1, queue-parts m b, good .places-fit, keeps, exact .1, slots-parts n a, channel .0, good .slots-fit, keep, exact .0, counts .0, places .0, one, coast .0, good .in-limit)
+        let keep = sym (slots-alike mast l [] n a) ∙ good .slots-keep in
+        let keeps = sym (queue-alike mast l [] m b) ∙ good .queue-keeps in
+        rw (ships-apart (named mast) n a m b keep keeps ∙ good .no-twice, channels-apart n a ∙ channel .1, queue-parts m b, good .places-fit, keeps, exact .1, slots-parts n a, channel .0, good .slots-fit, keep, exact .0, counts .0, places .0, one, coast .0, good .in-limit)
 
     pub seen-is : seen ≡ held
     seen-is = same-truth seen held ahead back

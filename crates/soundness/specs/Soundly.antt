@@ -4,19 +4,20 @@ use mathlib.Core.Bool.{Bool, cond, _&&_}
 use mathlib.Core.List.{List, [], _∷_}
 use lib.Dec.{leb}
 use Rattle.units.specs.declared.Tenths.{Tenths}
-use Rattle.sequence.specs.Identity.{isCoast}
-use Rattle.rules.specs.Sound.{mostSlots, queueRoom, limit}
+use Rattle.rules.specs.Sound.{identityKeeps, mostSlots, queueRoom, limit}
 use Rattle.slots.specs.declared.Slot.{Slot}
 use Rattle.slots.specs.declared.Waiting.{Waiting}
+use Rattle.slots.specs.declared.mast.Mast.{Mast}
+use Rattle.slots.specs.Views.{named}
 use Rattle.slots.specs.Phases.{owned}
 
 -- n slots and m waiting ships
-unfoldable pub headSound : ℕ → Tenths → ℕ → ℕ → Bool
-headSound identity clock n m =
+unfoldable pub headSound : Mast → Tenths → ℕ → ℕ → Bool
+headSound mast clock n m =
     leb n mostSlots
     && (leb m queueRoom
     && (leb 1 n
-    && (isCoast identity && leb (clock .0) limit)))
+    && (identityKeeps (named mast) && leb (clock .0) limit)))
 
 abbrev pub numberOf : Slot → ℕ
 numberOf s = s .channel .0

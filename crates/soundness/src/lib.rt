@@ -8,11 +8,12 @@ ghost use Rattle.soundness.specs.Soundly.{headSound};
 use apart::all_apart;
 use requests::least;
 use sequence::parts::channel_ok;
-use sequence::parts::is_coast;
 use slots::MOST_SLOTS;
 use slots::MOST_WAITING;
 use slots::SLOTS;
 use slots::Slot;
+use slots::mast::Mast;
+use slots::mast::mast_keeps;
 use units::LIMIT;
 use units::Tenths;
 
@@ -40,18 +41,18 @@ fn channels_keep(a: [Slot; SLOTS], n: u8) -> bool
 }
 
 // The identity and the channels: what set-up asks, and every event after it.
-pub fn config_keeps(identity: u32, a: [Slot; SLOTS], n: u8) -> bool
-    ensures { λ r. ⌜ r ≡ configKeeps (configFor identity n a) ⌝ }
+pub fn config_keeps(mast: Mast, a: [Slot; SLOTS], n: u8) -> bool
+    ensures { λ r. ⌜ r ≡ configKeeps (configFor mast n a) ⌝ }
 {
-    if !is_coast(identity) {
+    if !mast_keeps(mast) {
         return false;
     }
     channels_keep(a, n)
 }
 
 // The counts are within the arrays, there is a slot, the identity is a coast station's, the clock within the limit.
-pub fn head_sound(identity: u32, clock: Tenths, n: u8, m: u8) -> bool
-    ensures { λ r. ⌜ r ≡ headSound identity clock n m ⌝ }
+pub fn head_sound(mast: Mast, clock: Tenths, n: u8, m: u8) -> bool
+    ensures { λ r. ⌜ r ≡ headSound mast clock n m ⌝ }
 {
     if MOST_SLOTS < n {
         return false;
@@ -62,7 +63,7 @@ pub fn head_sound(identity: u32, clock: Tenths, n: u8, m: u8) -> bool
     if n < 1 {
         return false;
     }
-    if !is_coast(identity) {
+    if !mast_keeps(mast) {
         return false;
     }
     clock.0 <= LIMIT

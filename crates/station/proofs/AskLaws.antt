@@ -8,7 +8,7 @@ use Rattle.rules.specs.Words.{Request}
 use Rattle.rules.specs.Sound.{queueRoom}
 use Rattle.rules.specs.Station as R
 use Rattle.slots.specs.declared.Phase.{Phase}
-use Rattle.slots.specs.declared.Phase.the-variants.{Free, Offered, RingBack, RingAgain, Acknowledged, Dialling, Answered, Hold, Taken}
+use Rattle.slots.proofs.PhaseLaws.{by-phase}
 use Rattle.outcomes.specs.declared.Outcome.{Outcome}
 use Rattle.outcomes.specs.declared.Outcome.the-variants.{Joins, Unable}
 use Rattle.outcomes.specs.Does.{goesOn, outOf, wholeOf}
@@ -28,13 +28,5 @@ newcomer-ends false n = go (ltb n queueRoom)
     go false = refl
 
 pub bq-ends : (own : Bool) (t : Tenths) (p : Phase) → goesOn (bqBy own t p) ≡ false
-bq-ends false t p = refl
-bq-ends true t Free = refl
-bq-ends true t (Offered d) = refl
-bq-ends true t (RingBack d) = refl
-bq-ends true t (RingAgain d) = refl
-bq-ends true t (Acknowledged d) = refl
-bq-ends true t (Dialling d c) = refl
-bq-ends true t (Answered d c) = refl
-bq-ends true t (Hold d n) = refl
-bq-ends true t Taken = refl
+bq-ends false t = λ p. refl
+bq-ends true t = by-phase _ refl (λ d. refl) (λ d. refl) (λ d. refl) (λ d. refl) (λ d c. refl) (λ d c. refl) (λ d n. refl) refl

@@ -1,26 +1,29 @@
 -- What the gate asks of an event, by a station's own look, is the station's refusal; and what an accepted event has passed.
 use Prim.Native.Nat.{ℕ, _≤_}
 use mathlib.Core.Bool.{Bool, true, false, cond, not, _&&_}
-use mathlib.Core.List.{List}
+use mathlib.Core.List.{List, [], _∷_, _++_}
 use mathlib.Core.Option.{Option, none, some}
-use mathlib.Core.Path.{_≡_, refl, sym, _∙_}
+use mathlib.Core.Path.{_≡_, refl, sym}
 use lib.Dec.{leb}
-use lib.ListN.{getD}
+use lib.ListN.{length}
 use borrow.Author.Tests.{leb-true}
 use Rattle.sequence.specs.Answers.{answerNumber, isDone}
-use Rattle.sequence.specs.Refusals.{firstRefusal}
-use Rattle.rules.specs.Words.{Signal, Hand, heard, signal, operator, tick, onChannel70, onSlot, Event}
-use Rattle.rules.specs.Station.{free, fires}
-use Rattle.rules.specs.Sound.{sound}
-use Rattle.rules.specs.Calls.{barredHand}
+use Rattle.sequence.specs.Refusals.{Row, firstRefusal}
+use Rattle.rules.specs.Places.{isSome}
+use Rattle.rules.specs.Words.{Happened, signal, operator, What, onSlot, Event}
+use Rattle.rules.specs.Station.{theSlot, fires}
+use Rattle.rules.specs.Sound.{limit, sound}
+use Rattle.rules.specs.Verdict.{unless, roomNeeded, overtaken, slotThere, readIn, barred, refusals, verdict}
 use Rattle.gate.specs.declared.Look.{Look}
 use Rattle.gate.specs.Asked.{andThen, askedAlways, askedNow, askedOnSlot}
 use Rattle.gate.proofs.AskedLaws.{one-more}
-use Rattle.rules.specs.Verdict.{readerSays, refusals, verdict}
+use Rattle.slots.specs.Views.{signalView, handView}
 use Rattle.station.specs.declared.Station.{Station}
+use Rattle.station.specs.declared.Plain.{Plain}
+use Rattle.station.specs.declared.Plain.the-variants.{Signal, Hand}
 use Rattle.station.specs.Model.{modelOf, configOf}
 use Rattle.station.specs.Step.{recordsKeep, refusal}
-use Rattle.station.specs.Pieces.{Sees}
+use Rattle.station.specs.Pieces.{Sees, plainView, closedTo}
 
 -- 29 is one test of two parts
 both-parts : {A : Type 0} (a b : Bool) (x y : A) → cond (a && b) x y ≡ cond a (cond b x y) y
@@ -28,40 +31,44 @@ both-parts true b x y = refl
 both-parts false b x y = refl
 
 module _ (s : Station) (l : Look) (sees : Sees s l) (n t : ℕ) where
-  pub tick-asked : firstRefusal (askedAlways l n t) none ≡ refusal s (record { time = t; room = n; what = tick })
+  -- what is asked of an event behind 34, and behind 33
+  abbrev afterwards : What → List (Row (Option ℕ))
+  afterwards w = unless (isDone (readIn w)) (answerNumber (readIn w)) ∷ unless (not (barred (modelOf s) w)) 35 ∷ []
+
+  abbrev besides : What → List (Row (Option ℕ))
+  besides w = unless (slotThere (length (modelOf s .slots)) w) 34 ∷ afterwards w
+
+  -- of an event that no wait overtakes
+  pub asked-always : (w : What) → overtaken (modelOf s) t w ≡ false → firstRefusal (askedAlways l n t ++ besides w) none ≡ refusal s (record { time = t; room = n; what = w })
   unfolding refusal refusals
-  tick-asked = rw (sees .soundly, sees .clock) (both-parts (recordsKeep s) (sound (configOf s) (modelOf s)) _ _)
+  asked-always w e = rw (sees .soundly, sees .clock, e) (both-parts (recordsKeep s) (sound (configOf s) (modelOf s)) _ _)
 
-  -- whatever the signal
-  pub signal-asked : (i : ℕ) (g : Signal) → firstRefusal (askedOnSlot l n t i) none ≡ refusal s (record { time = t; room = n; what = onSlot i (signal g) })
+  -- of one that a wait due overtakes
+  pub asked-now : (w : What) → overtaken (modelOf s) t w ≡ isSome (fires t (modelOf s)) → firstRefusal (askedNow l n t ++ besides w) none ≡ refusal s (record { time = t; room = n; what = w })
   unfolding refusal refusals fires
-  signal-asked i g = rw (sees .soundly, sees .clock, sees .first, sees .slots) (both-parts (recordsKeep s) (sound (configOf s) (modelOf s)) _ _)
+  asked-now w e = rw (sees .soundly, sees .clock, sees .first, e) (both-parts (recordsKeep s) (sound (configOf s) (modelOf s)) _ _)
 
-  -- the operator's hand: 35 besides
-  pub hand-asked : (i : ℕ) (h : Hand) → andThen (firstRefusal (askedOnSlot l n t i) none) (not (barredHand (getD (modelOf s .slots) i free) h)) 35 ≡ refusal s (record { time = t; room = n; what = onSlot i (operator h) })
-  unfolding refusal refusals fires
-  hand-asked i h =
-      one-more (askedOnSlot l n t i) (refl, (refl, (refl, (refl, (refl, (refl, tt)))))) _ 35
-      ∙ rw (sees .soundly, sees .clock, sees .first, sees .slots) (both-parts (recordsKeep s) (sound (configOf s) (modelOf s)) _ _)
+  -- and of what happens on a slot
+  pub asked-on-slot : (i : ℕ) (h : Happened) → firstRefusal (askedOnSlot l n t i ++ afterwards (onSlot i h)) none ≡ refusal s (record { time = t; room = n; what = onSlot i h })
+  asked-on-slot i h = rw (sees .slots) (asked-now (onSlot i h) refl)
 
-  -- a sequence: 11 to 20 besides
-  pub heard-asked : (i : ℕ) (m : List ℕ) → andThen (firstRefusal (askedOnSlot l n t i) none) (isDone (readerSays m)) (answerNumber (readerSays m)) ≡ refusal s (record { time = t; room = n; what = onSlot i (heard m) })
-  unfolding refusal refusals fires
-  heard-asked i m =
-      one-more (askedOnSlot l n t i) (refl, (refl, (refl, (refl, (refl, (refl, tt)))))) _ _
-      ∙ rw (sees .soundly, sees .clock, sees .first, sees .slots) (both-parts (recordsKeep s) (sound (configOf s) (modelOf s)) _ _)
+  -- 35, which only a hand can get
+  pub asked-plainly : (i : ℕ) (w : Plain) → firstRefusal (askedOnSlot l n t i ++ (unless (not (closedTo (theSlot (modelOf s) i) w)) 35 ∷ [])) none ≡ refusal s (record { time = t; room = n; what = onSlot i (plainView w) })
+  asked-plainly i (Signal g) = asked-on-slot i (signal (signalView g))
+  asked-plainly i (Hand h) = asked-on-slot i (operator (handView h))
 
-  pub channel-asked : (m : List ℕ) → andThen (firstRefusal (askedNow l n t) none) (isDone (readerSays m)) (answerNumber (readerSays m)) ≡ refusal s (record { time = t; room = n; what = onChannel70 m })
-  unfolding refusal refusals fires
-  channel-asked m =
-      one-more (askedNow l n t) (refl, (refl, (refl, (refl, (refl, tt))))) _ _
-      ∙ rw (sees .soundly, sees .clock, sees .first) (both-parts (recordsKeep s) (sound (configOf s) (modelOf s)) _ _)
+  -- one test more: the reader's, or the hand's
+  pub one-more-now : (b : Bool) (k : ℕ) → andThen (firstRefusal (askedNow l n t) none) b k ≡ firstRefusal (askedNow l n t ++ (unless b k ∷ [])) none
+  one-more-now b k = one-more (askedNow l n t) (refl, (refl, (refl, (refl, (refl, tt))))) b k
+
+  pub one-more-on-slot : (i : ℕ) (b : Bool) (k : ℕ) → andThen (firstRefusal (askedOnSlot l n t i) none) b k ≡ firstRefusal (askedOnSlot l n t i ++ (unless b k ∷ [])) none
+  one-more-on-slot i b k = one-more (askedOnSlot l n t i) (refl, (refl, (refl, (refl, (refl, (refl, tt)))))) b k
 
 -- what an accepted event has passed
 pub record Passed (s : Station) (e : Event) : Type 0 where
   pub sounds : sound (configOf s) (modelOf s) ≡ true
-  pub room : 320 ≤ e .room
-  pub time : e .time ≤ 4000000000
+  pub room : roomNeeded ≤ e .room
+  pub time : e .time ≤ limit
   pub judged : verdict (configOf s) (modelOf s) e ≡ none
 
 one : (b : Bool) (n : ℕ) (x : Option ℕ) → none ≡ cond b x (some n) → (b ≡ true) × (none ≡ x)
@@ -73,6 +80,6 @@ unfolding refusal refusals verdict
 passed s e h =
     let a = one (recordsKeep s) 29 _ h in
     let b = one (sound (configOf s) (modelOf s)) 29 _ (a .1) in
-    let c = one (leb 320 (e .room)) 30 _ (b .1) in
-    let d = one (leb (e .time) 4000000000) 31 _ (c .1) in
-    record { sounds = b .0; room = leb-true 320 (e .room) (c .0); time = leb-true (e .time) 4000000000 (d .0); judged = sym (a .1) }
+    let c = one (leb roomNeeded (e .room)) 30 _ (b .1) in
+    let d = one (leb (e .time) limit) 31 _ (c .1) in
+    record { sounds = b .0; room = leb-true roomNeeded (e .room) (c .0); time = leb-true (e .time) limit (d .0); judged = sym (a .1) }

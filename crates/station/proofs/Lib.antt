@@ -4,7 +4,6 @@ pub mod ApplyLaws
 pub mod ChangeLaws
 pub mod FinishLaws
 pub mod AskLaws
-pub mod DecideLaws
 pub mod GateLaws
 pub mod SceneLaws
 pub mod RedialLaws

@@ -5,7 +5,7 @@ use mathlib.Core.Path.{_≡_, refl, sym}
 use native.Mathlib.Omega.{arith}
 use lib.ListN.{length, getD, take}
 use Rattle.rules.specs.Bytes.{channelAt}
-use Rattle.rules.specs.Station.{free}
+use Rattle.rules.specs.Station.{theSlot}
 use Rattle.requests.specs.Views.{viewed, itself}
 use Rattle.requests.proofs.ArrayLaws.{viewed-at, viewed-past, viewed-length}
 use Rattle.slots.specs.Images.{blankSlot, blankWaiting, slotImage}
@@ -24,7 +24,7 @@ seen-at {A} v d n l i = go (take n l) i
     go (x ∷ l) (suc i) = go l i
 
 module _ (s : Station) (i : ℕ) where
-  pub slot-view : slotView (slotOf s i) ≡ getD (modelOf s .slots) i free
+  pub slot-view : slotView (slotOf s i) ≡ theSlot (modelOf s) i
   unfolding slotOf modelOf blankSlot slotImage
   slot-view = seen-at slotView blankSlot (s .count) (s .slots) i
 

@@ -5,7 +5,7 @@ use mathlib.Core.List.{List, [], _∷_, map}
 use mathlib.Core.Option.{none, some}
 use mathlib.Core.Path.{_≡_, refl}
 use native.Mathlib.Omega.{arith}
-use lib.ListN.{length, getD, length-map}
+use lib.ListN.{length, length-map}
 use borrow.Author.Tests.{le-leb}
 use Rattle.sequence.specs.Answers.{isDone}
 use Rattle.sequence.specs.Layout.{valid}
@@ -15,7 +15,7 @@ use Rattle.rules.specs.Words.{Config, Happened, Event, onSlot}
 use Rattle.rules.specs.Actions.{Action}
 use Rattle.rules.specs.Bytes.{channelAt, slotNumber, block}
 use Rattle.rules.specs.Station as R
-use Rattle.rules.specs.Station.{free, setClock, nextDue, dueAt}
+use Rattle.rules.specs.Station.{theSlot, setClock, nextDue, dueAt}
 use Rattle.rules.specs.Requests.{Out}
 use Rattle.rules.specs.Calls.{happenedOn, actAt, act}
 use Rattle.rules.specs.Statement.{AtMostEight}
@@ -85,7 +85,7 @@ module _ (s : Station) (room : List ℕ) (e : Event) (same : e .room ≡ length 
       rw (q, laid-is, w, ← h, n, handed-out reads (configOf s) (modelOf s) e (passed s e h .judged)) (refl, refl)
 
 -- what happens on a slot
-pub slot-acts : (s : Station) (t i n : ℕ) (k : Happened) (p : R.Slot) → p ≡ getD (modelOf s .slots) i free
+pub slot-acts : (s : Station) (t i n : ℕ) (k : Happened) (p : R.Slot) → p ≡ theSlot (modelOf s) i
     → happenedOn (configOf s) i (setClock t (modelOf s)) p k ≡ act (configOf s) (modelOf s) (record { time = t; room = n; what = onSlot i k })
 unfolding actAt
 slot-acts s t i n k p e = rw e refl

@@ -5,7 +5,7 @@ use Rattle.rules.specs.Words.{Config}
 use Rattle.rules.specs.Station as R
 use Rattle.rules.specs.Bytes.{padded}
 use Rattle.requests.specs.Views.{viewed}
-use Rattle.slots.specs.Views.{slotView, waitingView, configFor}
+use Rattle.slots.specs.Views.{slotView, waitingView, mastOf, configFor}
 use Rattle.slots.specs.Images.{slotImages, waitingImage, blankSlot, blankWaiting, tenths}
 use Rattle.station.specs.declared.Station.{Station}
 
@@ -20,14 +20,14 @@ modelOf s =
 
 -- what never changes
 unfoldable pub configOf : Station → Config
-configOf s = configFor (s .identity) (s .count) (s .slots)
+configOf s = configFor (s .mast) (s .count) (s .slots)
 
 -- every unused place blank
 unfoldable pub imageOf : Config → R.Station → Station
 imageOf c m =
     record {
       clock = tenths (m .clock);
-      identity = c .identity;
+      mast = mastOf c;
       count = length (m .slots);
       waiting = length (m .queue);
       slots = padded blankSlot 16 (slotImages (c .channels) (m .slots));

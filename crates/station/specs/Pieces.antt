@@ -1,19 +1,21 @@
 -- Words of the contracts of private functions; only the proofs need them.
 use Prim.Native.Nat.{ℕ}
-use mathlib.Core.Bool.{Bool, _&&_}
+use mathlib.Core.Bool.{Bool, false, _&&_}
 use mathlib.Core.Path.{_≡_}
 use mathlib.Core.List.{List, map}
 use lib.ListN.{length, getD}
-use Rattle.units.specs.declared.Channel.{Channel}
 use Rattle.units.specs.declared.SlotNumber.{SlotNumber}
 use Rattle.units.specs.declared.Tenths.{Tenths}
 use Rattle.rules.specs.Words as W
-use Rattle.rules.specs.Words.{Config}
+use Rattle.rules.specs.Words.{Config, Happened, signal, operator}
 use Rattle.rules.specs.Waits.{earliest}
 use Rattle.rules.specs.Sound.{sound}
-use Rattle.rules.specs.Station.{free, setClock, table, nextDue}
+use Rattle.rules.specs.Station as R
+use Rattle.rules.specs.Station.{setClock, table, nextDue}
 use Rattle.rules.specs.Requests.{Out}
+use Rattle.rules.specs.Calls.{barredHand}
 use Rattle.rules.specs.Actions.{Action}
+use Rattle.requests.specs.declared.Mode.{Mode}
 use Rattle.requests.specs.Views.{viewed, itself, requestOf}
 use Rattle.slots.specs.declared.Slot.{Slot}
 use Rattle.slots.specs.declared.Phase.{Phase}
@@ -21,8 +23,8 @@ use Rattle.slots.specs.declared.Wait.{Wait}
 use Rattle.slots.specs.declared.Wait.the-variants.{Entry, Loss, Main}
 use Rattle.slots.specs.declared.Due.{Due}
 use Rattle.slots.specs.declared.Due.the-variants.{Never, In}
-use Rattle.slots.specs.Images.{slotImage, blankSlot}
-use Rattle.slots.specs.Views.{dueView}
+use Rattle.slots.specs.Images.{blankSlot}
+use Rattle.slots.specs.Views.{signalView, handView, dueView}
 use Rattle.actions.specs.Sent.{sentBlock}
 use Rattle.blocks.specs.Laid.{Laid, laidFrom}
 use Rattle.gate.specs.declared.Look.{Look}
@@ -31,15 +33,13 @@ use Rattle.hearing.specs.declared.Kind.the-variants.{CallRequest, DataRequest, 
 use Rattle.outcomes.specs.declared.Outcome.{Outcome}
 use Rattle.outcomes.specs.declared.Outcome.the-variants.{Ignored, Passes, Drops}
 use Rattle.outcomes.specs.Does.{outOf, wholeOf}
-use Rattle.outcomes.specs.Decides.{coastEndBy, workingBy, shipEndBy, mainDueBy}
+use Rattle.outcomes.specs.Decides.{bySignal, byHand, coastEndBy, workingBy, shipEndBy, mainDueBy}
 use Rattle.station.specs.declared.Station.{Station}
 use Rattle.station.specs.declared.Stepped.{Stepped}
+use Rattle.station.specs.declared.Plain.{Plain}
+use Rattle.station.specs.declared.Plain.the-variants.{Signal, Hand}
 use Rattle.station.specs.Model.{modelOf, configOf, imageOf}
 use Rattle.station.specs.Step.{recordsKeep, dueImage}
-
--- a free slot on a channel
-unfoldable pub freeOn : Channel → Slot
-freeOn n = slotImage n free
 
 -- what the gate sees
 pub record Sees (s : Station) (l : Look) : Type 0 where
@@ -74,6 +74,19 @@ unfoldable pub enacted : Config → Laid → Out → Stepped
 enacted c l o = record { answer = o .answer; count = l .next; due = dueImage (nextDue (o .next)); station = imageOf c (o .next) }
 
 -- ── which rule decides ───────────────────────────────────────────────────────
+
+abbrev pub plainView : Plain → Happened
+plainView (Signal g) = signal (signalView g)
+plainView (Hand h) = operator (handView h)
+
+-- only a hand can find a slot closed to it
+abbrev pub closedTo : R.Slot → Plain → Bool
+closedTo s (Signal g) = false
+closedTo s (Hand h) = barredHand s (handView h)
+
+abbrev pub byPlain : Plain → Tenths → Mode → Phase → Outcome
+byPlain (Signal g) t m p = bySignal g t m p
+byPlain (Hand h) t m p = byHand h p
 
 -- what falls due: the slot that is meant, the time, the outcome; a queue entry and nothing due mean no slot
 abbrev pub waitSlot : Wait → SlotNumber

@@ -6,17 +6,16 @@ use mathlib.Core.Option.{Option, none, some}
 use lib.Dec.{leb}
 use lib.ListN.{length, take, drop}
 use Rattle.units.specs.declared.Channel.{Channel}
-use Rattle.units.specs.declared.Tenths.{Tenths}
-use Rattle.units.specs.declared.SlotNumber.{SlotNumber}
 use Rattle.sequence.specs.Refusals.{firstRefusal}
 use Rattle.rules.specs.Places.{all}
-use Rattle.rules.specs.Words.{Config, Happened, tick, onChannel70, onSlot, Event}
+use Rattle.rules.specs.Words.{Config, Happened, What, onSlot, Event}
 use Rattle.rules.specs.Station.{nextDue, fresh}
 use Rattle.rules.specs.Requests.{Out}
 use Rattle.rules.specs.Calls.{act}
 use Rattle.rules.specs.Verdict.{unless, refusals, setUpVerdict}
 use Rattle.rules.specs.Bytes.{padded, blocks}
 use Rattle.requests.specs.Views.{viewed, itself}
+use Rattle.slots.specs.Views.{alone, onMast}
 use Rattle.slots.specs.Images.{tenths}
 use Rattle.keeping.specs.Kept.{slotExact, waitingExact}
 use Rattle.station.specs.declared.Station.{Station}
@@ -26,16 +25,14 @@ use Rattle.station.specs.declared.Stepped.{Stepped}
 use Rattle.station.specs.declared.SetUp.{SetUp}
 use Rattle.station.specs.Model.{modelOf, configOf, imageOf}
 
--- ── the events ───────────────────────────────────────────────────────────────
+-- ── an event ─────────────────────────────────────────────────────────────────
 
-abbrev pub tickAt : Tenths → List ℕ → Event
-tickAt time room = record { time = time .0; room = length room; what = tick }
+-- what comes in, with the room that is lent for its actions
+abbrev pub eventAt : ℕ → What → List ℕ → Event
+eventAt time what room = record { time = time; room = length room; what = what }
 
-abbrev pub channel70At : Tenths → List ℕ → List ℕ → Event
-channel70At time symbols room = record { time = time .0; room = length room; what = onChannel70 symbols }
-
-abbrev pub slotAt : Tenths → SlotNumber → Happened → List ℕ → Event
-slotAt time slot h room = record { time = time .0; room = length room; what = onSlot (slot .0) h }
+abbrev pub slotAt : ℕ → ℕ → Happened → List ℕ → Event
+slotAt time slot h room = eventAt time (onSlot slot h) room
 
 -- ── refusals ─────────────────────────────────────────────────────────────────
 
@@ -83,13 +80,16 @@ roomAfter s room e = roomFor (configOf s) room (act (configOf s) (modelOf s) e) 
 abbrev pub channelNumber : ℕ → Channel
 channelNumber n = record { 0 = n }
 
--- slots in the list's order, the channels told as numbers
+-- of one station alone: slots in the list's order, the channels told as numbers
 abbrev pub given : ℕ → List ℕ → Config
-given identity channels = record { identity = identity; channels = map channelNumber channels }
+given n channels = onMast (alone n) (map channelNumber channels)
 
 -- the first `count` of sixteen channels; a count over 16 is no list, and neither is an empty one
+abbrev pub countedOf : List Channel → ℕ → List Channel
+countedOf channels count = cond (leb count 16) (take count channels) []
+
 abbrev pub chosen : ℕ → List Channel → ℕ → Config
-chosen identity channels count = record { identity = identity; channels = cond (leb count 16) (take count channels) [] }
+chosen n channels count = onMast (alone n) (countedOf channels count)
 
 -- numbers in the sixteen places for channels
 unfoldable pub sixteenOf : List ℕ → List Channel
@@ -107,4 +107,4 @@ abbrev pub setUpOf : Config → SetUp
 setUpOf c = setUpFor c (setUpVerdict c)
 
 unfoldable pub setUpBy : ℕ → List ℕ → SetUp
-setUpBy identity channels = setUpOf (given identity channels)
+setUpBy n channels = setUpOf (given n channels)

@@ -1,27 +1,31 @@
 // The station of the rack, by value: set-up, and one method for each kind of event.
 mod applying;
-mod channel_70;
+mod calling;
 mod enacting;
 mod look;
 mod operator;
 mod places;
+mod plain_events;
 mod setting;
 mod signals;
 mod waits;
 mod working;
 
 use outcomes::Outcome;
+use slots::Hand;
 use slots::QUEUE_ROOM;
 use slots::SLOTS;
+use slots::Signal;
 use slots::Slot;
 use slots::Waiting;
+use slots::mast::Mast;
 use units::SlotNumber;
 use units::Tenths;
 
 // One slot for each of `count` channels, and `waiting` ships, oldest first.
 pub struct Station {
     pub clock: Tenths,
-    pub identity: u32,
+    pub mast: Mast,
     pub count: u8,
     pub waiting: u8,
     pub slots: [Slot; SLOTS],
@@ -45,6 +49,12 @@ pub struct Stepped {
 pub struct SetUp {
     pub answer: u8,
     pub station: Station,
+}
+
+// What happens on a slot and is no sequence.
+enum Plain {
+    Signal(Signal),
+    Hand(Hand),
 }
 
 // What is done, and to which slot.

@@ -24,7 +24,7 @@ use slots::QUEUE_ROOM;
 use slots::QueuePlace;
 use slots::SLOTS;
 use slots::Wait;
-use slots::phases::has_ship;
+use slots::has_ship;
 use soundness::head_sound;
 use units::SlotNumber;
 
@@ -46,17 +46,17 @@ impl Station {
     pub(crate) fn looked(self) -> Look
         ensures { λ r. ⌜ Sees self r ⌝ }
     {
-        let identity = self.identity;
+        let mast = self.mast;
         let clock = self.clock;
         let n = least(self.count, MOST_SLOTS);
         let m = least(self.waiting, MOST_WAITING);
-        let mut sound = head_sound(identity, clock, self.count, self.waiting);
+        let mut sound = head_sound(mast, clock, self.count, self.waiting);
         let mut due = Due::Never;
         let mut i = n as u32;
         while 0 < i {
             i -= 1;
             let s = self.slots[i as usize];
-            if !slot_sound(s, identity, clock) {
+            if !slot_sound(s, mast, clock) {
                 sound = false;
             }
             let d = main_due(s, SlotNumber(i), due);
@@ -66,7 +66,7 @@ impl Station {
         while 0 < k {
             k -= 1;
             let w = self.queue[k as usize];
-            if !waiting_sound(w, identity, clock) {
+            if !waiting_sound(w, mast, clock) {
                 sound = false;
             }
             let t = w.due;

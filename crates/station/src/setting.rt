@@ -4,33 +4,21 @@ ghost use Prim.Native.Nat.{_≤_};
 ghost use Rattle.rules.specs.Sound.{mostSlots};
 ghost use Rattle.rules.specs.Bytes.{padded};
 ghost use Rattle.requests.specs.Views.{viewed};
-ghost use Rattle.slots.specs.Images.{blankSlot};
+ghost use Rattle.slots.specs.Images.{freeOn, blankSlot};
 ghost use Rattle.station.specs.Step.{blankStation, chosen, setUpOf};
-ghost use Rattle.station.specs.Pieces.{freeOn};
 use crate::SetUp;
 use crate::Station;
-use requests::blank_request;
 use slots::MOST_SLOTS;
-use slots::Phase;
 use slots::QUEUE_ROOM;
 use slots::SLOTS;
 use slots::Slot;
 use slots::laying::blank_slot;
 use slots::laying::blank_waiting;
+use slots::laying::free_on;
+use slots::mast::Mast;
 use soundness::config_keeps;
 use units::Channel;
 use units::Tenths;
-
-fn free_on(n: Channel) -> Slot
-    ensures { λ r. ⌜ r ≡ freeOn n ⌝ }
-{
-    let b = blank_request();
-    Slot {
-        phase: Phase::Free,
-        channel: n,
-        request: b,
-    }
-}
 
 // "one slot each", in the list's order.
 fn listed(channels: [Channel; SLOTS], n: u8) -> [Slot; SLOTS]
@@ -57,7 +45,7 @@ impl Station {
         let w = blank_waiting();
         Station {
             clock: Tenths(0),
-            identity: 0,
+            mast: Mast { identity: 0 },
             count: 0,
             waiting: 0,
             slots: [s; SLOTS],
@@ -77,7 +65,8 @@ impl Station {
             };
         }
         let a = listed(channels, count);
-        if !config_keeps(identity, a, count) {
+        let mast = Mast { identity: identity };
+        if !config_keeps(mast, a, count) {
             let s = Station::blank();
             return SetUp {
                 answer: 36,
@@ -87,7 +76,7 @@ impl Station {
         let w = blank_waiting();
         let s = Station {
             clock: Tenths(0),
-            identity: identity,
+            mast: mast,
             count: count,
             waiting: 0,
             slots: a,

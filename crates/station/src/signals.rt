@@ -3,10 +3,9 @@ ghost use mathlib.Core.Path.{_≡_};
 ghost use Rattle.rules.specs.Words.{offHook, onHook, carrierUp, carrierDown, signal};
 ghost use Rattle.slots.specs.Views.{signalView};
 ghost use Rattle.station.specs.Step.{slotAt, steppedBy, roomAfter};
+use crate::Plain;
 use crate::Station;
 use crate::Stepped;
-use gate::Verdict;
-use outcomes::calls::by_signal;
 use slots::Signal;
 use units::SlotNumber;
 use units::Tenths;
@@ -14,53 +13,40 @@ use units::Tenths;
 impl Station {
     // Any of the four.
     pub fn signalled(self, g: Signal, time: Tenths, slot: SlotNumber, room: &mut [u8]) -> Stepped
-        ensures { λ r. ⌜ r ≡ steppedBy self (slotAt time slot (signal (signalView g)) (now (room .entry))) ⌝ }
-        ensures { λ _. ⌜ now (room .exit) ≡ roomAfter self (now (room .entry)) (slotAt time slot (signal (signalView g)) (now (room .entry))) ⌝ }
+        ensures { λ r. ⌜ r ≡ steppedBy self (slotAt (time .0) (slot .0) (signal (signalView g)) (now (room .entry))) ⌝ }
+        ensures { λ _. ⌜ now (room .exit) ≡ roomAfter self (now (room .entry)) (slotAt (time .0) (slot .0) (signal (signalView g)) (now (room .entry))) ⌝ }
     {
-        let look = self.looked();
-        let first = look.due;
-        let v = look.judge_slot(room.len(), time, slot);
-        match v {
-            Verdict::Refused(n) => self.refused(n, first),
-            Verdict::Accepted => {
-                let x = self.slot_at(slot);
-                let q = x.request;
-                let m = q.mode;
-                let p = x.phase;
-                let o = by_signal(g, time, m, p);
-                self.enact(time, slot, o, q, 0, room)
-            }
-        }
+        self.plainly(Plain::Signal(g), time, slot, room)
     }
 
     // Ashore the line is answered.
     pub fn off_hook(self, time: Tenths, slot: SlotNumber, room: &mut [u8]) -> Stepped
-        ensures { λ r. ⌜ r ≡ steppedBy self (slotAt time slot offHook (now (room .entry))) ⌝ }
-        ensures { λ _. ⌜ now (room .exit) ≡ roomAfter self (now (room .entry)) (slotAt time slot offHook (now (room .entry))) ⌝ }
+        ensures { λ r. ⌜ r ≡ steppedBy self (slotAt (time .0) (slot .0) offHook (now (room .entry))) ⌝ }
+        ensures { λ _. ⌜ now (room .exit) ≡ roomAfter self (now (room .entry)) (slotAt (time .0) (slot .0) offHook (now (room .entry))) ⌝ }
     {
         self.signalled(Signal::LineLifted, time, slot, room)
     }
 
     // Ashore the line is put down.
     pub fn on_hook(self, time: Tenths, slot: SlotNumber, room: &mut [u8]) -> Stepped
-        ensures { λ r. ⌜ r ≡ steppedBy self (slotAt time slot onHook (now (room .entry))) ⌝ }
-        ensures { λ _. ⌜ now (room .exit) ≡ roomAfter self (now (room .entry)) (slotAt time slot onHook (now (room .entry))) ⌝ }
+        ensures { λ r. ⌜ r ≡ steppedBy self (slotAt (time .0) (slot .0) onHook (now (room .entry))) ⌝ }
+        ensures { λ _. ⌜ now (room .exit) ≡ roomAfter self (now (room .entry)) (slotAt (time .0) (slot .0) onHook (now (room .entry))) ⌝ }
     {
         self.signalled(Signal::LineHung, time, slot, room)
     }
 
     // The ship's carrier is present again.
     pub fn carrier_up(self, time: Tenths, slot: SlotNumber, room: &mut [u8]) -> Stepped
-        ensures { λ r. ⌜ r ≡ steppedBy self (slotAt time slot carrierUp (now (room .entry))) ⌝ }
-        ensures { λ _. ⌜ now (room .exit) ≡ roomAfter self (now (room .entry)) (slotAt time slot carrierUp (now (room .entry))) ⌝ }
+        ensures { λ r. ⌜ r ≡ steppedBy self (slotAt (time .0) (slot .0) carrierUp (now (room .entry))) ⌝ }
+        ensures { λ _. ⌜ now (room .exit) ≡ roomAfter self (now (room .entry)) (slotAt (time .0) (slot .0) carrierUp (now (room .entry))) ⌝ }
     {
         self.signalled(Signal::CarrierHeard, time, slot, room)
     }
 
     // The ship's carrier is lost.
     pub fn carrier_down(self, time: Tenths, slot: SlotNumber, room: &mut [u8]) -> Stepped
-        ensures { λ r. ⌜ r ≡ steppedBy self (slotAt time slot carrierDown (now (room .entry))) ⌝ }
-        ensures { λ _. ⌜ now (room .exit) ≡ roomAfter self (now (room .entry)) (slotAt time slot carrierDown (now (room .entry))) ⌝ }
+        ensures { λ r. ⌜ r ≡ steppedBy self (slotAt (time .0) (slot .0) carrierDown (now (room .entry))) ⌝ }
+        ensures { λ _. ⌜ now (room .exit) ≡ roomAfter self (now (room .entry)) (slotAt (time .0) (slot .0) carrierDown (now (room .entry))) ⌝ }
     {
         self.signalled(Signal::CarrierLost, time, slot, room)
     }

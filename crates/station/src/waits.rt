@@ -1,6 +1,7 @@
 // A wait falls due.
 ghost use mathlib.Core.Path.{_≡_};
-ghost use Rattle.station.specs.Step.{tickAt, steppedBy, roomAfter};
+ghost use Rattle.rules.specs.Words.{tick};
+ghost use Rattle.station.specs.Step.{eventAt, steppedBy, roomAfter};
 ghost use Rattle.station.specs.Pieces.{waitSlot, dueSlot, moment, byWait, byDue};
 use crate::Station;
 use crate::Stepped;
@@ -67,8 +68,8 @@ fn by_due(d: Due, p: Phase) -> Outcome
 impl Station {
     // Time passes: "the earliest wait due at or before t, one only".
     pub fn tick(self, time: Tenths, room: &mut [u8]) -> Stepped
-        ensures { λ r. ⌜ r ≡ steppedBy self (tickAt time (now (room .entry))) ⌝ }
-        ensures { λ _. ⌜ now (room .exit) ≡ roomAfter self (now (room .entry)) (tickAt time (now (room .entry))) ⌝ }
+        ensures { λ r. ⌜ r ≡ steppedBy self (eventAt (time .0) tick (now (room .entry))) ⌝ }
+        ensures { λ _. ⌜ now (room .exit) ≡ roomAfter self (now (room .entry)) (eventAt (time .0) tick (now (room .entry))) ⌝ }
     {
         let look = self.looked();
         let first = look.due;

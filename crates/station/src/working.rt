@@ -38,8 +38,8 @@ impl Station {
         symbols: &[u8],
         room: &mut [u8],
     ) -> Stepped
-        ensures { λ r. ⌜ r ≡ steppedBy self (slotAt time slot (heard (now (symbols .entry))) (now (room .entry))) ⌝ }
-        ensures { λ _. ⌜ now (room .exit) ≡ roomAfter self (now (room .entry)) (slotAt time slot (heard (now (symbols .entry))) (now (room .entry))) ⌝ }
+        ensures { λ r. ⌜ r ≡ steppedBy self (slotAt (time .0) (slot .0) (heard (now (symbols .entry))) (now (room .entry))) ⌝ }
+        ensures { λ _. ⌜ now (room .exit) ≡ roomAfter self (now (room .entry)) (slotAt (time .0) (slot .0) (heard (now (symbols .entry))) (now (room .entry))) ⌝ }
     {
         let said = read(symbols);
         let a = said.answer;
@@ -51,7 +51,7 @@ impl Station {
             Verdict::Refused(n) => self.refused(n, first),
             Verdict::Accepted => {
                 let b = self.slots;
-                let h = told_by(self.identity, b, self.count, m);
+                let h = told_by(self.mast, b, self.count, m);
                 let q = h.request;
                 let x = self.slot_at(slot);
                 let y = x.request;

@@ -2,20 +2,18 @@
 use Prim.Native.Nat.{ℕ, zero, suc, _<_}
 use mathlib.Core.Path.{_≡_, refl, sym, ap, _∙_}
 use mathlib.Core.List.{List, [], _∷_, _++_, map, map-append, append-nil}
-use native.Mathlib.Omega.{arith}
 use native.Mathlib.Nat.{not-suc-le-zero}
 use lib.ListN.{length}
 use Rattle.units.specs.declared.Channel.{Channel}
 use Rattle.rules.specs.Words.{Config, Request, carrierOff}
 use Rattle.rules.specs.Actions.{Action, Ender, does, theShip, theCoast}
 use Rattle.rules.specs.Requests.{endActs}
-use Rattle.rules.specs.Bytes.{channelAt, block}
-use Rattle.requests.proofs.ArrayLaws.{padded-length}
+use Rattle.rules.specs.Bytes.{channelAt}
 use Rattle.actions.specs.declared.Action.{Action as Made}
 use Rattle.actions.specs.Blocks.{actionBlock}
 use Rattle.actions.specs.Sent.{sentPayload, sentOn, sentBlock}
 use Rattle.blocks.specs.Laid.{layCount, layRoom, laidFrom}
-use Rattle.blocks.proofs.LaidLaws.{Forty, laid-append}
+use Rattle.blocks.proofs.LaidLaws.{laid-append}
 use Rattle.outcomes.specs.declared.Talk.{Talk}
 use Rattle.outcomes.specs.declared.Talk.the-variants.{Unanswered, Since}
 use Rattle.outcomes.specs.declared.Outcome.{Outcome}
@@ -89,13 +87,6 @@ parts sc Joins = refl
 parts sc (Replaces k) = refl
 parts sc (Unable n) = refl
 parts sc (Drops k) = refl
-
--- ── 40 bytes each ────────────────────────────────────────────────────────────
-
-pub told-forty : (channel : Channel) (l : List Action) → Forty (map (sentOn channel) l)
-unfolding sentOn block
-told-forty channel [] = tt
-told-forty channel (a ∷ l) = (omega (arith, padded-length 0 36 (sentPayload channel a)), told-forty channel l)
 
 -- ── on the channel of the slot ───────────────────────────────────────────────
 

@@ -6,7 +6,9 @@ use mathlib.Core.Option.{none}
 use native.Mathlib.Omega.{arith}
 use lib.ListN.{length, replicate}
 use Rattle.rules.specs.Words.{What, Event}
+use Rattle.rules.specs.Verdict.{roomNeeded}
 use Rattle.rules.specs.Statement.{stationAfter}
+use Rattle.rules.specs.Runs.{at}
 use Rattle.soundness.proofs.FitLaws.{sound-fits}
 use Rattle.station.specs.declared.Station.{Station}
 use Rattle.station.specs.Step.{refusal, steppedBy, roomAfter}
@@ -14,7 +16,7 @@ use Rattle.lent.specs.Stations.{stationFrom}
 use Rattle.exchange.specs.Events.{returned, roomLeft}
 use Rattle.exchange.proofs.Theorems.{taken-apart, accepted-leaves-its-station, left-is}
 use Rattle.rack.proofs.Laid.{refusal-is}
-use Rattle.rack.proofs.Scripted.{step-allowed}
+use Rattle.rack.proofs.Steps.{step-allowed}
 use Rattle.host.specs.Calls as Host
 use Rattle.host.specs.Calls.{Entered}
 use Rattle.host.proofs.Small.{stepped-in-byte}
@@ -24,7 +26,7 @@ use Rattle.useless.specs.Events.{Method, methodOf, laidIn}
 use Rattle.useless.specs.Entries.{Call, Back, eventOf, callBy, callIn, Meets, Comes, signs, NoUselessEntry}
 use Rattle.useless.proofs.ShutOut.{shut-out}
 use Rattle.useless.proofs.Events as Shown
-use Rattle.useless.proofs.Events.{house, past, scripts, doing, does-method, refused-method, reached, reached-is, good, one-more}
+use Rattle.useless.proofs.Events.{house, past, scripts, doing, doing-method, later, reached, reached-is, good, one-more}
 use Rattle.useless.proofs.Hosted.{hosting, bytesAfter, stands}
 
 -- ── any call ─────────────────────────────────────────────────────────────────
@@ -64,7 +66,7 @@ stands-for : (es : List Event) → stationFrom (bytesAfter es) ≡ reached es
 stands-for es = stands es ∙ sym (reached-is es)
 
 calling : List Event → ℕ → What → Call
-calling es t w = record { time = t; what = w; station = bytesAfter es; lent = replicate 320 0 }
+calling es t w = record { time = t; what = w; station = bytesAfter es; lent = replicate roomNeeded 0 }
 
 comes : (es : List Event) (t : ℕ) (w : What) (k : Method) → methodOf w ≡ k → Comes k (map callIn (hosting es .calls)) (calling es t w)
 unfolding calling
@@ -81,21 +83,18 @@ not-first es e p = omega (arith, ap length p, many (hosting (es ++ e ∷ []) .ca
 
 module _ (k : Method) where
   abbrev doable : Call
-  doable = calling (past (scripts k)) (scripts k .time) (scripts k .does)
-
-  abbrev later : List Event
-  later = past (scripts k) ++ doing (scripts k) ∷ []
+  doable = calling (past (scripts k)) 300 (doing k)
 
   abbrev bad : Call
-  bad = calling later (scripts k .later) (scripts k .refused)
+  bad = calling (later k) 0 (doing k)
 
   module _ (y : Back) (m : Meets k doable y) where
     answered : y .number % 256 ≡ 0
     unfolding calling
     answered =
         let s = reached (past (scripts k)) in
-        number-is doable y (m (does-method k)) s (stands-for (past (scripts k))) .0
-        ∙ Shown.answered k (stepOn s doable) (λ e. step-allowed s (replicate 320 0) (scripts k .time) (scripts k .does))
+        number-is doable y (m (doing-method k)) s (stands-for (past (scripts k))) .0
+        ∙ Shown.answered k (stepOn s doable) (λ e. step-allowed s (replicate roomNeeded 0) 300 (doing k))
 
     not-idle : stationFrom (y .kept) .slots ≡ stationFrom (doable .station) .slots → ⊥
     unfolding calling
@@ -103,16 +102,16 @@ module _ (k : Method) where
         let s = reached (past (scripts k)) in
         let model = stationAfter house (past (scripts k)) in
         let accepted : refusal s (eventOf doable) ≡ none = rw (reached-is (past (scripts k))) (refusal-is house model (sound-fits house model (good (past (scripts k)))) (eventOf doable) ∙ Shown.accepted k) in
-        let next : stationFrom (y .kept) .slots ≡ steppedBy s (eventOf doable) .station .slots = ap (λ (z : Station). z .slots) (kept-as doable y (m (does-method k)) s (stands-for (past (scripts k))) accepted) in
+        let next : stationFrom (y .kept) .slots ≡ steppedBy s (eventOf doable) .station .slots = ap (λ (z : Station). z .slots) (kept-as doable y (m (doing-method k)) s (stands-for (past (scripts k))) accepted) in
         let came : stationFrom (doable .station) .slots ≡ s .slots = ap (λ (z : Station). z .slots) (stands-for (past (scripts k))) in
-        Shown.not-idle k (stepOn s doable) (λ e. step-allowed s (replicate 320 0) (scripts k .time) (scripts k .does)) (sym next ∙ same ∙ came)
+        Shown.not-idle k (stepOn s doable) (λ e. step-allowed s (replicate roomNeeded 0) 300 (doing k)) (sym next ∙ same ∙ came)
 
   refused : (y : Back) → Meets k bad y → 1 < y .number % 256
   unfolding calling
   refused y m =
-      let s = reached later in
-      let n = number-is bad y (m (refused-method k)) s (stands-for later) .0 in
-      let r = Shown.refused k (stepOn s bad) (λ e. step-allowed s (replicate 320 0) (scripts k .later) (scripts k .refused)) in
+      let s = reached (later k) in
+      let n = number-is bad y (m (doing-method k)) s (stands-for (later k)) .0 in
+      let r = Shown.refused k (stepOn s bad) (λ e. step-allowed s (replicate roomNeeded 0) 0 (doing k)) in
       omega (arith, n, r)
 
 pub no-useless-entry : NoUselessEntry
@@ -122,13 +121,13 @@ no-useless-entry k =
       past = map callIn (hosting (past (scripts k)) .calls);
       begun = not-first (scripts k .early) (scripts k .last);
       doable = doable k;
-      doable-comes = comes (past (scripts k)) (scripts k .time) (scripts k .does) k (does-method k);
+      doable-comes = comes (past (scripts k)) 300 (doing k) k (doing-method k);
       done = answered k;
       busy = not-idle k;
       later = map callIn (hosting (later k) .calls);
-      begun-later = not-first (past (scripts k)) (doing (scripts k));
+      begun-later = not-first (past (scripts k)) (at 300 (doing k));
       bad = bad k;
-      bad-comes = comes (later k) (scripts k .later) (scripts k .refused) k (refused-method k);
+      bad-comes = comes (later k) 0 (doing k) k (doing-method k);
       refused = refused k;
       counted = λ x y m u. u .other (counted x y (m (u .method)) _ refl (u .size) (u .zeros));
     })

@@ -1,40 +1,31 @@
 -- The nine events: a script for each, with the rules' answers computed, shuts the useless versions of its method out.
 use Prim.Native.Nat.{ℕ, zero, suc, _+_, _*_, _≤_, _<_}
 use mathlib.Core.Path.{_≡_, refl, sym, ap, _∙_}
-use mathlib.Core.Bool.{Bool, true, false, not, _&&_, true≢false}
+use mathlib.Core.Bool.{Bool, true, false, not, cond, _&&_, true≢false}
 use mathlib.Core.List.{List, [], _∷_, _++_, map}
 use mathlib.Core.Option.{Option, none, some}
 use native.Mathlib.Omega.{arith}
 use lib.Dec.{eqb}
 use lib.ListN.{length, drop, replicate, length-replicate}
 use borrow.Author.Tests.{eqb-true, eqb-false, not-true}
-use Rattle.sequence.specs.Identity.{isShip, isCoast, identitiesOk, identityPairs, identityOf}
-use Rattle.sequence.specs.Field.{isCall, unableSecond, telecommandsOk, channelOk, durationOk, fieldOk}
-use Rattle.sequence.specs.Number.{numberOk, parity, evened}
-use Rattle.sequence.specs.Layout.{endOk, valid, front, body, layout}
-use Rattle.sequence.specs.Reading as Reader
 use Rattle.sequence.proofs.Tests.{both-true}
-use Rattle.rules.specs.Words.{is, Config, heard, offHook, onHook, carrierUp, carrierDown, takes, givesBack, What, tick, onChannel70, onSlot, Event, carrierOn, carrierOff, acknowledge, ringBack, unable, dial, releaseLine}
+use Rattle.rules.specs.Words.{Config, heard, signal, operator, What, tick, onChannel70, onSlot, Event, carrierOn, carrierOff, acknowledge, ringBack, unable, dial, releaseLine}
 use Rattle.rules.specs.Places.{isSome}
-use Rattle.rules.specs.Heard.{kindOf, addressed, meaning}
 use Rattle.rules.specs.Actions.{Action, does, over, charge}
 use Rattle.rules.specs.Station as R
-use Rattle.rules.specs.Station.{fresh, setSlot, setClock, setQueue, table, fires, nextDue}
-use Rattle.rules.specs.Sound.{identityKeeps, channelsKeep, configKeeps, oneSlotEach, numberKeeps, requestKeeps, durationKeeps, noShipTwice, storedKeeps, timesFit, sound}
-use Rattle.rules.specs.Requests.{rungBack, freedFor, freed, coastEnd, standing, ruleA, repeated, afresh, same, ruleB, ruleD, offer, ruleF, ruleG, eToG, newcomer, dToG, redial, ruleC, bOrC, requested}
-use Rattle.rules.specs.Calls.{dialNow, workingKind, workingOn, agreed, bqKind, bqFor, offHookStage, offHookOn, downOn, upOn, shipEnd, sayAgain, shipEndOn, endOn, takeOn, giveOn, offerDue, ringAgain, pendingDue, replyDue, mainOn, fire, ticked, heardOn70, heardOn, happenedOn, actAt, act}
-use Rattle.rules.specs.Verdict.{refusals, verdict, setUpVerdict, step, play, final}
-use Rattle.rules.specs.Bytes.{padded, block, blockOf, blocks}
+use Rattle.rules.specs.Station.{nextDue}
+use Rattle.rules.specs.Sound.{sound}
+use Rattle.rules.specs.Calls.{act}
+use Rattle.rules.specs.Verdict.{roomNeeded, verdict, setUpVerdict}
+use Rattle.rules.specs.Bytes.{blockOf, blocks}
+use Rattle.rules.specs.Printed.{runsOpen}
 use Rattle.rules.specs.Statement.{ZeroOrOne, AtMostEight, AlwaysSound, stationAfter}
 use Rattle.rules.specs.Runs.{station, at, on, ticks}
 use Rattle.rules.specs.Cases.{p1, p4, asks, works}
 use Rattle.rules.proofs.Answered.{zero-or-one}
 use Rattle.rules.proofs.Kept.{always-sound}
 use Rattle.rules.proofs.Eight.{at-most-eight}
-use Rattle.slots.specs.declared.Carrier.{Carrier}
-use Rattle.slots.specs.declared.Carrier.the-variants.{Present, Lost}
 use Rattle.slots.specs.declared.Phase.{Phase}
-use Rattle.slots.specs.declared.Phase.the-variants.{Free, Offered, RingBack, RingAgain, Acknowledged, Dialling, Answered, Hold, Taken}
 use Rattle.slots.specs.declared.Slot.{Slot}
 use Rattle.slots.specs.Images.{slotImage}
 use Rattle.station.specs.declared.Station.{Station}
@@ -42,84 +33,51 @@ use Rattle.station.specs.declared.Stepped.{Stepped}
 use Rattle.station.specs.Model.{imageOf, modelOf, configOf}
 use Rattle.station.specs.Step.{refusal}
 use Rattle.station.proofs.GateLaws.{passed}
+use Rattle.lent.specs.Numbers.{phaseFields}
 use Rattle.rack.specs.Steps.{Step, Allowed, lastOf, eventsIn}
 use Rattle.rack.specs.Scripts.{Traced, EveryScriptIsTraced}
 use Rattle.rack.specs.Rooms.{kindIn}
 use Rattle.rack.proofs.ReadBack.{first-block, behind-block}
-use Rattle.rack.proofs.Steps.{allowed-does, back-for, left-for}
+use Rattle.rack.proofs.Steps.{signals, every-signal, hands, every-hand, allowed-does, back-for, left-for}
 use Rattle.rack.proofs.Traces.{done-back, refused-back}
 use Rattle.rack.proofs.Theorems.{last-is}
 use Rattle.rack.proofs.Scripted.{every-script-is-traced}
-use Rattle.useless.specs.Events.{Method, heard-on-channel-70, heard-on-slot, off-hook, on-hook, carrier-up, carrier-down, take-slot, give-back, on-tick, methodOf, Call, Back, eventOf, stepBy, callIn, Meets, Comes, laidIn, signs, NoUselessEvent}
+use Rattle.useless.specs.Events.{Method, heard-on-channel-70, heard-on-slot, on-tick, signalled, handled, methodOf, Call, Back, eventOf, stepBy, callIn, Meets, Comes, laidIn, signs, NoUselessEvent}
 use Rattle.useless.proofs.ShutOut.{shut-out}
 
 -- ── the scripts ──────────────────────────────────────────────────────────────
 
--- on a station with channel 26: what came before, what is done at a time, and what is refused at a time right behind it
+-- on a station with channel 26: what came before
 pub record Script : Type 0 where
   pub early : List Event
   pub last : Event
-  pub time : ℕ
-  pub does : What
-  pub later : ℕ
-  pub refused : What
 
 abbrev pub past : Script → List Event
 past s = s .early ++ s .last ∷ []
 
-abbrev script : List Event → Event → ℕ → What → ℕ → What → Script
-script es e t w u v = record { early = es; last = e; time = t; does = w; later = u; refused = v }
+abbrev script : List Event → Event → Script
+script es e = record { early = es; last = e }
 
-abbrev pub scripts : Method → Script
-scripts heard-on-channel-70 = script [] (ticks 10) 100 (onChannel70 p1) 110 (onChannel70 [])
-scripts heard-on-slot = script [] (asks 100) 200 (onSlot 0 (heard p4)) 210 (onSlot 0 (heard []))
-scripts off-hook = script (asks 100 ∷ []) (works 200) 300 (onSlot 0 offHook) 310 (onSlot 1 offHook)
-scripts on-hook = script (asks 100 ∷ []) (works 200) 300 (onSlot 0 onHook) 310 (onSlot 1 onHook)
-scripts carrier-up = script (asks 100 ∷ works 200 ∷ []) (on 300 0 carrierDown) 310 (onSlot 0 carrierUp) 320 (onSlot 1 carrierUp)
-scripts carrier-down = script (asks 100 ∷ []) (works 200) 300 (onSlot 0 carrierDown) 310 (onSlot 1 carrierDown)
-scripts take-slot = script [] (ticks 10) 50 (onSlot 0 takes) 60 (onSlot 0 takes)
-scripts give-back = script [] (on 50 0 takes) 60 (onSlot 0 givesBack) 70 (onSlot 0 givesBack)
-scripts on-tick = script [] (asks 100) 261 tick 260 tick
+-- what then has to be done at 300; the same at 0, right behind it, has to be refused
+abbrev pub doing : Method → What
+doing heard-on-channel-70 = onChannel70 p1
+doing heard-on-slot = onSlot 0 (heard p4)
+doing on-tick = tick
+doing (signalled g) = onSlot 0 (signal g)
+doing (handled h) = onSlot 0 (operator h)
 
-pub does-method : (k : Method) → methodOf (scripts k .does) ≡ k
-does-method heard-on-channel-70 = refl
-does-method heard-on-slot = refl
-does-method off-hook = refl
-does-method on-hook = refl
-does-method carrier-up = refl
-does-method carrier-down = refl
-does-method take-slot = refl
-does-method give-back = refl
-does-method on-tick = refl
-
-pub refused-method : (k : Method) → methodOf (scripts k .refused) ≡ k
-refused-method heard-on-channel-70 = refl
-refused-method heard-on-slot = refl
-refused-method off-hook = refl
-refused-method on-hook = refl
-refused-method carrier-up = refl
-refused-method carrier-down = refl
-refused-method take-slot = refl
-refused-method give-back = refl
-refused-method on-tick = refl
+pub doing-method : (k : Method) → methodOf (doing k) ≡ k
+doing-method heard-on-channel-70 = refl
+doing-method heard-on-slot = refl
+doing-method on-tick = refl
+doing-method (signalled g) = refl
+doing-method (handled h) = refl
 
 -- ── computed ─────────────────────────────────────────────────────────────────
 
 -- a number for each phase, and whether its carrier is there
-abbrev carrierSign : Carrier → ℕ
-carrierSign Present = 0
-carrierSign (Lost t) = 1
-
 abbrev phaseSign : Phase → ℕ
-phaseSign Free = 0
-phaseSign (Offered t) = 1
-phaseSign (RingBack t) = 2
-phaseSign (RingAgain t) = 3
-phaseSign (Acknowledged t) = 4
-phaseSign (Hold t n) = 5
-phaseSign Taken = 6
-phaseSign (Dialling t c) = 7 + carrierSign c
-phaseSign (Answered t c) = 9 + carrierSign c
+phaseSign p = 2 * phaseFields p .kind + phaseFields p .carrier .mark
 
 abbrev firstSign : List Slot → ℕ
 firstSign [] = 0
@@ -132,55 +90,58 @@ house = station 1
 abbrev pub before : Script → R.Station
 before s = stationAfter house (past s)
 
-abbrev pub doing : Script → Event
-doing s = at (s .time) (s .does)
-
-abbrev refusing : Script → Event
-refusing s = at (s .later) (s .refused)
-
-abbrev after : Script → R.Station
-after s = stationAfter house (past s ++ doing s ∷ [])
+abbrev after : Script → What → R.Station
+after s w = stationAfter house (past s ++ at 300 w ∷ [])
 
 abbrev signOf : R.Station → ℕ
 signOf m = firstSign (imageOf house m .slots)
 
-abbrev holds : Script → Bool
-holds s =
-    not (isSome (verdict house (before s) (doing s)))
-    && (eqb (act house (before s) (doing s) .answer) 0
-    && (not (eqb (signOf (before s)) (signOf (act house (before s) (doing s) .next)))
-    && isSome (verdict house (after s) (refusing s))))
+abbrev holds : What → Script → Bool
+holds w s =
+    not (isSome (verdict house (before s) (at 300 w)))
+    && (eqb (act house (before s) (at 300 w) .answer) 0
+    && (not (eqb (signOf (before s)) (signOf (act house (before s) (at 300 w) .next)))
+    && isSome (verdict house (after s w) (at 0 w))))
 
-computed : (k : Method) → holds (scripts k) ≡ true
-unfolding imageOf slotImage padded isShip isCoast identitiesOk identityPairs identityOf isCall unableSecond telecommandsOk channelOk durationOk fieldOk numberOk parity evened endOk valid front body layout Reader.lengthIn Reader.checkIn Reader.formatIn Reader.identityAt Reader.identityPairsAt Reader.identitiesIn Reader.categoryIn Reader.telecommandsIn Reader.blankSymbols Reader.channelSymbols Reader.durationSymbols Reader.fieldSymbols Reader.fieldOf Reader.fieldIn Reader.pairsIn Reader.parityOk Reader.pairsOk Reader.numberIn Reader.zeroBefore Reader.sixteen Reader.numberOf Reader.endIn Reader.refusals Reader.answerOf Reader.meaningOf Reader.blankMeaning Reader.readingOf is kindOf addressed meaning fresh setSlot setClock setQueue table fires nextDue identityKeeps channelsKeep configKeeps oneSlotEach numberKeeps requestKeeps durationKeeps noShipTwice storedKeeps timesFit sound rungBack freedFor freed coastEnd standing ruleA repeated afresh same ruleB ruleD offer ruleF ruleG eToG newcomer dToG redial ruleC bOrC requested dialNow workingKind workingOn agreed bqKind bqFor offHookStage offHookOn downOn upOn shipEnd sayAgain shipEndOn endOn takeOn giveOn offerDue ringAgain pendingDue replyDue mainOn fire ticked heardOn70 heardOn happenedOn actAt refusals verdict setUpVerdict step play final
+-- the first of several in which it does something
+abbrev firstOf : What → Script → List Script → Script
+firstOf w s [] = s
+firstOf w s (x ∷ xs) = cond (holds w s) s (firstOf w x xs)
+
+-- a signal comes while the line is dialled, or behind another one; a hand on a free slot, or behind the other
+abbrev pub scripts : Method → Script
+scripts heard-on-channel-70 = script [] (ticks 10)
+scripts heard-on-slot = script [] (asks 200)
+scripts on-tick = script [] (asks 100)
+scripts (signalled g) = firstOf (onSlot 0 (signal g)) (script (asks 200 ∷ []) (works 210)) (map (λ f. script (asks 200 ∷ works 210 ∷ []) (on 260 0 (signal f))) signals)
+scripts (handled h) = firstOf (onSlot 0 (operator h)) (script [] (ticks 10)) (map (λ f. script [] (on 50 0 (operator f))) hands)
+
+computed : (k : Method) → holds (doing k) (scripts k) ≡ true
+unfolding imageOf slotImage runsOpen
 computed heard-on-channel-70 = refl
 computed heard-on-slot = refl
-computed off-hook = refl
-computed on-hook = refl
-computed carrier-up = refl
-computed carrier-down = refl
-computed take-slot = refl
-computed give-back = refl
 computed on-tick = refl
+computed (signalled g) = every-signal (λ f. holds (doing (signalled f)) (scripts (signalled f)) ≡ true) (refl, (refl, (refl, (refl, tt)))) g
+computed (handled h) = every-hand (λ f. holds (doing (handled f)) (scripts (handled f)) ≡ true) (refl, (refl, tt)) h
 
 -- nothing is due on a fresh station, and behind P1 at 100 the offer is
 abbrev pub asked : List Event
 asked = asks 100 ∷ []
 
 pub nothing-due : nextDue (stationAfter house []) ≡ none
-unfolding final fresh table nextDue
+unfolding runsOpen
 nothing-due = refl
 
 pub due-261 : nextDue (stationAfter house asked) ≡ some 261
-unfolding isShip isCoast identitiesOk identityPairs identityOf isCall unableSecond telecommandsOk channelOk durationOk fieldOk numberOk parity evened endOk valid front body layout Reader.lengthIn Reader.checkIn Reader.formatIn Reader.identityAt Reader.identityPairsAt Reader.identitiesIn Reader.categoryIn Reader.telecommandsIn Reader.blankSymbols Reader.channelSymbols Reader.durationSymbols Reader.fieldSymbols Reader.fieldOf Reader.fieldIn Reader.pairsIn Reader.parityOk Reader.pairsOk Reader.numberIn Reader.zeroBefore Reader.sixteen Reader.numberOf Reader.endIn Reader.refusals Reader.answerOf Reader.meaningOf Reader.blankMeaning Reader.readingOf is kindOf addressed meaning fresh setSlot setClock setQueue table fires nextDue identityKeeps channelsKeep configKeeps oneSlotEach numberKeeps requestKeeps durationKeeps noShipTwice storedKeeps timesFit sound rungBack freedFor freed coastEnd standing ruleA repeated afresh same ruleB ruleD offer ruleF ruleG eToG newcomer dToG redial ruleC bOrC requested dialNow workingKind workingOn agreed bqKind bqFor offHookStage offHookOn downOn upOn shipEnd sayAgain shipEndOn endOn takeOn giveOn offerDue ringAgain pendingDue replyDue mainOn fire ticked heardOn70 heardOn happenedOn actAt refusals verdict setUpVerdict step play final
+unfolding runsOpen
 due-261 = refl
 
-record Told (s : Script) : Type 0 where
-  accepted : verdict house (before s) (doing s) ≡ none
-  done : act house (before s) (doing s) .answer ≡ 0
-  changed : signOf (before s) ≡ signOf (act house (before s) (doing s) .next) → ⊥
+record Told (w : What) (s : Script) : Type 0 where
+  accepted : verdict house (before s) (at 300 w) ≡ none
+  done : act house (before s) (at 300 w) .answer ≡ 0
+  changed : signOf (before s) ≡ signOf (act house (before s) (at 300 w) .next) → ⊥
   number : ℕ
-  refused : verdict house (after s) (refusing s) ≡ some number
+  refused : verdict house (after s w) (at 0 w) ≡ some number
 
 nothing-in : (o : Option ℕ) → not (isSome o) ≡ true → o ≡ none
 nothing-in none e = refl
@@ -190,14 +151,14 @@ number-in : (o : Option ℕ) → isSome o ≡ true → (n : ℕ) × (o ≡ some 
 number-in none e = absurd (true≢false (sym e))
 number-in (some n) e = (n, refl)
 
-told : (s : Script) → holds s ≡ true → Told s
-told s h =
+told : (w : What) (s : Script) → holds w s ≡ true → Told w s
+told w s h =
     let a = both-true _ _ h in
     let b = both-true _ _ (a .1) in
     let c = both-true _ _ (b .1) in
-    let n = number-in (verdict house (after s) (refusing s)) (c .1) in
+    let n = number-in (verdict house (after s w) (at 0 w)) (c .1) in
     record {
-      accepted = nothing-in (verdict house (before s) (doing s)) (a .0);
+      accepted = nothing-in (verdict house (before s) (at 300 w)) (a .0);
       done = eqb-true _ 0 (b .0);
       changed = eqb-false _ _ (not-true _ (c .0));
       number = n .0;
@@ -207,7 +168,7 @@ told s h =
 -- ── a call on the station that a script leads to ─────────────────────────────
 
 pub set-up : setUpVerdict house ≡ none
-unfolding setUpVerdict configKeeps identityKeeps channelsKeep isCoast channelOk
+unfolding runsOpen
 set-up = refl
 
 pub leads : (es : List Event) → Traced house es
@@ -218,10 +179,10 @@ abbrev pub reached : List Event → Station
 reached es = lastOf (leads es .trace .first) (leads es .steps)
 
 abbrev pub calling : List Event → ℕ → What → Call
-calling es t w = record { time = t; what = w; before = reached es; lent = replicate 320 0 }
+calling es t w = record { time = t; what = w; before = reached es; lent = replicate roomNeeded 0 }
 
 as-event : (es : List Event) (t : ℕ) (w : What) → eventOf (calling es t w) ≡ at t w
-as-event es t w = ap (λ (n : ℕ). record { time = t; room = n; what = w }) (length-replicate {A = ℕ} 320 0)
+as-event es t w = ap (λ (n : ℕ). record { time = t; room = n; what = w }) (length-replicate {A = ℕ} roomNeeded 0)
 
 pub reached-is : (es : List Event) → reached es ≡ imageOf house (stationAfter house es)
 reached-is es = last-is house (leads es .steps) (leads es .trace) ∙ ap (λ (l : List Event). imageOf house (stationAfter house l)) (leads es .script)
@@ -250,43 +211,48 @@ module _ (k : Method) where
   abbrev s : Script
   s = scripts k
 
-  abbrev it : Told (scripts k)
-  it = told (scripts k) (computed k)
+  abbrev w : What
+  w = doing k
+
+  abbrev pub later : List Event
+  later = past s ++ at 300 w ∷ []
+
+  abbrev it : Told (doing k) (scripts k)
+  it = told (doing k) (scripts k) (computed k)
 
   abbrev pub doable : Call
-  doable = calling (past s) (s .time) (s .does)
+  doable = calling (past s) 300 w
 
   abbrev pub bad : Call
-  bad = calling (past s ++ doing s ∷ []) (s .later) (s .refused)
+  bad = calling later 0 w
 
   pub accepted : verdict house (before s) (eventOf doable) ≡ none
-  accepted = ap (verdict house (before s)) (as-event (past s) (s .time) (s .does)) ∙ it .accepted
+  accepted = ap (verdict house (before s)) (as-event (past s) 300 w) ∙ it .accepted
 
   module _ (y : Back) (m : Meets k doable y) where
     pub answered : y .stepped .answer ≡ 0
     answered =
-        ap (λ (r : Stepped). r .answer) (done-back house (before s) (good (past s)) (stepBy doable y) (reached-is (past s)) (m (does-method k)) accepted)
+        ap (λ (r : Stepped). r .answer) (done-back house (before s) (good (past s)) (stepBy doable y) (reached-is (past s)) (m (doing-method k)) accepted)
         ∙ it .done
 
     pub not-idle : y .stepped .station .slots ≡ doable .before .slots → ⊥
     not-idle same =
-        let next = ap (λ (r : Stepped). firstSign (r .station .slots)) (done-back house (before s) (good (past s)) (stepBy doable y) (reached-is (past s)) (m (does-method k)) accepted) in
+        let next = ap (λ (r : Stepped). firstSign (r .station .slots)) (done-back house (before s) (good (past s)) (stepBy doable y) (reached-is (past s)) (m (doing-method k)) accepted) in
         let came = ap (λ (z : Station). firstSign (z .slots)) (reached-is (past s)) in
         it .changed (sym came ∙ sym (ap firstSign same) ∙ next)
 
   pub refused : (y : Back) → Meets k bad y → 1 < y .stepped .answer
   unfolding ZeroOrOne
   refused y m =
-      let es = past s ++ doing s ∷ [] in
-      let v : verdict house (after s) (eventOf bad) ≡ some (it .number) = ap (verdict house (after s)) (as-event es (s .later) (s .refused)) ∙ it .refused in
-      let b = ap (λ (r : Stepped). r .answer) (refused-back house (after s) (good es) (stepBy bad y) (reached-is es) (m (refused-method k)) (it .number) v) in
-      let n = zero-or-one house (after s) (eventOf bad) .1 (it .number) v in
+      let v : verdict house (after s w) (eventOf bad) ≡ some (it .number) = ap (verdict house (after s w)) (as-event later 0 w) ∙ it .refused in
+      let b = ap (λ (r : Stepped). r .answer) (refused-back house (after s w) (good later) (stepBy bad y) (reached-is later) (m (doing-method k)) (it .number) v) in
+      let n = zero-or-one house (after s w) (eventOf bad) .1 (it .number) v in
       omega (arith, b, n)
 
 -- ── the count ────────────────────────────────────────────────────────────────
 
 has-kind : (c : Config) (a : Action) → eqb (kindIn (blockOf c a)) 0 ≡ false
-unfolding blockOf block
+unfolding runsOpen
 has-kind c (does (carrierOn i)) = refl
 has-kind c (does (carrierOff i)) = refl
 has-kind c (does (acknowledge i r)) = refl
@@ -344,13 +310,13 @@ no-useless-event k =
       past = map callIn (leads (past (scripts k)) .steps);
       begun = not-first (scripts k .early) (scripts k .last);
       doable = doable k;
-      doable-comes = comes (past (scripts k)) (scripts k .time) (scripts k .does) k (does-method k);
+      doable-comes = comes (past (scripts k)) 300 (doing k) k (doing-method k);
       done = answered k;
       busy = not-idle k;
-      later = map callIn (leads (past (scripts k) ++ doing (scripts k) ∷ []) .steps);
-      begun-later = not-first (past (scripts k)) (doing (scripts k));
+      later = map callIn (leads (later k) .steps);
+      begun-later = not-first (past (scripts k)) (at 300 (doing k));
       bad = bad k;
-      bad-comes = comes (past (scripts k) ++ doing (scripts k) ∷ []) (scripts k .later) (scripts k .refused) k (refused-method k);
+      bad-comes = comes (later k) 0 (doing k) k (doing-method k);
       refused = refused k;
       counted = λ x y m u. u .other (counted x y (m (u .method)) (u .size) (u .zeros));
     })

@@ -19,23 +19,23 @@ use Rattle.station.specs.declared.NextDue.the-variants.{Never, At}
 use Rattle.station.specs.declared.SetUp.{SetUp}
 use Rattle.station.specs.declared.Station.{Station}
 use Rattle.station.specs.Model.{configOf, modelOf}
-use Rattle.station.specs.Step.{refusal, steppedBy, setUpBy}
+use Rattle.station.specs.Step.{refusal, steppedBy, setUpOf}
 use Rattle.station.proofs.GateLaws.{passed}
 use Rattle.lines.specs.Decimal.{isDigit}
-use Rattle.lines.specs.Lines.{Said, setsUp, happens, spaced}
-use Rattle.lines.specs.Readable.{scan, kindOf, readsAs}
+use Rattle.lines.specs.Lines.{Said, setsUp, happens, kindOf, setUpSaid, spaced}
+use Rattle.lines.specs.Readable.{scan, readsAs}
 use Rattle.printing.specs.Texts.{tenDigits, shortened, decimal, numbersText, putAt}
 use Rattle.printing.specs.Replies.{lineFeed, dueText, headText, payloadIn, actionText, blockAt, actionTexts, replyText, putText, putLength}
 use Rattle.script.specs.declared.Desk.{Desk}
 use Rattle.script.specs.declared.Fed.{Fed}
 use Rattle.script.specs.declared.Session.{Session}
 use Rattle.script.specs.declared.Text.{Text}
-use Rattle.script.specs.Answering.{desk, unchanged, afterSetUp, afterEvent, eventAt, handledFor, blocksFor, clockOf, dueOf, noBlocks, deskAfter, replyTo}
+use Rattle.script.specs.Answering.{desk, unchanged, afterSetUp, afterEvent, askedFor, eventAt, handledFor, blocksFor, clockOf, dueOf, noBlocks, deskAfter, replyTo}
 use Rattle.script.specs.Session.{noText, addByte, addBytes, saysText, beforeFeed, begun, answered, textWith, fedWith, roomWith}
-use Rattle.rack.proofs.Scripted.{lives, lent}
+use Rattle.rack.proofs.Steps.{lives, lent}
 use Rattle.useless.specs.Feeds.{Feeding, Answered, FedBy, by-feed, Talked, begins, goes-on, Ends, Comes, printedBy, numberFrom, behindSpace, lineFeeds, signs, NoUselessFeed}
 use Rattle.useless.proofs.ShutOut.{one, shut-out}
-use Rattle.useless.proofs.SetUps.{answers-0}
+use Rattle.useless.proofs.Events.{set-up}
 
 -- ── a line that ends is answered ─────────────────────────────────────────────
 
@@ -92,14 +92,14 @@ empty-ends : (s : Session) → Ends (feeding s (10 ∷ []))
 empty-ends s = record { ends = omega arith; roomy = big }
 
 abbrev saidS : Option Said
-saidS = some (setsUp 2001234 (26 ∷ []))
+saidS = some (setUpSaid 2001234 (26 ∷ []))
 
 read-s : saysText (addBytes noText (take (beforeFeed letterS) letterS)) ≡ saidS
 unfolding addByte saysText readsAs scan kindOf isDigit
 read-s = refl
 
 stands-s : (d : Desk) → d .stands ≡ false → handledFor d noBlocks saidS .desk .stands ≡ true
-stands-s d f = rw (f, answers-0) refl
+stands-s d f = rw (f, set-up) refl
 
 told-0 : (t n : ℕ) (d : NextDue) (blocks : List ℕ) → numberFrom 0 (replyText 0 t n d blocks) ≡ 0
 unfolding replyText headText decimal shortened tenDigits isDigit
@@ -120,7 +120,7 @@ module _ (s : Session) (fresh : s .text ≡ noText) where
   module _ (none-stands : s .desk .stands ≡ false) where
     s-answered : numberFrom 0 (replyTo (s .desk) (saidIn (feeding s letterS))) ≡ 0
     unfolding replyTo
-    s-answered = rw (says-s, none-stands, answers-0) (told-0 _ _ _ _)
+    s-answered = rw (says-s, none-stands, set-up) (told-0 _ _ _ _)
 
     s-stands : deskAfter (s .desk) (saidIn (feeding s letterS)) .stands ≡ true
     unfolding deskAfter
@@ -252,7 +252,7 @@ stepped-few s e = go (refusal s e) refl
 
 few : (d : Desk) (said : Option Said) → handledFor d noBlocks said .count ≤ 8
 few d none = omega arith
-few d (some (setsUp identity channels)) = go (d .stands) (setUpBy identity channels)
+few d (some (setsUp a)) = go (d .stands) (setUpOf (askedFor a))
   where
     tried : (u : SetUp) → Either (eqb (u .answer) 0) → afterSetUp d u .count ≤ 8
     tried u (yes! p) = rw p (omega arith)

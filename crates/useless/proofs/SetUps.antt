@@ -110,11 +110,11 @@ other-set-up : setUpVerdict (given 2001235 (26 ∷ [])) ≡ none
 unfolding setUpVerdict configKeeps identityKeeps channelsKeep isCoast channelOk
 other-set-up = refl
 
-identity-is : setUpBy 2001234 (26 ∷ []) .station .identity ≡ 2001234
+identity-is : setUpBy 2001234 (26 ∷ []) .station .mast .identity ≡ 2001234
 unfolding setUpBy imageOf
 identity-is = rw set-up
 
-other-identity : setUpBy 2001235 (26 ∷ []) .station .identity ≡ 2001235
+other-identity : setUpBy 2001235 (26 ∷ []) .station .mast .identity ≡ 2001235
 unfolding setUpBy imageOf
 other-identity = rw other-set-up
 
@@ -123,7 +123,7 @@ unfolding setUpBy
 changed kept e same =
     let bytes = sym (Exchange.set-up (given 2001234 (26 ∷ [])) another set-up another-sized) ∙ sym e ∙ same in
     let stations = sym (handed-out-is-found-again .0 (given 2001234 (26 ∷ [])) .1) ∙ ap stationFrom bytes ∙ handed-out-is-found-again .0 (given 2001235 (26 ∷ [])) .1 in
-    let q : _≡_ {A = ℕ} 2001234 2001235 = sym identity-is ∙ ap (λ (s : Station). s .identity) stations ∙ other-identity in
+    let q : _≡_ {A = ℕ} 2001234 2001235 = sym identity-is ∙ ap (λ (s : Station). s .mast .identity) stations ∙ other-identity in
     omega (arith, q)
 
 abbrev good : Lent

@@ -2,8 +2,9 @@
 use Prim.Native.Nat.{ℕ, _/_, _%_}
 use mathlib.Core.Path.{_≡_}
 use mathlib.Core.List.{List, map}
-use lib.ListN.{length, replicate}
+use lib.ListN.{replicate}
 use Rattle.rules.specs.Words.{Config, What, Event}
+use Rattle.station.specs.Step.{eventAt}
 use Rattle.lent.specs.Stations.{stationFrom}
 use Rattle.host.specs.Calls as Host
 use Rattle.host.specs.Calls.{callOf, Entered, HostRun, lastOf}
@@ -23,7 +24,7 @@ pub record Back : Type 0 where
   pub left : List ℕ  -- what the room then holds
 
 abbrev pub eventOf : Call → Event
-eventOf x = record { time = x .time; room = length (x .lent); what = x .what }
+eventOf x = eventAt (x .time) (x .what) (x .lent)
 
 abbrev pub callBy : Call → Back → Host.Call
 callBy x y = callOf (eventOf x) (x .station) (x .lent) (y .number) (y .kept) (y .left)

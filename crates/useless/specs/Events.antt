@@ -4,11 +4,12 @@ use mathlib.Core.Path.{_≡_}
 use mathlib.Core.Bool.{cond}
 use mathlib.Core.List.{List, map}
 use lib.Dec.{eqb}
-use lib.ListN.{length, take, drop, replicate}
-use Rattle.rules.specs.Words.{Config, Happened, heard, signal, operator, lineLifted, lineHung, carrierHeard, carrierLost, handTakes, handGives, What, tick, onChannel70, onSlot, Event}
+use lib.ListN.{take, drop, replicate}
+use Rattle.rules.specs.Words.{Config, Signal, Hand, Happened, heard, signal, operator, What, tick, onChannel70, onSlot, Event}
 use Rattle.rules.specs.Bytes.{blockSize}
 use Rattle.station.specs.declared.Station.{Station}
 use Rattle.station.specs.declared.Stepped.{Stepped}
+use Rattle.station.specs.Step.{eventAt}
 use Rattle.rack.specs.Rooms.{kindIn}
 use Rattle.rack.specs.Steps.{Step, stepOf, Allowed, Trace, lastOf}
 use Rattle.useless.specs.Versions.{Signs, NoUselessVersion}
@@ -16,16 +17,14 @@ use Rattle.useless.specs.Versions.{Signs, NoUselessVersion}
 -- ── the nine ─────────────────────────────────────────────────────────────────
 
 pub data Method : Type 0 where
-  heard-on-channel-70 heard-on-slot off-hook on-hook carrier-up carrier-down take-slot give-back on-tick : Method
+  heard-on-channel-70 heard-on-slot on-tick : Method
+  signalled : Signal → Method  -- one for each of the four
+  handled : Hand → Method  -- and of the two
 
 abbrev pub methodOn : Happened → Method
 methodOn (heard m) = heard-on-slot
-methodOn (signal lineLifted) = off-hook
-methodOn (signal lineHung) = on-hook
-methodOn (signal carrierHeard) = carrier-up
-methodOn (signal carrierLost) = carrier-down
-methodOn (operator handTakes) = take-slot
-methodOn (operator handGives) = give-back
+methodOn (signal g) = signalled g
+methodOn (operator h) = handled h
 
 abbrev pub methodOf : What → Method
 methodOf tick = on-tick
@@ -45,7 +44,7 @@ pub record Back : Type 0 where
   pub left : List ℕ  -- what the room then holds
 
 abbrev pub eventOf : Call → Event
-eventOf x = record { time = x .time; room = length (x .lent); what = x .what }
+eventOf x = eventAt (x .time) (x .what) (x .lent)
 
 abbrev pub stepBy : Call → Back → Step
 stepBy x y = stepOf (eventOf x) (x .before) (x .lent) (y .stepped) (y .left)

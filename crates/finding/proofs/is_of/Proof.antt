@@ -1,4 +1,4 @@
-use Rattle.slots.proofs.ViewLaws.{owns-view}
+use Rattle.slots.proofs.PhaseLaws.{owns-view}
 use Rattle.requests.specs.Views.{requestOf, partyOf}
 use mathlib.Core.Path.{sym, _∙_}
 use borrow.Author.Needs.{needs}

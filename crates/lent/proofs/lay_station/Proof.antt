@@ -67,7 +67,7 @@ loop-less c = omega arith
 
 loop-again : tie.Need-loop-again Inv-loop μ-loop Inv-loop2 μ-loop2
 loop-again c = let atSlots = c .before .before .before .before .before .before in
-    let start = atSlots .before .before .before .before .before .before .before .before .before .before .before .before .before .before .before .before .before .before .before .before .before .before in
+    let start = atSlots .before .before .before .before .before .before .before .before .before .before .before .before .before .before .before .before .before .before .before .before .before .before .before in
     let s = start .args .t1 in
     let long = slots-long s (start .good .0) in
     let begun = atSlots .before .before .before .before .lay3 .last .1 .1 .0 in
@@ -113,7 +113,7 @@ loop2-less c = omega arith
 
 loop2-again : tie.Need-loop2-again Inv-loop μ-loop Inv-loop2 μ-loop2
 loop2-again c = let atQueue = c .before .before .before .before .before .before in
-    let start = atQueue .before .before .before .before .before .before .before .before .before .before .before .before .before .before .before .before .before .before .before .before .before .before .before .before .before .before .before .before .before in
+    let start = atQueue .before .before .before .before .before .before .before .before .before .before .before .before .before .before .before .before .before .before .before .before .before .before .before .before .before .before .before .before .before .before in
     let s = start .args .t1 in
     let long = queue-long s (start .good .0) in
     let begun = atQueue .before .before .before .before .lay-zeros .last .1 .1 .0 in
@@ -148,7 +148,7 @@ returns-2 c = let queued = c .before .before in
     let named = counted .before .before .before .before .before in
     let timed = named .before .before .before .before .before in
     let numbers = timed .before .before .before in
-    let begun = numbers .before .before .before in
+    let begun = numbers .before .before .before .before in
     let start = begun .before .before in
     let s = start .args .t1 in
     let filled : atSlots .loop .i ≡ min (s .count) 16 = omega arith in
@@ -163,7 +163,7 @@ returns-2 c = let queued = c .before .before in
     ∙ (rw (atQueue .loop2 .inv .0, lined, atQueue .before .least2 .ensures, queue-place-computed) (rw (waiting-size-computed, queue-place-computed) at (blanks-laid waitingBytes waitingSize waiting-size blankWaiting blank-waiting-bytes (slotted .lay-zeros .last .1 .1 .0) queuePlace 32 (s .waiting) (s .queue) (queue-long s (start .good .0)) (omega (arith, queue-wide, queue-place-computed, station-size-computed))))) in
     rw (sized-computed (start .args .bytes .now) ∙ eq-eqb _ _ (begun .if1 .left))
     (queue-laid
-    ∙ (rw (slots-laid, counted .lay3 .ensures, named .lay2 .ensures, timed .lay .ensures, numbers .low-first2 .ensures, numbers .before .low-first .ensures) (station-laid s (start .args .bytes .now) (begun .if1 .left ∙ sym station-size-computed))))
+    ∙ (rw (slots-laid, counted .lay3 .ensures, named .lay2 .ensures, timed .lay .ensures, numbers .low-first2 .ensures, numbers .before .before .low-first .ensures) (station-laid s (start .args .bytes .now) (begun .if1 .left ∙ sym station-size-computed))))
 
 pub lay-station-spec : {M : Type 1} → statement M
 lay-station-spec = tie.close (tie.spec Inv-loop μ-loop Inv-loop2 μ-loop2 returns (λ c κs. search needs) (λ c κs. search needs) (λ c. search needs) lay-requires (λ c. search needs) lay-requires-2 (λ c. search needs) lay-requires-3 (λ c κs. search needs) (λ c. search needs) loop-holds (λ c. search needs) element-copy-out-x mul-lay-slot add-lay-slot lay-slot-requires add-i loop-less loop-again sub-lay-zeros mul-lay-zeros mul-lay-zeros-2 add-lay-zeros lay-zeros-requires (λ c κs. search needs) (λ c. search needs) loop2-holds (λ c. search needs) element-copy-out-w mul-lay-waiting add-lay-waiting lay-waiting-requires add-k loop2-less loop2-again sub-lay-zeros-2 mul-lay-zeros-3 mul-lay-zeros-4 add-lay-zeros-2 lay-zeros-requires-2 same-length returns-2)

@@ -4,7 +4,8 @@ use Prim.Native.Nat.{_-_}
 use lib.ListN.{length, take, drop, getD, length-take, length-drop}
 use Rattle.sequence.proofs.RefusalLaws.{held, failed}
 use borrow.Author.Tests.{not-true, not-false}
-use Rattle.lines.specs.Readable.{between, scan, kindOf, readsAs, lineImage, numbersImage}
+use Rattle.lines.specs.Lines.{kindOf}
+use Rattle.lines.specs.Readable.{between, scan, readsAs, lineImage, numbersImage}
 use Rattle.lines.proofs.KindLaws.{part-left}
 use Rattle.lines.proofs.ReadLaws.{too-long, empty, by-letter, not-readable, not-fitting, fitting, hundred}
 use borrow.Author.Needs.{needs}

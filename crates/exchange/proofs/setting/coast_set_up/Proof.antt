@@ -1,5 +1,6 @@
 use mathlib.Core.Path.{_≡_, refl, ap, _∙_}
 use borrow.Author.Tests.{eq-eqb, ne-eqb}
+use Rattle.slots.specs.Views.{alone}
 use Rattle.station.specs.declared.SetUp.{SetUp}
 use Rattle.station.specs.Step.{given, setUpOf, setUpBy}
 use Rattle.station.proofs.SetLaws.{too-long, set-up-refused, set-up-numbers}
@@ -20,7 +21,7 @@ returns-2 : tie.Need-returns-2
 unfolding setUpReturned stationSetUp
 returns-2 c = let a = c .before .before .before .before .args in
     let right = sized-computed (a .station .now) ∙ eq-eqb _ _ (c .before .if1 .left) in
-    let u = set-up-refused (given (a .identity) (a .channels .now)) (too-long (a .identity) (a .channels .now) (c .if2 .taken)) in
+    let u = set-up-refused (given (a .identity) (a .channels .now)) (too-long (alone (a .identity)) (a .channels .now) (c .if2 .taken)) in
     (rw (right, ← u), rw (← u))
 
 returns-3 : tie.Need-returns-3

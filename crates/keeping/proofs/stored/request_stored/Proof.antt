@@ -1,4 +1,4 @@
-use borrow.Author.Tests.{le-leb, lt-leb, eq-eqb, ne-eqb, not-true, not-false}
+use borrow.Author.Tests.{le-leb, lt-leb, not-true, not-false}
 use Rattle.requests.specs.Views.{requestOf}
 use Rattle.rules.specs.Sound.{requestKeeps}
 use mathlib.Core.Path.{sym, _∙_}
@@ -12,19 +12,19 @@ returns c = rw (sym (c .before .is-ship .ensures) ∙ not-true _ (c .if1 .taken)
 
 returns-2 : tie.Need-returns-2
 unfolding requestKeeps requestOf
-returns-2 c = rw (sym (c .before .before .is-ship .ensures) ∙ not-false _ (c .before .if1 .left), ne-eqb _ _ (c .if2 .taken))
+returns-2 c = rw (sym (c .before .before .before .is-ship .ensures) ∙ not-false _ (c .before .before .if1 .left), sym (c .before .is-ours .ensures) ∙ not-true _ (c .if2 .taken))
 
 returns-3 : tie.Need-returns-3
 unfolding requestKeeps requestOf
-returns-3 c = rw (sym (c .before .before .before .is-ship .ensures) ∙ not-false _ (c .before .before .if1 .left), eq-eqb _ _ (c .before .if2 .left), lt-leb _ _ (c .if3 .taken))
+returns-3 c = rw (sym (c .before .before .before .before .is-ship .ensures) ∙ not-false _ (c .before .before .before .if1 .left), sym (c .before .before .is-ours .ensures) ∙ not-false _ (c .before .if2 .left), lt-leb _ _ (c .if3 .taken))
 
 returns-4 : tie.Need-returns-4
 unfolding requestKeeps requestOf
-returns-4 c = rw (sym (c .before .before .before .before .is-ship .ensures) ∙ not-false _ (c .before .before .before .if1 .left), eq-eqb _ _ (c .before .before .if2 .left), le-leb _ _ (c .before .if3 .left), lt-leb _ _ (c .if4 .taken))
+returns-4 c = rw (sym (c .before .before .before .before .before .is-ship .ensures) ∙ not-false _ (c .before .before .before .before .if1 .left), sym (c .before .before .before .is-ours .ensures) ∙ not-false _ (c .before .before .if2 .left), le-leb _ _ (c .before .if3 .left), lt-leb _ _ (c .if4 .taken))
 
 returns-5 : tie.Need-returns-5
 unfolding requestKeeps requestOf
-returns-5 c = rw (sym (c .before .before .before .before .before .is-ship .ensures) ∙ not-false _ (c .before .before .before .before .if1 .left), eq-eqb _ _ (c .before .before .before .if2 .left), le-leb _ _ (c .before .before .if3 .left), le-leb _ _ (c .before .if4 .left), ← c .number-stored .ensures)
+returns-5 c = rw (sym (c .before .before .before .before .before .before .is-ship .ensures) ∙ not-false _ (c .before .before .before .before .before .if1 .left), sym (c .before .before .before .before .is-ours .ensures) ∙ not-false _ (c .before .before .before .if2 .left), le-leb _ _ (c .before .before .if3 .left), le-leb _ _ (c .before .if4 .left), ← c .number-stored .ensures)
 
 pub request-stored-spec : {M : Type 1} → statement M
 request-stored-spec =
@@ -32,6 +32,7 @@ request-stored-spec =
     (tie.spec
     (λ c κs. search needs)
     returns
+    (λ c κs. search needs)
     returns-2
     returns-3
     returns-4

@@ -1,4 +1,4 @@
-use Rattle.lines.specs.Readable.{kindOf}
+use Rattle.lines.specs.Lines.{kindOf}
 use Rattle.sequence.proofs.Tests.{tests}
 use Rattle.lines.proofs.kinds.kind_of.Statement.{statement}
 use Rattle.lines.proofs.kinds.kind_of.Tie as tie

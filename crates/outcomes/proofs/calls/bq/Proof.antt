@@ -2,7 +2,7 @@ use borrow.Author.Needs.{needs}
 use mathlib.Core.List.{[], _∷_}
 use mathlib.Core.Bool.{true}
 use Rattle.outcomes.specs.Decides.{bqBy}
-use Rattle.outcomes.proofs.ArmLaws.{phase-arm}
+use Rattle.slots.proofs.PhaseLaws.{phase-arm}
 use Rattle.outcomes.proofs.calls.bq.Statement.{statement}
 use Rattle.outcomes.proofs.calls.bq.Tie as tie
 

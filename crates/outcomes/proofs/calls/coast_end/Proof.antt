@@ -1,7 +1,7 @@
 use borrow.Author.Needs.{needs}
 use mathlib.Core.List.{[], _∷_}
 use Rattle.outcomes.specs.Decides.{coastEndBy}
-use Rattle.outcomes.proofs.ArmLaws.{phase-arm}
+use Rattle.slots.proofs.PhaseLaws.{phase-arm}
 use Rattle.outcomes.proofs.calls.coast_end.Statement.{statement}
 use Rattle.outcomes.proofs.calls.coast_end.Tie as tie
 

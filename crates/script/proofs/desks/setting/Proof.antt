@@ -2,7 +2,7 @@ use mathlib.Core.Path.{_≡_, _∙_}
 use Prim.Native.Nat.{_≤_, _-_}
 use native.Mathlib.Omega.{arith}
 use lib.ListN.{length, getD, take, drop, length-take}
-use Rattle.station.specs.Step.{setUpBy}
+use Rattle.station.specs.Step.{given, setUpOf}
 use Rattle.script.specs.Lining.{part}
 use Rattle.script.proofs.LineLaws.{channels-as, set-as, set-not}
 use borrow.Author.Needs.{needs}
@@ -25,7 +25,7 @@ returns c = let b = c .before .before .before in
     let n = a .line .numbers in
     let k = a .line .count in
     let u = b .set-up .ensures ∙ channels-as n _ k _ (b .before .before .before .before .least-of .ensures) (b .before .channels-of .ensures) in
-    c .kept .ensures ∙ set-as (a .station) (b .set-up .result) (setUpBy (getD n 0 0) (part 1 k n)) u (c .before .if1 .taken)
+    c .kept .ensures ∙ set-as (a .station) (b .set-up .result) (setUpOf (given (getD n 0 0) (part 1 k n))) u (c .before .if1 .taken)
 
 returns-2 : tie.Need-returns-2
 returns-2 c = let b = c .before .before .before in
@@ -33,7 +33,7 @@ returns-2 c = let b = c .before .before .before in
     let n = a .line .numbers in
     let k = a .line .count in
     let u = b .set-up .ensures ∙ channels-as n _ k _ (b .before .before .before .before .least-of .ensures) (b .before .channels-of .ensures) in
-    c .kept2 .ensures ∙ set-not (a .station) (b .set-up .result) (setUpBy (getD n 0 0) (part 1 k n)) u (c .before .if1 .left)
+    c .kept2 .ensures ∙ set-not (a .station) (b .set-up .result) (setUpOf (given (getD n 0 0) (part 1 k n))) u (c .before .if1 .left)
 
 pub setting-spec : {M : Type 1} → statement M
 setting-spec =

@@ -1,5 +1,5 @@
 use Rattle.requests.specs.Images.{tidyRequest}
-use Rattle.slots.proofs.ViewLaws.{phase-back, stored-image}
+use Rattle.slots.proofs.PhaseLaws.{phase-back, stored-image}
 use Rattle.slots.specs.Images.{tidySlot, slotImage}
 use Rattle.requests.specs.Views.{requestOf}
 use mathlib.Core.Path.{sym, _∙_}

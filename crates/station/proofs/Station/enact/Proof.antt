@@ -13,7 +13,7 @@ use Rattle.rules.specs.Station.{slotTable, lossDue, mainDue, setClock}
 use Rattle.requests.specs.Views.{viewed, left, requestOf}
 use Rattle.requests.proofs.ArrayLaws.{viewed-min}
 use Rattle.slots.specs.declared.Waiting.{Waiting}
-use Rattle.slots.specs.Views.{slotView, waitingView, channelOf, dueView, dueOf, noSlot, noWaiting}
+use Rattle.slots.specs.Views.{slotView, waitingView, channelOf, onMast, dueView, dueOf, noSlot, noWaiting}
 use Rattle.slots.specs.Images.{tidySlot, tidyWaiting, blankSlot, blankWaiting}
 use Rattle.slots.proofs.QueueLaws.{gap-moves, gap-last}
 use Rattle.slots.proofs.TidyLaws.{doneFrom, none-done, done-length, done-at, done-used, done-unused}
@@ -44,7 +44,7 @@ use Rattle.station.proofs.Station.enact.Tie as tie
 -- the gap moves to the end of the queue
 abbrev Inv-loop : tie.InvT-loop
 Inv-loop t o q k room self₀ slots waiting blank nobody told line j₀ self j =
-    (self .identity ≡ self₀ .identity) × (self .slots ≡ self₀ .slots) × (length (self .queue) ≡ 32) × (waiting ≤ 32) × (j < 256)
+    (self .mast ≡ self₀ .mast) × (self .slots ≡ self₀ .slots) × (length (self .queue) ≡ 32) × (waiting ≤ 32) × (j < 256)
     × (dropAt j (viewed waitingView waiting (self .queue)) ≡ dropAt j₀ (viewed waitingView waiting (self₀ .queue)))
 
 abbrev μ-loop : tie.MeasureT-loop
@@ -53,7 +53,7 @@ abbrev μ-loop : tie.MeasureT-loop
 -- the slots laid out anew from n on, first the unused ones
 abbrev Inv-loop2 : tie.InvT-loop2
 Inv-loop2 o k room self₀ slots waiting blank nobody told j kept place after d n₀ self n =
-    (self .clock ≡ self₀ .clock) × (self .identity ≡ self₀ .identity) × (self .count ≡ self₀ .count) × (self .waiting ≡ self₀ .waiting) × (self .queue ≡ self₀ .queue)
+    (self .clock ≡ self₀ .clock) × (self .mast ≡ self₀ .mast) × (self .count ≡ self₀ .count) × (self .waiting ≡ self₀ .waiting) × (self .queue ≡ self₀ .queue)
     × (slots ≤ n) × (n ≤ 16) × (self .slots ≡ doneFrom tidySlot blankSlot slots (self₀ .slots) n)
 
 abbrev μ-loop2 : tie.MeasureT-loop2
@@ -61,7 +61,7 @@ abbrev μ-loop2 : tie.MeasureT-loop2
 
 abbrev Inv-loop3 : tie.InvT-loop3
 Inv-loop3 o k room self₀ slots waiting nobody told j kept place after d₀ n₀ self d n =
-    (self .clock ≡ self₀ .clock) × (self .identity ≡ self₀ .identity) × (self .count ≡ self₀ .count) × (self .waiting ≡ self₀ .waiting) × (self .queue ≡ self₀ .queue)
+    (self .clock ≡ self₀ .clock) × (self .mast ≡ self₀ .mast) × (self .count ≡ self₀ .count) × (self .waiting ≡ self₀ .waiting) × (self .queue ≡ self₀ .queue)
     × (n ≤ slots) × (slots ≤ 16) × (length (self₀ .slots) ≡ 16) × (self .slots ≡ doneFrom tidySlot blankSlot slots (self₀ .slots) n)
     × (dueView d ≡ earliest (slotTable n (left slotView slots (self₀ .slots) n)))
 
@@ -71,7 +71,7 @@ abbrev μ-loop3 : tie.MeasureT-loop3
 -- and so the queue
 abbrev Inv-loop4 : tie.InvT-loop4
 Inv-loop4 o k room self₀ slots waiting nobody told j kept place after d n₀ self n =
-    (self .clock ≡ self₀ .clock) × (self .identity ≡ self₀ .identity) × (self .count ≡ self₀ .count) × (self .waiting ≡ self₀ .waiting) × (self .slots ≡ self₀ .slots)
+    (self .clock ≡ self₀ .clock) × (self .mast ≡ self₀ .mast) × (self .count ≡ self₀ .count) × (self .waiting ≡ self₀ .waiting) × (self .slots ≡ self₀ .slots)
     × (after ≤ n) × (n ≤ 32) × (self .queue ≡ doneFrom tidyWaiting blankWaiting after (self₀ .queue) n)
 
 abbrev μ-loop4 : tie.MeasureT-loop4
@@ -79,7 +79,7 @@ abbrev μ-loop4 : tie.MeasureT-loop4
 
 abbrev Inv-loop5 : tie.InvT-loop5
 Inv-loop5 o k room self₀ slots waiting told j kept place after d₀ n₀ self d n =
-    (self .clock ≡ self₀ .clock) × (self .identity ≡ self₀ .identity) × (self .count ≡ self₀ .count) × (self .waiting ≡ self₀ .waiting) × (self .slots ≡ self₀ .slots)
+    (self .clock ≡ self₀ .clock) × (self .mast ≡ self₀ .mast) × (self .count ≡ self₀ .count) × (self .waiting ≡ self₀ .waiting) × (self .slots ≡ self₀ .slots)
     × (n ≤ after) × (after ≤ 32) × (length (self₀ .queue) ≡ 32) × (self .queue ≡ doneFrom tidyWaiting blankWaiting after (self₀ .queue) n)
     × (dueView d ≡ queueJoined n (map dueOf (left waitingView after (self₀ .queue) n)) (dueView d₀))
 
@@ -202,8 +202,8 @@ slots-seen c =
 slot-there : (c : Turned) → start (read c) .args .i .0 < slots (read c) → c .before .before .before .before .before .before .before .before .before .before .before .before .if1 .x ≡ getD (own (read c) .slots) (start (read c) .args .i .0) noSlot
 slot-there c h = let r = read c in slot-is r ∙ sym (slot-in (own r) (wide r) (start r .args .i .0) (omega (arith, slots-is r)))
 
-turned-identity : (c : Turned) → c .if3 .self .identity ≡ own (read c) .identity
-turned-identity c = ⊎-elim (λ v. ap (λ (z : Station). z .identity) (v .3)) (λ v. ap (λ (z : Station). z .identity) (v .1)) (c .if3 .came)
+turned-mast : (c : Turned) → c .if3 .self .mast ≡ own (read c) .mast
+turned-mast c = ⊎-elim (λ v. ap (λ (z : Station). z .mast) (v .3)) (λ v. ap (λ (z : Station). z .mast) (v .1)) (c .if3 .came)
 
 turned-queue : (c : Turned) → c .if3 .self .queue ≡ own (read c) .queue
 turned-queue c = ⊎-elim (λ v. ap (λ (z : Station). z .queue) (v .3)) (λ v. ap (λ (z : Station). z .queue) (v .1)) (c .if3 .came)
@@ -269,11 +269,11 @@ fits c =
     line-fits (scene r) (kept c) (l .self .queue) (before′ r) (l .inv .2) (line t) (line-left c) k
     (rw (e ∙ ap (λ y. lined (sceneView (scene r)) y (before′ r) .queue) (sym (t .before .before .before .line-of .ensures))) at (z .pre .1))
 
-lined-identity : (c : Lined) → c .if4 .self .identity ≡ own (read (turned′ (closed c))) .identity
-lined-identity c =
-    ⊎-elim (λ v. ap (λ (z : Station). z .identity) (v .3)) (λ v. ap (λ (z : Station). z .identity) (v .1)) (c .if4 .came)
+lined-mast : (c : Lined) → c .if4 .self .mast ≡ own (read (turned′ (closed c))) .mast
+lined-mast c =
+    ⊎-elim (λ v. ap (λ (z : Station). z .mast) (v .3)) (λ v. ap (λ (z : Station). z .mast) (v .1)) (c .if4 .came)
     ∙ closed c .before .loop .inv .0
-    ∙ turned-identity (turned′ (closed c))
+    ∙ turned-mast (turned′ (closed c))
 
 lined-slots-are : (c : Lined) → c .if4 .self .slots ≡ turned′ (closed c) .if3 .self .slots
 lined-slots-are c =
@@ -315,7 +315,7 @@ abbrev next : Blanking → Station
 next c =
     record {
       clock = start (from c) .args .t;
-      identity = lined′ c .if4 .self .identity;
+      mast = lined′ c .if4 .self .mast;
       count = slots (from c);
       waiting = after c;
       slots = lined′ c .if4 .self .slots;
@@ -351,8 +351,8 @@ kept-config c =
     let r = from c in
     let s = own r in
     let n : slots r ≡ min (s .count) (length (s .slots)) = omega (arith, slots-is r, wide r) in
-    ap (λ z. record { identity = z; channels = viewed channelOf (slots r) (l .if4 .self .slots) }) (lined-identity l)
-    ∙ ap (λ z. record { identity = s .identity; channels = z }) (ap (viewed channelOf (slots r)) (lined-slots-are l) ∙ turned-channels (turned′ (closed l)) ∙ ap (λ z. viewed channelOf z (s .slots)) n ∙ viewed-min channelOf (s .count) (s .slots))
+    ap (λ z. onMast z (viewed channelOf (slots r) (l .if4 .self .slots))) (lined-mast l)
+    ∙ ap (onMast (s .mast)) (ap (viewed channelOf (slots r)) (lined-slots-are l) ∙ turned-channels (turned′ (closed l)) ∙ ap (λ z. viewed channelOf z (s .slots)) n ∙ viewed-min channelOf (s .count) (s .slots))
 
 -- ── the indices ──
 

@@ -1,15 +1,16 @@
 use mathlib.Core.Option.{none}
-use mathlib.Core.Path.{_≡_, refl, _∙_}
+use mathlib.Core.Path.{_≡_, refl, ap, _∙_}
 use lib.ListN.{length}
-use Rattle.rules.specs.Words.{Event}
-use Rattle.rules.specs.Calls.{act}
+use Rattle.rules.specs.Words.{onChannel70, Event}
+use Rattle.rules.specs.Station.{setClock}
+use Rattle.rules.specs.Calls.{heardOn70, actAt, act}
 use Rattle.requests.specs.Views.{requestOf}
 use Rattle.station.specs.Model.{modelOf, configOf}
-use Rattle.station.specs.Step.{channel70At, refusal}
+use Rattle.station.specs.Step.{eventAt, refusal}
 use Rattle.station.specs.Pieces.{wholeAt}
-use Rattle.station.proofs.GateLaws.{passed, channel-asked}
+use Rattle.station.proofs.GateLaws.{passed, asked-now, one-more-now}
 use Rattle.station.proofs.StepLaws.{refused-is, line-fits, accepted-is}
-use Rattle.station.proofs.EventLaws.{heard-is, channel-acts}
+use Rattle.station.proofs.EventLaws.{heard-is}
 use borrow.Author.Needs.{needs}
 use Rattle.station.proofs.Station.heard_on_channel_70.Statement.{statement}
 use Rattle.station.proofs.Station.heard_on_channel_70.Tie as tie
@@ -18,13 +19,15 @@ abbrev start : tie.After-told-by → tie.Start
 start b = b .before .before .before .before .before .before .before .before .before .before .before
 
 abbrev event : tie.Start → Event
-event z = channel70At (z .args .time) (z .args .symbols .now) (z .args .room .now)
+event z = eventAt (z .args .time .0) (onChannel70 (z .args .symbols .now)) (z .args .room .now)
 
 accepted : (b : tie.After-told-by) → none ≡ refusal (start b .args .self) (event (start b))
 accepted b =
     let x = start b .args in
+    let sees = b .before .before .before .before .before .before .looked .ensures in
     (rw (b .before .before .enum-told .given .1, b .before .before .before .before .before .judge-now .ensures, b .before .before .before .before .before .before .before .before .read .ensures) at (b .before .before .before .before .and-read .ensures))
-    ∙ channel-asked _ _ (b .before .before .before .before .before .before .looked .ensures) (length (x .room .now)) (x .time .0) (x .symbols .now)
+    ∙ one-more-now _ _ sees (length (x .room .now)) (x .time .0) _ _
+    ∙ asked-now _ _ sees (length (x .room .now)) (x .time .0) (onChannel70 (x .symbols .now)) refl
 
 abbrev told : tie.After-enact-whole-arg → tie.After-told-by
 told c = c .before .before .before
@@ -32,11 +35,12 @@ told c = c .before .before .before
 decided : (c : tie.After-enact-whole-arg)
     → wholeAt (start (told c) .args .self) (start (told c) .args .time) (c .before .before .choice .result .slot) (requestOf (told c .told-by .result .request)) (c .before .before .choice .result .outcome)
     ≡ act (configOf (start (told c) .args .self)) (modelOf (start (told c) .args .self)) (event (start (told c)))
+unfolding actAt
 decided c =
     let b = told c in
     let x = start b .args in
-    channel-acts (x .self) (x .time) (length (x .room .now)) (x .symbols .now) (b .told-by .result)
-    (heard-is (x .self) (x .symbols .now) _ (b .before .before .before .before .before .before .before .before .read .ensures) (b .told-by .result) (b .told-by .ensures .1)) _ (c .before .before .choice .ensures)
+    c .before .before .choice .ensures
+    ∙ ap (heardOn70 (setClock (x .time .0) (modelOf (x .self)))) (heard-is (x .self) (x .symbols .now) _ (b .before .before .before .before .before .before .before .before .read .ensures) (b .told-by .result) (b .told-by .ensures .1))
 
 choice-requires : tie.Need-choice-requires
 choice-requires c κs = passed (start c .args .self) (event (start c)) (accepted c) .time
@@ -55,7 +59,8 @@ returns c =
     rw (c .refused .ensures)
     (refused-is _ _ sees _ (event z) _
     ((rw (c .before .before .v .given .1, c .before .before .before .before .before .judge-now .ensures, c .before .before .before .before .before .before .before .before .read .ensures) at (c .before .before .before .before .and-read .ensures))
-    ∙ channel-asked _ _ sees (length (z .args .room .now)) (z .args .time .0) (z .args .symbols .now)))
+    ∙ one-more-now _ _ sees (length (z .args .room .now)) (z .args .time .0) _ _
+    ∙ asked-now _ _ sees (length (z .args .room .now)) (z .args .time .0) (onChannel70 (z .args .symbols .now)) refl))
 
 returns-2 : tie.Need-returns-2
 returns-2 c =

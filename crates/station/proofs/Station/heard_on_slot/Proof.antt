@@ -1,37 +1,85 @@
+use Prim.Native.Nat.{ℕ}
+use mathlib.Core.Bool.{Bool}
+use mathlib.Core.List.{List}
 use mathlib.Core.Option.{none}
-use mathlib.Core.Path.{_≡_, refl, _∙_}
+use mathlib.Core.Path.{_≡_, refl, ap, _∙_}
 use lib.ListN.{length}
-use Rattle.rules.specs.Words.{Event, heard}
-use Rattle.rules.specs.Calls.{act}
+use Rattle.units.specs.declared.SlotNumber.{SlotNumber}
+use Rattle.units.specs.declared.Tenths.{Tenths}
+use Rattle.rules.specs.Words.{Request, is, heard, onSlot, Event}
+use Rattle.rules.specs.Heard.{meaning}
+use Rattle.rules.specs.Station as R
+use Rattle.rules.specs.Station.{setClock}
+use Rattle.rules.specs.Calls.{heardOn, happenedOn, act}
 use Rattle.requests.specs.Views.{requestOf}
+use Rattle.slots.specs.declared.Phase.{Phase}
+use Rattle.slots.specs.declared.Slot.{Slot}
+use Rattle.slots.specs.Phases.{phaseView}
+use Rattle.slots.specs.Views.{slotView}
+use Rattle.hearing.specs.declared.Heard.{Heard}
+use Rattle.hearing.specs.declared.Kind.{Kind}
+use Rattle.hearing.specs.declared.Kind.the-variants.{CallRequest, DataRequest, Bq, WorkingCall, EndOfCall, Nothing}
+use Rattle.hearing.specs.Said.{heardAs, heardOf}
+use Rattle.outcomes.specs.declared.Outcome.{Outcome}
+use Rattle.outcomes.specs.Does.{outOf}
+use Rattle.outcomes.proofs.RuleLaws.{working-is, ship-end-is}
+use Rattle.station.specs.declared.Station.{Station}
 use Rattle.station.specs.Model.{modelOf, configOf}
 use Rattle.station.specs.Step.{slotAt, refusal}
-use Rattle.station.specs.Pieces.{outAt}
-use Rattle.station.proofs.GateLaws.{passed, heard-asked}
-use Rattle.station.proofs.StepLaws.{refused-is, line-fits, accepted-is}
-use Rattle.station.proofs.EventLaws.{heard-is, heard-acts}
+use Rattle.station.specs.Pieces.{slotOf, ownOf, outAt, byKind}
+use Rattle.station.proofs.PlaceLaws.{slot-view}
+use Rattle.station.proofs.GateLaws.{passed, asked-on-slot, one-more-on-slot}
+use Rattle.station.proofs.StepLaws.{refused-is, line-fits, accepted-is, slot-acts}
+use Rattle.station.proofs.EventLaws.{heard-is}
 use borrow.Author.Needs.{needs}
 use Rattle.station.proofs.Station.heard_on_slot.Statement.{statement}
 use Rattle.station.proofs.Station.heard_on_slot.Tie as tie
+
+-- ── by the kind of what was heard ────────────────────────────────────────────
+
+kind-is : (r q : Request) (i : ℕ) (st : R.Station) (k : Kind) (own : Bool) → is (q .who) (r .who) ≡ own → (p : Phase) → outOf i r q (byKind k own p) st ≡ heardOn i st (phaseView p r) (heardAs k q)
+unfolding outOf heardOn
+kind-is r q i st CallRequest own e p = refl
+kind-is r q i st DataRequest own e p = refl
+kind-is r q i st (Bq j) own e p = refl
+kind-is r q i st WorkingCall own e p = working-is i st r q (q .who) own e p
+kind-is r q i st EndOfCall own e p = ship-end-is i st r q (q .who) own e p
+kind-is r q i st Nothing own e p = refl
+
+-- what is decided by it is what the rules do
+acts : (s : Station) (t : Tenths) (n : ℕ) (i : SlotNumber) (x : Slot) → x ≡ slotOf s (i .0) → (o : Outcome) (m : List ℕ) (h : Heard) → heardOf h ≡ meaning (configOf s) m
+    → (own : Bool) → own ≡ is (requestOf (h .request) .who) (requestOf (x .request) .who) → o ≡ byKind (h .kind) own (x .phase)
+    → outAt s t i (requestOf (h .request)) o ≡ act (configOf s) (modelOf s) (record { time = t .0; room = n; what = onSlot (i .0) (heard m) })
+unfolding outAt ownOf happenedOn
+acts s t n i x at o m h f own b e =
+    let y = slotOf s (i .0) in
+    rw (e, b, at)
+    (kind-is (requestOf (y .request)) (requestOf (h .request)) (i .0) (setClock (t .0) (modelOf s)) (h .kind) _ refl (y .phase)
+    ∙ ap (heardOn (i .0) (setClock (t .0) (modelOf s)) (slotView y)) f
+    ∙ slot-acts s (t .0) (i .0) n (heard m) (slotView y) (slot-view s (i .0)))
+
+-- ── the needs ────────────────────────────────────────────────────────────────
 
 abbrev start : tie.After-enact-arg → tie.Start
 start b = b .before .before .before .before .before .before .before .before .before .before .before .before .before .before .before .before .before
 
 abbrev event : tie.Start → Event
-event z = slotAt (z .args .time) (z .args .slot) (heard (z .args .symbols .now)) (z .args .room .now)
+event z = slotAt (z .args .time .0) (z .args .slot .0) (heard (z .args .symbols .now)) (z .args .room .now)
 
 accepted : (b : tie.After-enact-arg) → none ≡ refusal (start b .args .self) (event (start b))
 accepted b =
     let x = start b .args in
+    let sees = b .before .before .before .before .before .before .before .before .before .before .before .before .looked .ensures in
     (rw (b .before .before .before .before .before .before .before .before .enum-told .given .1, b .before .before .before .before .before .before .before .before .before .before .before .judge-slot .ensures, b .before .before .before .before .before .before .before .before .before .before .before .before .before .before .read .ensures) at (b .before .before .before .before .before .before .before .before .before .before .and-read .ensures))
-    ∙ heard-asked _ _ (b .before .before .before .before .before .before .before .before .before .before .before .before .looked .ensures) (length (x .room .now)) (x .time .0) (x .slot .0) (x .symbols .now)
+    ∙ one-more-on-slot _ _ sees (length (x .room .now)) (x .time .0) (x .slot .0) _ _
+    ∙ asked-on-slot _ _ sees (length (x .room .now)) (x .time .0) (x .slot .0) (heard (x .symbols .now))
 
 decided : (b : tie.After-enact-arg) → outAt (start b .args .self) (start b .args .time) (start b .args .slot) (requestOf (b .before .before .before .before .before .before .told-by .result .request)) (b .before .by-kind .result) ≡ act (configOf (start b .args .self)) (modelOf (start b .args .self)) (event (start b))
 unfolding requestOf
 decided b =
     let x = start b .args in
     let told = b .before .before .before .before .before .before .told-by in
-    heard-acts (x .self) (x .time) (length (x .room .now)) (x .slot) _ (b .before .before .before .before .slot-at .ensures) _ (x .symbols .now) (told .result)
+    acts (x .self) (x .time) (length (x .room .now)) (x .slot) _ (b .before .before .before .before .slot-at .ensures) _ (x .symbols .now) (told .result)
     (heard-is (x .self) (x .symbols .now) _ (b .before .before .before .before .before .before .before .before .before .before .before .before .before .before .read .ensures) (told .result) (told .ensures .1)) _ (b .before .before .is-by .ensures) (b .before .by-kind .ensures)
 
 enact-requires : tie.Need-enact-requires
@@ -46,7 +94,8 @@ returns c =
     rw (c .refused .ensures)
     (refused-is _ _ sees _ (event z) _
     ((rw (c .before .before .v .given .1, c .before .before .before .before .before .judge-slot .ensures, c .before .before .before .before .before .before .before .before .read .ensures) at (c .before .before .before .before .and-read .ensures))
-    ∙ heard-asked _ _ sees (length (z .args .room .now)) (z .args .time .0) (z .args .slot .0) (z .args .symbols .now)))
+    ∙ one-more-on-slot _ _ sees (length (z .args .room .now)) (z .args .time .0) (z .args .slot .0) _ _
+    ∙ asked-on-slot _ _ sees (length (z .args .room .now)) (z .args .time .0) (z .args .slot .0) (heard (z .args .symbols .now))))
 
 returns-2 : tie.Need-returns-2
 returns-2 c =

@@ -1,0 +1,47 @@
+use borrow.Author.Needs.{needs}
+use Rattle.slots.proofs.span_of.Statement.{statement}
+use Rattle.slots.proofs.span_of.Tie as tie
+
+returns-2 : tie.Need-returns-2
+returns-2 c = rw (c .before .p .given .1)
+
+returns-3 : tie.Need-returns-3
+returns-3 c = rw (c .before .p2 .given .1)
+
+returns-4 : tie.Need-returns-4
+returns-4 c = rw (c .before .p3 .given .1)
+
+returns-5 : tie.Need-returns-5
+returns-5 c = rw (c .before .p4 .given .1)
+
+returns-6 : tie.Need-returns-6
+returns-6 c = rw (c .before .p5 .given .1)
+
+returns-7 : tie.Need-returns-7
+returns-7 c = rw (c .before .p6 .given .1)
+
+returns-8 : tie.Need-returns-8
+returns-8 c = rw (c .before .p7 .given .1)
+
+pub span-of-spec : {M : Type 1} → statement M
+span-of-spec =
+    tie.close
+    (tie.spec
+    (λ c. search needs)
+    (λ c. search needs)
+    (λ c. search needs)
+    (λ c. search needs)
+    (λ c. search needs)
+    (λ c. search needs)
+    (λ c. search needs)
+    (λ c. search needs)
+    (λ c. search needs)
+    (λ c. search needs)
+    returns-2
+    returns-3
+    returns-4
+    returns-5
+    returns-6
+    returns-7
+    returns-8
+    (λ c. search needs))

@@ -1,0 +1,79 @@
+// The plain events on a slot: the signals of a call and the operator's hand have one body.
+ghost use mathlib.Core.Path.{_≡_};
+ghost use mathlib.Core.Bool.{not};
+ghost use Rattle.rules.specs.Calls.{barredHand};
+ghost use Rattle.slots.specs.Views.{slotView, handView};
+ghost use Rattle.station.specs.Step.{slotAt, steppedBy, roomAfter};
+ghost use Rattle.station.specs.Pieces.{plainView, closedTo, byPlain};
+use crate::Plain;
+use crate::Station;
+use crate::Stepped;
+use gate::Verdict;
+use outcomes::Outcome;
+use outcomes::calls::by_hand;
+use outcomes::calls::by_signal;
+use requests::Mode;
+use slots::Hand;
+use slots::Phase;
+use slots::Slot;
+use slots::is_free;
+use slots::is_taken;
+use units::SlotNumber;
+use units::Tenths;
+
+// The hand takes a free slot, and gives back a taken one.
+fn is_open(h: Hand, x: Slot) -> bool
+    ensures { λ r. ⌜ r ≡ not (barredHand (slotView x) (handView h)) ⌝ }
+{
+    match h {
+        Hand::Takes => is_free(x),
+        Hand::GivesBack => is_taken(x),
+    }
+}
+
+fn may_happen(w: Plain, x: Slot) -> bool
+    ensures { λ r. ⌜ r ≡ not (closedTo (slotView x) w) ⌝ }
+{
+    match w {
+        Plain::Signal(_) => true,
+        Plain::Hand(h) => is_open(h, x),
+    }
+}
+
+fn by_plain(w: Plain, t: Tenths, m: Mode, p: Phase) -> Outcome
+    ensures { λ r. ⌜ r ≡ byPlain w t m p ⌝ }
+{
+    match w {
+        Plain::Signal(g) => by_signal(g, t, m, p),
+        Plain::Hand(h) => by_hand(h, p),
+    }
+}
+
+impl Station {
+    pub(crate) fn plainly(
+        self,
+        w: Plain,
+        time: Tenths,
+        slot: SlotNumber,
+        room: &mut [u8],
+    ) -> Stepped
+        ensures { λ r. ⌜ r ≡ steppedBy self (slotAt (time .0) (slot .0) (plainView w) (now (room .entry))) ⌝ }
+        ensures { λ _. ⌜ now (room .exit) ≡ roomAfter self (now (room .entry)) (slotAt (time .0) (slot .0) (plainView w) (now (room .entry))) ⌝ }
+    {
+        let look = self.looked();
+        let first = look.due;
+        let x = self.slot_at(slot);
+        let v = look.judge_slot(room.len(), time, slot)
+            .and_then(may_happen(w, x), 35);
+        match v {
+            Verdict::Refused(n) => self.refused(n, first),
+            Verdict::Accepted => {
+                let q = x.request;
+                let m = q.mode;
+                let p = x.phase;
+                let o = by_plain(w, time, m, p);
+                self.enact(time, slot, o, q, 0, room)
+            }
+        }
+    }
+}
