@@ -6,6 +6,8 @@ use native.Mathlib.Omega.{arith}
 use Rattle.rules.specs.Words.{Request, carrierOff}
 use Rattle.rules.specs.Actions.{Action, does, theCoast}
 use Rattle.rules.specs.Station as R
+use Rattle.rules.specs.Station.{kindWait, replyWait, holdWait, queueWait}
+use Rattle.rules.specs.Sound.{limit}
 use Rattle.rules.specs.Requests.{also, rungBack, freedFor, freed, endActs, coastEnd, repeated, afresh, ruleD, offer, ruleF}
 use Rattle.rules.specs.Calls.{dialNow, shipEnd, sayAgain, offerDue, ringAgain, fire}
 use Rattle.outcomes.specs.declared.Talk.{Talk}
@@ -14,12 +16,12 @@ use Rattle.outcomes.specs.declared.Outcome.the-variants.{Ignored, Passes
 use Rattle.outcomes.specs.Does.{sinceOf, outOf, sceneOf, actsOf, turned, lined, applied}
 use Rattle.outcomes.proofs.RuleLaws.{wait-fits}
 
-module _ (i : ℕ) (own asked : Request) (st : R.Station) (h : st .clock ≤ 4_000_000_000) where
+module _ (i : ℕ) (own asked : Request) (st : R.Station) (h : st .clock ≤ limit) where
   -- a slot is freed: nobody waits, or the oldest is rung back
   frees-applied : (q : List R.Waiting) → st .queue ≡ q → freed i st ≡ applied (sceneOf i own asked st) Frees st
   unfolding freed freedFor rungBack applied sceneOf actsOf turned lined
   frees-applied [] e = rw e refl
-  frees-applied (w ∷ q) e = rw (e, wait-fits (st .clock) 50 h (omega arith)) refl
+  frees-applied (w ∷ q) e = rw (e, wait-fits (st .clock) (kindWait R.firstRing) h (omega arith)) refl
 
   -- with actions before it
   also-frees : (a : List Action) → also a (freed i st) ≡ also a (applied (sceneOf i own asked st) Frees st)
@@ -42,18 +44,18 @@ module _ (i : ℕ) (own asked : Request) (st : R.Station) (h : st .clock ≤ 4_0
   outcome-applied Ignored = refl
   outcome-applied Passes = refl
   outcome-applied (Turns p) = refl
-  outcome-applied Dials = rw (wait-fits (st .clock) 600 h (omega arith)) refl
-  outcome-applied RingsAgain = rw (wait-fits (st .clock) 50 h (omega arith)) refl
+  outcome-applied Dials = rw (wait-fits (st .clock) replyWait h (omega arith)) refl
+  outcome-applied RingsAgain = rw (wait-fits (st .clock) (kindWait R.secondRing) h (omega arith)) refl
   outcome-applied Frees = frees-applied (st .queue) refl
   outcome-applied Clears = clears-applied
   outcome-applied (CoastEnds k) = ends-applied k
-  outcome-applied (ShipEnds k) = rw (wait-fits (st .clock) 40 h (omega arith)) refl
+  outcome-applied (ShipEnds k) = rw (wait-fits (st .clock) holdWait h (omega arith)) refl
   outcome-applied (SaysAgain n) = refl
   outcome-applied Repeats = refl
-  outcome-applied Renews = rw (wait-fits (st .clock) 160 h (omega arith)) refl
+  outcome-applied Renews = rw (wait-fits (st .clock) (kindWait R.offered) h (omega arith)) refl
   outcome-applied (Redials k) = redials-applied k
-  outcome-applied Offers = rw (wait-fits (st .clock) 160 h (omega arith)) refl
-  outcome-applied Joins = rw (wait-fits (st .clock) 9000 h (omega arith)) refl
+  outcome-applied Offers = rw (wait-fits (st .clock) (kindWait R.offered) h (omega arith)) refl
+  outcome-applied Joins = rw (wait-fits (st .clock) queueWait h (omega arith)) refl
   outcome-applied (Replaces k) = refl
   outcome-applied (Unable n) = refl
   outcome-applied (Drops k) = refl

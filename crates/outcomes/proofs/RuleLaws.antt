@@ -7,12 +7,12 @@ use native.Mathlib.Omega.{arith}
 use lib.ListN.{length}
 use lib.Dec.{ltb}
 use Rattle.rules.specs.Places.{lowest}
-use Rattle.rules.specs.Sound.{queueRoom}
+use Rattle.rules.specs.Sound.{limit, queueRoom}
 use Rattle.rules.specs.Words as W
 use Rattle.rules.specs.Words.{Party, is, Request, simplex, duplex}
 use Rattle.rules.specs.Waits.{ofQueue}
 use Rattle.rules.specs.Station as R
-use Rattle.rules.specs.Station.{setClock, dueAfter, carrierWait, isFree}
+use Rattle.rules.specs.Station.{setClock, dueAfter, kindWait, carrierWait, queueWait, isFree}
 use Rattle.rules.specs.Requests.{coastEnd, same, placeOf, ruleA, ruleB, ruleC, ruleF, ruleG, redial, bOrC, eToG, newcomer, dToG}
 use Rattle.rules.specs.Calls.{workingOn, workingKind, bqFor, bqKind, agreed, offHookOn, offHookStage, startLoss, downOn, upOn, shipEnd, shipEndOn, endOn, signalOn, takeOn, giveOn, handOn, pendingDue, replyDue, mainOn, fire, ticked}
 use Rattle.requests.specs.declared.Mode.{Mode}
@@ -36,10 +36,10 @@ use Rattle.outcomes.specs.Does.{sinceOf, outOf, behind, withoutSlot, who
 use Rattle.outcomes.specs.Decides.{offHookBy, upBy, lossFrom, downBy, coastEndBy, workingBy, shipEndBy, bqBy, bySignal, takeBy, giveBackBy, byHand, mainDueBy, ruleBBy, ruleCBy, askedAgainBy, newcomerBy}
 
 -- the limit of every accepted time leaves room for each wait
-pub wait-fits : (t p : ℕ) → t ≤ 4_000_000_000 → p ≤ 9_000 → min (dueAfter t p) 4294967295 ≡ dueAfter t p
+pub wait-fits : (t p : ℕ) → t ≤ limit → p ≤ queueWait → min (dueAfter t p) 4294967295 ≡ dueAfter t p
 wait-fits t p h k = omega arith
 
-carrier-short : (m : W.Mode) → carrierWait m ≤ 9_000
+carrier-short : (m : W.Mode) → carrierWait m ≤ queueWait
 carrier-short simplex = omega arith
 carrier-short duplex = omega arith
 
@@ -54,11 +54,11 @@ module _ (i : ℕ) (st : R.Station) (r q : Request) where
   unfolding outOf upOn
   up-is = by-phase _ refl (λ t. refl) (λ t. refl) (λ t. refl) (λ t. refl) (λ t l. refl) (λ t l. refl) (λ t n. refl) refl
 
-  loss-is : (m : Mode) → modeOf m ≡ r .mode → st .clock ≤ 4_000_000_000 → (l : Carrier) → carrierOf (lossFrom (timeOf st) m l) ≡ startLoss (st .clock) (r .mode) (carrierOf l)
+  loss-is : (m : Mode) → modeOf m ≡ r .mode → st .clock ≤ limit → (l : Carrier) → carrierOf (lossFrom (timeOf st) m l) ≡ startLoss (st .clock) (r .mode) (carrierOf l)
   loss-is m e h Present = rw e (ap some (wait-fits (st .clock) (carrierWait (r .mode)) h (carrier-short (r .mode))))
   loss-is m e h (Lost d) = refl
 
-  down-is : (m : Mode) → modeOf m ≡ r .mode → st .clock ≤ 4_000_000_000 → (p : Phase) → outOf i r q (downBy (timeOf st) m p) st ≡ downOn i st (phaseView p r)
+  down-is : (m : Mode) → modeOf m ≡ r .mode → st .clock ≤ limit → (p : Phase) → outOf i r q (downBy (timeOf st) m p) st ≡ downOn i st (phaseView p r)
   unfolding outOf downOn
   down-is m e h = by-phase _ refl (λ t. refl) (λ t. refl) (λ t. refl) (λ t. refl) (λ t l. rw (loss-is m e h l) refl) (λ t l. rw (loss-is m e h l) refl) (λ t n. refl) refl
 
@@ -74,7 +74,7 @@ module _ (i : ℕ) (st : R.Station) (r q : Request) where
   unfolding outOf giveOn
   give-back-is = by-phase _ refl (λ t. refl) (λ t. refl) (λ t. refl) (λ t. refl) (λ t l. refl) (λ t l. refl) (λ t n. refl) refl
 
-  pub signal-is : (m : Mode) → modeOf m ≡ r .mode → st .clock ≤ 4_000_000_000 → (g : Signal) (p : Phase) → outOf i r q (bySignal g (timeOf st) m p) st ≡ signalOn i st (phaseView p r) (signalView g)
+  pub signal-is : (m : Mode) → modeOf m ≡ r .mode → st .clock ≤ limit → (g : Signal) (p : Phase) → outOf i r q (bySignal g (timeOf st) m p) st ≡ signalOn i st (phaseView p r) (signalView g)
   signal-is m e h LineLifted p = off-hook-is p
   signal-is m e h LineHung p = coast-end-is p
   signal-is m e h CarrierHeard p = up-is p
@@ -101,9 +101,9 @@ module _ (i : ℕ) (st : R.Station) (r q : Request) where
     ship-end-is true e = by-phase _ refl (λ t. refl) (λ t. refl) (λ t. refl) (λ t. refl) (λ t l. rw e refl) (λ t l. rw e refl) (λ t n. rw e refl) refl
     ship-end-is false e = by-phase _ refl (λ t. refl) (λ t. refl) (λ t. refl) (λ t. refl) (λ t l. rw e refl) (λ t l. rw e refl) (λ t n. rw e refl) refl
 
-    pub bq-is : (own : Bool) → is x (r .who) ≡ own → st .clock ≤ 4_000_000_000 → (p : Phase) → outOf i r q (bqBy own (timeOf st) p) st ≡ bqFor i x st (phaseView p r)
+    pub bq-is : (own : Bool) → is x (r .who) ≡ own → st .clock ≤ limit → (p : Phase) → outOf i r q (bqBy own (timeOf st) p) st ≡ bqFor i x st (phaseView p r)
     unfolding outOf bqFor bqKind agreed
-    bq-is true e h = by-phase _ refl (λ t. rw e refl) (λ t. rw (e, wait-fits (st .clock) 160 h (omega arith)) refl) (λ t. rw (e, wait-fits (st .clock) 160 h (omega arith)) refl) (λ t. rw e refl) (λ t l. refl) (λ t l. refl) (λ t n. refl) refl
+    bq-is true e h = by-phase _ refl (λ t. rw e refl) (λ t. rw (e, wait-fits (st .clock) (kindWait R.acknowledged) h (omega arith)) refl) (λ t. rw (e, wait-fits (st .clock) (kindWait R.acknowledged) h (omega arith)) refl) (λ t. rw e refl) (λ t l. refl) (λ t l. refl) (λ t n. refl) refl
     bq-is false e h = by-phase _ refl (λ t. rw e refl) (λ t. rw e refl) (λ t. rw e refl) (λ t. rw e refl) (λ t l. refl) (λ t l. refl) (λ t n. refl) refl
 
   -- ── a call request ──

@@ -9,6 +9,7 @@ use Rattle.rules.specs.Words.{Request}
 use Rattle.rules.specs.Bytes.{channelAt}
 use Rattle.rules.specs.Station as R
 use Rattle.rules.specs.Station.{setClock, nextDue}
+use Rattle.rules.specs.Sound.{limit}
 use Rattle.rules.specs.Requests.{Out}
 use Rattle.requests.specs.declared.Request.{Request as Asked}
 use Rattle.requests.specs.Views.{requestOf}
@@ -33,7 +34,7 @@ use Rattle.station.specs.Pieces.{slotOf, ownOf, outAt, laidOf, enacted}
 use Rattle.station.proofs.PlaceLaws.{slot-channel}
 use Rattle.station.proofs.ApplyLaws.{turned-queue}
 
-scene-out : (s : Station) (t i : ℕ) (own asked : Request) → t ≤ 4_000_000_000 → (sc : D.Scene) (o : Outcome) → sc ≡ sceneOf i own asked (setClock t (modelOf s))
+scene-out : (s : Station) (t i : ℕ) (own asked : Request) → t ≤ limit → (sc : D.Scene) (o : Outcome) → sc ≡ sceneOf i own asked (setClock t (modelOf s))
     → applied sc o (setClock t (modelOf s)) ≡ outOf i own asked o (setClock t (modelOf s))
 unfolding setClock
 scene-out s t i own asked late sc o e = rw e (sym (outcome-applied i own asked (setClock t (modelOf s)) late o))
@@ -50,7 +51,7 @@ unfolding sceneOf sceneView ownOf setClock
 shows s t i q x w n at first line =
     (rw (line, ap (λ (y : R.Waiting). y .request) first, at), (refl, ap (λ y. y .channel) at ∙ slot-channel s (i .0)))
 
-module _ (s : Station) (t : Tenths) (i : SlotNumber) (q : Request) (sc : Scene) (o : Outcome) (late : t .0 ≤ 4_000_000_000) (shows : Shows s t i q sc) where
+module _ (s : Station) (t : Tenths) (i : SlotNumber) (q : Request) (sc : Scene) (o : Outcome) (late : t .0 ≤ limit) (shows : Shows s t i q sc) where
   pub out-is : applied (sceneView sc) o (setClock (sc .clock .0) (modelOf s)) ≡ outAt s t i q o
   unfolding outAt
   out-is =
