@@ -4,8 +4,8 @@ use mathlib.Core.List.{List}
 use mathlib.Core.Option.{Option, none, some}
 use Prim.Native.Nat.{ℕ}
 use lib.Dec.{eqb}
-use lib.ListN.{length, replicate}
-use Rattle.rules.specs.Words.{Config, What, Event}
+use lib.ListN.{replicate}
+use Rattle.rules.specs.Words.{Config}
 use Rattle.rules.specs.Station.{nextDue}
 use Rattle.rules.specs.Verdict.{roomNeeded}
 use Rattle.slots.specs.Images.{tenths}
@@ -17,7 +17,7 @@ use Rattle.station.specs.declared.SetUp.{SetUp}
 use Rattle.station.specs.declared.Stepped.{Stepped}
 use Rattle.station.specs.declared.Station.{Station}
 use Rattle.station.specs.Model.{modelOf}
-use Rattle.station.specs.Step.{dueImage, steppedBy, roomAfter, given, setUpOf}
+use Rattle.station.specs.Step.{eventAt, dueImage, steppedBy, roomAfter, given, setUpOf}
 use Rattle.printing.specs.Replies.{replyText}
 use Rattle.script.specs.declared.Desk.{Desk}
 use Rattle.script.specs.declared.Handled.{Handled}
@@ -40,9 +40,6 @@ afterEvent s = record { answer = s .answer; count = s .count; desk = desk true (
 -- what a set-up asks for, in the words of the rules
 abbrev pub askedFor : Asked → Config
 askedFor a = given (a .identity) (a .channels)
-
-abbrev pub eventAt : ℕ → What → List ℕ → Event
-eventAt time what room = record { time = time; room = length room; what = what }
 
 abbrev pub handledFor : Desk → List ℕ → Option Said → Handled
 handledFor d room none = unchanged d 40

@@ -10,7 +10,7 @@ use Rattle.lines.specs.declared.Kind.{Kind}
 use Rattle.lines.specs.declared.Kind.the-variants.{Unreadable, SetUp, Happens}
 use Rattle.lines.specs.declared.Line.{Line}
 use Rattle.lines.specs.Lines.{Said, happens, formWhat, setUpSaid}
-use Rattle.script.specs.Answering.{eventAt}
+use Rattle.station.specs.Step.{eventAt}
 
 abbrev pub byteOf : ℕ → ℕ
 byteOf n = n % 256

@@ -19,7 +19,7 @@ use Rattle.station.specs.declared.NextDue.the-variants.{Never, At}
 use Rattle.station.specs.declared.SetUp.{SetUp}
 use Rattle.station.specs.declared.Station.{Station}
 use Rattle.station.specs.Model.{configOf, modelOf}
-use Rattle.station.specs.Step.{refusal, steppedBy, setUpOf}
+use Rattle.station.specs.Step.{eventAt, refusal, steppedBy, setUpOf}
 use Rattle.station.proofs.GateLaws.{passed}
 use Rattle.lines.specs.Decimal.{isDigit}
 use Rattle.lines.specs.Lines.{Said, setsUp, happens, kindOf, setUpSaid, spaced}
@@ -30,7 +30,7 @@ use Rattle.script.specs.declared.Desk.{Desk}
 use Rattle.script.specs.declared.Fed.{Fed}
 use Rattle.script.specs.declared.Session.{Session}
 use Rattle.script.specs.declared.Text.{Text}
-use Rattle.script.specs.Answering.{desk, unchanged, afterSetUp, afterEvent, askedFor, eventAt, handledFor, blocksFor, clockOf, dueOf, noBlocks, deskAfter, replyTo}
+use Rattle.script.specs.Answering.{desk, unchanged, afterSetUp, afterEvent, askedFor, handledFor, blocksFor, clockOf, dueOf, noBlocks, deskAfter, replyTo}
 use Rattle.script.specs.Session.{noText, addByte, addBytes, saysText, beforeFeed, begun, answered, textWith, fedWith, roomWith}
 use Rattle.rack.proofs.Steps.{lives, lent}
 use Rattle.useless.specs.Feeds.{Feeding, Answered, FedBy, by-feed, Talked, begins, goes-on, Ends, Comes, printedBy, numberFrom, behindSpace, lineFeeds, signs, NoUselessFeed}

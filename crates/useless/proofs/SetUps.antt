@@ -47,7 +47,7 @@ unfit-is : (y : SetUp) → SetUpBy unfit y → y ≡ setUpBy 0 []
 unfolding setUpBy
 unfit-is = set-up-is unfit
 
-pub answers-0 : setUpBy 2001234 (26 ∷ []) .answer ≡ 0
+answers-0 : setUpBy 2001234 (26 ∷ []) .answer ≡ 0
 unfolding setUpBy
 answers-0 = rw set-up
 
