@@ -70,8 +70,8 @@ extern "C" {
 #define COAST_ANSWER_BAD_END 20           /* the end of sequence is not 117, 122 or 127 */
 #define COAST_ANSWER_ROOM_SHORT 21        /* the room for a sequence is under 28 bytes */
 #define COAST_ANSWER_MEANING_SHORT 22     /* the meaning's bytes are fewer than 32 */
-#define COAST_ANSWER_WRONG_SIZE 23        /* the bytes to set a station up in are not 1722 */
-#define COAST_ANSWER_NOT_SOUND 29         /* the station handed in is not sound, or its bytes are not 1722 */
+#define COAST_ANSWER_WRONG_SIZE 23        /* the bytes to set a station up in are not 1723 */
+#define COAST_ANSWER_NOT_SOUND 29         /* the station handed in is not sound, or its bytes are not 1723 of this version */
 #define COAST_ANSWER_ACTIONS_SHORT 30     /* the room for actions is under 320 bytes */
 #define COAST_ANSWER_TIME_TOO_LATE 31     /* the time is over 4,000,000,000 */
 #define COAST_ANSWER_TIME_BEFORE_CLOCK 32 /* the time is before the station's clock */
@@ -100,20 +100,21 @@ uint32_t coast_read_sequence(const uint8_t *symbols, size_t count, uint8_t *mean
  * must have 28 bytes even where the sequence is shorter. */
 uint32_t coast_write_sequence(const uint8_t *meaning, size_t size, uint8_t *room, size_t room_size);
 
-/* A station lives in 1722 bytes that the host lends; nobody but the library needs to look inside. Numbers stand low byte
+/* A station lives in 1723 bytes that the host lends; nobody but the library needs to look inside. Numbers stand low byte
  * first. `coast_set_up` fills them, and every event that is answered 0 or 1 leaves the next station there. They may be copied,
  * kept and handed in again, at any place. Bytes that the library did not leave are judged like any others.
  *
- *    0  4  clock, in tenths of a second          in each slot:
- *    4  4  the station's identity                   0  1  phase: 0 free, 1 offered, 2 ring-back, 3 ring-back repeated,
- *    8  1  count of slots                                 4 acknowledged, 5 dialling, 6 answered, 7 hold, 8 taken
- *    9  1  count of waiting ships                   1  4  due time (1 to 5, 7), or when it was answered (6)
- *   10     16 slots of 45 bytes                     5  1  the ship's carrier (5, 6): 0 present, 1 lost
- *  730     32 waiting ships of 31 bytes,            6  4  due time of a carrier that is lost
- *          the oldest first                        10  1  what was told (7): 0 nothing, 1 a duration
- *                                                  11  3  hours, minutes, seconds
- *  in each stored request:                         14  4  channel
- *    0  4  ship                                    18 27  request, in the phases 1 to 7
+ *    0  1  the layout's version                  in each slot:
+ *    1  4  clock, in tenths of a second             0  1  phase: 0 free, 1 offered, 2 ring-back, 3 ring-back repeated,
+ *    5  4  the station's identity                         4 acknowledged, 5 dialling, 6 answered, 7 hold, 8 taken
+ *    9  1  count of slots                           1  4  due time (1 to 5, 7), or when it was answered (6)
+ *   10  1  count of waiting ships                   5  1  the ship's carrier (5, 6): 0 present, 1 lost
+ *   11     16 slots of 45 bytes                     6  4  due time of a carrier that is lost
+ *  731     32 waiting ships of 31 bytes,           10  1  what was told (7): 0 nothing, 1 a duration
+ *          the oldest first                        11  3  hours, minutes, seconds
+ *                                                  14  4  channel
+ *  in each stored request:                         18 27  request, in the phases 1 to 7
+ *    0  4  ship
  *    4  4  station called
  *    8  1  mode: 0 simplex, 1 duplex             in each waiting ship:
  *    9  1  second telecommand                       0  4  due time
@@ -128,7 +129,16 @@ uint32_t coast_write_sequence(const uint8_t *meaning, size_t size, uint8_t *room
  * A station is sound if document 01 allows it: its identity, channels and stored requests keep the rules, no ship stands
  * twice, no call was answered after the clock, and each due time lies from the clock to the clock plus its wait and a tenth.
  * All that the library leaves is sound. */
-#define COAST_STATION_SIZE 1722
+#define COAST_STATION_SIZE 1723
+
+/* The version moves whenever the layout does, and stands at byte 0 in every layout. Bytes of another version are 29 to every
+ * event, and no entry turns them into this one's. So a rack is upgraded to a library of another version while no call is in hand:
+ * every slot free or taken, no ship waiting; the new library then sets the station up, and the host counts its time from 0
+ * again. Where that cannot be waited for, the old library ends the calls: hand in an on-hook on each slot that is dialling or
+ * answered, and do its actions; each call that was answered is then charged. A slot so freed may ring back a waiting ship. What is
+ * left then loses its place: ships waiting, offered or rung back call again, and the host switches off their carriers. */
+#define COAST_LAYOUT_VERSION 1
+#define COAST_AT_VERSION 0
 
 /* Actions: an event lays at most eight at the front of its room, in the order in which they are to be done; coast_count of
  * what it returned says how many. The room must have 320 bytes even where there are fewer. */
@@ -153,15 +163,28 @@ struct coast_lent {
 #define COAST_ACTION_RELEASE_LINE 6
 #define COAST_ACTION_CHARGE 7             /* payload: ship, start and stop in tenths, seconds; four bytes each, low byte first */
 
-/* What the entries below return is one number: coast_answer, coast_count, coast_waits and coast_due take it apart.
+/* What the entries below return is one number: coast_answer, coast_count, coast_waits, coast_due and coast_time take it apart.
  *
  * Sets a station up in the `size` bytes at `station`, with a slot for each of the `count` channels, one a byte: slot 0
- * for the first, and so on; all slots free, the clock at 0. Answers 0; or 23 where the size is not 1722, or else 36. */
+ * for the first, and so on; all slots free, the clock at 0. Answers 0; or 23 where the size is not 1723, or else 36. */
 uint64_t coast_set_up(uint32_t identity, const uint8_t *channels, size_t count, uint8_t *station, size_t size);
 
 /* When the station must be handed a tick, at the latest: coast_waits and coast_due of what is returned. Answers 0, or 29.
  * Every event tells the same of the station that it leaves; this entry is for a station that was kept or copied. */
 uint64_t coast_next_due(const uint8_t *station, size_t size);
+
+/* The station's clock, the latest time that it has accepted: coast_time of what is returned. Answers 0, or 29.
+ *
+ * This is where a host goes on that has kept its station and comes back. All that the library knows stands in the lent bytes, so
+ * that a station handed in again answers as if the host had never stopped. Such a host saves, after each event that is answered
+ * 0 or 1 and before it does the first action, the station and the actions together: whole to a file of another name, and that
+ * renamed to the old one's. When it comes back, it
+ *   - does not go on with a file that is damaged: it has a check of its own, since bytes that were changed may still be a sound
+ *     station. Where coast_clock answers 29, they are none, or of another version;
+ *   - does the actions that were saved, but for those that it knows to be done;
+ *   - counts its time on from the clock, and adds what has passed meanwhile where it knows that;
+ *   - sets its timer as coast_next_due tells, and hands in ticks for what has fallen due, as coast_tick tells. */
+uint64_t coast_clock(const uint8_t *station, size_t size);
 
 /* The events, each at a time. Each answers 0 (done) or 1 (ignored), leaves the next station in place of the one that came in,
  * and its actions at the front of the room; bytes behind the last action stay. Or it refuses with the first that fits of the
@@ -211,6 +234,11 @@ static inline int coast_waits(uint64_t returned) {
 
 /* The time at which the next wait falls due, where one runs. */
 static inline uint32_t coast_due(uint64_t returned) {
+    return (uint32_t)(returned >> 32);
+}
+
+/* The station's clock in what coast_clock returned. */
+static inline uint32_t coast_time(uint64_t returned) {
     return (uint32_t)(returned >> 32);
 }
 
