@@ -19,11 +19,18 @@
     X('F', give_back, by_hand)                  \
     X('T', tick, alone)
 
-#define EVENT_LETTER(letter, entry, takes) letter,
-
-/* The two entries that are no events; the script has a letter for the first. */
+/* The entries that are no events, in the same way: those that ask take nothing but the station, and leave it. The script has a
+ * letter for the first alone. */
 #define SET_UP_LETTER 'S'
 #define NEXT_DUE_LETTER 'N'
+#define CLOCK_LETTER 'C'
+#define OTHER_ENTRIES(X)                    \
+    X(SET_UP_LETTER, set_up, setting_up)    \
+    X(NEXT_DUE_LETTER, next_due, asking)    \
+    X(CLOCK_LETTER, clock, asking)
+
+#define EVERY_ENTRY(X) OTHER_ENTRIES(X) EVENTS(X)
+#define ITS_LETTER(letter, entry, takes) letter,
 
 typedef uint64_t alone_entry(uint8_t *station, size_t size, uint32_t time, uint8_t *room, size_t room_size);
 typedef uint64_t on_slot_entry(uint8_t *station, size_t size, uint32_t time, uint32_t slot, uint8_t *room, size_t room_size);
@@ -32,15 +39,13 @@ typedef uint64_t with_symbols_entry(uint8_t *station, size_t size, uint32_t time
                                     uint8_t *room, size_t room_size);
 typedef uint64_t on_slot_with_symbols_entry(uint8_t *station, size_t size, uint32_t time, uint32_t slot,
                                             const uint8_t *symbols, size_t count, uint8_t *room, size_t room_size);
-typedef uint64_t set_up_entry(uint32_t identity, const uint8_t *channels, size_t count, uint8_t *station, size_t size);
-typedef uint64_t next_due_entry(const uint8_t *station, size_t size);
+typedef uint64_t setting_up_entry(uint32_t identity, const uint8_t *channels, size_t count, uint8_t *station, size_t size);
+typedef uint64_t asking_entry(const uint8_t *station, size_t size);
 
 struct entries {
     const char *name;
-    set_up_entry *set_up;
-    next_due_entry *next_due;
 #define AS_MEMBER(letter, entry, takes) takes##_entry *entry;
-    EVENTS(AS_MEMBER)
+    EVERY_ENTRY(AS_MEMBER)
 #undef AS_MEMBER
 };
 
@@ -53,6 +58,7 @@ extern const size_t tried_count;
 
 /* ---- entries.c ---- */
 bool is_event(char letter);
+bool only_asks(char letter);
 bool is_by_hand(char letter);
 bool takes_slot(char letter);
 bool takes_symbols(char letter);
@@ -71,7 +77,7 @@ struct lent_bytes {
     size_t room_size;
 };
 
-/* Calls the entry of a letter with what it takes; gives what it returned. */
+/* Calls the entry of a letter with what it takes; gives what it returned, or for another letter what no entry returns. */
 uint64_t call_entry(const struct entries *to, char letter, const struct handed *handed, const struct lent_bytes *lent);
 
 #endif

@@ -4,7 +4,7 @@
 #include "entries.h"
 
 #define OF_LIBRARY(letter, entry, takes) coast_##entry,
-const struct entries library = {"library", coast_set_up, coast_next_due, EVENTS(OF_LIBRARY)};
+const struct entries library = {"library", EVERY_ENTRY(OF_LIBRARY)};
 
 const struct entries *const tried[] = {&library};
 const size_t tried_count = 1;

@@ -31,7 +31,7 @@ private:
 
 // P1 is offered the channel, nobody else is waited for, and the operator finds the slot not free.
 bool plays_events() {
-    static const char letters[] = {EVENTS(EVENT_LETTER)};
+    static const char letters[] = {EVENTS(ITS_LETTER)};
     Rack rack;
     uint32_t time = 100;
     bool good = coast_answer(rack.set_up(2001234, 26)) == COAST_ANSWER_DONE;

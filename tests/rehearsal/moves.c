@@ -127,7 +127,7 @@ static void spoil(struct event *event) {
 }
 
 static char without_symbols(void) {
-    static const char letters[] = {EVENTS(EVENT_LETTER)};
+    static const char letters[] = {EVENTS(ITS_LETTER)};
     uint32_t first = 0;
     while (takes_symbols(letters[first]))
         first++;

@@ -53,7 +53,7 @@ static void choose_ships(const struct mood *mood) {
 
 /* An event that meets no station. */
 static void play_too_early(void) {
-    static const char letters[] = {EVENTS(EVENT_LETTER)};
+    static const char letters[] = {EVENTS(ITS_LETTER)};
     struct event event = {.letter = letters[chance(sizeof letters)]};
     event.time = chance(1000);
     event.slot = chance(2);

@@ -94,11 +94,15 @@ static bool get_station(const uint8_t *bytes, struct station *station) {
     return known;
 }
 
-/* False is 29 too. */
+/* False is 29 too: bytes of another size or version are no station. */
 static bool get_whole(const uint8_t *bytes, size_t size, struct station *station) {
     static const struct station blank = {0};
     *station = blank;
-    return size == STATION_BYTES && get_station(bytes, station);
+    return size == STATION_BYTES && bytes[VERSION_AT] == LAYOUT_VERSION && get_station(bytes, station);
+}
+
+static bool get_sound(const uint8_t *bytes, size_t size, struct station *station) {
+    return get_whole(bytes, size, station) && second_is_sound(station);
 }
 
 /* ---- to bytes ---- */
@@ -145,6 +149,7 @@ static void put_slot(uint8_t *bytes, const struct slot *slot, uint8_t channel) {
 }
 
 void second_lay(uint8_t *bytes, const struct station *station) {
+    bytes[VERSION_AT] = LAYOUT_VERSION;
     put_four(bytes + CLOCK_AT, station->clock);
     put_four(bytes + IDENTITY_AT, station->identity);
     bytes[SLOT_COUNT_AT] = (uint8_t)station->channel_count;
@@ -192,7 +197,12 @@ uint64_t second_set_up_bytes(uint32_t identity, const uint8_t *channels, size_t 
 
 uint64_t second_next_due_bytes(const uint8_t *station, size_t size) {
     struct station before;
-    return get_whole(station, size, &before) && second_is_sound(&before) ? due_bits(&before) : NOT_SOUND;
+    return get_sound(station, size, &before) ? due_bits(&before) : NOT_SOUND;
+}
+
+uint64_t second_clock_bytes(const uint8_t *station, size_t size) {
+    struct station before;
+    return get_sound(station, size, &before) ? (uint64_t)before.clock << 32 : NOT_SOUND;
 }
 
 /* ---- events: the station is read from its bytes, the event happens to it, and it is laid down again ---- */

@@ -4,10 +4,8 @@
 
 #include "../c/entries.h"
 
-set_up_entry second_set_up_bytes;
-next_due_entry second_next_due_bytes;
 #define AS_FUNCTION(letter, entry, takes) takes##_entry second_##entry##_bytes;
-EVENTS(AS_FUNCTION)
+EVERY_ENTRY(AS_FUNCTION)
 #undef AS_FUNCTION
 
 #endif

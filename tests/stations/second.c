@@ -9,4 +9,4 @@
 
 #define OF_SECOND(letter, entry, takes) second_##entry##_bytes,
 extern const struct entries ENTRIES;
-const struct entries ENTRIES = {NAME_OF(ENTRIES), second_set_up_bytes, second_next_due_bytes, EVENTS(OF_SECOND)};
+const struct entries ENTRIES = {NAME_OF(ENTRIES), EVERY_ENTRY(OF_SECOND)};

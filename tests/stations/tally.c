@@ -11,7 +11,7 @@ extern int printf(const char *, ...);
 #define ENOUGH_ACTIONS 1000u /* and stations with a free slot beside waiting ships */
 #define ENOUGH_MOVES 20u
 
-static const char letters[] = {EVENTS(EVENT_LETTER) SET_UP_LETTER, NEXT_DUE_LETTER};
+static const char letters[] = {EVERY_ENTRY(ITS_LETTER)};
 #define KINDS (sizeof letters) /* of calls */
 
 static struct counts {

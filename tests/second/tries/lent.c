@@ -6,9 +6,14 @@
 #include "station.h"
 #include "../host/event.h"
 
-#define SIZE 1722u
-#define SLOT 10   /* where the first slot begins */
-#define QUEUE 730 /* and the first waiting ship */
+#define SIZE 1723u
+#define VERSION 1u /* at byte 0 */
+#define CLOCK 1
+#define IDENTITY 5
+#define SLOT_COUNT 9
+#define WAITING_COUNT 10
+#define SLOT 11   /* where the first slot begins */
+#define QUEUE 731 /* and the first waiting ship */
 
 static uint8_t station[SIZE + 1u], wanted[SIZE + 1u];
 static struct room room;
@@ -83,23 +88,28 @@ static void set_up(void) {
     static const uint8_t channels[3] = {26, 88, 26};
     memset(station, 77, sizeof station);
     memset(wanted, 77, sizeof wanted);
-    want("1721 bytes", second_set_up_bytes(1, channels, 2, station, SIZE - 1u), 23);
-    want("1723 bytes", second_set_up_bytes(2001234, channels, 2, station, SIZE + 1u), 23);
+    want("1722 bytes", second_set_up_bytes(1, channels, 2, station, SIZE - 1u), 23);
+    want("1724 bytes", second_set_up_bytes(2001234, channels, 2, station, SIZE + 1u), 23);
     want("a ship's identity", second_set_up_bytes(200056789, channels, 2, station, SIZE), 36);
     want("a channel twice", second_set_up_bytes(2001234, channels, 3, station, SIZE), 36);
     want("no channel", second_set_up_bytes(2001234, NULL, 0, station, SIZE), 36);
     memset(wanted, 0, SIZE);
-    memcpy(wanted + 4, coast, 4);
-    wanted[8] = 1;
+    wanted[0] = VERSION;
+    memcpy(wanted + IDENTITY, coast, 4);
+    wanted[SLOT_COUNT] = 1;
     wanted[SLOT + 14] = 26;
-    want("set-up", second_set_up_bytes(2001234, channels, 1, station, SIZE), 0);
+    for (uint32_t version = 0; version < 256u; version++) {
+        station[0] = (uint8_t)version;
+        want("set-up", second_set_up_bytes(2001234, channels, 1, station, SIZE), 0);
+    }
     want("no wait", second_next_due_bytes(station, SIZE), 0);
+    want("the clock", second_clock_bytes(station, SIZE), 0);
 }
 
 static void offer(void) {
     static const struct lent_bytes small_room = {station, SIZE, room.bytes, sizeof room - 1u};
     static const struct lent_bytes cut_off = {station, SIZE - 1u, room.bytes, sizeof room};
-    want_time(0, 100, 0);
+    want_time(CLOCK, 100, 0);
     wanted[SLOT] = 1;
     want_time(SLOT + 1, 5, 1); /* 261 */
     want_request(SLOT + 18, ship, 1);
@@ -110,29 +120,44 @@ static void offer(void) {
     want("no slot", happens("M 260 1"), told(34, 0, 261));
     want("not free", happens("M 260 0"), told(35, 0, 261));
     want("room", hand_in_line("T 261", NULL, &small_room), told(30, 0, 261));
-    want("1721 bytes", hand_in_line("T 261", NULL, &cut_off), 29);
+    want("1722 bytes", hand_in_line("T 261", NULL, &cut_off), 29);
+    want("due in 1722 bytes", second_next_due_bytes(station, SIZE - 1u), 29);
+    want("the clock in 1722 bytes", second_clock_bytes(station, SIZE - 1u), 29);
+    want("the clock", second_clock_bytes(station, SIZE), 4294967296u * 100u);
+}
+
+/* Bytes of any other version are no station. */
+static void versions(void) {
+    for (uint32_t version = 0; version < 256u; version++) {
+        bool ours = version == VERSION;
+        station[0] = wanted[0] = (uint8_t)version;
+        want("an event, by the version", happens("H 90 0"), ours ? told(32, 0, 261) : 29);
+        want("next due, by the version", second_next_due_bytes(station, SIZE), ours ? told(0, 0, 261) : 29);
+        want("the clock, by the version", second_clock_bytes(station, SIZE), ours ? 4294967296u * 100u : 29);
+    }
+    station[0] = wanted[0] = VERSION;
 }
 
 static void call_and_wait(void) {
     uint8_t another[24];
     wanted[SLOT] = 5;
-    want_time(0, 4, 1);        /* 260 */
+    want_time(CLOCK, 4, 1);        /* 260 */
     want_time(SLOT + 1, 93, 3); /* 861 */
     want("working call", heard("W 260 0", working_call), told(0, 1, 861));
     memcpy(another, request, 24);
     another[11] = 0;   /* ship 200056780 */
     another[12] = 100; /* simplex */
     another[23] = (uint8_t)(104 ^ 90 ^ 0 ^ 101 ^ 100);
-    wanted[9] = 1;
-    want_time(0, 44, 1);       /* 300 */
+    wanted[WAITING_COUNT] = 1;
+    want_time(CLOCK, 44, 1);       /* 300 */
     want_time(QUEUE, 85, 36);  /* 9301 */
     want_request(QUEUE + 4, other, 0);
     want("another request", heard("Q 300", another), told(0, 1, 861));
     wanted[SLOT] = 6;
-    want_time(0, 144, 1); /* 400 */
+    want_time(CLOCK, 144, 1); /* 400 */
     want_time(SLOT + 1, 144, 1);
     want("off-hook", happens("O 400 0"), told(0, 0, 9301));
-    want_time(0, 244, 1); /* 500 */
+    want_time(CLOCK, 244, 1); /* 500 */
     wanted[SLOT + 5] = 1;
     want_time(SLOT + 6, 39, 2); /* 551 */
     want("carrier down", happens("D 500 0"), told(0, 0, 551));
@@ -140,7 +165,7 @@ static void call_and_wait(void) {
 
 static void end_and_ring_back(void) {
     wanted[SLOT] = 7;
-    want_time(0, 38, 2);        /* 550 */
+    want_time(CLOCK, 38, 2);        /* 550 */
     want_time(SLOT + 1, 79, 2); /* 591 */
     wanted[SLOT + 5] = wanted[SLOT + 6] = wanted[SLOT + 7] = 0;
     wanted[SLOT + 10] = 1;
@@ -148,8 +173,8 @@ static void end_and_ring_back(void) {
     want("end", heard("W 550 0", end_of_call), told(0, 4, 591));
     memset(wanted + SLOT + 1, 0, 13);
     memset(wanted + QUEUE, 0, 31);
-    want_time(0, 79, 2);
-    wanted[9] = 0;
+    want_time(CLOCK, 79, 2);
+    wanted[WAITING_COUNT] = 0;
     wanted[SLOT] = 2;
     want_time(SLOT + 1, 130, 2); /* 642 */
     want_request(SLOT + 18, other, 0);
@@ -159,6 +184,7 @@ static void end_and_ring_back(void) {
 int main(void) {
     set_up();
     offer();
+    versions();
     call_and_wait();
     end_and_ring_back();
     return failures == 0 ? 0 : 1;
