@@ -30,6 +30,12 @@ static bool next_dues_agree(size_t size, uint64_t *returned) {
     return agree_on(&event, size, returned);
 }
 
+static bool clocks_agree(size_t size) {
+    static const struct event event = {.letter = CLOCK_LETTER};
+    uint64_t returned;
+    return agree_on(&event, size, &returned);
+}
+
 static bool events_agree(uint32_t count, size_t size, bool sound) {
     uint64_t returned;
     for (uint32_t i = 0; i < count; i++) {
@@ -47,12 +53,13 @@ static bool try_sound(void) {
     draw_any_station();
     note_drawn();
     second_lay(bytes, &stage.station);
-    return events_agree(3, STATION_BYTES, true) && (!one_in(4) || next_dues_agree(STATION_BYTES, &returned));
+    return events_agree(3, STATION_BYTES, true) && clocks_agree(STATION_BYTES) &&
+           (!one_in(4) || next_dues_agree(STATION_BYTES, &returned));
 }
 
 static bool moved_agree(void) {
     uint64_t returned;
-    if (!next_dues_agree(STATION_BYTES, &returned))
+    if (!next_dues_agree(STATION_BYTES, &returned) || !clocks_agree(STATION_BYTES))
         return false;
     note_moved((returned & 255u) == DONE);
     return !one_in(2) || events_agree(1, STATION_BYTES, false);
@@ -66,7 +73,7 @@ static bool try_moved(void) {
     return agree;
 }
 
-/* Other bytes in a part of a sound station, or all over. */
+/* Other bytes in a part of a sound station, or all over. Most keep the version, without which nothing else would be judged. */
 static void spoil_bytes(void) {
     size_t length = one_in(2) ? 1u : one_in(8) ? STATION_BYTES : 1u + chance(64);
     size_t used = SLOTS_AT + SLOT_BYTES * stage.station.channel_count;
@@ -76,11 +83,13 @@ static void spoil_bytes(void) {
         memcpy(bytes, noise(STATION_BYTES), STATION_BYTES);
     else
         memcpy(bytes + at, noise(length), length);
+    if (!one_in(6))
+        bytes[VERSION_AT] = LAYOUT_VERSION;
 }
 
 static size_t wrong_size(void) {
-    static const size_t sizes[] = {0, 1, 9, 10, 55, 730, 1721, 1723, 1724, MOST_STATION_SIZE};
-    return one_in(4) ? chance(MOST_STATION_SIZE + 1u) : sizes[chance(10)];
+    static const size_t sizes[] = {0, 1, 10, 11, 56, 731, 1721, 1722, 1724, 1725, MOST_STATION_SIZE};
+    return one_in(4) ? chance(MOST_STATION_SIZE + 1u) : sizes[chance(sizeof sizes / sizeof sizes[0])];
 }
 
 static bool try_garbage(void) {
@@ -90,12 +99,14 @@ static bool try_garbage(void) {
     second_lay(bytes, &stage.station);
     if (size == STATION_BYTES)
         spoil_bytes();
-    return next_dues_agree(size, &returned) && events_agree(1, size, false);
+    return next_dues_agree(size, &returned) && clocks_agree(size) && events_agree(1, size, false);
 }
 
 static bool try_set_up(void) {
     uint64_t returned;
     struct event event = draw_set_up();
+    if (one_in(4))
+        bytes[VERSION_AT] = any_byte();
     return agree_on(&event, one_in(8) ? wrong_size() : STATION_BYTES, &returned);
 }
 

@@ -44,6 +44,7 @@ static const struct field fields[] = {
      {1999999, 2000000, 7999999, 8000000, 200000000}},
     {"identity of an idle station", WHOLE_OF_IDENTITY, IDLE, ANY_PHASE, 0, 0, PLAINLY, 5,
      {1999999, 2000000, 7999999, 8000000, 200000000}},
+    {"version", HEAD, AS_DRAWN, ANY_PHASE, VERSION_AT, 1, PLAINLY, 6, {0, 1, 2, 3, 129, 255}},
     {"clock", HEAD, AS_DRAWN, ANY_PHASE, CLOCK_AT, 4, FROM_CLOCK, 2, {-1, 1}},
     {"identity", HEAD, AS_DRAWN, ANY_PHASE, IDENTITY_AT, 4, FROM_IDENTITY, 3, {-1, 0, 1}},
     {"count of slots", HEAD, FULL, ANY_PHASE, SLOT_COUNT_AT, 1, PLAINLY, 7, {0, 1, 15, 16, 17, 18, 255}},

@@ -60,7 +60,7 @@ static void tell_station(const uint8_t *bytes) {
     }
 }
 
-/* As the script writes it, N for the next due time. */
+/* As the script writes it; N asks for the next due time, C for the clock. */
 static void tell_event(const struct event *event) {
     printf("stations: the two differ at %c", event->letter);
     if (is_event(event->letter))
@@ -90,7 +90,7 @@ static void tell_place(size_t at) {
 
 static void tell_returned(const struct outcome *outcome) {
     uint64_t returned = outcome->returned;
-    printf("  %s: answer %u, %u actions, waits %u, due %u\n", outcome->who, (unsigned)(returned & 255u),
+    printf("  %s: answer %u, %u actions, waits %u, due or clock %u\n", outcome->who, (unsigned)(returned & 255u),
            (unsigned)(returned >> 8 & 255u), (unsigned)(returned >> 16 & 65535u), (unsigned)(returned >> 32));
 }
 
