@@ -18,6 +18,8 @@ public:
 
     uint64_t next_due() { return call(NEXT_DUE_LETTER, {}); }
 
+    uint64_t clock() { return call(CLOCK_LETTER, {}); }
+
     const uint8_t *action(size_t place) const { return coast_action_at(lent.room, place); }
 
 private:
@@ -29,7 +31,7 @@ private:
     coast_lent lent = {};
 };
 
-// P1 is offered the channel, nobody else is waited for, and the operator finds the slot not free.
+// P1 is offered the channel, nobody else is waited for, and the operator finds the slot not free. The tick comes last.
 bool plays_events() {
     static const char letters[] = {EVENTS(ITS_LETTER)};
     Rack rack;
@@ -39,10 +41,11 @@ bool plays_events() {
         const uint32_t answer = coast_answer(rack.happens(letter, time++));
         good = good && (is_by_hand(letter) ? answer == COAST_ANSWER_OPERATOR : answer <= COAST_ANSWER_IGNORED);
     }
-    const uint64_t due = rack.next_due();
+    const uint64_t due = rack.next_due(), clock = rack.clock();
     printf("cpp_host: %s, %s\n", coast_action_words(coast_action_kind(rack.action(0))),
            coast_action_words(coast_action_kind(rack.action(1))));
-    return good && coast_waits(due) && coast_due(due) == 261 && coast_action_kind(rack.action(1)) == COAST_ACTION_SEND_CHANNEL_70;
+    return good && coast_waits(due) && coast_due(due) == 261 && coast_answer(clock) == COAST_ANSWER_DONE &&
+           coast_time(clock) == time - 1 && coast_action_kind(rack.action(1)) == COAST_ACTION_SEND_CHANNEL_70;
 }
 
 bool reads_and_writes() {

@@ -1,5 +1,5 @@
 /* The script program once more, as a host in C: each line goes through the library's entries with lent bytes. It prints what
- * document 01 says, and ends with 1 where the library touches what it may not. */
+ * document 01 says, the clock as coast_clock tells it, and ends with 1 where the library touches what it may not. */
 #include "../../include/coast_words.h"
 #include "event.h"
 #include "lent.h"
@@ -22,9 +22,15 @@ static void print_action(const uint8_t *action) {
     printf("\n");
 }
 
+/* By the library; what no clock can be, where that refuses. */
+static uint32_t clock_told(void) {
+    uint64_t returned = stands ? coast_clock(station, COAST_STATION_SIZE) : 0u;
+    return coast_answer(returned) == COAST_ANSWER_DONE ? coast_time(returned) : UINT32_MAX;
+}
+
 static void print_answer(uint32_t answer, size_t count, const uint8_t *actions) {
     uint64_t due = stands ? coast_next_due(station, COAST_STATION_SIZE) : 0u;
-    printf("%u %u %u", (unsigned)answer, stands ? (unsigned)coast_number_at(station) : 0u, (unsigned)count);
+    printf("%u %u %u", (unsigned)answer, (unsigned)clock_told(), (unsigned)count);
     if (coast_waits(due))
         printf(" %u\n", (unsigned)coast_due(due));
     else

@@ -13,17 +13,17 @@
 /* A line of a script, in which P1 to P6 stand for their symbols, and what it must give. */
 struct step {
     const char *line;
-    uint32_t answer, count, due;
+    uint32_t answer, count, due, clock;
 };
 
 /* From a fresh station on. */
 static const struct step course[] = {
-    {"Q 100 P1", COAST_ANSWER_DONE, 2, 261},       {"Q 110 P2", COAST_ANSWER_IGNORED, 0, 261},
-    {"W 250 0 P4", COAST_ANSWER_DONE, 1, 851},     {"M 260 1", COAST_ANSWER_DONE, 0, 851},
-    {"D 300 0", COAST_ANSWER_DONE, 0, 351},        {"U 310 0", COAST_ANSWER_DONE, 0, 851},
-    {"O 720 0", COAST_ANSWER_DONE, 0, NONE},       {"F 730 1", COAST_ANSWER_DONE, 0, NONE},
-    {"T 900", COAST_ANSWER_DONE, 0, NONE},         {"W 4829 0 P5", COAST_ANSWER_DONE, 4, 4870},
-    {"H 4830 0", COAST_ANSWER_IGNORED, 0, 4870},   {"T 9000", COAST_ANSWER_DONE, 0, NONE},
+    {"Q 100 P1", COAST_ANSWER_DONE, 2, 261, 100},        {"Q 110 P2", COAST_ANSWER_IGNORED, 0, 261, 110},
+    {"W 250 0 P4", COAST_ANSWER_DONE, 1, 851, 250},      {"M 260 1", COAST_ANSWER_DONE, 0, 851, 260},
+    {"D 300 0", COAST_ANSWER_DONE, 0, 351, 300},         {"U 310 0", COAST_ANSWER_DONE, 0, 851, 310},
+    {"O 720 0", COAST_ANSWER_DONE, 0, NONE, 720},        {"F 730 1", COAST_ANSWER_DONE, 0, NONE, 730},
+    {"T 900", COAST_ANSWER_DONE, 0, NONE, 900},          {"W 4829 0 P5", COAST_ANSWER_DONE, 4, 4870, 4829},
+    {"H 4830 0", COAST_ANSWER_IGNORED, 0, 4870, 4830},   {"T 9000", COAST_ANSWER_DONE, 0, NONE, 4870},
 };
 #define STEPS (sizeof course / sizeof course[0])
 
@@ -70,10 +70,18 @@ static void want_due(const char *what, uint64_t returned, uint32_t due) {
     want(what, due_of(returned), due);
 }
 
+/* It is told beside the answer 0, and nothing else is. */
+static void want_clock(const uint8_t *station, uint32_t clock) {
+    uint64_t returned = coast_clock(station, COAST_STATION_SIZE);
+    want("beside the clock", (uint32_t)returned, COAST_ANSWER_DONE);
+    want("the clock", coast_time(returned), clock);
+}
+
 static void try_course(bool at_end) {
     uint8_t *station = lend(FOR_STATION, COAST_STATION_SIZE, at_end, FILLING);
     struct lent_bytes lent = {station, COAST_STATION_SIZE, NULL, 0};
     want("set-up", (uint32_t)hand_in_line(SET_UP, &lent), COAST_ANSWER_DONE);
+    want_clock(station, 0);
     lent.room_size = COAST_ACTIONS_SIZE;
     for (size_t i = 0; i < STEPS; i++) {
         lent.room = lend(FOR_ACTIONS, COAST_ACTIONS_SIZE, at_end, FILLING);
@@ -82,6 +90,7 @@ static void try_course(bool at_end) {
         want("a step's actions", (uint32_t)coast_count(returned), course[i].count);
         want_due("a step's due time", returned, course[i].due);
         want_due("the next due time", coast_next_due(station, COAST_STATION_SIZE), course[i].due);
+        want_clock(station, course[i].clock);
         want_true("bytes behind the actions stay",
                   left_alone(FOR_ACTIONS, lent.room, coast_count(returned) * COAST_ONE_ACTION_SIZE, FILLING));
     }
@@ -128,6 +137,12 @@ static void want_words(const char *(*words)(uint32_t), uint32_t most, uint32_t k
     want("numbers that have words", count, known);
 }
 
+/* Of what is no station nothing is told. */
+static void want_untold(const uint8_t *station, size_t size) {
+    want("due where no station is", coast_answer(coast_next_due(station, size)), COAST_ANSWER_NOT_SOUND);
+    want("a clock where no station is", coast_answer(coast_clock(station, size)), COAST_ANSWER_NOT_SOUND);
+}
+
 /* These bytes of a station, cut off or with more behind them, must get this refusal and stay as they are. */
 static void want_refused(const char *what, const char *line, const uint8_t *bytes, size_t size, size_t room_size,
                          uint32_t wanted) {
@@ -140,11 +155,13 @@ static void want_refused(const char *what, const char *line, const uint8_t *byte
         uint64_t returned = hand_in_line(line, &lent);
         want(what, coast_answer(returned), wanted);
         want("a refusal's actions", (uint32_t)coast_count(returned), 0);
+        if (wanted == COAST_ANSWER_NOT_SOUND)
+            want_untold(lent.station, size);
+        else if (size == COAST_STATION_SIZE && wanted != COAST_ANSWER_BAD_SET_UP)
+            want_due("a refusal tells the due time", returned, due_of(coast_next_due(station, size)));
         want_true("a refusal leaves the station",
                   equal(station, bytes, whole) && left_alone(FOR_STATION, station, whole, FILLING));
         want_true("a refusal leaves the room", left_alone(FOR_ACTIONS, room, 0, FILLING));
-        if (size == COAST_STATION_SIZE && wanted != COAST_ANSWER_NOT_SOUND && wanted != COAST_ANSWER_BAD_SET_UP)
-            want_due("a refusal tells the due time", returned, due_of(coast_next_due(station, size)));
     }
 }
 
@@ -161,25 +178,27 @@ static void try_sizes(void) {
         for (size_t j = 0; j < sizeof rooms / sizeof rooms[0]; j++)
             want_refused("a room", course[i].line, own.station, COAST_STATION_SIZE, rooms[j], COAST_ANSWER_ACTIONS_SHORT);
     }
-    want("due in no bytes", coast_answer(coast_next_due(NULL, 0)), COAST_ANSWER_NOT_SOUND);
 }
 
 /* Fills the bytes of slots and waiting ships past the counts, which nobody may look at. */
 static void litter(struct own *own) {
-    for (size_t i = 10u + 2u * 45u; i < COAST_STATION_SIZE; i++)
+    for (size_t i = 11u + 2u * 45u; i < COAST_STATION_SIZE; i++)
         own->station[i] = 255;
 }
 
 /* To the station of the course's first step, at clock 100 with a wait due at 261. */
 static void try_refusals(void) {
-    static const struct step refused[] = {
-        {"T 4000000001", COAST_ANSWER_TIME_TOO_LATE, 0, 0},  {"T 99", COAST_ANSWER_TIME_BEFORE_CLOCK, 0, 0},
-        {"Q 261" SPOILT, COAST_ANSWER_WAIT_DUE, 0, 0},       {"W 261 9 P4", COAST_ANSWER_WAIT_DUE, 0, 0},
-        {"W 260 2" SPOILT, COAST_ANSWER_NO_SLOT, 0, 0},      {"O 260 4294967295", COAST_ANSWER_NO_SLOT, 0, 0},
-        {"W 260 65536 P4", COAST_ANSWER_NO_SLOT, 0, 0},      {"M 260 257", COAST_ANSWER_NO_SLOT, 0, 0},
-        {"Q 260", COAST_ANSWER_BAD_LENGTH, 0, 0},            {"W 260 0", COAST_ANSWER_BAD_LENGTH, 0, 0},
-        {"Q 260" SPOILT, COAST_ANSWER_BAD_SYMBOL, 0, 0},     {"M 260 0", COAST_ANSWER_OPERATOR, 0, 0},
-        {"F 260 1", COAST_ANSWER_OPERATOR, 0, 0}};
+    static const struct {
+        const char *line;
+        uint32_t answer;
+    } refused[] = {
+        {"T 4000000001", COAST_ANSWER_TIME_TOO_LATE},  {"T 99", COAST_ANSWER_TIME_BEFORE_CLOCK},
+        {"Q 261" SPOILT, COAST_ANSWER_WAIT_DUE},       {"W 261 9 P4", COAST_ANSWER_WAIT_DUE},
+        {"W 260 2" SPOILT, COAST_ANSWER_NO_SLOT},      {"O 260 4294967295", COAST_ANSWER_NO_SLOT},
+        {"W 260 65536 P4", COAST_ANSWER_NO_SLOT},      {"M 260 257", COAST_ANSWER_NO_SLOT},
+        {"Q 260", COAST_ANSWER_BAD_LENGTH},            {"W 260 0", COAST_ANSWER_BAD_LENGTH},
+        {"Q 260" SPOILT, COAST_ANSWER_BAD_SYMBOL},     {"M 260 0", COAST_ANSWER_OPERATOR},
+        {"F 260 1", COAST_ANSWER_OPERATOR}};
     struct own own = after(1);
     litter(&own);
     for (size_t i = 0; i < sizeof refused / sizeof refused[0]; i++)
@@ -200,16 +219,32 @@ static void try_unsound(void) {
     static const struct {
         size_t steps, place;
         uint8_t value;
-    } wrong[] = {{3, 3, 255}, {3, 7, 1},   {3, 8, 0},   {3, 8, 17},  {3, 9, 33},   {3, 10, 9},
-                 {3, 10, 255}, {3, 12, 255}, {3, 24, 16}, {3, 25, 1},  {3, 31, 0},   {3, 36, 2},
-                 {3, 38, 17},  {5, 15, 2},   {5, 17, 255}, {10, 20, 2}, {10, 22, 60}};
+    } wrong[] = {{3, 4, 255},  {3, 8, 1},    {3, 9, 0},   {3, 9, 17},  {3, 10, 33},  {3, 11, 9},
+                 {3, 11, 255}, {3, 13, 255}, {3, 25, 16}, {3, 26, 1},  {3, 32, 0},   {3, 37, 2},
+                 {3, 39, 17},  {5, 16, 2},   {5, 18, 255}, {10, 21, 2}, {10, 23, 60}};
     for (size_t i = 0; i < sizeof wrong / sizeof wrong[0]; i++) {
         struct own own = after(wrong[i].steps);
         own.station[wrong[i].place] = wrong[i].value;
         for (size_t j = 0; j < STEPS; j++)
             want_refused("an unsound station", course[j].line, own.station, COAST_STATION_SIZE, 0, COAST_ANSWER_NOT_SOUND);
-        want("due in an unsound one", coast_answer(coast_next_due(own.station, COAST_STATION_SIZE)), COAST_ANSWER_NOT_SOUND);
     }
+}
+
+/* Of all that byte 0 may be, one value alone is a station's; set-up does not look at it. */
+static void try_versions(void) {
+    struct own fresh = after(0);
+    uint32_t taken = 0;
+    for (uint32_t version = 0; version <= UINT8_MAX; version++) {
+        struct own own = after(1);
+        own.station[COAST_AT_VERSION] = (uint8_t)version;
+        taken += coast_answer(coast_clock(own.station, sizeof own.station)) == COAST_ANSWER_DONE ? 1u : 0u;
+        for (size_t i = 0; i < STEPS && version != COAST_LAYOUT_VERSION; i++)
+            want_refused("another version", course[i].line, own.station, COAST_STATION_SIZE, 0, COAST_ANSWER_NOT_SOUND);
+        want("set-up over any version", coast_answer(hand_in_own(&own, SET_UP)), COAST_ANSWER_DONE);
+        want_true("a fresh station", equal(own.station, fresh.station, sizeof own.station));
+    }
+    want("versions that are taken", taken, 1);
+    want("the version laid", fresh.station[COAST_AT_VERSION], COAST_LAYOUT_VERSION);
 }
 
 static void want_same(const char *what, const struct own *a, const struct own *b) {
@@ -269,6 +304,7 @@ void try_stations(void) {
     try_refusals();
     try_bad_set_ups();
     try_unsound();
+    try_versions();
     try_advice();
     try_side_by_side();
     try_unused_bytes();
