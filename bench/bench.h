@@ -28,7 +28,7 @@ uint64_t write_all(enum side side);
 /* ---- events.c: the script lines of standard input ---- */
 extern const struct lent_bytes lent; /* a station, and a room for its actions */
 const struct entries *entries_of(enum side side);
-extern const char event_letters[];
+extern const char entry_letters[];
 bool record_events(void); /* false where there are none */
 uint32_t event_count(void);
 uint64_t hand_in_all(enum side side);

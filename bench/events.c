@@ -5,7 +5,7 @@
 
 #define MOST_EVENTS 16384u
 
-const char event_letters[] = {SET_UP_LETTER, EVENTS(ITS_LETTER) '\0'};
+const char entry_letters[] = {EVERY_ENTRY(ITS_LETTER) '\0'};
 static struct event events[MOST_EVENTS];
 static uint8_t lists[MOST_EVENTS][LIST_MOST];
 static uint32_t count;

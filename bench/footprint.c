@@ -26,10 +26,10 @@ static unsigned depth_of_event(enum side side, uint32_t event) {
     return touched_below(top);
 }
 
-static unsigned depth_of_next_due(enum side side) {
+static unsigned depth_of_asking(enum side side, char letter) {
     static const struct handed nothing;
     uintptr_t top = paint_stack();
-    (void)call_entry(entries_of(side), NEXT_DUE_LETTER, &nothing, &lent);
+    (void)call_entry(entries_of(side), letter, &nothing, &lent);
     return touched_below(top);
 }
 
@@ -47,20 +47,22 @@ static void print_copies(enum side side) {
 
 /* Gives the deepest of them all. */
 static unsigned print_depths(enum side side) {
-    unsigned deepest[UINT8_MAX + 1u] = {0}; /* by the event's letter */
-    unsigned read = depth_of(read_all, side), written = depth_of(write_all, side), due = 0, all = more(read, written);
+    unsigned deepest[UINT8_MAX + 1u] = {0}; /* by the entry's letter */
+    unsigned read = depth_of(read_all, side), written = depth_of(write_all, side), all = more(read, written);
     for (uint32_t i = 0; i < event_count(); i++) {
         unsigned *most = &deepest[(uint8_t)letter_of(i)];
         *most = more(*most, depth_of_event(side, i));
-        due = more(due, depth_of_next_due(side));
+        for (const char *letter = entry_letters; *letter != '\0'; letter++)
+            if (only_asks(*letter))
+                deepest[(uint8_t)*letter] = more(deepest[(uint8_t)*letter], depth_of_asking(side, *letter));
     }
-    printf("stack in bytes, %s: read %u, write %u, next due time %u", names[side], read, written, due);
-    for (const char *letter = event_letters; *letter != '\0'; letter++) {
+    printf("stack in bytes (N next due time, C clock), %s: read %u, write %u", names[side], read, written);
+    for (const char *letter = entry_letters; *letter != '\0'; letter++) {
         printf(", %c %u", *letter, deepest[(uint8_t)*letter]);
         all = more(all, deepest[(uint8_t)*letter]);
     }
     printf("\n");
-    return more(all, due);
+    return all;
 }
 
 int main(void) {
