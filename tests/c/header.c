@@ -1,5 +1,5 @@
 /* Uses all of include/coast.h and of coast_words.h, twice included, in words that are C11 and C++17 alike: what tests/header
- * compiles. It writes computed.h, the sizes and places that the definitions come to. The types of the station's entries are
+ * compiles. It writes computed.h, the sizes, places and version that the definitions come to. The types of the station's entries are
  * held by library.c. */
 #include "coast.h"
 #include "coast_words.h"
@@ -10,6 +10,9 @@
 #if COAST_SHORTEST_SEQUENCE != 21 || COAST_LONGEST_SEQUENCE != 28 || COAST_MEANING_SIZE != MEANING_SIZE || \
     COAST_STATION_SIZE != STATION_SIZE || COAST_ONE_ACTION_SIZE != 40
 #error "a size is wrong"
+#endif
+#if COAST_LAYOUT_VERSION != LAYOUT_VERSION || COAST_AT_VERSION != VERSION || COAST_AT_VERSION != 0
+#error "the layout's version, or its place, is wrong"
 #endif
 #if COAST_AT_ADDRESS != ADDRESS || COAST_AT_SENDER != SENDER || COAST_AT_FIRST != FIRST || COAST_AT_SECOND != SECOND || \
     COAST_AT_FIELD_KIND != FIELD_KIND || COAST_AT_FIELD != FIELD || COAST_AT_DIGIT_COUNT != DIGIT_COUNT || \
@@ -49,6 +52,7 @@ struct others {
     size_t (*count)(uint64_t returned);
     int (*waits)(uint64_t returned);
     uint32_t (*due)(uint64_t returned);
+    uint32_t (*time)(uint64_t returned);
     uint32_t (*number_at)(const uint8_t *bytes);
     void (*put_number)(uint8_t *bytes, uint32_t number);
     const uint8_t *(*action_at)(const uint8_t *room, size_t place);
@@ -63,7 +67,7 @@ struct others {
 /* Refused by the compiler where one has another type. */
 extern const struct others others;
 const struct others others = {coast_read_sequence, coast_write_sequence, coast_answer, coast_count, coast_waits, coast_due,
-    coast_number_at, coast_put_number, coast_action_at,
+    coast_time, coast_number_at, coast_put_number, coast_action_at,
     {coast_action_kind, coast_action_slot, coast_charge_ship, coast_charge_start, coast_charge_stop, coast_charge_seconds},
     coast_payload_length, coast_payload, coast_digits_text, coast_dialled, {coast_answer_words, coast_action_words}};
 
