@@ -88,7 +88,8 @@ static void spoil_bytes(void) {
 }
 
 static size_t wrong_size(void) {
-    static const size_t sizes[] = {0, 1, 10, 11, 56, 731, 1721, 1722, 1724, 1725, MOST_STATION_SIZE};
+    static const size_t sizes[] = {0, 1, SLOTS_AT - 1, SLOTS_AT, SLOTS_AT + SLOT_BYTES, QUEUE_AT, STATION_BYTES - 2u,
+        STATION_BYTES - 1u, STATION_BYTES + 1u, STATION_BYTES + 2u, MOST_STATION_SIZE};
     return one_in(4) ? chance(MOST_STATION_SIZE + 1u) : sizes[chance(sizeof sizes / sizeof sizes[0])];
 }
 
