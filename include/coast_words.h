@@ -85,7 +85,7 @@ static inline const char *coast_answer_words(uint32_t answer) {
     case COAST_ANSWER_ROOM_SHORT: return "too little room for a sequence";
     case COAST_ANSWER_MEANING_SHORT: return "too few bytes for a meaning";
     case COAST_ANSWER_WRONG_SIZE: return "not the size of a station";
-    case COAST_ANSWER_NOT_SOUND: return "not a sound station";
+    case COAST_ANSWER_NOT_SOUND: return "not a sound station of this version";
     case COAST_ANSWER_ACTIONS_SHORT: return "too little room for actions";
     case COAST_ANSWER_TIME_TOO_LATE: return "a time past the limit";
     case COAST_ANSWER_TIME_BEFORE_CLOCK: return "a time before the station's clock";
