@@ -266,6 +266,35 @@ static void try_advice(void) {
     want("its due time", coast_answer(hand_in_own(&last, "T 4000000151")), COAST_ANSWER_TIME_TOO_LATE);
 }
 
+/* What coast.h tells a host that comes back after a while: its time goes on from the clock, and ticks come first, two at most here. */
+static void try_coming_back(void) {
+    for (size_t steps = 0; steps <= STEPS; steps++) {
+        struct own kept = after(steps);
+        uint32_t now = coast_time(coast_clock(kept.station, sizeof kept.station)) + 10000u;
+        uint64_t told = coast_next_due(kept.station, sizeof kept.station);
+        for (int most = 2; most > 0 && coast_waits(told) && coast_due(told) <= now; most--)
+            told = coast_tick(kept.station, sizeof kept.station, now, kept.room, sizeof kept.room);
+        told = coast_carrier_up(kept.station, sizeof kept.station, now, 0, kept.room, sizeof kept.room);
+        want_true("the first event", coast_answer(told) <= COAST_ANSWER_IGNORED);
+        want_clock(kept.station, now);
+    }
+}
+
+/* And before another library takes over: an on-hook ends each call, and charges those that were answered, from step 7 to 9. */
+static void try_ending_calls(void) {
+    for (size_t steps = 0; steps <= STEPS; steps++) {
+        struct own own = after(steps);
+        uint32_t now = coast_time(coast_clock(own.station, sizeof own.station)), charges = 0;
+        for (uint32_t slot = 0; slot < 2u; slot++) {
+            uint64_t told = coast_on_hook(own.station, sizeof own.station, now, slot, own.room, sizeof own.room);
+            want_true("an on-hook", coast_answer(told) <= COAST_ANSWER_IGNORED);
+            for (size_t i = 0; i < coast_count(told); i++)
+                charges += coast_action_kind(coast_action_at(own.room, i)) == COAST_ACTION_CHARGE ? 1u : 0u;
+        }
+        want("calls charged", charges, steps >= 7u && steps <= 9u ? 1u : 0u);
+    }
+}
+
 /* Two stations, one some steps behind the other, each as it is alone; and a copy goes on as the first one does. */
 static void try_side_by_side(void) {
     for (size_t behind = 0; behind < STEPS; behind++) {
@@ -306,6 +335,8 @@ void try_stations(void) {
     try_unsound();
     try_versions();
     try_advice();
+    try_coming_back();
+    try_ending_calls();
     try_side_by_side();
     try_unused_bytes();
 }
