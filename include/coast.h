@@ -54,7 +54,7 @@ extern "C" {
  *
  * What a host does after those that have to do with time:
  *   31  The event is past the end of time, and so is all that follows: see COAST_LAST_TIME.
- *   32  The event came too late, or the host's clock went back. Hand it in once more at the latest time that was accepted.
+ *   32  The event came too late, or the host's clock went back. Hand it in once more at the station's clock: see coast_clock.
  *   33  The host's timer is late. Hand in ticks at the event's time, as coast_tick tells, and then the event once more. */
 #define COAST_ANSWER_DONE 0
 #define COAST_ANSWER_IGNORED 1            /* an event that does nothing but move the clock on */
@@ -131,12 +131,13 @@ uint32_t coast_write_sequence(const uint8_t *meaning, size_t size, uint8_t *room
  * All that the library leaves is sound. */
 #define COAST_STATION_SIZE 1723
 
-/* The version moves whenever the layout does, and stands at byte 0 in every layout. Bytes of another version are 29 to every
- * event, and no entry turns them into this one's. So a rack is upgraded to a library of another version while no call is in hand:
- * every slot free or taken, no ship waiting; the new library then sets the station up, and the host counts its time from 0
- * again. Where that cannot be waited for, the old library ends the calls: hand in an on-hook on each slot that is dialling or
- * answered, and do its actions; each call that was answered is then charged. A slot so freed may ring back a waiting ship. What is
- * left then loses its place: ships waiting, offered or rung back call again, and the host switches off their carriers. */
+/* The version moves whenever the layout does, and stands at byte 0 in every layout. A station of another version is 29 to every
+ * entry but coast_set_up, which does not look at the bytes that it fills; and no entry turns it into one of this version. So a
+ * rack is upgraded to a library of another version when its calls are over. With calls in hand, a host
+ *   - hands in, to the old library, an on-hook on every slot, and does the actions: a call that is dialled or answered ends,
+ *     and is charged if it was answered; on any other slot the on-hook is ignored. A slot so freed may ring back a waiting ship;
+ *   - switches off the carrier of every slot. Ships that waited, or had a slot without a call yet, lose it, and call again;
+ *   - sets a station up by the new library, counts its time from 0 again, and takes again the slots that were taken. */
 #define COAST_LAYOUT_VERSION 1
 #define COAST_AT_VERSION 0
 
@@ -173,14 +174,15 @@ uint64_t coast_set_up(uint32_t identity, const uint8_t *channels, size_t count, 
  * Every event tells the same of the station that it leaves; this entry is for a station that was kept or copied. */
 uint64_t coast_next_due(const uint8_t *station, size_t size);
 
-/* The station's clock, the latest time that it has accepted: coast_time of what is returned. Answers 0, or 29.
+/* The station's clock: coast_time of what is returned. It is the time of the last event that was accepted or, where that was a
+ * tick which fired a wait, the time at which that wait fell due. Answers 0, or 29; with 29 coast_time means nothing.
  *
- * This is where a host goes on that has kept its station and comes back. All that the library knows stands in the lent bytes, so
- * that a station handed in again answers as if the host had never stopped. Such a host saves, after each event that is answered
- * 0 or 1 and before it does the first action, the station and the actions together: whole to a file of another name, and that
- * renamed to the old one's. When it comes back, it
- *   - does not go on with a file that is damaged: it has a check of its own, since bytes that were changed may still be a sound
- *     station. Where coast_clock answers 29, they are none, or of another version;
+ * From its clock a station goes on when its host has stopped and comes back. All that the library knows stands in the lent bytes:
+ * handed in again, they answer as if nothing had happened. A host that keeps them saves, after each event that is answered 0 or 1
+ * and before it does the first action, the station and the actions together, whole in a file of another name, which it then
+ * renames to the old one's. When it comes back, it
+ *   - refuses a file that is damaged, by a check of its own: bytes that were changed may still be a sound station. Where
+ *     coast_clock answers 29, they are none, or one of another version;
  *   - does the actions that were saved, but for those that it knows to be done;
  *   - counts its time on from the clock, and adds what has passed meanwhile where it knows that;
  *   - sets its timer as coast_next_due tells, and hands in ticks for what has fallen due, as coast_tick tells. */

@@ -5,6 +5,7 @@ use Rattle.exchange.proofs.sequences.coast_read_sequence.Reads as coast
 use Rattle.exchange.proofs.sequences.coast_write_sequence.Reads as coast-write-sequence
 use Rattle.exchange.proofs.setting.coast_set_up.Reads as coast-set-up
 use Rattle.exchange.proofs.setting.coast_next_due.Reads as coast-next-due
+use Rattle.exchange.proofs.setting.coast_clock.Reads as coast-clock
 use Rattle.exchange.proofs.events.coast_tick.Reads as coast-tick
 use Rattle.exchange.proofs.events.coast_heard_on_channel_70.Reads as coast-heard-on-channel-70
 use Rattle.exchange.proofs.events.coast_heard_on_slot.Reads as coast-heard-on-slot
@@ -30,6 +31,10 @@ coast-set-up-settled κs a r r' s s' p q = (p .0 ∙ sym (q .0), p .1 ∙ sym (q
 pub coast-next-due-settled : (κs : Lfts 1) (a : _) (r r' : _) (s s' : _)
     → coast-next-due.Post κs a r s → coast-next-due.Post κs a r' s' → r ≡ r'
 coast-next-due-settled κs a r r' s s' p q = p ∙ sym q
+
+pub coast-clock-settled : (κs : Lfts 1) (a : _) (r r' : _) (s s' : _)
+    → coast-clock.Post κs a r s → coast-clock.Post κs a r' s' → r ≡ r'
+coast-clock-settled κs a r r' s s' p q = p ∙ sym q
 
 pub coast-tick-settled : (κs : Lfts 2) (a : _) (r r' : _) (s s' : _)
     → coast-tick.Post κs a r s → coast-tick.Post κs a r' s' → (r ≡ r') × (s .0 .now ≡ s' .0 .now) × (s .1 .1 .0 .now ≡ s' .1 .1 .0 .now)

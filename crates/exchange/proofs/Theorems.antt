@@ -8,7 +8,7 @@ use native.Mathlib.Omega.{arith}
 use lib.Dec.{ltb}
 use borrow.Author.Tests.{le-leb, lt-leb, ltb-true}
 use Rattle.sequence.specs.Identity.{isCoast}
-use Rattle.sequence.proofs.Tests.{Either, yes!, no!, which}
+use Rattle.sequence.proofs.Tests.{Either, yes!, no!, which, both-true}
 use Rattle.rules.specs.Places.{all}
 use Rattle.rules.specs.Words.{Config, Event}
 use Rattle.rules.specs.Calls.{act}
@@ -26,11 +26,11 @@ use Rattle.station.specs.declared.Station.{Station}
 use Rattle.station.specs.Model.{configOf, modelOf, imageOf}
 use Rattle.station.specs.Step.{recordsKeep, refusal, steppedBy, roomAfter, blankStation, setUpOf}
 use Rattle.station.proofs.GateLaws.{passed}
-use Rattle.lent.specs.Stations.{sized, stationBytes, stationFrom, stationLaid}
+use Rattle.lent.specs.Stations.{sized, current, stationBytes, stationFrom, stationLaid}
 use Rattle.lent.specs.Statement.{FoundAgain}
-use Rattle.lent.proofs.FoundAgain.{handed-out-is-found-again, wrong-size-is-not-sound}
-use Rattle.exchange.specs.Events.{told, kept, returned, stationAfter, roomLeft, stationSetUp, dueNumber, dueReturned}
-use Rattle.exchange.specs.Statement.{RefusalLeavesAll, AcceptedLeavesItsStation, WrongSizeHasNoDue, TakenApart, waits, dueTime, returnedBy, leftBy, toldBy, handedBy, HostHandsOn}
+use Rattle.lent.proofs.FoundAgain.{handed-out-is-found-again, other-layout-is-not-sound}
+use Rattle.exchange.specs.Events.{told, kept, returned, stationAfter, roomLeft, stationSetUp, dueNumber, dueReturned, clockReturned}
+use Rattle.exchange.specs.Statement.{RefusalLeavesAll, AcceptedLeavesItsStation, OtherLayoutTellsNothing, TakenApart, waits, dueTime, returnedBy, leftBy, toldBy, handedBy, HostHandsOn}
 
 -- ── any call, on any bytes ───────────────────────────────────────────────────
 
@@ -53,12 +53,13 @@ refusal-leaves-all b room e n h = (rw (h, lt-leb n 1 (ltb-true 1 n (refused-such
 
 -- an event is accepted on bytes of the right size alone
 right-size : (b : List ℕ) (e : Event) → refusal (stationFrom b) e ≡ none → sized b ≡ true
-right-size b e h = go (which (sized b))
+unfolding current
+right-size b e h = go (which (current b))
   where
-    go : Either (sized b) → sized b ≡ true
-    go (yes! p) = p
+    go : Either (current b) → sized b ≡ true
+    go (yes! p) = both-true (sized b) _ p .0
     go (no! p) =
-        let v = wrong-size-is-not-sound b p e in
+        let v = other-layout-is-not-sound b p e in
         let q : _≡_ {A = ℕ} 0 1 = cc in
         absurd (omega (arith, q))
 
@@ -72,9 +73,9 @@ accepted-laid b e h =
 pub accepted-leaves-its-station : AcceptedLeavesItsStation
 accepted-leaves-its-station b e h = (accepted-laid b e h, handed-out-is-found-again .1 (stationFrom b) e h)
 
-pub wrong-size-has-no-due : WrongSizeHasNoDue
-unfolding dueReturned stationFrom blankStation recordsKeep viewed imageOf modelOf configOf sound configKeeps identityKeeps isCoast fresh padded
-wrong-size-has-no-due b h = rw h refl
+pub other-layout-tells-nothing : OtherLayoutTellsNothing
+unfolding dueReturned clockReturned stationFrom blankStation recordsKeep viewed imageOf modelOf configOf sound configKeeps identityKeeps isCoast fresh padded
+other-layout-tells-nothing b h = (rw h refl, rw h refl)
 
 apart : (a n : ℕ) (d : NextDue) → a < 256 → n < 256
     → ((a + 256 * n + dueNumber d) % 256 ≡ a) × ((a + 256 * n + dueNumber d) / 256 % 256 ≡ n) × ((a + 256 * n + dueNumber d) / 65536 % 2 ≡ waits d) × ((a + 256 * n + dueNumber d) / 4294967296 ≡ dueTime d)

@@ -38,7 +38,7 @@ stationAfter b e = kept b (steppedBy (stationFrom b) e)
 unfoldable pub roomLeft : List ℕ → List ℕ → Event → List ℕ
 roomLeft b room e = roomAfter (stationFrom b) room e
 
--- ── set-up, and the next due time ────────────────────────────────────────────
+-- ── set-up, the next due time and the clock ────────────────────────────────────────────
 
 -- 23 where the lent bytes have another size, tested first; then 36
 abbrev pub setUpLeaves : SetUp → List ℕ → List ℕ
@@ -53,3 +53,7 @@ stationSetUp c b = setUpLeaves (setUpOf c) b
 -- 29 where the station is not sound
 unfoldable pub dueReturned : Station → ℕ
 dueReturned s = cond (recordsKeep s && sound (configOf s) (modelOf s)) (dueNumber (dueImage (nextDue (modelOf s)))) 29
+
+-- the clock stands where an event's next due time does
+unfoldable pub clockReturned : Station → ℕ
+clockReturned s = cond (recordsKeep s && sound (configOf s) (modelOf s)) (4294967296 * s .clock .0) 29

@@ -11,9 +11,9 @@ use Rattle.station.specs.declared.NextDue.the-variants.{Never, At}
 use Rattle.station.specs.declared.Station.{Station}
 use Rattle.station.specs.declared.Stepped.{Stepped}
 use Rattle.station.specs.Step.{refusal, steppedBy, roomAfter, setUpOf}
-use Rattle.lent.specs.Stations.{sized, stationBytes, stationFrom}
+use Rattle.lent.specs.Stations.{sized, current, stationBytes, stationFrom}
 use Rattle.lent.specs.Statement.{FoundAgain}
-use Rattle.exchange.specs.Events.{told, returned, stationAfter, roomLeft, stationSetUp, dueReturned}
+use Rattle.exchange.specs.Events.{told, returned, stationAfter, roomLeft, stationSetUp, dueReturned, clockReturned}
 
 -- ── any call, on any bytes ───────────────────────────────────────────────────
 
@@ -26,9 +26,9 @@ abbrev pub AcceptedLeavesItsStation : Type 0
 AcceptedLeavesItsStation = (b : List ℕ) (e : Event) → refusal (stationFrom b) e ≡ none
     → (stationAfter b e ≡ stationBytes (steppedBy (stationFrom b) e .station)) × FoundAgain (steppedBy (stationFrom b) e .station)
 
--- bytes of another size have no due time either
-abbrev pub WrongSizeHasNoDue : Type 0
-WrongSizeHasNoDue = (b : List ℕ) → sized b ≡ false → dueReturned (stationFrom b) ≡ 29
+-- bytes of another size or another version have no due time and no clock either
+abbrev pub OtherLayoutTellsNothing : Type 0
+OtherLayoutTellsNothing = (b : List ℕ) → current b ≡ false → (dueReturned (stationFrom b) ≡ 29) × (clockReturned (stationFrom b) ≡ 29)
 
 -- the four parts of the number that an event returns, as the header takes it apart
 abbrev pub waits : NextDue → ℕ

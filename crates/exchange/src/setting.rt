@@ -1,11 +1,11 @@
-// Set-up in lent bytes, and the next due time of the station in them.
+// Set-up in lent bytes, and the next due time and the clock of the station in them.
 ghost use mathlib.Core.Path.{_≡_};
 ghost use Prim.Native.Nat.{_≤_};
 ghost use lib.ListN.{length};
 ghost use Rattle.rules.specs.Sound.{mostSlots};
 ghost use Rattle.station.specs.Step.{given, sixteenOf};
 ghost use Rattle.lent.specs.Stations.{stationFrom};
-ghost use Rattle.exchange.specs.Events.{setUpReturned, stationSetUp, dueReturned};
+ghost use Rattle.exchange.specs.Events.{setUpReturned, stationSetUp, dueReturned, clockReturned};
 use crate::events::due_number;
 use crate::events::hand_back;
 use lent::STATION_SIZE;
@@ -67,4 +67,17 @@ pub extern "C" fn coast_next_due(station: &[u8]) -> u64
         return 29;
     }
     due_number(s.next_due())
+}
+
+// The station's clock, from which a host goes on that comes back.
+#[no_mangle]
+pub extern "C" fn coast_clock(station: &[u8]) -> u64
+    ensures { λ r. ⌜ r ≡ clockReturned (stationFrom (now (station .entry))) ⌝ }
+{
+    let s = station_from(station);
+    if !s.is_sound() {
+        return 29;
+    }
+    let clock = s.clock;
+    4294967296 * (clock.0 as u64)
 }

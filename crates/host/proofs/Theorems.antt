@@ -19,7 +19,7 @@ use Rattle.station.specs.Step.{given, refusal, steppedBy, roomAfter, setUpOf}
 use Rattle.lent.specs.Stations.{sized, stationBytes, stationFrom}
 use Rattle.lent.specs.Statement.{FoundAgain}
 use Rattle.lent.proofs.FoundAgain.{handed-out-is-found-again}
-use Rattle.exchange.specs.Events.{roomLeft, setUpReturned}
+use Rattle.exchange.specs.Events.{roomLeft, setUpReturned, clockReturned}
 use Rattle.exchange.proofs.Theorems.{left-is, set-up}
 use Rattle.rack.specs.Rooms.{actionsIn}
 use Rattle.rack.specs.Steps.{Step, stepOf, Allowed, SetUpAs, Trace}
@@ -31,7 +31,7 @@ use Rattle.rack.proofs.Scripted.{beginning}
 use Rattle.rack.proofs.Theorems.{rack-obeys, rack-literally, rack-answers-repeat, rack-second-ring-repeats, rack-dials-asked, rack-no-channel-idle, rack-always-sound}
 use Rattle.host.specs.Calls as Host
 use Rattle.host.specs.Calls.{Call, HandsOn, lastOf, SetUpIn, HostRun}
-use Rattle.host.specs.Statement.{answerIn, entriesIn, OfEveryHost, HostObeys, HostLiterally, HostAnswersRepeat, HostSecondRingRepeats, HostDialsAsked, HostNoChannelIdle, HostAlwaysSound}
+use Rattle.host.specs.Statement.{answerIn, entriesIn, OfEveryHost, HostObeys, HostLiterally, HostAnswersRepeat, HostSecondRingRepeats, HostDialsAsked, HostNoChannelIdle, HostAlwaysSound, HostTellsItsClock}
 use Rattle.host.proofs.Calls.{called, answer-is, count-is}
 
 -- ── a list of calls as a list of steps ───────────────────────────────────────
@@ -151,3 +151,7 @@ unfolding HostAlwaysSound RackAlwaysSound
 host-always-sound c xs t =
     let r = rack-always-sound c (walked c xs t .steps) (trace c xs t) in
     (walked c xs t .no-29 (r .0), ap isSound (last-is c xs t) ∙ r .1)
+
+pub host-tells-its-clock : HostTellsItsClock
+unfolding HostTellsItsClock HostAlwaysSound clockReturned
+host-tells-its-clock c xs t κs a r s p e = p ∙ ap (λ b. clockReturned (stationFrom b)) e ∙ (rw (host-always-sound c xs t .1))

@@ -1,5 +1,5 @@
 -- What is claimed of every host that hands on the bytes it was left, from the bytes alone: the theorem on charges and what stands beside it.
-use Prim.Native.Nat.{ℕ, _/_, _%_, _<_}
+use Prim.Native.Nat.{ℕ, _*_, _/_, _%_, _<_}
 use mathlib.Core.Path.{_≡_}
 use mathlib.Core.Bool.{true, cond}
 use mathlib.Core.List.{List, [], _∷_}
@@ -13,6 +13,7 @@ use Rattle.rules.specs.Repeated.{Answers, RingsSame, DialsNamed, DeedByDeed}
 use Rattle.station.specs.declared.Station.{Station}
 use Rattle.lent.specs.Stations.{stationFrom}
 use Rattle.exchange.proofs.setting.coast_set_up.Reads as set-up
+use Rattle.exchange.proofs.setting.coast_clock.Reads as clock
 use Rattle.rack.specs.Rooms.{actionsIn}
 use Rattle.rack.specs.Statement.{Obeys, NoneIdle, isSound}
 use Rattle.host.specs.Calls.{Call, Entered, HostRun, lastOf}
@@ -64,6 +65,11 @@ HostNoChannelIdle = OfEveryHost (λ c es s. NoneIdle s)
 unfoldable pub HostAlwaysSound : Type 0
 HostAlwaysSound = (c : Config) (xs : List Call) (t : HostRun c xs)
     → Each (λ x. answerIn x ≡ 29 → ⊥) xs × (isSound (stationFrom (lastOf (t .first) xs)) ≡ true)
+
+-- a host that comes back with the bytes left last goes on from that station's clock: `coast_clock` tells it, and is not 29
+unfoldable pub HostTellsItsClock : Type 0
+HostTellsItsClock = (c : Config) (xs : List Call) (t : HostRun c xs) (κs : Lfts 1) (a : _) (r : _) (s : _) → clock.Post κs a r s
+    → a .0 .now ≡ lastOf (t .first) xs → r ≡ 4294967296 * stationFrom (lastOf (t .first) xs) .clock .0
 
 -- ── refusals, by the returned number, on any bytes, in a run or not ──────────
 

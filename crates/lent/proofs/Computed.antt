@@ -5,7 +5,7 @@ use mathlib.Core.List.{List, [], _∷_}
 use lib.Dec.{eqb}
 use lib.ListN.{length, take}
 use Rattle.layouts.specs.Fields.{places}
-use Rattle.lent.specs.Layout.{requestFields, slotFields, waitingFields, headFields, requestSize, slotSize, waitingSize, slotsPlace, queuePlace, stationSize}
+use Rattle.lent.specs.Layout.{requestFields, slotFields, waitingFields, headFields, requestSize, slotSize, waitingSize, slotsPlace, queuePlace, stationSize, layoutVersion}
 use Rattle.lent.specs.Meanings.{meaningFields, meaningSize}
 use Rattle.lent.specs.Stations.{sized}
 
@@ -27,7 +27,7 @@ pub waiting-computed : places 0 (take 2 waitingFields) ≡ 0 ∷ 4 ∷ []
 unfolding waitingFields requestFields
 waiting-computed = refl
 
-pub head-computed : places 0 headFields ≡ 0 ∷ 4 ∷ 8 ∷ 9 ∷ []
+pub head-computed : places 0 headFields ≡ 0 ∷ 1 ∷ 5 ∷ 9 ∷ 10 ∷ []
 unfolding headFields
 head-computed = refl
 
@@ -43,18 +43,22 @@ pub waiting-size-computed : waitingSize ≡ 31
 unfolding waitingFields requestFields
 waiting-size-computed = refl
 
-pub slots-place-computed : slotsPlace ≡ 10
+pub slots-place-computed : slotsPlace ≡ 11
 unfolding headFields
 slots-place-computed = refl
 
-pub queue-place-computed : queuePlace ≡ 730
+pub queue-place-computed : queuePlace ≡ 731
 unfolding headFields slotFields requestFields
 queue-place-computed = refl
 
-pub station-size-computed : stationSize ≡ 1722
+pub station-size-computed : stationSize ≡ 1723
 unfolding stationSize headFields slotFields waitingFields requestFields
 station-size-computed = refl
 
-pub sized-computed : (b : List ℕ) → sized b ≡ eqb (length b) 1722
+pub layout-version-computed : layoutVersion ≡ 1
+unfolding layoutVersion
+layout-version-computed = refl
+
+pub sized-computed : (b : List ℕ) → sized b ≡ eqb (length b) 1723
 unfolding sized
 sized-computed b = rw station-size-computed

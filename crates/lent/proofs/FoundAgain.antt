@@ -43,10 +43,10 @@ use Rattle.layouts.proofs.FieldLaws.{there-and-back}
 use Rattle.layouts.proofs.RecordLaws.{records-told}
 use Rattle.lent.specs.Layout.{slotFields, waitingFields, headFields, stationFields}
 use Rattle.lent.specs.Numbers.{requestNumbers, requestFrom, carrierFields, toldFields, carrierFrom, toldFrom, phaseFields, phaseFrom, slotNumbers, waitingNumbers, stationNumbers, slotFrom, waitingFrom, inUse, stationIn}
-use Rattle.lent.specs.Stations.{stationBytes, stationFrom}
-use Rattle.lent.specs.Statement.{FoundAgain, HandedOutIsFoundAgain, WrongSizeIsNotSound}
+use Rattle.lent.specs.Stations.{current, stationBytes, stationFrom}
+use Rattle.lent.specs.Statement.{FoundAgain, HandedOutIsFoundAgain, OtherLayoutIsNotSound}
 use Rattle.lent.proofs.LayLaws.{sixteen}
-use Rattle.lent.proofs.StationLaws.{slot-numbers, waiting-numbers, usedSlots, usedQueue, slots16, queue32, slots-numbers, fields-filled, station-numbers, station-sized}
+use Rattle.lent.proofs.StationLaws.{slot-numbers, waiting-numbers, usedSlots, usedQueue, slots16, queue32, slots-numbers, fields-filled, station-numbers, station-sized, station-first}
 
 -- ── one record ───────────────────────────────────────────────────────────────
 
@@ -118,13 +118,13 @@ module _ (s : Station) (w : Whole s) where
       rw (behind, slots-back second, queue-back, w .slotsBlank, w .queueBlank)
 
   found-again : FoundAgain s
-  unfolding stationFrom
+  unfolding stationFrom current
   found-again =
       let decoded : decode stationFields (stationBytes s) 0 ≡ stationNumbers s =
       unfold stationBytes in
       ap (λ b. decode stationFields b 0) (sym (append-nil (encode stationFields (stationNumbers s))))
       ∙ there-and-back stationFields (stationNumbers s) [] [] 0 0 (station-numbers s) fields-filled refl in
-      (station-sized s, rw (station-sized s, decoded) numbers-back)
+      (station-sized s, rw (station-sized s, station-first s, decoded) numbers-back)
 
 -- ── what is handed out ───────────────────────────────────────────────────────
 
@@ -196,12 +196,12 @@ step-found s e h =
 pub handed-out-is-found-again : HandedOutIsFoundAgain
 handed-out-is-found-again = (λ c. set-up-found c (setUpVerdict c), step-found)
 
--- ── bytes of another size ────────────────────────────────────────────────────
+-- ── bytes of another size or another version ─────────────────────────────────
 
 blank-refused : (e : Event) → refusal blankStation e ≡ some 29
 unfolding refusal refusals recordsKeep viewed blankStation imageOf modelOf configOf sound configKeeps identityKeeps isCoast fresh padded
 blank-refused e = refl
 
-pub wrong-size-is-not-sound : WrongSizeIsNotSound
+pub other-layout-is-not-sound : OtherLayoutIsNotSound
 unfolding stationFrom
-wrong-size-is-not-sound b h e = rw h (blank-refused e)
+other-layout-is-not-sound b h e = rw h (blank-refused e)

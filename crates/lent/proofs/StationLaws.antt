@@ -7,6 +7,7 @@ use native.Mathlib.Omega.{arith}
 use native.Mathlib.Nat.{zero-add}
 use lib.ListN.{length, getD, take, drop, length-append}
 use lib.Seq.{drop-at}
+use lib.Dec.{eqb}
 use borrow.Author.Tests.{eq-eqb}
 use Rattle.requests.proofs.ArrayLaws.{padded-length}
 use Rattle.slots.specs.declared.Slot.{Slot}
@@ -18,7 +19,7 @@ use Rattle.layouts.specs.Fields.{size, filled, lowFirst, numberAt, encode, deco
 use Rattle.layouts.specs.Records.{repeated, recordsAt, recordsIn}
 use Rattle.layouts.proofs.FieldLaws.{encode-length, decode-length, laid-all, laid-whole}
 use Rattle.layouts.proofs.RecordLaws.{encode-behind, decode-behind, encode-repeated, records-decoded, repeated-length, repeated-size, flatMap-length}
-use Rattle.lent.specs.Layout.{requestFields, slotFields, waitingFields, headFields, stationFields, slotSize, waitingSize, slotsPlace, queuePlace, stationSize}
+use Rattle.lent.specs.Layout.{requestFields, slotFields, waitingFields, headFields, stationFields, layoutVersion, slotSize, waitingSize, slotsPlace, queuePlace, stationSize}
 use Rattle.lent.specs.Numbers.{requestNumbers, slotNumbers, waitingNumbers, stationNumbers, slotFrom, waitingFrom, inUse, stationIn}
 use Rattle.lent.specs.Stations.{sized, stationBytes, slotBytes, waitingBytes}
 use Rattle.lent.proofs.LayLaws.{slot-size}
@@ -54,12 +55,12 @@ queue-read b o =
 pub station-read : (b : List ℕ)
     → stationIn (decode stationFields b 0)
     ≡ record {
-      clock = tenths (numberAt b 0 4);
-      mast = alone (numberAt b 4 4);
-      count = getD b 8 0;
-      waiting = getD b 9 0;
-      slots = inUse blankSlot 16 (getD b 8 0) (recordsAt (λ p. slotFrom (decode slotFields b p)) 16 slotSize slotsPlace);
-      queue = inUse blankWaiting 32 (getD b 9 0) (recordsAt (λ p. waitingFrom (decode waitingFields b p)) 32 waitingSize queuePlace);
+      clock = tenths (numberAt b 1 4);
+      mast = alone (numberAt b 5 4);
+      count = getD b 9 0;
+      waiting = getD b 10 0;
+      slots = inUse blankSlot 16 (getD b 9 0) (recordsAt (λ p. slotFrom (decode slotFields b p)) 16 slotSize slotsPlace);
+      queue = inUse blankWaiting 32 (getD b 10 0) (recordsAt (λ p. waitingFrom (decode waitingFields b p)) 32 waitingSize queuePlace);
     }
 unfolding stationIn stationFields headFields
 station-read b =
@@ -116,21 +117,32 @@ module _ (s : Station) where
   unfolding waitingBytes
   queue-bytes = rw queue32 at (encode-repeated waitingNumbers waitingFields waiting-numbers (usedQueue s))
 
-  station-bytes : stationBytes s ≡ lowFirst 4 (s .clock .0) ++ (lowFirst 4 (s .mast .identity) ++ ((s .count ∷ s .waiting ∷ []) ++ (flatMap slotBytes (usedSlots s) ++ flatMap waitingBytes (usedQueue s))))
+  station-bytes : stationBytes s
+      ≡ (layoutVersion ∷ [])
+      ++ (lowFirst 4 (s .clock .0)
+      ++ (lowFirst 4 (s .mast .identity) ++ ((s .count ∷ s .waiting ∷ []) ++ (flatMap slotBytes (usedSlots s) ++ flatMap waitingBytes (usedQueue s)))))
   unfolding stationBytes stationFields headFields stationNumbers
   station-bytes =
       let e : length (flatMap slotNumbers (usedSlots s)) ≡ length (repeated 16 slotFields) = slots-numbers ∙ sym (repeated-length 16 slotFields) in
       rw (encode-behind (repeated 16 slotFields) (repeated 32 waitingFields) (flatMap slotNumbers (usedSlots s)) (flatMap waitingNumbers (usedQueue s)) e, slots-bytes, queue-bytes)
 
+  pub station-first : eqb (getD (stationBytes s) 0 0) layoutVersion ≡ true
+  unfolding stationBytes stationFields headFields stationNumbers
+  station-first = eq-eqb (getD (stationBytes s) 0 0) layoutVersion refl
+
+  -- the version, the clock, the identity and the two counts
+  abbrev head-laid : List ℕ → List ℕ
+  head-laid b =
+      laid (laid (laid (laid b 0 (layoutVersion ∷ [])) 1 (lowFirst 4 (s .clock .0))) 5 (lowFirst 4 (s .mast .identity))) 9 (s .count ∷ s .waiting ∷ [])
+
   pub station-laid : (b : List ℕ) → length b ≡ stationSize
-      → laid (laid (laid (laid (laid b 0 (lowFirst 4 (s .clock .0))) 4 (lowFirst 4 (s .mast .identity))) 8 (s .count ∷ s .waiting ∷ [])) slotsPlace (flatMap slotBytes (usedSlots s))) queuePlace (flatMap waitingBytes (usedQueue s))
-      ≡ stationBytes s
+      → laid (laid (head-laid b) slotsPlace (flatMap slotBytes (usedSlots s))) queuePlace (flatMap waitingBytes (usedQueue s)) ≡ stationBytes s
   unfolding flatten headFields
   station-laid b w =
       let first = flatMap slotBytes (usedSlots s) in
       let second = flatMap waitingBytes (usedQueue s) in
       let wide : length first ≡ slotSize * 16 = flatMap-length slotBytes slotSize slot-size (usedSlots s) ∙ ap (λ k. slotSize * k) slots16 in
       let place : queuePlace ≡ 0 + (slotsPlace + length first) = omega (arith, wide) in
-      ap (λ k. laid (laid (laid (laid (laid b 0 (lowFirst 4 (s .clock .0))) 4 (lowFirst 4 (s .mast .identity))) 8 (s .count ∷ s .waiting ∷ [])) slotsPlace first) k second) place
-      ∙ laid-all b 0 (lowFirst 4 (s .clock .0)) (lowFirst 4 (s .mast .identity) ∷ (s .count ∷ s .waiting ∷ []) ∷ first ∷ second ∷ []) (omega arith)
+      ap (λ k. laid (laid (head-laid b) slotsPlace first) k second) place
+      ∙ laid-all b 0 (layoutVersion ∷ []) (lowFirst 4 (s .clock .0) ∷ lowFirst 4 (s .mast .identity) ∷ (s .count ∷ s .waiting ∷ []) ∷ first ∷ second ∷ []) (omega arith)
       ∙ (rw (append-nil second) (ap (laid b 0) (sym station-bytes) ∙ laid-whole b (stationBytes s) (station-size ∙ sym w)))

@@ -34,10 +34,15 @@ unfoldable pub waitingFields : List Field
 waitingFields = row "due time" 4 ∷ requestFields
 
 unfoldable pub headFields : List Field
-headFields = row "clock" 4 ∷ row "identity" 4 ∷ row "count of slots" 1 ∷ row "count of waiting ships" 1 ∷ []
+headFields =
+    row "version" 1 ∷ row "clock" 4 ∷ row "identity" 4 ∷ row "count of slots" 1 ∷ row "count of waiting ships" 1 ∷ []
 
 unfoldable pub stationFields : List Field
 stationFields = headFields ++ (repeated mostSlots slotFields ++ repeated queueRoom waitingFields)
+
+-- moves whenever a field does, or what a number in one stands for
+unfoldable pub layoutVersion : ℕ
+layoutVersion = 1
 
 -- ── sizes and places ─────────────────────────────────────────────────────────
 

@@ -24,7 +24,7 @@ use Rattle.slots.specs.Views.{alone}
 use Rattle.slots.specs.Images.{blankSlot, blankWaiting, tenths}
 use Rattle.station.specs.declared.Station.{Station}
 use Rattle.layouts.specs.Records.{recordsIn}
-use Rattle.lent.specs.Layout.{slotFields, waitingFields, headFields}
+use Rattle.lent.specs.Layout.{slotFields, waitingFields, headFields, layoutVersion}
 use Rattle.lent.specs.declared.phases.CarrierFields.{CarrierFields}
 use Rattle.lent.specs.declared.phases.ToldFields.{ToldFields}
 use Rattle.lent.specs.declared.phases.PhaseFields.{PhaseFields}
@@ -134,7 +134,7 @@ inUse blank room n l = padded blank room (take n l)
 
 unfoldable pub stationNumbers : Station → List ℕ
 stationNumbers s =
-    (s .clock .0 ∷ s .mast .identity ∷ s .count ∷ s .waiting ∷ [])
+    (layoutVersion ∷ s .clock .0 ∷ s .mast .identity ∷ s .count ∷ s .waiting ∷ [])
     ++ (flatMap slotNumbers (inUse blankSlot mostSlots (s .count) (s .slots))
     ++ flatMap waitingNumbers (inUse blankWaiting queueRoom (s .waiting) (s .queue)))
 
@@ -156,10 +156,10 @@ waitingFrom ns = record { due = tenths (getD ns 0 0); request = requestFrom (dro
 unfoldable pub stationIn : List ℕ → Station
 stationIn ns =
     record {
-      clock = tenths (getD ns 0 0);
-      mast = alone (getD ns 1 0);
-      count = getD ns 2 0;
-      waiting = getD ns 3 0;
-      slots = inUse blankSlot mostSlots (getD ns 2 0) (recordsIn slotFrom mostSlots (length slotFields) (drop (length headFields) ns));
-      queue = inUse blankWaiting queueRoom (getD ns 3 0) (recordsIn waitingFrom queueRoom (length waitingFields) (drop (length slotFields * mostSlots) (drop (length headFields) ns)));
+      clock = tenths (getD ns 1 0);
+      mast = alone (getD ns 2 0);
+      count = getD ns 3 0;
+      waiting = getD ns 4 0;
+      slots = inUse blankSlot mostSlots (getD ns 3 0) (recordsIn slotFrom mostSlots (length slotFields) (drop (length headFields) ns));
+      queue = inUse blankWaiting queueRoom (getD ns 4 0) (recordsIn waitingFrom queueRoom (length waitingFields) (drop (length slotFields * mostSlots) (drop (length headFields) ns)));
     }

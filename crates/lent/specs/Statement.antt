@@ -12,7 +12,7 @@ use Rattle.rules.specs.Words.{Config, Event}
 use Rattle.station.specs.declared.Station.{Station}
 use Rattle.station.specs.Step.{refusal, steppedBy, setUpOf}
 use Rattle.lent.specs.Meanings.{meaningSize, meaningBytes, meaningFrom}
-use Rattle.lent.specs.Stations.{sized, stationBytes, stationFrom}
+use Rattle.lent.specs.Stations.{sized, current, stationBytes, stationFrom}
 
 -- the bytes of a valid meaning, whatever stands behind them
 abbrev pub MeaningIsFoundAgain : Type 0
@@ -33,6 +33,6 @@ HandedOutIsFoundAgain =
     ((c : Config) → FoundAgain (setUpOf c .station))
     × ((s : Station) (e : Event) → refusal s e ≡ none → FoundAgain (steppedBy s e .station))
 
--- bytes of another size stand for a station that every event refuses with 29
-abbrev pub WrongSizeIsNotSound : Type 0
-WrongSizeIsNotSound = (b : List ℕ) → sized b ≡ false → (e : Event) → refusal (stationFrom b) e ≡ some 29
+-- bytes of another size or another version stand for a station that every event refuses with 29
+abbrev pub OtherLayoutIsNotSound : Type 0
+OtherLayoutIsNotSound = (b : List ℕ) → current b ≡ false → (e : Event) → refusal (stationFrom b) e ≡ some 29

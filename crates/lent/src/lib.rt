@@ -39,8 +39,13 @@ use slots::mast::Mast;
 use station::Station;
 use units::Tenths;
 
-// Where each field stands: behind the one before it, from the clock on.
-const IDENTITY: usize = 4;
+// Moves whenever a field does, or what a number in one stands for; it stands in front.
+const LAYOUT_VERSION: u8 = 1;
+
+// Where each field stands: behind the one before it, from the version on.
+const CLOCK: usize = 1;
+
+const IDENTITY: usize = CLOCK + 4;
 
 const SLOT_COUNT: usize = IDENTITY + 4;
 
@@ -84,11 +89,14 @@ fn queue_from(bytes: &[u8], waiting: u8) -> [Waiting; QUEUE_ROOM]
     a
 }
 
-// Bytes of another size stand for the blank station, which is not sound.
+// Bytes of another size or another version stand for the blank station, which is not sound.
 pub fn station_from(bytes: &[u8]) -> Station
     ensures { λ r. ⌜ r ≡ stationFrom (now (bytes .entry)) ⌝ }
 {
     if bytes.len() != STATION_SIZE {
+        return Station::blank();
+    }
+    if bytes[0] != LAYOUT_VERSION {
         return Station::blank();
     }
     let count = bytes[SLOT_COUNT];
@@ -96,7 +104,7 @@ pub fn station_from(bytes: &[u8]) -> Station
     let a = slots_from(bytes, count);
     let b = queue_from(bytes, waiting);
     Station {
-        clock: Tenths(four_at(bytes, 0)),
+        clock: Tenths(four_at(bytes, CLOCK)),
         mast: Mast {
             identity: four_at(bytes, IDENTITY),
         },
@@ -114,12 +122,14 @@ pub fn lay_station(s: Station, bytes: &mut [u8])
     if bytes.len() != STATION_SIZE {
         return;
     }
+    let version = [LAYOUT_VERSION];
     let clock = s.clock;
     let time = low_first(clock.0);
     let mast = s.mast;
     let identity = low_first(mast.identity);
     let counts = [s.count, s.waiting];
-    lay(&time, 0, bytes);
+    lay(&version, 0, bytes);
+    lay(&time, CLOCK, bytes);
     lay(&identity, IDENTITY, bytes);
     lay(&counts, SLOT_COUNT, bytes);
     // Record by record out of the station: an array handed on is copied whole.

@@ -1,25 +1,27 @@
--- The next due time: none on a fresh station, 261 behind P1 at 100; and 29 for no bytes.
+-- The next due time: none on a fresh station, 261 behind P1 at 100; and 29 for no bytes. The clock: 0 there; and 29 for no bytes.
 use Prim.Native.Nat.{ℕ, _%_}
 use mathlib.Core.Path.{_≡_, refl, sym, ap, _∙_}
+use mathlib.Core.Bool.{false}
 use mathlib.Core.List.{List, [], _∷_}
 use native.Mathlib.Omega.{arith}
 use Rattle.rules.specs.Words.{Event}
-use Rattle.rules.specs.Station.{nextDue}
+use Rattle.rules.specs.Station.{nextDue, fresh}
+use Rattle.rules.specs.Verdict.{final}
 use Rattle.rules.specs.Statement.{stationAfter}
 use Rattle.soundness.proofs.FitLaws.{sound-fits}
 use Rattle.station.specs.declared.NextDue.{NextDue}
 use Rattle.station.specs.declared.NextDue.the-variants.{Never, At}
 use Rattle.station.specs.declared.Station.{Station}
-use Rattle.station.specs.Model.{modelOf}
+use Rattle.station.specs.Model.{modelOf, imageOf}
 use Rattle.station.specs.Step.{dueImage}
 use Rattle.station.proofs.ImageLaws.{model-back, config-back}
-use Rattle.lent.specs.Stations.{stationFrom}
+use Rattle.lent.specs.Stations.{current, stationFrom}
 use Rattle.lent.proofs.Computed.{sized-computed}
-use Rattle.exchange.specs.Events.{dueReturned}
-use Rattle.exchange.proofs.Theorems.{wrong-size-has-no-due}
+use Rattle.exchange.specs.Events.{dueReturned, clockReturned}
+use Rattle.exchange.proofs.Theorems.{other-layout-tells-nothing}
 use Rattle.rack.proofs.Laid.{records-keep}
-use Rattle.useless.specs.Versions.{Anything}
-use Rattle.useless.specs.Dues.{DueBy, by-next-due, HandedOut, NoUselessNextDue, DueInC, by-coast-next-due, dueSigns, NoUselessNextDueInC}
+use Rattle.useless.specs.Versions.{Anything, NoUselessVersion}
+use Rattle.useless.specs.Dues.{DueBy, by-next-due, HandedOut, NoUselessNextDue, DueInC, by-coast-next-due, toldSigns, NoUselessNextDueInC, ClockInC, by-coast-clock, NoUselessClockInC}
 use Rattle.useless.proofs.ShutOut.{one, shut-out}
 use Rattle.useless.proofs.Events.{house, asked, nothing-due, due-261, leads, reached, reached-is, good}
 use Rattle.useless.proofs.Hosted.{bytesAfter, stands}
@@ -57,10 +59,36 @@ no-useless-next-due f m = (
       differ Never _ refl (at-261 f m past) (sym (h past (reached asked) one (handed past asked))),
 )
 
--- ── the entry in C ───────────────────────────────────────────────────────────
+-- ── the entries in C ─────────────────────────────────────────────────────────
+
+no-layout : current [] ≡ false
+unfolding current
+no-layout = rw (sized-computed [])
+
+-- an entry that tells 0 of a fresh station and 29 of no bytes
+module _ (meets : List ℕ → ℕ → Type 0) (told : List ℕ → ℕ) (tells : (b : List ℕ) (y : ℕ) → meets b y → y ≡ told b) (first : told (bytesAfter []) ≡ 0) (nothing : told [] ≡ 29) where
+  no-useless-telling : NoUselessVersion Anything toldSigns meets
+  no-useless-telling =
+      shut-out Anything toldSigns meets (record {
+        past = bytesAfter [] ∷ [];
+        begun = one;
+        doable = bytesAfter [];
+        doable-comes = tt;
+        done = λ y m. ap (λ n. n % 256) (tells _ y m ∙ first);
+        busy = λ y m i. i;
+        later = bytesAfter [] ∷ [];
+        begun-later = one;
+        bad = [];
+        bad-comes = tt;
+        refused = λ y m. omega (arith, tells [] y m ∙ nothing);
+        counted = λ x y m u. u;
+      })
 
 c-due-is : (b : List ℕ) (y : ℕ) → DueInC b y → y ≡ dueReturned (stationFrom b)
 c-due-is _ _ (by-coast-next-due κs a r s p) = p
+
+c-clock-is : (b : List ℕ) (y : ℕ) → ClockInC b y → y ≡ clockReturned (stationFrom b)
+c-clock-is _ _ (by-coast-clock κs a r s p) = p
 
 fresh-due : dueReturned (stationFrom (bytesAfter [])) ≡ 0
 unfolding dueReturned
@@ -69,23 +97,17 @@ fresh-due =
     let fits = sound-fits house m (good []) in
     rw (stands [], records-keep house m fits, config-back house m fits, model-back house m fits, good [], nothing-due) refl
 
-no-bytes : (y : ℕ) → DueInC [] y → y ≡ 29
-no-bytes y m = c-due-is [] y m ∙ wrong-size-has-no-due [] (sized-computed [])
+fresh-clock : clockReturned (stationFrom (bytesAfter [])) ≡ 0
+unfolding clockReturned imageOf final fresh
+fresh-clock =
+    let m = stationAfter house [] in
+    let fits = sound-fits house m (good []) in
+    rw (stands [], records-keep house m fits, config-back house m fits, model-back house m fits, good []) refl
 
 pub no-useless-next-due-in-c : NoUselessNextDueInC
 unfolding NoUselessNextDueInC
-no-useless-next-due-in-c =
-    shut-out Anything dueSigns DueInC (record {
-      past = bytesAfter [] ∷ [];
-      begun = one;
-      doable = bytesAfter [];
-      doable-comes = tt;
-      done = λ y m. ap (λ n. n % 256) (c-due-is _ y m ∙ fresh-due);
-      busy = λ y m i. i;
-      later = bytesAfter [] ∷ [];
-      begun-later = one;
-      bad = [];
-      bad-comes = tt;
-      refused = λ y m. omega (arith, no-bytes y m);
-      counted = λ x y m u. u;
-    })
+no-useless-next-due-in-c = no-useless-telling DueInC _ c-due-is fresh-due (other-layout-tells-nothing [] no-layout .0)
+
+pub no-useless-clock-in-c : NoUselessClockInC
+unfolding NoUselessClockInC
+no-useless-clock-in-c = no-useless-telling ClockInC _ c-clock-is fresh-clock (other-layout-tells-nothing [] no-layout .1)

@@ -1,4 +1,4 @@
--- The next due time, for Rattle and for C. Neither changes anything or tells a count, and the first refuses nothing.
+-- The next due time, for Rattle and for C, and the clock for C. None changes anything or tells a count, and the first refuses nothing.
 use Prim.Native.Nat.{ℕ, _%_}
 use mathlib.Core.Path.{_≡_}
 use mathlib.Core.List.{List}
@@ -9,6 +9,7 @@ use Rattle.station.specs.declared.NextDue.the-variants.{Never}
 use Rattle.station.specs.declared.Station.{Station}
 use Rattle.station.proofs.Station.next_due.Reads as next-due
 use Rattle.exchange.proofs.setting.coast_next_due.Reads as coast-next-due
+use Rattle.exchange.proofs.setting.coast_clock.Reads as coast-clock
 use Rattle.rack.specs.Steps.{Step, Trace, lastOf}
 use Rattle.useless.specs.Versions.{Always, AfterTheFirst, Signs, NoUselessVersion, Anything}
 
@@ -31,8 +32,14 @@ pub data DueInC : List ℕ → ℕ → Type 0 where
   by-coast-next-due : (κs : Lfts 1) (a : _) (r : _) (s : _) → coast-next-due.Post κs a r s → DueInC (a .0 .now) r
 
 -- the answer is the lowest byte, as for an event
-abbrev pub dueSigns : Signs (List ℕ) ℕ
-dueSigns = record { answer = λ y. y % 256; idle = λ b y. ⊥; miscounted = λ b y. ⊥ }
+abbrev pub toldSigns : Signs (List ℕ) ℕ
+toldSigns = record { answer = λ y. y % 256; idle = λ b y. ⊥; miscounted = λ b y. ⊥ }
 
 unfoldable pub NoUselessNextDueInC : Type 0
-NoUselessNextDueInC = NoUselessVersion Anything dueSigns DueInC
+NoUselessNextDueInC = NoUselessVersion Anything toldSigns DueInC
+
+pub data ClockInC : List ℕ → ℕ → Type 0 where
+  by-coast-clock : (κs : Lfts 1) (a : _) (r : _) (s : _) → coast-clock.Post κs a r s → ClockInC (a .0 .now) r
+
+unfoldable pub NoUselessClockInC : Type 0
+NoUselessClockInC = NoUselessVersion Anything toldSigns ClockInC
