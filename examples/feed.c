@@ -147,12 +147,12 @@ static bool take_digits(const char **at, uint8_t *meaning) {
     return **at == '\0';
 }
 
-static bool take_sequence(const char **at, const struct order *set_up, struct order *order) {
+static bool take_sequence(const char **at, uint32_t station, struct order *order) {
     uint8_t meaning[COAST_MEANING_SIZE] = {0};
     uint32_t ship = 0;
     if (!take_whole(at, UINT32_MAX, &ship) || !take_saying(at, meaning) || !take_digits(at, meaning))
         return false;
-    coast_put_number(meaning + COAST_AT_ADDRESS, set_up->number);
+    coast_put_number(meaning + COAST_AT_ADDRESS, station);
     coast_put_number(meaning + COAST_AT_SENDER, ship);
     uint32_t returned = coast_write_sequence(meaning, sizeof meaning, order->bytes, sizeof order->bytes);
     order->count = coast_count(returned);
@@ -161,11 +161,11 @@ static bool take_sequence(const char **at, const struct order *set_up, struct or
 
 /* ---- whole lines ---- */
 
-static bool take_heard(const char **at, const struct order *set_up, struct order *order) {
+static bool take_heard(const char **at, uint32_t station, struct order *order) {
     order->kind = HEARD;
     if (!take_whole(at, UINT32_MAX, &order->channel))
         return false;
-    return take_word(at, "symbols") ? take_bytes(at, order) : take_sequence(at, set_up, order);
+    return take_word(at, "symbols") ? take_bytes(at, order) : take_sequence(at, station, order);
 }
 
 static bool take_slot_event(const char **at, struct order *order) {
@@ -189,7 +189,7 @@ bool says_nothing(const struct line *line) {
     return line->readable && (*at == '\0' || *at == '#');
 }
 
-bool read_order(const struct line *line, const struct order *set_up, struct order *order) {
+bool read_order(const struct line *line, uint32_t station, struct order *order) {
     const char *at = line->text;
     *order = (struct order){.kind = SET_UP};
     skip_spaces(&at);
@@ -200,7 +200,7 @@ bool read_order(const struct line *line, const struct order *set_up, struct orde
     if (!take_time(&at, &order->time))
         return false;
     if (take_word(&at, "heard"))
-        return take_heard(&at, set_up, order);
+        return take_heard(&at, station, order);
     order->kind = TICK;
     if (take_word(&at, "tick"))
         return *at == '\0';

@@ -46,7 +46,7 @@ bool next_line(struct line *line);
 /* Whether a line is empty or a remark. */
 bool says_nothing(const struct line *line);
 
-/* Reads a line, for the station that an earlier order set up; false where it cannot be understood. */
-bool read_order(const struct line *line, const struct order *set_up, struct order *order);
+/* Reads a line, for the station of this identity; false where it cannot be understood. */
+bool read_order(const struct line *line, uint32_t station, struct order *order);
 
 #endif

@@ -76,14 +76,11 @@ static void print_order(const uint8_t *action) {
         print_charge(action);
 }
 
-void print_actions(const uint8_t *actions, size_t count, const uint8_t *channels) {
-    for (size_t i = 0; i < count; i++) {
-        const uint8_t *action = coast_action_at(actions, i);
-        uint32_t channel = CALLING_CHANNEL;
-        if (coast_action_kind(action) != COAST_ACTION_SEND_CHANNEL_70)
-            channel = channels[coast_action_slot(action)];
-        printf("    channel %u: ", (unsigned)channel);
-        print_order(action);
-        printf("\n");
-    }
+void print_action(const uint8_t *action, const uint8_t *channels) {
+    uint32_t channel = CALLING_CHANNEL;
+    if (coast_action_kind(action) != COAST_ACTION_SEND_CHANNEL_70)
+        channel = channels[coast_action_slot(action)];
+    printf("    channel %u: ", (unsigned)channel);
+    print_order(action);
+    printf("\n");
 }

@@ -8,7 +8,7 @@
 /* Tenths, as seconds. */
 void print_time(uint32_t tenths);
 
-/* Actions, a line each; the channel of each slot stands in the list. */
-void print_actions(const uint8_t *actions, size_t count, const uint8_t *channels);
+/* An action, in one line; the channel of each slot stands in the list. */
+void print_action(const uint8_t *action, const uint8_t *channels);
 
 #endif
