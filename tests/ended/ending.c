@@ -3,8 +3,10 @@
  * For each line AT PART KIND of its standard input the host plays the feed, in a process of its own, with its state in KEPT and
  * what it prints in PRINTED. At the AT-th write, and 0 is none, it is ended there and then (KIND 0); or the power is cut, and what
  * was not synced is lost or is not (1); or the write fails (2). A write of bytes gets PART thousandths done before that.
- * Each play is told in a line: how many writes there were, how many bytes had been printed at the last rename that held, and the
- * status as `waitpid` has it. OLDER is a name for the file that the last rename put away. */
+ * KIND 3 starts the host AT times in one process, with the files KEPT-1, KEPT-2 and so on, while it refuses them.
+ * Each order is told in a line: how many writes or refusals there were, whether the last rename was lost, and the status as
+ * `waitpid` has it. In PRINTED each rename has its line, `=` and a digest of what was written. OLDER is a name for the file that
+ * the last rename put away. */
 #include <stdarg.h>
 #include <stdbool.h>
 #include <stddef.h>
@@ -19,6 +21,7 @@
 #undef write
 #undef fsync
 #undef rename
+extern int snprintf(char *, size_t, const char *, ...);
 extern int vsnprintf(char *, size_t, const char *, va_list);
 extern int dprintf(int, const char *, ...);
 extern int scanf(const char *, ...);
@@ -45,7 +48,8 @@ long host_write(int to, const void *bytes, size_t count);
 int host_fsync(int handle);
 int host_rename(const char *from, const char *to);
 
-enum kind { ENDED, POWER_CUT, FAILS };
+enum kind { ENDED, POWER_CUT, FAILS, REFUSES };
+#define REFUSED_STATUS 1
 #define ENDED_STATUS 99
 #define BROKEN_STATUS 98
 #define MOST_TEXT 1000000u
@@ -61,7 +65,9 @@ static struct {
 
 /* What has come of the order so far. */
 static struct play {
-    long writes, read, printed, noted, noted_before;
+    long writes, read;
+    unsigned digest;          /* of the bytes that were written last */
+    bool undone;              /* the last rename */
     int to;                   /* PRINTED */
     int file;                 /* the file that was opened last */
     const char *unsynced;     /* its name, while its bytes may be lost */
@@ -72,19 +78,17 @@ static struct play {
 } play;
 
 _Noreturn void host_exit(int status) {
-    dprintf(1, "%ld %ld ", play.writes, play.noted);
+    dprintf(1, "%ld %d ", play.writes, play.undone);
     _exit(status);
 }
 
 static void lose(void) {
     if (play.unsynced)
         truncate(play.unsynced, play.unsynced_bytes * order.part / 1000);
-    if (!play.renamed || order.part >= 500)
-        return;
-    play.noted = play.noted_before;
-    if (play.was_there)
+    play.undone = play.renamed && order.part < 500;
+    if (play.undone && play.was_there)
         rename(older_name, kept_name);
-    else
+    else if (play.undone)
         unlink(kept_name);
 }
 
@@ -96,9 +100,11 @@ static long some_of(long count) {
     return is_the_one() ? count * order.part / 1000 : count;
 }
 
-/* Whether this write fails; does not return where it is the one to end at. */
+/* Whether this write fails; does not return where it is the one to end at, or where there should be none. */
 static bool fails(void) {
     bool one = is_the_one();
+    if (order.kind == REFUSES)
+        host_exit(BROKEN_STATUS);
     play.writes++;
     if (!one || order.kind == FAILS)
         return one;
@@ -122,17 +128,15 @@ int host_printf(const char *format, ...) {
     return more;
 }
 
-/* This one never fails, and what was printed is never lost: no host can take back what was sent. */
+/* What was printed is never lost, since no host can take back what was sent; and it does not fail. */
 int host_fflush(void *stream) {
     (void)stream;
-    if (play.length == 0u)
-        return 0;
     long done = order.kind == FAILS ? (long)play.length : some_of((long)play.length);
     if (write(play.to, play.text, (size_t)done) != done)
         host_exit(BROKEN_STATUS);
-    play.printed += done;
+    if (play.length > 0u && order.kind != FAILS)
+        fails();
     play.length = 0;
-    fails();
     return 0;
 }
 
@@ -146,7 +150,15 @@ int host_creat(const char *path, unsigned mode) {
     return play.file;
 }
 
+static unsigned digest_of(const unsigned char *bytes, size_t count) {
+    unsigned digest = 1;
+    for (size_t i = 0; i < count; i++)
+        digest = (digest + bytes[i]) * 2654435761u;
+    return digest;
+}
+
 long host_write(int to, const void *bytes, size_t count) {
+    play.digest = digest_of(bytes, count);
     long done = write(to, bytes, (size_t)some_of((long)count));
     play.unsynced_bytes += done;
     return fails() ? -1 : done;
@@ -173,32 +185,47 @@ int host_rename(const char *from, const char *to) {
     if (play.unsynced)
         play.unsynced = to;
     play.file = -1; /* what is synced next is the folder, whatever its handle */
-    play.noted_before = play.noted;
-    play.noted = play.printed;
+    dprintf(play.to, "= %08x\n", play.digest);
     return rename(from, to);
 }
 
-static int play_feed(char **arguments) {
-    char *of_host[] = {arguments[0], arguments[2], NULL};
-    play.to = creat(arguments[3], 0600u);
+static int start(char *kept) {
+    static char name[] = "rack";
+    char *arguments[] = {name, kept, NULL};
+    return host_main(2, arguments);
+}
+
+static int start_often(const char *kept) {
+    char name[1000];
+    int status = REFUSED_STATUS;
+    for (long i = 1; i <= order.at && status == REFUSED_STATUS; i++) {
+        snprintf(name, sizeof name, "%s-%ld", kept, i);
+        status = start(name);
+        play.writes += status == REFUSED_STATUS;
+    }
+    return status;
+}
+
+static int follow_order(char *kept, const char *printed) {
+    play = (struct play){.to = creat(printed, 0600u)};
     if (play.to < 0 || dup2(play.to, 2) < 0)
         return BROKEN_STATUS;
-    return host_main(2, of_host);
+    return order.kind == REFUSES ? start_often(kept) : start(kept);
 }
 
 int main(int count, char **arguments) {
     if (count != 5)
         return BROKEN_STATUS;
-    kept_name = arguments[2];
+    char *kept = arguments[2], *printed = arguments[3];
+    kept_name = kept;
     older_name = arguments[4];
     feed_length = read(open(arguments[1], 0), feed, sizeof feed);
-    play_feed(arguments); /* once here: an emulator then knows the code in every process */
-    unlink(kept_name);
-    play = (struct play){0};
+    follow_order(kept, printed); /* once in this process: an emulator then knows the code in all that come of it */
+    unlink(kept);
     while (scanf("%ld %ld %d", &order.at, &order.part, &order.kind) == 3) {
         int status = -1, child = fork();
         if (child == 0)
-            host_exit(play_feed(arguments));
+            host_exit(follow_order(kept, printed));
         waitpid(child, &status, 0);
         dprintf(1, "%d\n", status);
     }
