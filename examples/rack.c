@@ -17,7 +17,6 @@ extern int fflush(void *);
 extern _Noreturn void exit(int);
 
 #define CALLING_CHANNEL 70u
-
 #define ERRORS 2 /* the stream's number */
 
 struct rack {
@@ -63,7 +62,8 @@ static void act(struct rack *rack) {
 }
 
 /* Does what was answered; false where it is a refusal, which leaves everything as it was. With its last event a line counts as
- * followed; the events before that one are not asked for again when the line is read once more. */
+ * followed. A host that ended before that reads the line again, and does nothing twice: all before the last event are ticks, and
+ * a wait that has fired is no longer due. */
 static bool follow(struct rack *rack, uint64_t returned, bool last) {
     uint32_t answer = coast_answer(returned);
     if (answer > COAST_ANSWER_IGNORED) {
@@ -101,7 +101,8 @@ static uint64_t ring_time(const struct rack *rack) {
 
 /* Lets the timer ring up to this time. */
 static void pass_time(struct rack *rack, uint32_t until) {
-    while (rack->timer_runs && ring_time(rack) <= until && ring_time(rack) <= COAST_LAST_TIME) {
+    uint32_t most = until < COAST_LAST_TIME ? until : COAST_LAST_TIME;
+    while (rack->timer_runs && ring_time(rack) <= most) {
         rack->kept.rung = (uint32_t)ring_time(rack);
         printf("* ");
         print_time(rack->kept.rung);

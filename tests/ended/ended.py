@@ -84,12 +84,13 @@ class Host:
 
     def play(self, at, part, kind):
         """Plays the feed from the kept file on: the count of writes, whether the last rename was lost, and the status."""
-        self.process.stdin.write(b'%d %d %d\n' % (at, part, kind))
-        self.process.stdin.flush()
-        words = self.process.stdout.readline().split()
-        if len(words) != 3:
-            raise Differs('it broke down')
-        return map(int, words)
+        try:
+            self.process.stdin.write(b'%d %d %d\n' % (at, part, kind))
+            self.process.stdin.flush()
+            writes, undone, status = map(int, self.process.stdout.readline().split())
+        except (BrokenPipeError, ValueError) as broken:
+            raise Differs('it broke down') from broken
+        return writes, undone, status
 
     def forget(self):
         if os.path.exists(self.kept):

@@ -21,6 +21,7 @@
 #undef write
 #undef fsync
 #undef rename
+extern void *memcpy(void *, const void *, size_t);
 extern int snprintf(char *, size_t, const char *, ...);
 extern int vsnprintf(char *, size_t, const char *, va_list);
 extern int dprintf(int, const char *, ...);
@@ -57,6 +58,7 @@ enum kind { ENDED, POWER_CUT, FAILS, REFUSES };
 static const char *kept_name, *older_name;
 static unsigned char feed[MOST_TEXT];
 static long feed_length;
+static char out[MOST_TEXT]; /* flushed, with a line for each rename; it goes to PRINTED at the end */
 
 static struct {
     long at, part;
@@ -69,6 +71,7 @@ static struct play {
     unsigned digest;          /* of the bytes that were written last */
     bool undone;              /* the last rename */
     int to;                   /* PRINTED */
+    size_t out_length;
     int file;                 /* the file that was opened last */
     const char *unsynced;     /* its name, while its bytes may be lost */
     long unsynced_bytes;
@@ -78,6 +81,8 @@ static struct play {
 } play;
 
 _Noreturn void host_exit(int status) {
+    if (write(play.to, out, play.out_length) != (long)play.out_length)
+        status = BROKEN_STATUS;
     dprintf(1, "%ld %d ", play.writes, play.undone);
     _exit(status);
 }
@@ -128,12 +133,17 @@ int host_printf(const char *format, ...) {
     return more;
 }
 
+static void put_out(const char *text, size_t length) {
+    if (play.out_length + length > sizeof out)
+        host_exit(BROKEN_STATUS);
+    memcpy(out + play.out_length, text, length);
+    play.out_length += length;
+}
+
 /* What was printed is never lost, since no host can take back what was sent; and it does not fail. */
 int host_fflush(void *stream) {
     (void)stream;
-    long done = order.kind == FAILS ? (long)play.length : some_of((long)play.length);
-    if (write(play.to, play.text, (size_t)done) != done)
-        host_exit(BROKEN_STATUS);
+    put_out(play.text, order.kind == FAILS ? play.length : (size_t)some_of((long)play.length));
     if (play.length > 0u && order.kind != FAILS)
         fails();
     play.length = 0;
@@ -150,10 +160,13 @@ int host_creat(const char *path, unsigned mode) {
     return play.file;
 }
 
-static unsigned digest_of(const unsigned char *bytes, size_t count) {
-    unsigned digest = 1;
-    for (size_t i = 0; i < count; i++)
-        digest = (digest + bytes[i]) * 2654435761u;
+/* Word by word, which is enough for the host's file. */
+static unsigned digest_of(const char *bytes, size_t count) {
+    unsigned digest = 1, word;
+    for (size_t i = 0; i + sizeof word <= count; i += sizeof word) {
+        memcpy(&word, bytes + i, sizeof word);
+        digest = (digest ^ word) * 2654435761u;
+    }
     return digest;
 }
 
@@ -185,7 +198,8 @@ int host_rename(const char *from, const char *to) {
     if (play.unsynced)
         play.unsynced = to;
     play.file = -1; /* what is synced next is the folder, whatever its handle */
-    dprintf(play.to, "= %08x\n", play.digest);
+    char line[20];
+    put_out(line, (size_t)snprintf(line, sizeof line, "= %08x\n", play.digest));
     return rename(from, to);
 }
 
