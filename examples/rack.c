@@ -169,7 +169,7 @@ static bool come_back(struct rack *rack) {
     const struct coast_lent *lent = &rack->kept.lent;
     enum found found = rack->path == NULL ? NOTHING : read_kept(rack->path, &rack->kept);
     if (found == DAMAGED)
-        dprintf(ERRORS, "rack: %s is damaged, or of another version\n", rack->path);
+        dprintf(ERRORS, "rack: %s is damaged, of another version, or cannot be read\n", rack->path);
     if (found != WHOLE)
         return found == NOTHING;
     printf("kept: goes on from ");
