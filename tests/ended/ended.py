@@ -3,7 +3,7 @@ import itertools, os, shutil, struct, subprocess
 
 ROOT = os.path.normpath(os.path.join(os.path.dirname(os.path.abspath(__file__)), '..', '..'))
 EXAMPLES = os.path.join(ROOT, 'examples')
-MEMORY = '/dev/shm' if os.path.isdir('/dev/shm') else None  # on a disk each rename is waited for
+MEMORY = '/dev/shm' if os.access('/dev/shm', os.W_OK) else None  # for kept files: on a disk each rename is waited for
 NAMES = ('main', 'exit', 'getchar', 'printf', 'fflush', 'creat', 'write', 'fsync', 'rename')  # as ending.c has them
 THROUGH, STOPPED, ENDED = 0, 1 << 8, 99 << 8  # as waitpid has them
 KILLED, POWER_CUT, FAILS = KINDS = range(3)   # how a play ends

@@ -35,6 +35,7 @@ extern int link(const char *, const char *);
 extern int unlink(const char *);
 extern int rename(const char *, const char *);
 extern int truncate(const char *, long);
+extern unsigned alarm(unsigned);
 extern int fork(void);
 extern int waitpid(int, int *, int);
 extern _Noreturn void _exit(int);
@@ -54,6 +55,7 @@ enum kind { ENDED, POWER_CUT, FAILS, REFUSES };
 #define ENDED_STATUS 99
 #define BROKEN_STATUS 98
 #define MOST_TEXT 1000000u
+#define MOST_SECONDS 60u /* for one order; a host that takes longer does not end */
 
 static const char *kept_name, *older_name;
 static unsigned char feed[MOST_TEXT];
@@ -221,6 +223,7 @@ static int start_often(const char *kept) {
 }
 
 static int follow_order(char *kept, const char *printed) {
+    alarm(MOST_SECONDS);
     play = (struct play){.to = creat(printed, 0600u)};
     if (play.to < 0 || dup2(play.to, 2) < 0)
         return BROKEN_STATUS;
@@ -236,6 +239,7 @@ int main(int count, char **arguments) {
     feed_length = read(open(arguments[1], 0), feed, sizeof feed);
     follow_order(kept, printed); /* once in this process: an emulator then knows the code in all that come of it */
     unlink(kept);
+    alarm(0);
     while (scanf("%ld %ld %d", &order.at, &order.part, &order.kind) == 3) {
         int status = -1, child = fork();
         if (child == 0)
