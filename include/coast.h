@@ -179,11 +179,12 @@ uint64_t coast_next_due(const uint8_t *station, size_t size);
  *
  * From its clock a station goes on when its host has stopped and comes back. All that the library knows stands in the lent bytes:
  * handed in again, they answer as if nothing had happened. A host that keeps them saves, after each event that is answered 0 or 1
- * and before it does the first action, the station and the actions together, whole in a file of another name, which it then
- * renames to the old one's. When it comes back, it
+ * and before it does the first action, the station and the actions together, whole in a file of another name, which it syncs
+ * and then renames to the old one's. When it comes back, it
  *   - refuses a file that is damaged, by a check of its own: bytes that were changed may still be a sound station. Where
  *     coast_clock answers 29, they are none, or one of another version;
- *   - does the actions that were saved, but for those that it knows to be done;
+ *   - does the actions that were saved, but for those that it knows to be done. A charge that is so done twice has the same
+ *     ship, start and stop;
  *   - counts its time on from the clock, and adds what has passed meanwhile where it knows that;
  *   - sets its timer as coast_next_due tells, and hands in ticks for what has fallen due, as coast_tick tells. */
 uint64_t coast_clock(const uint8_t *station, size_t size);
