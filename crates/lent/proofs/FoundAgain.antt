@@ -8,8 +8,6 @@ use native.Mathlib.Nat.{le-of-suc-le-suc, not-suc-le-zero}
 use lib.ListN.{length, drop, length-map}
 use lib.Seq.{drop-at}
 use Rattle.units.specs.declared.Channel.{Channel}
-use Rattle.units.specs.declared.Told.{Told}
-use Rattle.units.specs.declared.Told.the-variants.{Nothing, Lasting}
 use Rattle.sequence.specs.Identity.{isCoast}
 use Rattle.rules.specs.Places.{Each}
 use Rattle.rules.specs.Words.{Config, Event}
@@ -26,23 +24,20 @@ use Rattle.requests.specs.declared.Request.{Request}
 use Rattle.requests.specs.Images.{requestImage, blankRequest}
 use Rattle.requests.specs.Views.{viewed}
 use Rattle.requests.proofs.ArrayLaws.{padded-length}
-use Rattle.slots.specs.declared.Carrier.{Carrier}
-use Rattle.slots.specs.declared.Carrier.the-variants.{Present, Lost}
-use Rattle.slots.specs.declared.Phase.{Phase}
 use Rattle.slots.specs.declared.Slot.{Slot}
 use Rattle.slots.specs.declared.Waiting.{Waiting}
 use Rattle.slots.specs.Phases.{keptIn}
 use Rattle.slots.specs.Images.{imageOr, slotImage, slotImages, waitingImage, blankSlot, blankWaiting}
-use Rattle.slots.proofs.PhaseLaws.{by-phase}
 use Rattle.station.specs.declared.Station.{Station}
 use Rattle.station.specs.Model.{imageOf, configOf, modelOf}
 use Rattle.station.specs.Step.{recordsKeep, refusal, steppedBy, blankStation, given, setUpFor}
+use Rattle.phase_fields.proofs.Back.{phase-back}
 use Rattle.layouts.specs.Fields.{encode, decode}
 use Rattle.layouts.specs.Records.{recordsIn}
 use Rattle.layouts.proofs.FieldLaws.{there-and-back}
 use Rattle.layouts.proofs.RecordLaws.{records-told}
 use Rattle.lent.specs.Layout.{slotFields, waitingFields, headFields, stationFields}
-use Rattle.lent.specs.Numbers.{requestNumbers, requestFrom, carrierFields, toldFields, carrierFrom, toldFrom, phaseFields, phaseFrom, slotNumbers, waitingNumbers, stationNumbers, slotFrom, waitingFrom, inUse, stationIn}
+use Rattle.lent.specs.Numbers.{requestNumbers, requestFrom, slotNumbers, waitingNumbers, stationNumbers, slotFrom, waitingFrom, inUse, stationIn}
 use Rattle.lent.specs.Stations.{current, stationBytes, stationFrom}
 use Rattle.lent.specs.Statement.{FoundAgain, HandedOutIsFoundAgain, OtherLayoutIsNotSound}
 use Rattle.lent.proofs.LayLaws.{sixteen}
@@ -60,20 +55,6 @@ request-back q w = go (q .mode) refl
     go : (m : Mode) → q .mode ≡ m → requestFrom (requestNumbers q) ≡ q
     go Simplex e = rw (e, sixteen (q .number .digits) w)
     go Duplex e = rw (e, sixteen (q .number .digits) w)
-
-carrier-back : (c : Carrier) → carrierFrom (carrierFields c) ≡ c
-unfolding carrierFrom
-carrier-back Present = refl
-carrier-back (Lost t) = refl
-
-told-back : (n : Told) → toldFrom (toldFields n) ≡ n
-unfolding toldFrom
-told-back Nothing = refl
-told-back (Lasting d) = refl
-
-phase-back : (p : Phase) → phaseFrom (phaseFields p) ≡ p
-unfolding phaseFrom
-phase-back = by-phase _ refl (λ t. refl) (λ t. refl) (λ t. refl) (λ t. refl) (λ t c. rw (carrier-back c)) (λ t c. rw (carrier-back c)) (λ t n. rw (told-back n)) refl
 
 slot-back : (s : Slot) → Wide (s .request) → slotFrom (slotNumbers s) ≡ s
 unfolding slotFrom slotNumbers

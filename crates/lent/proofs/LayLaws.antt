@@ -20,10 +20,11 @@ use Rattle.layouts.specs.Fields.{size, lowFirst, numberAt, encode, decodeFrom, 
 use Rattle.layouts.specs.Records.{recordsAt}
 use Rattle.layouts.proofs.FieldLaws.{laidAll, laid-all, laid-next}
 use Rattle.layouts.proofs.RecordLaws.{recordsAt-more, flatMap-more, flatMap-length}
-use Rattle.lent.specs.declared.phases.PhaseFields.{PhaseFields}
+use Rattle.phase_fields.specs.declared.PhaseFields.{PhaseFields}
+use Rattle.phase_fields.specs.Phases.{phaseFields}
 use Rattle.lent.specs.declared.said.FieldBytes.{FieldBytes}
 use Rattle.lent.specs.Layout.{run, requestFields, slotFields, waitingFields, slotSize, waitingSize}
-use Rattle.lent.specs.Numbers.{numbersFrom, modeMark, requestNumbers, phaseFields, phaseNumbers, slotNumbers, waitingNumbers, inUse}
+use Rattle.lent.specs.Numbers.{numbersFrom, modeMark, requestNumbers, phaseNumbers, slotNumbers, waitingNumbers, inUse}
 use Rattle.lent.specs.Meanings.{fieldBytes, meaningFields, meaningNumbers, meaningBytes}
 use Rattle.lent.specs.Stations.{slotBytes, waitingBytes}
 

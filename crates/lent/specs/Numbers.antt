@@ -4,9 +4,6 @@ use mathlib.Core.Bool.{cond}
 use mathlib.Core.List.{List, [], _∷_, _++_, flatMap}
 use lib.Dec.{leb, eqb}
 use lib.ListN.{length, getD, take, drop}
-use Rattle.units.specs.declared.Told.{Told}
-use Rattle.units.specs.declared.Told.the-variants.{Nothing, Lasting}
-use Rattle.units.specs.Units.{greatest}
 use Rattle.sequence.specs.Figures.{mostDigits}
 use Rattle.rules.specs.Bytes.{padded}
 use Rattle.rules.specs.Sound.{mostSlots, queueRoom}
@@ -14,20 +11,15 @@ use Rattle.requests.specs.declared.Mode.{Mode}
 use Rattle.requests.specs.declared.Mode.the-variants.{Simplex, Duplex}
 use Rattle.requests.specs.declared.Request.{Request}
 use Rattle.requests.specs.Images.{blankRequest}
-use Rattle.slots.specs.declared.Carrier.{Carrier}
-use Rattle.slots.specs.declared.Carrier.the-variants.{Present, Lost}
-use Rattle.slots.specs.declared.Phase.{Phase}
-use Rattle.slots.specs.declared.Phase.the-variants.{Free, Offered, RingBack, RingAgain, Acknowledged, Dialling, Answered, Hold, Taken}
 use Rattle.slots.specs.declared.Slot.{Slot}
 use Rattle.slots.specs.declared.Waiting.{Waiting}
 use Rattle.slots.specs.Views.{alone}
 use Rattle.slots.specs.Images.{blankSlot, blankWaiting, tenths}
 use Rattle.station.specs.declared.Station.{Station}
+use Rattle.phase_fields.specs.declared.PhaseFields.{PhaseFields}
+use Rattle.phase_fields.specs.Phases.{phaseFields, phaseFrom}
 use Rattle.layouts.specs.Records.{recordsIn}
 use Rattle.lent.specs.Layout.{slotFields, waitingFields, headFields, layoutVersion}
-use Rattle.lent.specs.declared.phases.CarrierFields.{CarrierFields}
-use Rattle.lent.specs.declared.phases.ToldFields.{ToldFields}
-use Rattle.lent.specs.declared.phases.PhaseFields.{PhaseFields}
 
 -- ── a request ────────────────────────────────────────────────────────────────
 
@@ -60,53 +52,6 @@ requestFrom ns =
       number = record { count = getD ns 4 0; digits = drop 5 ns };
     })
     blankRequest
-
--- ── a phase ──────────────────────────────────────────────────────────────────
-
-abbrev pub carrierFields : Carrier → CarrierFields
-carrierFields Present = record { mark = 0; due = 0 }
-carrierFields (Lost t) = record { mark = 1; due = t .0 }
-
-abbrev pub toldFields : Told → ToldFields
-toldFields Nothing = record { mark = 0; hours = 0; minutes = 0; seconds = 0 }
-toldFields (Lasting d) = record { mark = 1; hours = d .hours; minutes = d .minutes; seconds = d .seconds }
-
-abbrev pub fieldsOf : ℕ → ℕ → Carrier → Told → PhaseFields
-fieldsOf kind time c n = record { kind = kind; time = time; carrier = carrierFields c; told = toldFields n }
-
--- every part that the phase does not use is 0
-abbrev pub phaseFields : Phase → PhaseFields
-phaseFields Free = fieldsOf 0 0 Present Nothing
-phaseFields (Offered t) = fieldsOf 1 (t .0) Present Nothing
-phaseFields (RingBack t) = fieldsOf 2 (t .0) Present Nothing
-phaseFields (RingAgain t) = fieldsOf 3 (t .0) Present Nothing
-phaseFields (Acknowledged t) = fieldsOf 4 (t .0) Present Nothing
-phaseFields (Dialling t c) = fieldsOf 5 (t .0) c Nothing
-phaseFields (Answered t c) = fieldsOf 6 (t .0) c Nothing
-phaseFields (Hold t n) = fieldsOf 7 (t .0) Present n
-phaseFields Taken = fieldsOf 8 0 Present Nothing
-
--- marks that are none give a time and a duration that no station may have: 29
-unfoldable pub carrierFrom : CarrierFields → Carrier
-carrierFrom f = cond (eqb (f .mark) 0) Present (cond (eqb (f .mark) 1) (Lost (tenths (f .due))) (Lost (tenths greatest)))
-
-unfoldable pub toldFrom : ToldFields → Told
-toldFrom f =
-    cond (eqb (f .mark) 0) Nothing
-    (cond (eqb (f .mark) 1) (Lasting (record { hours = f .hours; minutes = f .minutes; seconds = f .seconds }))
-    (Lasting (record { hours = 255; minutes = 255; seconds = 255 })))
-
-unfoldable pub phaseFrom : PhaseFields → Phase
-phaseFrom f =
-    cond (eqb (f .kind) 0) Free
-    (cond (eqb (f .kind) 1) (Offered (tenths (f .time)))
-    (cond (eqb (f .kind) 2) (RingBack (tenths (f .time)))
-    (cond (eqb (f .kind) 3) (RingAgain (tenths (f .time)))
-    (cond (eqb (f .kind) 4) (Acknowledged (tenths (f .time)))
-    (cond (eqb (f .kind) 5) (Dialling (tenths (f .time)) (carrierFrom (f .carrier)))
-    (cond (eqb (f .kind) 6) (Answered (tenths (f .time)) (carrierFrom (f .carrier)))
-    (cond (eqb (f .kind) 7) (Hold (tenths (f .time)) (toldFrom (f .told)))
-    (cond (eqb (f .kind) 8) Taken (Offered (tenths greatest))))))))))
 
 -- ── a slot, a waiting ship, a station ────────────────────────────────────────
 

@@ -12,7 +12,6 @@ ghost use Rattle.lent.specs.Stations.{stationFrom, stationLaid};
 
 mod asked;
 mod numbers;
-mod phases;
 mod records;
 pub mod said;
 

@@ -33,7 +33,7 @@ use Rattle.station.specs.declared.Stepped.{Stepped}
 use Rattle.station.specs.Model.{imageOf, modelOf, configOf}
 use Rattle.station.specs.Step.{refusal}
 use Rattle.station.proofs.GateLaws.{passed}
-use Rattle.lent.specs.Numbers.{phaseFields}
+use Rattle.phase_fields.specs.Phases.{phaseFields}
 use Rattle.rack.specs.Steps.{Step, Allowed, lastOf, eventsIn}
 use Rattle.rack.specs.Scripts.{Traced, EveryScriptIsTraced}
 use Rattle.rack.specs.Rooms.{kindIn}

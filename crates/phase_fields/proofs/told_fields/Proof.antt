@@ -1,6 +1,6 @@
 use borrow.Author.Needs.{needs}
-use Rattle.lent.proofs.phases.told_fields.Statement.{statement}
-use Rattle.lent.proofs.phases.told_fields.Tie as tie
+use Rattle.phase_fields.proofs.told_fields.Statement.{statement}
+use Rattle.phase_fields.proofs.told_fields.Tie as tie
 
 returns : tie.Need-returns
 returns c = rw (c .enum-told .given .1)

@@ -1,8 +1,8 @@
-// A phase as its fields, and the phase that fields stand for.
+// A phase as the numbers that a lent slot holds of it, and the phase that such numbers stand for.
 ghost use mathlib.Core.Path.{_≡_};
 ghost use Rattle.units.specs.declared.Told.the-variants.{Nothing};
 ghost use Rattle.slots.specs.declared.Carrier.the-variants.{Present};
-ghost use Rattle.lent.specs.Numbers.{carrierFields, toldFields, fieldsOf, phaseFields, carrierFrom, toldFrom, phaseFrom};
+ghost use Rattle.phase_fields.specs.Phases.{carrierFields, toldFields, fieldsOf, phaseFields, carrierFrom, toldFrom, phaseFrom};
 use slots::Carrier;
 use slots::Phase;
 use units::Duration;
@@ -10,19 +10,19 @@ use units::GREATEST;
 use units::Tenths;
 use units::Told;
 
-pub(crate) struct CarrierFields {
+pub struct CarrierFields {
     pub mark: u8,
     pub due: u32,
 }
 
-pub(crate) struct ToldFields {
+pub struct ToldFields {
     pub mark: u8,
     pub hours: u8,
     pub minutes: u8,
     pub seconds: u8,
 }
 
-pub(crate) struct PhaseFields {
+pub struct PhaseFields {
     pub kind: u8,
     pub time: u32,
     pub carrier: CarrierFields,
@@ -77,7 +77,7 @@ fn plain(kind: u8, time: Tenths) -> PhaseFields
     fields_of(kind, time, Carrier::Present, Told::Nothing)
 }
 
-pub(crate) fn phase_fields(p: Phase) -> PhaseFields
+pub fn phase_fields(p: Phase) -> PhaseFields
     ensures { λ r. ⌜ r ≡ phaseFields p ⌝ }
 {
     match p {
@@ -125,7 +125,7 @@ fn told_from(f: ToldFields) -> Told
     })
 }
 
-pub(crate) fn phase_from(f: PhaseFields) -> Phase
+pub fn phase_from(f: PhaseFields) -> Phase
     ensures { λ r. ⌜ r ≡ phaseFrom f ⌝ }
 {
     let kind = f.kind;

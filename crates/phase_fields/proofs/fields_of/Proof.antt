@@ -1,6 +1,6 @@
 use borrow.Author.Needs.{needs}
-use Rattle.lent.proofs.phases.fields_of.Statement.{statement}
-use Rattle.lent.proofs.phases.fields_of.Tie as tie
+use Rattle.phase_fields.proofs.fields_of.Statement.{statement}
+use Rattle.phase_fields.proofs.fields_of.Tie as tie
 
 returns : tie.Need-returns
 returns c = rw (c .told-fields .ensures, c .before .carrier-fields .ensures)

@@ -1,8 +1,8 @@
 use borrow.Author.Tests.{eq-eqb, ne-eqb}
-use Rattle.lent.specs.Numbers.{phaseFrom}
+use Rattle.phase_fields.specs.Phases.{phaseFrom}
 use borrow.Author.Needs.{needs}
-use Rattle.lent.proofs.phases.phase_from.Statement.{statement}
-use Rattle.lent.proofs.phases.phase_from.Tie as tie
+use Rattle.phase_fields.proofs.phase_from.Statement.{statement}
+use Rattle.phase_fields.proofs.phase_from.Tie as tie
 
 returns : tie.Need-returns
 unfolding phaseFrom

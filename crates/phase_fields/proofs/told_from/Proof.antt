@@ -1,7 +1,7 @@
 use borrow.Author.Tests.{eq-eqb, ne-eqb}
-use Rattle.lent.specs.Numbers.{toldFrom}
-use Rattle.lent.proofs.phases.told_from.Statement.{statement}
-use Rattle.lent.proofs.phases.told_from.Tie as tie
+use Rattle.phase_fields.specs.Phases.{toldFrom}
+use Rattle.phase_fields.proofs.told_from.Statement.{statement}
+use Rattle.phase_fields.proofs.told_from.Tie as tie
 
 returns : tie.Need-returns
 unfolding toldFrom

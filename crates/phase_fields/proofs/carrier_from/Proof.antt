@@ -1,7 +1,7 @@
 use borrow.Author.Tests.{eq-eqb, ne-eqb}
-use Rattle.lent.specs.Numbers.{carrierFrom}
-use Rattle.lent.proofs.phases.carrier_from.Statement.{statement}
-use Rattle.lent.proofs.phases.carrier_from.Tie as tie
+use Rattle.phase_fields.specs.Phases.{carrierFrom}
+use Rattle.phase_fields.proofs.carrier_from.Statement.{statement}
+use Rattle.phase_fields.proofs.carrier_from.Tie as tie
 
 returns : tie.Need-returns
 unfolding carrierFrom

@@ -1,6 +1,6 @@
 use borrow.Author.Needs.{needs}
-use Rattle.lent.proofs.phases.phase_fields.Statement.{statement}
-use Rattle.lent.proofs.phases.phase_fields.Tie as tie
+use Rattle.phase_fields.proofs.phase_fields.Statement.{statement}
+use Rattle.phase_fields.proofs.phase_fields.Tie as tie
 
 returns : tie.Need-returns
 returns c = rw (c .before .enum-told .given .1) (c .plain .ensures)

@@ -1,0 +1,60 @@
+-- The numbers of a phase, one for each field of a lent slot that tells of it, and the phase that such numbers stand for.
+use Prim.Native.Nat.{ℕ}
+use mathlib.Core.Bool.{cond}
+use lib.Dec.{eqb}
+use Rattle.units.specs.declared.Told.{Told}
+use Rattle.units.specs.declared.Told.the-variants.{Nothing, Lasting}
+use Rattle.units.specs.Units.{greatest}
+use Rattle.slots.specs.declared.Carrier.{Carrier}
+use Rattle.slots.specs.declared.Carrier.the-variants.{Present, Lost}
+use Rattle.slots.specs.declared.Phase.{Phase}
+use Rattle.slots.specs.declared.Phase.the-variants.{Free, Offered, RingBack, RingAgain, Acknowledged, Dialling, Answered, Hold, Taken}
+use Rattle.slots.specs.Images.{tenths}
+use Rattle.phase_fields.specs.declared.CarrierFields.{CarrierFields}
+use Rattle.phase_fields.specs.declared.ToldFields.{ToldFields}
+use Rattle.phase_fields.specs.declared.PhaseFields.{PhaseFields}
+
+abbrev pub carrierFields : Carrier → CarrierFields
+carrierFields Present = record { mark = 0; due = 0 }
+carrierFields (Lost t) = record { mark = 1; due = t .0 }
+
+abbrev pub toldFields : Told → ToldFields
+toldFields Nothing = record { mark = 0; hours = 0; minutes = 0; seconds = 0 }
+toldFields (Lasting d) = record { mark = 1; hours = d .hours; minutes = d .minutes; seconds = d .seconds }
+
+abbrev pub fieldsOf : ℕ → ℕ → Carrier → Told → PhaseFields
+fieldsOf kind time c n = record { kind = kind; time = time; carrier = carrierFields c; told = toldFields n }
+
+-- every part that the phase does not use is 0
+abbrev pub phaseFields : Phase → PhaseFields
+phaseFields Free = fieldsOf 0 0 Present Nothing
+phaseFields (Offered t) = fieldsOf 1 (t .0) Present Nothing
+phaseFields (RingBack t) = fieldsOf 2 (t .0) Present Nothing
+phaseFields (RingAgain t) = fieldsOf 3 (t .0) Present Nothing
+phaseFields (Acknowledged t) = fieldsOf 4 (t .0) Present Nothing
+phaseFields (Dialling t c) = fieldsOf 5 (t .0) c Nothing
+phaseFields (Answered t c) = fieldsOf 6 (t .0) c Nothing
+phaseFields (Hold t n) = fieldsOf 7 (t .0) Present n
+phaseFields Taken = fieldsOf 8 0 Present Nothing
+
+-- marks that are none give a time and a duration that no station may have: 29
+unfoldable pub carrierFrom : CarrierFields → Carrier
+carrierFrom f = cond (eqb (f .mark) 0) Present (cond (eqb (f .mark) 1) (Lost (tenths (f .due))) (Lost (tenths greatest)))
+
+unfoldable pub toldFrom : ToldFields → Told
+toldFrom f =
+    cond (eqb (f .mark) 0) Nothing
+    (cond (eqb (f .mark) 1) (Lasting (record { hours = f .hours; minutes = f .minutes; seconds = f .seconds }))
+    (Lasting (record { hours = 255; minutes = 255; seconds = 255 })))
+
+unfoldable pub phaseFrom : PhaseFields → Phase
+phaseFrom f =
+    cond (eqb (f .kind) 0) Free
+    (cond (eqb (f .kind) 1) (Offered (tenths (f .time)))
+    (cond (eqb (f .kind) 2) (RingBack (tenths (f .time)))
+    (cond (eqb (f .kind) 3) (RingAgain (tenths (f .time)))
+    (cond (eqb (f .kind) 4) (Acknowledged (tenths (f .time)))
+    (cond (eqb (f .kind) 5) (Dialling (tenths (f .time)) (carrierFrom (f .carrier)))
+    (cond (eqb (f .kind) 6) (Answered (tenths (f .time)) (carrierFrom (f .carrier)))
+    (cond (eqb (f .kind) 7) (Hold (tenths (f .time)) (toldFrom (f .told)))
+    (cond (eqb (f .kind) 8) Taken (Offered (tenths greatest))))))))))
