@@ -1,5 +1,5 @@
+pub mod WaitLaws
 pub mod ArmLaws
 pub mod FreeLaws
-pub mod RuleLaws
 pub mod PartLaws
 pub mod Settled

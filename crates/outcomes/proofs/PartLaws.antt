@@ -14,7 +14,7 @@ use Rattle.outcomes.specs.declared.Talk.{Talk}
 use Rattle.outcomes.specs.declared.Outcome.{Outcome}
 use Rattle.outcomes.specs.declared.Outcome.the-variants.{Ignored, Passes, Turns, Dials, RingsAgain, Frees, Clears, CoastEnds, ShipEnds, SaysAgain, Repeats, Renews, Redials, Offers, Joins, Replaces, Unable, Drops}
 use Rattle.outcomes.specs.Does.{sinceOf, outOf, sceneOf, actsOf, turned, lined, applied}
-use Rattle.outcomes.proofs.RuleLaws.{wait-fits}
+use Rattle.outcomes.proofs.WaitLaws.{wait-fits}
 
 module _ (i : ℕ) (own asked : Request) (st : R.Station) (h : st .clock ≤ limit) where
   -- a slot is freed: nobody waits, or the oldest is rung back

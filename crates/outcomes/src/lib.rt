@@ -1,5 +1,4 @@
-// What an event does to a station, decided by what one slot shows. No rule holds a station.
-pub mod calls;
+// What an event does to a station, as a value: an outcome names one slot and the queue, and holds no station.
 pub mod parts;
 
 use slots::Phase;

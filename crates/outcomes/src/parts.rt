@@ -1,6 +1,6 @@
 // What an outcome comes to: the answer, the slot, the queue.
 ghost use mathlib.Core.Path.{_≡_};
-ghost use Rattle.outcomes.specs.Does.{answerOf, goesOn, waitFrom, toldOf, freeTurn, turnOf, freeLine, lineOf, enteredOf};
+ghost use Rattle.outcomes.specs.Does.{answerOf, goesOn, toldOf, freeTurn, turnOf, freeLine, lineOf, enteredOf};
 use crate::Line;
 use crate::Outcome;
 use crate::Talk;
@@ -19,13 +19,6 @@ use slots::RING_WAIT;
 use slots::Waiting;
 use units::Tenths;
 use units::Told;
-
-// A wait of p begun at t.
-pub(crate) fn wait_from(t: Tenths, p: Tenths) -> Tenths
-    ensures { λ r. ⌜ r ≡ waitFrom t (p .0) ⌝ }
-{
-    due_after(t, p)
-}
 
 // What an end of call at t tells: of an unanswered one nothing.
 pub fn told_of(k: Talk, t: Tenths) -> Told
@@ -64,7 +57,7 @@ fn free_turn(t: Tenths, line: u8) -> Turn
     if line == 0 {
         return Turn::Own(Phase::Free);
     }
-    let d = wait_from(t, RING_WAIT);
+    let d = due_after(t, RING_WAIT);
     Turn::Oldest(Phase::RingBack(d))
 }
 
@@ -75,20 +68,20 @@ pub fn turn_of(o: Outcome, t: Tenths, line: u8) -> Turn
     match o {
         Outcome::Turns(p) => Turn::Own(p),
         Outcome::Dials => {
-            let d = wait_from(t, REPLY_WAIT);
+            let d = due_after(t, REPLY_WAIT);
             Turn::Own(Phase::Dialling(d, Carrier::Present))
         }
         Outcome::RingsAgain => {
-            let d = wait_from(t, RING_WAIT);
+            let d = due_after(t, RING_WAIT);
             Turn::Own(Phase::RingAgain(d))
         }
         Outcome::ShipEnds(k) => {
             let told = told_of(k, t);
-            let d = wait_from(t, HOLD_WAIT);
+            let d = due_after(t, HOLD_WAIT);
             Turn::Own(Phase::Hold(d, told))
         }
         Outcome::Renews | Outcome::Offers => {
-            let d = wait_from(t, OFFER_WAIT);
+            let d = due_after(t, OFFER_WAIT);
             Turn::Asked(Phase::Offered(d))
         }
         Outcome::Frees | Outcome::Clears | Outcome::CoastEnds(_) | Outcome::Redials(_) => free_turn(
@@ -117,7 +110,7 @@ pub fn line_of(o: Outcome, t: Tenths, line: u8) -> Line
             line,
         ),
         Outcome::Joins => {
-            let d = wait_from(t, QUEUE_WAIT);
+            let d = due_after(t, QUEUE_WAIT);
             Line::Joins(d)
         }
         Outcome::Replaces(k) => Line::Replaces(k),

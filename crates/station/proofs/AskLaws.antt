@@ -12,7 +12,7 @@ use Rattle.slots.proofs.PhaseLaws.{by-phase}
 use Rattle.outcomes.specs.declared.Outcome.{Outcome}
 use Rattle.outcomes.specs.declared.Outcome.the-variants.{Joins, Unable}
 use Rattle.outcomes.specs.Does.{goesOn, outOf, wholeOf}
-use Rattle.outcomes.specs.Decides.{bqBy, newcomerBy}
+use Rattle.deciding.specs.Decides.{bqBy, newcomerBy}
 
 -- nothing goes on
 pub ends-there : (i : ℕ) (own q : Request) (o : Outcome) (st : R.Station) → goesOn o ≡ false → wholeOf i own q o st ≡ outOf i own q o st

@@ -23,7 +23,7 @@ use Rattle.hearing.specs.declared.Heard.{Heard}
 use Rattle.hearing.specs.Said.{heardOf}
 use Rattle.outcomes.specs.declared.Outcome.{Outcome}
 use Rattle.outcomes.specs.Does.{outOf, timeOf}
-use Rattle.outcomes.proofs.RuleLaws.{signal-is, hand-is}
+use Rattle.deciding.proofs.RuleLaws.{signal-is, hand-is}
 use Rattle.station.specs.declared.Station.{Station}
 use Rattle.station.specs.declared.Plain.{Plain}
 use Rattle.station.specs.declared.Plain.the-variants.{Signal, Hand}

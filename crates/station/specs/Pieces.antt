@@ -33,7 +33,7 @@ use Rattle.hearing.specs.declared.Kind.the-variants.{CallRequest, DataRequest, 
 use Rattle.outcomes.specs.declared.Outcome.{Outcome}
 use Rattle.outcomes.specs.declared.Outcome.the-variants.{Ignored, Passes, Drops}
 use Rattle.outcomes.specs.Does.{outOf, wholeOf}
-use Rattle.outcomes.specs.Decides.{bySignal, byHand, coastEndBy, workingBy, shipEndBy, mainDueBy}
+use Rattle.deciding.specs.Decides.{bySignal, byHand, coastEndBy, workingBy, shipEndBy, mainDueBy}
 use Rattle.station.specs.declared.Station.{Station}
 use Rattle.station.specs.declared.Stepped.{Stepped}
 use Rattle.station.specs.declared.Plain.{Plain}

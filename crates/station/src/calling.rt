@@ -27,7 +27,6 @@ use hearing::Heard;
 use hearing::Kind;
 use hearing::told_by;
 use outcomes::Outcome;
-use outcomes::calls;
 use outcomes::parts::goes_on;
 use reading::read;
 use requests::Request;
@@ -50,14 +49,14 @@ impl Station {
         let n = self.line();
         match f {
             Found::At(i) => {
-                let o = calls::newcomer(true, n);
+                let o = deciding::newcomer(true, n);
                 Choice {
                     slot: i,
                     outcome: o,
                 }
             }
             Found::Nothing => {
-                let o = calls::newcomer(false, n);
+                let o = deciding::newcomer(false, n);
                 Choice {
                     slot: SlotNumber(0),
                     outcome: o,
@@ -90,7 +89,7 @@ impl Station {
         let own = x.request;
         let same = same_request(q, own);
         let m = own.mode;
-        let o = calls::asked_again(m, same, p);
+        let o = deciding::asked_again(m, same, p);
         Choice {
             slot: i,
             outcome: o,
@@ -123,7 +122,7 @@ impl Station {
         let p = x.phase;
         let held = x.request;
         let own = is_by(held, q.ship, q.station);
-        let o = calls::bq(own, t, p);
+        let o = deciding::bq(own, t, p);
         Choice {
             slot: i,
             outcome: o,

@@ -8,7 +8,6 @@ use crate::Stepped;
 use dues::due_by;
 use gate::Verdict;
 use outcomes::Outcome;
-use outcomes::calls;
 use slots::Due;
 use slots::Phase;
 use slots::Wait;
@@ -51,8 +50,8 @@ fn by_wait(w: Wait, p: Phase) -> Outcome
 {
     match w {
         Wait::Entry(k) => Outcome::Drops(k),
-        Wait::Loss(_) => calls::coast_end(p),
-        Wait::Main(_) => calls::main_due(p),
+        Wait::Loss(_) => deciding::coast_end(p),
+        Wait::Main(_) => deciding::main_due(p),
     }
 }
 

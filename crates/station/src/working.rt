@@ -9,7 +9,6 @@ use gate::Verdict;
 use hearing::Kind;
 use hearing::told_by;
 use outcomes::Outcome;
-use outcomes::calls;
 use reading::read;
 use requests::sameness::is_by;
 use slots::Phase;
@@ -23,8 +22,8 @@ fn by_kind(k: Kind, own: bool, p: Phase) -> Outcome
         Kind::CallRequest => Outcome::Ignored,
         Kind::DataRequest => Outcome::Ignored,
         Kind::Bq(_) => Outcome::Ignored,
-        Kind::WorkingCall => calls::working_call(own, p),
-        Kind::EndOfCall => calls::ship_end(own, p),
+        Kind::WorkingCall => deciding::working_call(own, p),
+        Kind::EndOfCall => deciding::ship_end(own, p),
         Kind::Nothing => Outcome::Ignored,
     }
 }

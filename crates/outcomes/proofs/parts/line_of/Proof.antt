@@ -2,6 +2,7 @@ use borrow.Author.Needs.{needs}
 use mathlib.Core.List.{[], _∷_}
 use Rattle.outcomes.specs.Does.{lineOf}
 use Rattle.outcomes.proofs.ArmLaws.{outcome-arm}
+use Rattle.outcomes.proofs.WaitLaws.{time-is}
 use Rattle.outcomes.proofs.parts.line_of.Statement.{statement}
 use Rattle.outcomes.proofs.parts.line_of.Tie as tie
 
@@ -9,7 +10,7 @@ returns : tie.Need-returns
 returns c = rw (c .free-line .ensures) (outcome-arm (5 ∷ 6 ∷ 7 ∷ 12 ∷ []) _ (lineOf (c .before .before .args .t) (c .before .before .args .line)) (search needs) (c .before .before .args .o) (c .before .match .keys1))
 
 returns-2 : tie.Need-returns-2
-returns-2 c = rw (c .wait-from .ensures, c .before .enum-told .given .1)
+returns-2 c = rw (time-is _ _ (c .due-after .ensures), c .before .enum-told .given .1)
 
 returns-3 : tie.Need-returns-3
 returns-3 c = rw (c .before .o .given .1)

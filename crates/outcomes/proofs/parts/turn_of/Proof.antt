@@ -2,6 +2,7 @@ use borrow.Author.Needs.{needs}
 use mathlib.Core.List.{[], _∷_}
 use Rattle.outcomes.specs.Does.{turnOf}
 use Rattle.outcomes.proofs.ArmLaws.{outcome-arm}
+use Rattle.outcomes.proofs.WaitLaws.{time-is}
 use Rattle.outcomes.proofs.parts.turn_of.Statement.{statement}
 use Rattle.outcomes.proofs.parts.turn_of.Tie as tie
 
@@ -9,16 +10,16 @@ returns : tie.Need-returns
 returns c = rw (c .before .o .given .1)
 
 returns-2 : tie.Need-returns-2
-returns-2 c = rw (c .wait-from .ensures, c .before .enum-told .given .1)
+returns-2 c = rw (time-is _ _ (c .due-after .ensures), c .before .enum-told .given .1)
 
 returns-3 : tie.Need-returns-3
-returns-3 c = rw (c .wait-from2 .ensures, c .before .enum-told2 .given .1)
+returns-3 c = rw (time-is _ _ (c .due-after2 .ensures), c .before .enum-told2 .given .1)
 
 returns-4 : tie.Need-returns-4
-returns-4 c = rw (c .wait-from3 .ensures, c .before .told-of .ensures, c .before .before .before .o2 .given .1)
+returns-4 c = rw (time-is _ _ (c .due-after3 .ensures), c .before .told-of .ensures, c .before .before .before .o2 .given .1)
 
 returns-5 : tie.Need-returns-5
-returns-5 c = rw (c .wait-from4 .ensures) (outcome-arm (11 ∷ 13 ∷ []) _ (turnOf (c .before .before .args .t) (c .before .before .args .line)) (search needs) (c .before .before .args .o) (c .before .match .keys5))
+returns-5 c = rw (time-is _ _ (c .due-after4 .ensures)) (outcome-arm (11 ∷ 13 ∷ []) _ (turnOf (c .before .before .args .t) (c .before .before .args .line)) (search needs) (c .before .before .args .o) (c .before .match .keys5))
 
 returns-6 : tie.Need-returns-6
 returns-6 c = rw (c .free-turn .ensures) (outcome-arm (5 ∷ 6 ∷ 7 ∷ 12 ∷ []) _ (turnOf (c .before .before .args .t) (c .before .before .args .line)) (search needs) (c .before .before .args .o) (c .before .match .keys6))

@@ -4,7 +4,7 @@ use Rattle.rules.specs.Station as R
 use Rattle.rules.specs.Station.{setClock}
 use Rattle.rules.specs.Calls.{bqFor}
 use Rattle.requests.specs.Views.{requestOf}
-use Rattle.outcomes.proofs.RuleLaws.{bq-is}
+use Rattle.deciding.proofs.RuleLaws.{bq-is}
 use Rattle.station.specs.Model.{modelOf}
 use Rattle.station.specs.Pieces.{slotOf, ownOf, wholeAt}
 use Rattle.station.proofs.AskLaws.{ends-there, bq-ends}

@@ -3,7 +3,7 @@ use Rattle.rules.specs.Station as R
 use Rattle.rules.specs.Station.{setClock}
 use Rattle.rules.specs.Requests.{same, bOrC, requested}
 use Rattle.requests.specs.Views.{requestOf}
-use Rattle.outcomes.proofs.RuleLaws.{asked-again-is}
+use Rattle.deciding.proofs.RuleLaws.{asked-again-is}
 use Rattle.station.specs.Model.{modelOf}
 use Rattle.station.specs.Pieces.{slotOf, ownOf, wholeAt}
 use Rattle.station.proofs.PlaceLaws.{slot-view}

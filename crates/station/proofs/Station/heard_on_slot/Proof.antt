@@ -22,7 +22,7 @@ use Rattle.hearing.specs.declared.Kind.the-variants.{CallRequest, DataRequest, 
 use Rattle.hearing.specs.Said.{heardAs, heardOf}
 use Rattle.outcomes.specs.declared.Outcome.{Outcome}
 use Rattle.outcomes.specs.Does.{outOf}
-use Rattle.outcomes.proofs.RuleLaws.{working-is, ship-end-is}
+use Rattle.deciding.proofs.RuleLaws.{working-is, ship-end-is}
 use Rattle.station.specs.declared.Station.{Station}
 use Rattle.station.specs.Model.{modelOf, configOf}
 use Rattle.station.specs.Step.{slotAt, refusal}

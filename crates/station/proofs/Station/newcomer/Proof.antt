@@ -2,7 +2,7 @@ use mathlib.Core.Bool.{false}
 use mathlib.Core.Path.{refl}
 use lib.ListN.{length}
 use Rattle.rules.specs.Station.{setClock}
-use Rattle.outcomes.proofs.RuleLaws.{offers-is, joins-is}
+use Rattle.deciding.proofs.RuleLaws.{offers-is, joins-is}
 use Rattle.station.specs.Model.{modelOf}
 use Rattle.station.proofs.AskLaws.{newcomer-ends}
 use borrow.Author.Needs.{needs}

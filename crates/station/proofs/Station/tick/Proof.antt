@@ -25,7 +25,7 @@ use Rattle.slots.specs.Phases.{phaseView}
 use Rattle.slots.specs.Views.{waitView, dueView}
 use Rattle.outcomes.specs.declared.Outcome.{Outcome}
 use Rattle.outcomes.specs.Does.{outOf}
-use Rattle.outcomes.proofs.RuleLaws.{coast-end-is, main-due-is, drops-is, passes-is}
+use Rattle.deciding.proofs.RuleLaws.{coast-end-is, main-due-is, drops-is, passes-is}
 use Rattle.station.specs.declared.Station.{Station}
 use Rattle.station.specs.Model.{modelOf, configOf}
 use Rattle.station.specs.Step.{eventAt, refusal}

@@ -1,7 +1,7 @@
 use mathlib.Core.Path.{_∙_}
 use Rattle.rules.specs.Station.{setClock}
 use Rattle.requests.specs.Views.{requestOf}
-use Rattle.outcomes.proofs.RuleLaws.{replaces-is, newcomer-is}
+use Rattle.deciding.proofs.RuleLaws.{replaces-is, newcomer-is}
 use Rattle.station.specs.Model.{modelOf}
 use borrow.Author.Needs.{needs}
 use Rattle.station.proofs.Station.without_slot.Statement.{statement}

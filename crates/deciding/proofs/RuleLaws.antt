@@ -1,0 +1,158 @@
+-- What is decided for an event is what the rules do with it: by the phase of the slot i, which keeps r, where the event asks for q.
+use Prim.Native.Nat.{ℕ, _≤_}
+use mathlib.Core.Bool.{Bool, true, false, cond}
+use mathlib.Core.Option.{none, some}
+use mathlib.Core.Path.{_≡_, refl, ap, sym, _∙_}
+use native.Mathlib.Omega.{arith}
+use lib.ListN.{length}
+use lib.Dec.{ltb}
+use Rattle.rules.specs.Places.{lowest}
+use Rattle.rules.specs.Sound.{limit, queueRoom}
+use Rattle.rules.specs.Words as W
+use Rattle.rules.specs.Words.{Party, is, Request, simplex, duplex}
+use Rattle.rules.specs.Waits.{ofQueue}
+use Rattle.rules.specs.Station as R
+use Rattle.rules.specs.Station.{setClock, kindWait, carrierWait, queueWait, isFree}
+use Rattle.rules.specs.Requests.{coastEnd, same, placeOf, ruleA, ruleB, ruleC, ruleF, ruleG, redial, bOrC, eToG, newcomer, dToG}
+use Rattle.rules.specs.Calls.{workingOn, workingKind, bqFor, bqKind, agreed, offHookOn, offHookStage, startLoss, downOn, upOn, shipEnd, shipEndOn, endOn, signalOn, takeOn, giveOn, handOn, pendingDue, replyDue, mainOn, fire, ticked}
+use Rattle.requests.specs.declared.Mode.{Mode}
+use Rattle.requests.specs.declared.Mode.the-variants.{Simplex, Duplex}
+use Rattle.requests.specs.Views.{modeOf}
+use Rattle.slots.specs.declared.Carrier.{Carrier}
+use Rattle.slots.specs.declared.Carrier.the-variants.{Present, Lost}
+use Rattle.slots.specs.declared.Phase.{Phase}
+use Rattle.slots.specs.declared.Signal.{Signal}
+use Rattle.slots.specs.declared.Signal.the-variants.{LineLifted, LineHung, CarrierHeard, CarrierLost}
+use Rattle.slots.specs.declared.Hand.{Hand}
+use Rattle.slots.specs.declared.Hand.the-variants.{Takes, GivesBack}
+use Rattle.slots.specs.declared.QueuePlace.{QueuePlace}
+use Rattle.slots.specs.Phases.{carrierOf, phaseView}
+use Rattle.slots.specs.Views.{signalView, handView}
+use Rattle.slots.proofs.PhaseLaws.{by-phase}
+use Rattle.outcomes.specs.declared.Talk.{Talk}
+use Rattle.outcomes.specs.declared.Talk.the-variants.{Unanswered, Since}
+use Rattle.outcomes.specs.declared.Outcome.the-variants.{Passes, Redials, Joins, Replaces, Unable, Drops}
+use Rattle.outcomes.specs.Does.{sinceOf, outOf, behind, withoutSlot, wholeOf, timeOf}
+use Rattle.outcomes.proofs.WaitLaws.{wait-fits}
+use Rattle.deciding.specs.Decides.{offHookBy, upBy, lossFrom, downBy, coastEndBy, workingBy, shipEndBy, bqBy, bySignal, takeBy, giveBackBy, byHand, mainDueBy, ruleBBy, ruleCBy, askedAgainBy, newcomerBy}
+
+carrier-short : (m : W.Mode) → carrierWait m ≤ queueWait
+carrier-short simplex = omega arith
+carrier-short duplex = omega arith
+
+module _ (i : ℕ) (st : R.Station) (r q : Request) where
+  -- ── the line, the carrier, the operator, a wait that falls due ──
+
+  off-hook-is : (p : Phase) → outOf i r q (offHookBy (timeOf st) p) st ≡ offHookOn i st (phaseView p r)
+  unfolding outOf offHookOn offHookStage
+  off-hook-is = by-phase _ refl (λ t. refl) (λ t. refl) (λ t. refl) (λ t. refl) (λ t l. refl) (λ t l. refl) (λ t n. refl) refl
+
+  up-is : (p : Phase) → outOf i r q (upBy p) st ≡ upOn i st (phaseView p r)
+  unfolding outOf upOn
+  up-is = by-phase _ refl (λ t. refl) (λ t. refl) (λ t. refl) (λ t. refl) (λ t l. refl) (λ t l. refl) (λ t n. refl) refl
+
+  loss-is : (m : Mode) → modeOf m ≡ r .mode → st .clock ≤ limit → (l : Carrier) → carrierOf (lossFrom (timeOf st) m l) ≡ startLoss (st .clock) (r .mode) (carrierOf l)
+  loss-is m e h Present = rw e (ap some (wait-fits (st .clock) (carrierWait (r .mode)) h (carrier-short (r .mode))))
+  loss-is m e h (Lost d) = refl
+
+  down-is : (m : Mode) → modeOf m ≡ r .mode → st .clock ≤ limit → (p : Phase) → outOf i r q (downBy (timeOf st) m p) st ≡ downOn i st (phaseView p r)
+  unfolding outOf downOn
+  down-is m e h = by-phase _ refl (λ t. refl) (λ t. refl) (λ t. refl) (λ t. refl) (λ t l. rw (loss-is m e h l) refl) (λ t l. rw (loss-is m e h l) refl) (λ t n. refl) refl
+
+  pub coast-end-is : (p : Phase) → outOf i r q (coastEndBy p) st ≡ endOn i st (phaseView p r)
+  unfolding outOf endOn coastEnd
+  coast-end-is = by-phase _ refl (λ t. refl) (λ t. refl) (λ t. refl) (λ t. refl) (λ t l. refl) (λ t l. refl) (λ t n. refl) refl
+
+  take-is : (p : Phase) → outOf i r q (takeBy p) st ≡ takeOn i st (phaseView p r)
+  unfolding outOf takeOn
+  take-is = by-phase _ refl (λ t. refl) (λ t. refl) (λ t. refl) (λ t. refl) (λ t l. refl) (λ t l. refl) (λ t n. refl) refl
+
+  give-back-is : (p : Phase) → outOf i r q (giveBackBy p) st ≡ giveOn i st (phaseView p r)
+  unfolding outOf giveOn
+  give-back-is = by-phase _ refl (λ t. refl) (λ t. refl) (λ t. refl) (λ t. refl) (λ t l. refl) (λ t l. refl) (λ t n. refl) refl
+
+  pub signal-is : (m : Mode) → modeOf m ≡ r .mode → st .clock ≤ limit → (g : Signal) (p : Phase) → outOf i r q (bySignal g (timeOf st) m p) st ≡ signalOn i st (phaseView p r) (signalView g)
+  signal-is m e h LineLifted p = off-hook-is p
+  signal-is m e h LineHung p = coast-end-is p
+  signal-is m e h CarrierHeard p = up-is p
+  signal-is m e h CarrierLost p = down-is m e h p
+
+  pub hand-is : (h : Hand) (p : Phase) → outOf i r q (byHand h p) st ≡ handOn i st (phaseView p r) (handView h)
+  hand-is Takes p = take-is p
+  hand-is GivesBack p = give-back-is p
+
+  pub main-due-is : (p : Phase) → outOf i r q (mainDueBy p) st ≡ mainOn i st (phaseView p r)
+  unfolding outOf mainOn pendingDue replyDue coastEnd
+  main-due-is = by-phase _ refl (λ t. refl) (λ t. refl) (λ t. refl) (λ t. refl) (λ t l. refl) (λ t l. refl) (λ t n. refl) refl
+
+  -- ── heard from the ship x ──
+
+  module _ (x : Party) where
+    pub working-is : (own : Bool) → is x (r .who) ≡ own → (p : Phase) → outOf i r q (workingBy own p) st ≡ workingOn i x st (phaseView p r)
+    unfolding outOf workingOn workingKind
+    working-is true e = by-phase _ refl (λ t. rw e refl) (λ t. rw e refl) (λ t. rw e refl) (λ t. rw e refl) (λ t l. refl) (λ t l. refl) (λ t n. refl) refl
+    working-is false e = by-phase _ refl (λ t. rw e refl) (λ t. rw e refl) (λ t. rw e refl) (λ t. rw e refl) (λ t l. refl) (λ t l. refl) (λ t n. refl) refl
+
+    pub ship-end-is : (own : Bool) → is x (r .who) ≡ own → (p : Phase) → outOf i r q (shipEndBy own p) st ≡ shipEndOn i x st (phaseView p r)
+    unfolding outOf shipEndOn shipEnd
+    ship-end-is true e = by-phase _ refl (λ t. refl) (λ t. refl) (λ t. refl) (λ t. refl) (λ t l. rw e refl) (λ t l. rw e refl) (λ t n. rw e refl) refl
+    ship-end-is false e = by-phase _ refl (λ t. refl) (λ t. refl) (λ t. refl) (λ t. refl) (λ t l. rw e refl) (λ t l. rw e refl) (λ t n. rw e refl) refl
+
+    pub bq-is : (own : Bool) → is x (r .who) ≡ own → st .clock ≤ limit → (p : Phase) → outOf i r q (bqBy own (timeOf st) p) st ≡ bqFor i x st (phaseView p r)
+    unfolding outOf bqFor bqKind agreed
+    bq-is true e h = by-phase _ refl (λ t. rw e refl) (λ t. rw (e, wait-fits (st .clock) (kindWait R.acknowledged) h (omega arith)) refl) (λ t. rw (e, wait-fits (st .clock) (kindWait R.acknowledged) h (omega arith)) refl) (λ t. rw e refl) (λ t l. refl) (λ t l. refl) (λ t n. refl) refl
+    bq-is false e h = by-phase _ refl (λ t. rw e refl) (λ t. rw e refl) (λ t. rw e refl) (λ t. rw e refl) (λ t l. refl) (λ t l. refl) (λ t n. refl) refl
+
+  -- ── a call request ──
+
+  rule-b-is : (s : Bool) → same q r ≡ s → wholeOf i r q (ruleBBy s R.offered) st ≡ ruleB i R.offered r st q
+  unfolding wholeOf outOf ruleB
+  rule-b-is true e = rw e refl
+  rule-b-is false e = rw e refl
+
+  rule-c-by : (k : Talk) (m : Mode) (l : Carrier) → wholeOf i r q (ruleCBy m k l) st ≡ ruleC i r (sinceOf k) (modeOf m) (carrierOf l) st q
+  unfolding wholeOf outOf behind withoutSlot ruleC redial
+  rule-c-by k Duplex l = refl
+  rule-c-by k Simplex Present = refl
+  rule-c-by k Simplex (Lost d) = refl
+
+  rule-c-is : (m : Mode) → r .mode ≡ modeOf m → (k : Talk) (l : Carrier) → wholeOf i r q (ruleCBy m k l) st ≡ ruleC i r (sinceOf k) (r .mode) (carrierOf l) st q
+  rule-c-is m e k l = rule-c-by k m l ∙ ap (λ x. ruleC i r (sinceOf k) x (carrierOf l) st q) (sym e)
+
+  -- b and c: the mode is that of the slot's own request
+  pub asked-again-is : (m : Mode) → r .mode ≡ modeOf m → (s : Bool) → same q r ≡ s → (p : Phase) → wholeOf i r q (askedAgainBy m s p) st ≡ bOrC i (phaseView p r) st q
+  unfolding wholeOf outOf bOrC ruleB
+  asked-again-is m e s h = by-phase _ refl (λ t. rule-b-is s h) (λ t. refl) (λ t. refl) (λ t. refl) (λ t l. rule-c-is m e Unanswered l) (λ t l. rule-c-is m e (Since t) l) (λ t n. refl) refl
+
+  -- e: i is the lowest free slot; f and g: none is free
+  pub offers-is : (line : ℕ) → some i ≡ lowest isFree (st .slots) → outOf i r q (newcomerBy true line) st ≡ newcomer st q
+  unfolding outOf newcomer eToG
+  offers-is line h = rw (← h) refl
+
+  f-or-g : (b : Bool) → outOf i r q (cond b Joins (Unable 102)) st ≡ cond b (ruleF st q) (ruleG st q)
+  unfolding outOf ruleG
+  f-or-g true = refl
+  f-or-g false = refl
+
+  pub joins-is : none ≡ lowest isFree (st .slots) → outOf i r q (newcomerBy false (length (st .queue))) st ≡ newcomer st q
+  unfolding newcomer eToG
+  joins-is h = rw (← h) (f-or-g (ltb (length (st .queue)) queueRoom))
+
+  -- d, or e to g, for a ship that has no slot
+  pub replaces-is : (k : QueuePlace) → some (k .0) ≡ placeOf (q .who) st → outOf i r q (Replaces k) st ≡ withoutSlot q st
+  unfolding outOf withoutSlot dToG
+  replaces-is k h = rw (← h) refl
+
+  pub newcomer-is : none ≡ placeOf (q .who) st → newcomer st q ≡ withoutSlot q st
+  unfolding withoutSlot dToG
+  newcomer-is h = rw (← h) refl
+
+  -- ── a tick ──
+
+  pub drops-is : (k : QueuePlace) → outOf i r q (Drops k) st ≡ fire st (ofQueue (k .0))
+  unfolding outOf
+  drops-is k = refl
+
+  pub passes-is : (t : ℕ) → outOf i r q Passes (setClock t st) ≡ ticked st t none
+  unfolding outOf ticked
+  passes-is t = refl

@@ -1,0 +1,34 @@
+use borrow.Author.Needs.{needs}
+use mathlib.Core.List.{[], _∷_}
+use Rattle.deciding.specs.Decides.{askedAgainBy}
+use Rattle.slots.proofs.PhaseLaws.{phase-arm}
+use Rattle.deciding.proofs.asked_again.Statement.{statement}
+use Rattle.deciding.proofs.asked_again.Tie as tie
+
+returns-3 : tie.Need-returns-3
+returns-3 c = phase-arm (2 ∷ 3 ∷ 4 ∷ []) _ (askedAgainBy (c .before .args .m) (c .before .args .same)) (search needs) (c .before .args .p) (c .match .keys2)
+
+returns-4 : tie.Need-returns-4
+returns-4 c = rw (c .rule-c .ensures, c .before .before .p .given .1)
+
+returns-5 : tie.Need-returns-5
+returns-5 c = rw (c .rule-c2 .ensures, c .before .before .p2 .given .1)
+
+returns-6 : tie.Need-returns-6
+returns-6 c = phase-arm (0 ∷ 7 ∷ 8 ∷ []) _ (askedAgainBy (c .before .args .m) (c .before .args .same)) (search needs) (c .before .args .p) (c .match .keys5)
+
+pub asked-again-spec : {M : Type 1} → statement M
+asked-again-spec =
+    tie.close
+    (tie.spec
+    (λ c. search needs)
+    (λ c. search needs)
+    (λ c κs. search needs)
+    (λ c. search needs)
+    (λ c κs. search needs)
+    (λ c. search needs)
+    (λ c. search needs)
+    returns-3
+    returns-4
+    returns-5
+    returns-6)
