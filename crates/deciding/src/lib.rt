@@ -2,8 +2,8 @@
 // holds a station.
 ghost use mathlib.Core.Path.{_≡_};
 ghost use Rattle.deciding.specs.Decides.{offHookBy, upBy, lossFrom, downBy, coastEndBy, workingBy, shipEndBy, bqBy, bySignal, takeBy, giveBackBy, byHand, mainDueBy, ruleCBy, askedAgainBy, newcomerBy};
-use dues::carrier_wait;
-use dues::due_after;
+use due_times::carrier_wait;
+use due_times::due_after;
 use outcomes::Outcome;
 use outcomes::Talk;
 use requests::Mode;

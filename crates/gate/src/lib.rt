@@ -5,7 +5,7 @@ ghost use Rattle.sequence.specs.Answers.{answerNumber, isDone};
 ghost use Rattle.sequence.specs.Refusals.{firstRefusal};
 ghost use Rattle.gate.specs.Asked.{verdictOf, andThen, askedAlways, askedNow, askedOnSlot};
 use actions::ROOM;
-use dues::falls_due;
+use due_times::falls_due;
 use sequence::Answer;
 use slots::Due;
 use units::LIMIT;

@@ -29,10 +29,10 @@ use Rattle.station.specs.declared.NextDue.the-variants.{Never}
 use Rattle.station.specs.Model.{modelOf, imageOf}
 use Rattle.station.specs.Step.{dueImage, setUpFor}
 use Rattle.station.proofs.ImageLaws.{model-back}
-use Rattle.rack.specs.Steps.{Step, Allowed}
-use Rattle.rack.proofs.Laid.{refusal-is}
-use Rattle.rack.proofs.Steps.{allowed-does, left-for, stepFor, step-allowed}
-use Rattle.rack.proofs.Traces.{done-back, done-left, refused-back}
+use Rattle.station_theorems.specs.Steps.{Step, Allowed}
+use Rattle.station_theorems.proofs.Laid.{refusal-is}
+use Rattle.station_theorems.proofs.Steps.{allowed-does, left-for, stepFor, step-allowed}
+use Rattle.station_theorems.proofs.Traces.{done-back, done-left, refused-back}
 use Rattle.printing.specs.Replies.{actionTexts, replyText}
 use Rattle.printing.specs.Statement.{linesText}
 use Rattle.printing.proofs.PrintedLaws.{first-is, reply-is}

@@ -22,8 +22,8 @@ use Rattle.slots.specs.declared.Slot.{Slot}
 use Rattle.slots.specs.declared.Waiting.{Waiting}
 use Rattle.slots.specs.declared.mast.Mast.{Mast}
 use Rattle.slots.specs.Views.{named, slotView, waitingView, channelOf, configFor}
-use Rattle.keeping.specs.Kept.{slotExact, waitingExact, slotSound, waitingSound}
-use Rattle.keeping.proofs.KeepLaws.{slots-alike, queue-alike}
+use Rattle.sound_records.specs.Kept.{slotExact, waitingExact, slotSound, waitingSound}
+use Rattle.sound_records.proofs.KeepLaws.{slots-alike, queue-alike}
 use Rattle.soundness.specs.Soundly.{headSound, numberOf, shipsOf, shipAt}
 use Rattle.soundness.proofs.GatherLaws.{channels-apart, ships-apart}
 

@@ -5,7 +5,7 @@ ghost use Rattle.rules.specs.Sound.{channelsKeep, configKeeps};
 ghost use Rattle.requests.specs.Views.{viewed};
 ghost use Rattle.slots.specs.Views.{channelOf, configFor};
 ghost use Rattle.soundness.specs.Soundly.{headSound};
-use apart::all_apart;
+use distinct::all_apart;
 use requests::least;
 use sequence::parts::channel_ok;
 use slots::MOST_SLOTS;

@@ -16,8 +16,8 @@ use Rattle.slots.specs.Views.{slotView, waitingView, dueView, dueOf}
 use Rattle.slots.specs.Images.{tidySlot, tidyWaiting, blankSlot, blankWaiting}
 use Rattle.slots.proofs.ImageLaws.{tidied-slots, tidied-queue}
 use Rattle.slots.proofs.TidyLaws.{doneFrom, all-done, done-length}
-use Rattle.dues.specs.Joins.{queueJoined}
-use Rattle.dues.proofs.DueLaws.{earliest-queue}
+use Rattle.due_times.specs.Joins.{queueJoined}
+use Rattle.due_times.proofs.DueLaws.{earliest-queue}
 use Rattle.station.specs.declared.Station.{Station}
 use Rattle.station.specs.Model.{modelOf, configOf, imageOf}
 use Rattle.station.specs.Step.{dueImage}

@@ -10,7 +10,7 @@ use borrow.Author.Tests.{le-leb}
 use Rattle.sequence.specs.Answers.{isDone}
 use Rattle.sequence.specs.Layout.{valid}
 use Rattle.sequence.specs.Reading.{readingOf}
-use Rattle.meanings.proofs.RoundTrip.{reads-valid}
+use Rattle.sequence_theorems.proofs.RoundTrip.{reads-valid}
 use Rattle.rules.specs.Words.{Config, Happened, Event, onSlot}
 use Rattle.rules.specs.Actions.{Action}
 use Rattle.rules.specs.Bytes.{channelAt, slotNumber, block}

@@ -17,7 +17,7 @@ use Rattle.rules.specs.Bytes.{padded, blocks}
 use Rattle.requests.specs.Views.{viewed, itself}
 use Rattle.slots.specs.Views.{alone, onMast}
 use Rattle.slots.specs.Images.{tenths}
-use Rattle.keeping.specs.Kept.{slotExact, waitingExact}
+use Rattle.sound_records.specs.Kept.{slotExact, waitingExact}
 use Rattle.station.specs.declared.Station.{Station}
 use Rattle.station.specs.declared.NextDue.{NextDue}
 use Rattle.station.specs.declared.NextDue.the-variants.{Never, At}

@@ -5,7 +5,7 @@ ghost use Rattle.station.specs.Step.{eventAt, steppedBy, roomAfter};
 ghost use Rattle.station.specs.Pieces.{waitSlot, dueSlot, moment, byWait, byDue};
 use crate::Station;
 use crate::Stepped;
-use dues::due_by;
+use due_times::due_by;
 use gate::Verdict;
 use outcomes::Outcome;
 use slots::Due;

@@ -17,8 +17,8 @@ use Rattle.slots.specs.Views.{slotView, waitingView, channelOf, onMast, dueView
 use Rattle.slots.specs.Images.{tidySlot, tidyWaiting, blankSlot, blankWaiting}
 use Rattle.slots.proofs.QueueLaws.{gap-moves, gap-last}
 use Rattle.slots.proofs.TidyLaws.{doneFrom, none-done, done-length, done-at, done-used, done-unused}
-use Rattle.dues.specs.Joins.{joinDue, queueJoined}
-use Rattle.dues.proofs.DueLaws.{slots-down, slots-none, queue-down, queue-none}
+use Rattle.due_times.specs.Joins.{joinDue, queueJoined}
+use Rattle.due_times.proofs.DueLaws.{slots-down, slots-none, queue-down, queue-none}
 use Rattle.outcomes.specs.declared.Line.{Line}
 use Rattle.outcomes.specs.declared.Turn.{Turn}
 use Rattle.outcomes.specs.Does.{turnOf, lined, turned, applied}

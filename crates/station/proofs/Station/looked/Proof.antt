@@ -14,9 +14,9 @@ use Rattle.rules.specs.Station.{slotTable, table}
 use Rattle.requests.specs.Views.{viewed, left, itself}
 use Rattle.requests.proofs.ArrayLaws.{left-all, left-none, laid-more, viewed-length}
 use Rattle.slots.specs.Views.{slotView, waitingView, dueView, dueOf, noSlot, noWaiting}
-use Rattle.dues.specs.Joins.{queueJoined}
-use Rattle.dues.proofs.DueLaws.{slots-down, slots-none, queue-down, queue-none, earliest-queue}
-use Rattle.keeping.specs.Kept.{slotSound, waitingSound}
+use Rattle.due_times.specs.Joins.{queueJoined}
+use Rattle.due_times.proofs.DueLaws.{slots-down, slots-none, queue-down, queue-none, earliest-queue}
+use Rattle.sound_records.specs.Kept.{slotSound, waitingSound}
 use Rattle.soundness.specs.Soundly.{headSound, numberOf, shipsOf, shipAt}
 use Rattle.soundness.proofs.GatherLaws.{Filled, filled-more, filled-length, ship-more, ship-none, ship-waits, ships-front, one-passes, one-fails, all-passed, channels-front}
 use Rattle.soundness.proofs.SeenLaws.{seen-is}

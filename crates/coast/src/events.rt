@@ -1,0 +1,176 @@
+// The events, each on a station in lent bytes.
+ghost use mathlib.Core.Path.{_≡_};
+ghost use Prim.Native.Nat.{_≤_};
+ghost use Rattle.rules.specs.Words.{heard, signal, carrierUp, carrierDown, offHook, onHook, operator, takes, givesBack, tick, onChannel70};
+ghost use Rattle.slots.specs.Views.{signalView, handView};
+ghost use Rattle.station.specs.Step.{eventAt, slotAt};
+ghost use Rattle.coast.specs.Events.{dueNumber, told, kept, returned, stationAfter, roomLeft};
+use lent_layout::lay_station;
+use lent_layout::station_from;
+use slots::Hand;
+use slots::Signal;
+use station::NextDue;
+use station::Stepped;
+use units::SlotNumber;
+use units::Tenths;
+
+pub(crate) fn due_number(due: NextDue) -> u64
+    ensures { λ r. ⌜ r ≡ dueNumber due ⌝ }
+    ensures { λ r. ⌜ r ≤ 18446744069414649856 ⌝ }
+{
+    match due {
+        NextDue::Never => 0,
+        NextDue::At(t) => 65536 + 4294967296 * (t.0 as u64),
+    }
+}
+
+// What an event came to, as one number; the next station is laid where it was accepted.
+pub(crate) fn hand_back(r: Stepped, station: &mut [u8]) -> u64
+    ensures { λ n. ⌜ n ≡ told r ⌝ }
+    ensures { λ _. ⌜ now (station .exit) ≡ kept (now (station .entry)) r ⌝ }
+{
+    let answer = r.answer;
+    let count = r.count;
+    let due = r.due;
+    let next = r.station;
+    let number = (answer as u64) + 256 * (count as u64) + due_number(due);
+    if answer <= 1 {
+        lay_station(next, station);
+        return number;
+    }
+    number
+}
+
+// The time has come.
+#[no_mangle]
+pub extern "C" fn coast_tick(station: &mut [u8], time: u32, room: &mut [u8]) -> u64
+    ensures { λ r. ⌜ r ≡ returned (now (station .entry)) (eventAt time tick (now (room .entry))) ⌝ }
+    ensures { λ _. ⌜ now (station .exit) ≡ stationAfter (now (station .entry)) (eventAt time tick (now (room .entry))) ⌝ }
+    ensures { λ _. ⌜ now (room .exit) ≡ roomLeft (now (station .entry)) (now (room .entry)) (eventAt time tick (now (room .entry))) ⌝ }
+{
+    let s = station_from(station);
+    let r = s.tick(Tenths(time), room);
+    hand_back(r, station)
+}
+
+// A sequence was heard on channel 70.
+#[no_mangle]
+pub extern "C" fn coast_heard_on_channel_70(
+    station: &mut [u8],
+    time: u32,
+    symbols: &[u8],
+    room: &mut [u8],
+) -> u64
+    ensures { λ r. ⌜ r ≡ returned (now (station .entry)) (eventAt time (onChannel70 (now (symbols .entry))) (now (room .entry))) ⌝ }
+    ensures { λ _. ⌜ now (station .exit) ≡ stationAfter (now (station .entry)) (eventAt time (onChannel70 (now (symbols .entry))) (now (room .entry))) ⌝ }
+    ensures { λ _. ⌜ now (room .exit) ≡ roomLeft (now (station .entry)) (now (room .entry)) (eventAt time (onChannel70 (now (symbols .entry))) (now (room .entry))) ⌝ }
+{
+    let s = station_from(station);
+    let r = s.heard_on_channel_70(Tenths(time), symbols, room);
+    hand_back(r, station)
+}
+
+// A sequence was heard on a slot's working channel.
+#[no_mangle]
+pub extern "C" fn coast_heard_on_slot(
+    station: &mut [u8],
+    time: u32,
+    slot: u32,
+    symbols: &[u8],
+    room: &mut [u8],
+) -> u64
+    ensures { λ r. ⌜ r ≡ returned (now (station .entry)) (slotAt time slot (heard (now (symbols .entry))) (now (room .entry))) ⌝ }
+    ensures { λ _. ⌜ now (station .exit) ≡ stationAfter (now (station .entry)) (slotAt time slot (heard (now (symbols .entry))) (now (room .entry))) ⌝ }
+    ensures { λ _. ⌜ now (room .exit) ≡ roomLeft (now (station .entry)) (now (room .entry)) (slotAt time slot (heard (now (symbols .entry))) (now (room .entry))) ⌝ }
+{
+    let s = station_from(station);
+    let r = s.heard_on_slot(Tenths(time), SlotNumber(slot), symbols, room);
+    hand_back(r, station)
+}
+
+// Any of the four signals.
+fn signalled(g: Signal, station: &mut [u8], time: u32, slot: u32, room: &mut [u8]) -> u64
+    ensures { λ r. ⌜ r ≡ returned (now (station .entry)) (slotAt time slot (signal (signalView g)) (now (room .entry))) ⌝ }
+    ensures { λ _. ⌜ now (station .exit) ≡ stationAfter (now (station .entry)) (slotAt time slot (signal (signalView g)) (now (room .entry))) ⌝ }
+    ensures { λ _. ⌜ now (room .exit) ≡ roomLeft (now (station .entry)) (now (room .entry)) (slotAt time slot (signal (signalView g)) (now (room .entry))) ⌝ }
+{
+    let s = station_from(station);
+    let r = s.signalled(g, Tenths(time), SlotNumber(slot), room);
+    hand_back(r, station)
+}
+
+// Either hand of the operator.
+fn handled(h: Hand, station: &mut [u8], time: u32, slot: u32, room: &mut [u8]) -> u64
+    ensures { λ r. ⌜ r ≡ returned (now (station .entry)) (slotAt time slot (operator (handView h)) (now (room .entry))) ⌝ }
+    ensures { λ _. ⌜ now (station .exit) ≡ stationAfter (now (station .entry)) (slotAt time slot (operator (handView h)) (now (room .entry))) ⌝ }
+    ensures { λ _. ⌜ now (room .exit) ≡ roomLeft (now (station .entry)) (now (room .entry)) (slotAt time slot (operator (handView h)) (now (room .entry))) ⌝ }
+{
+    let s = station_from(station);
+    let r = s.handled(h, Tenths(time), SlotNumber(slot), room);
+    hand_back(r, station)
+}
+
+// The ship's carrier comes.
+#[no_mangle]
+pub extern "C" fn coast_carrier_up(station: &mut [u8], time: u32, slot: u32, room: &mut [u8]) -> u64
+    ensures { λ r. ⌜ r ≡ returned (now (station .entry)) (slotAt time slot carrierUp (now (room .entry))) ⌝ }
+    ensures { λ _. ⌜ now (station .exit) ≡ stationAfter (now (station .entry)) (slotAt time slot carrierUp (now (room .entry))) ⌝ }
+    ensures { λ _. ⌜ now (room .exit) ≡ roomLeft (now (station .entry)) (now (room .entry)) (slotAt time slot carrierUp (now (room .entry))) ⌝ }
+{
+    signalled(Signal::CarrierHeard, station, time, slot, room)
+}
+
+// The ship's carrier goes.
+#[no_mangle]
+pub extern "C" fn coast_carrier_down(
+    station: &mut [u8],
+    time: u32,
+    slot: u32,
+    room: &mut [u8],
+) -> u64
+    ensures { λ r. ⌜ r ≡ returned (now (station .entry)) (slotAt time slot carrierDown (now (room .entry))) ⌝ }
+    ensures { λ _. ⌜ now (station .exit) ≡ stationAfter (now (station .entry)) (slotAt time slot carrierDown (now (room .entry))) ⌝ }
+    ensures { λ _. ⌜ now (room .exit) ≡ roomLeft (now (station .entry)) (now (room .entry)) (slotAt time slot carrierDown (now (room .entry))) ⌝ }
+{
+    signalled(Signal::CarrierLost, station, time, slot, room)
+}
+
+// Ashore the handset is lifted.
+#[no_mangle]
+pub extern "C" fn coast_off_hook(station: &mut [u8], time: u32, slot: u32, room: &mut [u8]) -> u64
+    ensures { λ r. ⌜ r ≡ returned (now (station .entry)) (slotAt time slot offHook (now (room .entry))) ⌝ }
+    ensures { λ _. ⌜ now (station .exit) ≡ stationAfter (now (station .entry)) (slotAt time slot offHook (now (room .entry))) ⌝ }
+    ensures { λ _. ⌜ now (room .exit) ≡ roomLeft (now (station .entry)) (now (room .entry)) (slotAt time slot offHook (now (room .entry))) ⌝ }
+{
+    signalled(Signal::LineLifted, station, time, slot, room)
+}
+
+// Ashore it is put down.
+#[no_mangle]
+pub extern "C" fn coast_on_hook(station: &mut [u8], time: u32, slot: u32, room: &mut [u8]) -> u64
+    ensures { λ r. ⌜ r ≡ returned (now (station .entry)) (slotAt time slot onHook (now (room .entry))) ⌝ }
+    ensures { λ _. ⌜ now (station .exit) ≡ stationAfter (now (station .entry)) (slotAt time slot onHook (now (room .entry))) ⌝ }
+    ensures { λ _. ⌜ now (room .exit) ≡ roomLeft (now (station .entry)) (now (room .entry)) (slotAt time slot onHook (now (room .entry))) ⌝ }
+{
+    signalled(Signal::LineHung, station, time, slot, room)
+}
+
+// The operator takes a free slot.
+#[no_mangle]
+pub extern "C" fn coast_take(station: &mut [u8], time: u32, slot: u32, room: &mut [u8]) -> u64
+    ensures { λ r. ⌜ r ≡ returned (now (station .entry)) (slotAt time slot takes (now (room .entry))) ⌝ }
+    ensures { λ _. ⌜ now (station .exit) ≡ stationAfter (now (station .entry)) (slotAt time slot takes (now (room .entry))) ⌝ }
+    ensures { λ _. ⌜ now (room .exit) ≡ roomLeft (now (station .entry)) (now (room .entry)) (slotAt time slot takes (now (room .entry))) ⌝ }
+{
+    handled(Hand::Takes, station, time, slot, room)
+}
+
+// The operator gives a taken slot back.
+#[no_mangle]
+pub extern "C" fn coast_give_back(station: &mut [u8], time: u32, slot: u32, room: &mut [u8]) -> u64
+    ensures { λ r. ⌜ r ≡ returned (now (station .entry)) (slotAt time slot givesBack (now (room .entry))) ⌝ }
+    ensures { λ _. ⌜ now (station .exit) ≡ stationAfter (now (station .entry)) (slotAt time slot givesBack (now (room .entry))) ⌝ }
+    ensures { λ _. ⌜ now (room .exit) ≡ roomLeft (now (station .entry)) (now (room .entry)) (slotAt time slot givesBack (now (room .entry))) ⌝ }
+{
+    handled(Hand::GivesBack, station, time, slot, room)
+}

@@ -1,0 +1,126 @@
+-- What the contract of a call's entry says, the answer and the count in the number that it returns; that every event has its call, and
+-- that the rules accept none that C cannot hand in.
+use Prim.Native.Nat.{ℕ, _≤_, _<_, _/_, _%_}
+use mathlib.Core.Path.{_≡_, refl, ap, _∙_}
+use mathlib.Core.Bool.{true}
+use mathlib.Core.List.{List, [], _∷_}
+use native.Mathlib.Omega.{arith}
+use lib.Dec.{leb}
+use lib.ListN.{length}
+use borrow.Author.Tests.{le-leb, leb-true, ltb-true}
+use contract.Lifetimes.{Lfts}
+use denote.Ref.{RefT}
+use Rattle.sequence.specs.Symbols.{allAtMost}
+use Rattle.sequence.specs.Answers.{isDone}
+use Rattle.sequence.specs.Reading.{readingOf}
+use Rattle.reading.proofs.Passed.{passed}
+use Rattle.rules.specs.Words.{Happened, heard, signal, operator, lineLifted, lineHung, carrierHeard, carrierLost, handTakes, handGives, offHook, onHook, carrierUp, carrierDown, takes, givesBack, What, tick, onChannel70, onSlot}
+use Rattle.rules.specs.Sound.{limit}
+use Rattle.rules.specs.Verdict.{slotThere, readerSays, readOn, readIn}
+use Rattle.rules.proofs.PlaceLaws.{and-true}
+use Rattle.rules.proofs.Accepted.{accepted}
+use Rattle.soundness.proofs.FitLaws.{sound-fits}
+use Rattle.station.specs.declared.Stepped.{Stepped}
+use Rattle.station.specs.Step.{eventAt, steppedBy}
+use Rattle.lent_layout.specs.Stations.{stationFrom}
+use Rattle.coast.specs.Events.{told, returned, stationAfter, roomLeft}
+use Rattle.coast.proofs.Theorems.{taken-apart}
+use Rattle.station_theorems.proofs.Steps.{lives, lent}
+use Rattle.host_theorems.specs.Calls.{Call, callOf, WhatInC, HappenedInC, Entered, by-tick, by-heard-on-channel-70, by-heard-on-slot, by-carrier-up, by-carrier-down, by-off-hook, by-on-hook, by-take-slot, by-give-back}
+use Rattle.host_theorems.specs.Sequences.{InBytes}
+use Rattle.host_theorems.specs.Scripts.{AcceptedIsInC}
+use Rattle.host_theorems.specs.Statement.{answerIn, countIn}
+use Rattle.host_theorems.proofs.Small.{stepped-in-byte}
+
+pub record Called (x : Call) : Type 0 where
+  pub time : ℕ
+  pub what : What
+  pub event-is : x .event ≡ eventAt time what (x .lent)
+  pub number-is : x .number ≡ returned (x .station) (x .event)
+  pub kept-is : x .kept ≡ stationAfter (x .station) (x .event)
+  pub left-is : x .left ≡ roomLeft (x .station) (x .lent) (x .event)
+
+pub called : (x : Call) → Entered x → Called x
+called _ (by-tick κs a r s p) = record { time = a .1 .0; what = tick; event-is = refl; number-is = p .0; kept-is = p .1 .0; left-is = p .1 .1 }
+called _ (by-heard-on-channel-70 κs a r s p) = record { time = a .1 .0; what = onChannel70 (a .1 .1 .0 .now); event-is = refl; number-is = p .0; kept-is = p .1 .0; left-is = p .1 .1 }
+called _ (by-heard-on-slot κs a r s p) = record { time = a .1 .0; what = onSlot (a .1 .1 .0) (heard (a .1 .1 .1 .0 .now)); event-is = refl; number-is = p .0; kept-is = p .1 .0; left-is = p .1 .1 }
+called _ (by-carrier-up κs a r s p) = record { time = a .1 .0; what = onSlot (a .1 .1 .0) carrierUp; event-is = refl; number-is = p .0; kept-is = p .1 .0; left-is = p .1 .1 }
+called _ (by-carrier-down κs a r s p) = record { time = a .1 .0; what = onSlot (a .1 .1 .0) carrierDown; event-is = refl; number-is = p .0; kept-is = p .1 .0; left-is = p .1 .1 }
+called _ (by-off-hook κs a r s p) = record { time = a .1 .0; what = onSlot (a .1 .1 .0) offHook; event-is = refl; number-is = p .0; kept-is = p .1 .0; left-is = p .1 .1 }
+called _ (by-on-hook κs a r s p) = record { time = a .1 .0; what = onSlot (a .1 .1 .0) onHook; event-is = refl; number-is = p .0; kept-is = p .1 .0; left-is = p .1 .1 }
+called _ (by-take-slot κs a r s p) = record { time = a .1 .0; what = onSlot (a .1 .1 .0) takes; event-is = refl; number-is = p .0; kept-is = p .1 .0; left-is = p .1 .1 }
+called _ (by-give-back κs a r s p) = record { time = a .1 .0; what = onSlot (a .1 .1 .0) givesBack; event-is = refl; number-is = p .0; kept-is = p .1 .0; left-is = p .1 .1 }
+
+-- the answer and the count in the number are those of the step
+module _ (x : Call) (a : Entered x) where
+  abbrev stepped : Stepped
+  stepped = steppedBy (stationFrom (x .station)) (x .event)
+
+  number-is : x .number ≡ told stepped
+  unfolding returned
+  number-is = called x a .number-is
+
+  small : (stepped .answer < 256) × (stepped .count < 256)
+  small = stepped-in-byte (stationFrom (x .station)) (x .event)
+
+  pub answer-is : answerIn x ≡ stepped .answer
+  answer-is = ap (λ n. n % 256) number-is ∙ taken-apart stepped (small .0) (small .1) .0
+
+  pub count-is : countIn x ≡ stepped .count
+  count-is = ap (λ n. n / 256 % 256) number-is ∙ taken-apart stepped (small .0) (small .1) .1
+
+-- ── a call for every event on any bytes ─────────────────────────────────────
+
+more-lives : Lfts 3
+more-lives = ([], lives)
+
+module _ (b room : List ℕ) (time : ℕ) where
+  abbrev pub callFor : What → Call
+  callFor w = callOf (eventAt time w room) b room (returned b (eventAt time w room)) (stationAfter b (eventAt time w room)) (roomLeft b room (eventAt time w room))
+
+  -- the parameters of an event on a slot
+  abbrev onto : ℕ → List ℕ → List ℕ → RefT (List ℕ) × (ℕ × (ℕ × (RefT (List ℕ) × Unit {0})))
+  onto i bytes l = (lent bytes, (time, (i, (lent l, tt))))
+
+  on-slot : (i : ℕ) (h : Happened) → Entered (callFor (onSlot i h))
+  on-slot i (signal lineLifted) = by-off-hook lives (onto i b room) _ (onto i _ _) (refl, (refl, refl))
+  on-slot i (signal lineHung) = by-on-hook lives (onto i b room) _ (onto i _ _) (refl, (refl, refl))
+  on-slot i (signal carrierHeard) = by-carrier-up lives (onto i b room) _ (onto i _ _) (refl, (refl, refl))
+  on-slot i (signal carrierLost) = by-carrier-down lives (onto i b room) _ (onto i _ _) (refl, (refl, refl))
+  on-slot i (operator handTakes) = by-take-slot lives (onto i b room) _ (onto i _ _) (refl, (refl, refl))
+  on-slot i (operator handGives) = by-give-back lives (onto i b room) _ (onto i _ _) (refl, (refl, refl))
+  on-slot i (heard m) = by-heard-on-slot more-lives (lent b, (time, (i, (lent m, (lent room, tt))))) _ (lent _, (time, (i, (lent m, (lent _, tt))))) (refl, (refl, refl))
+
+  pub call-entered : (w : What) → Entered (callFor w)
+  call-entered tick = by-tick lives (lent b, (time, (lent room, tt))) _ (lent _, (time, (lent _, tt))) (refl, (refl, refl))
+  call-entered (onChannel70 m) = by-heard-on-channel-70 more-lives (lent b, (time, (lent m, (lent room, tt)))) _ (lent _, (time, (lent m, (lent _, tt)))) (refl, (refl, refl))
+  call-entered (onSlot i h) = on-slot i h
+
+-- ── what the rules accept C can hand in ──────────────────────────────────────
+
+in-bytes : (l : List ℕ) → allAtMost 127 l ≡ true → InBytes l
+in-bytes [] h = refl
+in-bytes (a ∷ l) h =
+    let w = and-true (leb a 127) (allAtMost 127 l) h in
+    rw (le-leb a 255 (omega (arith, leb-true a 127 (w .0)))) (in-bytes l (w .1))
+
+read-in-bytes : (m : List ℕ) → isDone (readerSays m) ≡ true → InBytes m
+unfolding readingOf
+read-in-bytes m h = in-bytes m (passed m h .symbols)
+
+happened-in-c : (h : Happened) → isDone (readOn h) ≡ true → HappenedInC h
+happened-in-c (heard m) r = read-in-bytes m r
+happened-in-c (signal g) r = tt
+happened-in-c (operator n) r = tt
+
+what-in-c : (n : ℕ) → n ≤ 16 → (w : What) → slotThere n w ≡ true → isDone (readIn w) ≡ true → WhatInC w
+what-in-c n few tick t r = tt
+what-in-c n few (onChannel70 m) t r = read-in-bytes m r
+what-in-c n few (onSlot i h) t r = let k = ltb-true i n t in (omega arith, happened-in-c h r)
+
+pub accepted-is-in-c : AcceptedIsInC
+unfolding AcceptedIsInC
+accepted-is-in-c c st e v =
+    let a = accepted c st e v in
+    let time : e .time ≤ limit = leb-true (e .time) limit (a .in-limit) in
+    (omega arith, what-in-c (length (st .slots)) (sound-fits c st (a .is-sound) .few) (e .what) (a .there) (a .readable))

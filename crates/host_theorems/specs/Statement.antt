@@ -1,0 +1,82 @@
+-- What is claimed of every host that hands on the bytes it was left, from the bytes alone: the theorem on charges and what stands beside it.
+use Prim.Native.Nat.{ℕ, _*_, _/_, _%_, _<_}
+use mathlib.Core.Path.{_≡_}
+use mathlib.Core.Bool.{true, cond}
+use mathlib.Core.List.{List, [], _∷_}
+use lib.Dec.{leb}
+use contract.Lifetimes.{Lfts}
+use Rattle.rules.specs.Places.{Each}
+use Rattle.rules.specs.Words.{Config}
+use Rattle.rules.specs.Verdict.{Entry}
+use Rattle.rules.specs.Statement.{notes, WordsAgree, EveryEntry}
+use Rattle.rules.specs.Repeated.{Answers, RingsSame, DialsNamed, DeedByDeed}
+use Rattle.station.specs.declared.Station.{Station}
+use Rattle.lent_layout.specs.Stations.{stationFrom}
+use Rattle.coast.proofs.setting.coast_set_up.Reads as set-up
+use Rattle.coast.proofs.setting.coast_clock.Reads as clock
+use Rattle.station_theorems.specs.Rooms.{actionsIn}
+use Rattle.station_theorems.specs.Statement.{Obeys, NoneIdle, isSound}
+use Rattle.host_theorems.specs.Calls.{Call, Entered, HostRun, lastOf}
+
+-- the answer and the count of actions, as `coast_answer` and `coast_count` take them
+abbrev pub answerIn : Call → ℕ
+answerIn x = x .number % 256
+
+abbrev pub countIn : Call → ℕ
+countIn x = x .number / 256 % 256
+
+abbrev pub entryOf : Call → Entry
+entryOf x = record { event = x .event; given = actionsIn (countIn x) (x .left) }
+
+-- the events answered 0 or 1, each with the actions in the first 40 · count bytes of its room
+unfoldable pub entriesIn : List Call → List Entry
+entriesIn [] = []
+entriesIn (x ∷ xs) = cond (leb (answerIn x) 1) (entryOf x ∷ entriesIn xs) (entriesIn xs)
+
+-- what holds of every host's run: of the list that its calls show, and of the station in the bytes left last
+abbrev pub OfEveryHost : (Config → List Entry → Station → Type 0) → Type 0
+OfEveryHost P = (c : Config) (xs : List Call) (t : HostRun c xs) → P c (entriesIn xs) (stationFrom (lastOf (t .first) xs))
+
+-- the theorem on charges
+unfoldable pub HostObeys : Type 0
+HostObeys = OfEveryHost Obeys
+
+-- ── beside it ────────────────────────────────────────────────────────────────
+
+-- "dial", "release line" and off-hook alone say of every slot what the book says of its line
+unfoldable pub HostLiterally : Type 0
+HostLiterally = OfEveryHost (λ c es s. WordsAgree c (notes es))
+
+-- what is acknowledged, rung back, rung back again and dialled is what was heard
+unfoldable pub HostAnswersRepeat : Type 0
+HostAnswersRepeat = OfEveryHost (λ c es s. EveryEntry Answers c (notes es))
+
+unfoldable pub HostSecondRingRepeats : Type 0
+HostSecondRingRepeats = OfEveryHost (λ c es s. EveryEntry (DeedByDeed RingsSame) c (notes es))
+
+unfoldable pub HostDialsAsked : Type 0
+HostDialsAsked = OfEveryHost (λ c es s. EveryEntry (DeedByDeed DialsNamed) c (notes es))
+
+-- while a ship waits no slot in use is free
+unfoldable pub HostNoChannelIdle : Type 0
+HostNoChannelIdle = OfEveryHost (λ c es s. NoneIdle s)
+
+-- no call of a run is answered 29, and the station in the bytes is sound
+unfoldable pub HostAlwaysSound : Type 0
+HostAlwaysSound = (c : Config) (xs : List Call) (t : HostRun c xs)
+    → Each (λ x. answerIn x ≡ 29 → ⊥) xs × (isSound (stationFrom (lastOf (t .first) xs)) ≡ true)
+
+-- a host that comes back with the bytes left last goes on from that station's clock: `coast_clock` tells it, and is not 29
+unfoldable pub HostTellsItsClock : Type 0
+HostTellsItsClock = (c : Config) (xs : List Call) (t : HostRun c xs) (κs : Lfts 1) (a : _) (r : _) (s : _) → clock.Post κs a r s
+    → a .0 .now ≡ lastOf (t .first) xs → r ≡ 4294967296 * stationFrom (lastOf (t .first) xs) .clock .0
+
+-- ── refusals, by the returned number, on any bytes, in a run or not ──────────
+
+-- "leaves lent bytes untouched": answered 2 or more, not a byte of station or room is changed, and no action is told
+unfoldable pub HostRefusalsLeaveAll : Type 0
+HostRefusalsLeaveAll = (x : Call) → Entered x → 1 < answerIn x → (x .kept ≡ x .station) × ((x .left ≡ x .lent) × (countIn x ≡ 0))
+
+-- and set-up, returning anything but 0, leaves the station's bytes
+unfoldable pub HostSetUpRefusalLeavesAll : Type 0
+HostSetUpRefusalLeavesAll = (κs : Lfts 2) (a : _) (r : _) (s : _) → set-up.Post κs a r s → (r ≡ 0 → ⊥) → s .1 .1 .0 .now ≡ a .1 .1 .0 .now

@@ -1,0 +1,155 @@
+// The station in bytes that a host lends: laid out by one list of fields, and read back.
+ghost use mathlib.Core.Path.{_≡_};
+ghost use Prim.Native.Nat.{_+_, _*_, _≤_};
+ghost use lib.ListN.{length};
+ghost use Rattle.layouts.specs.Fields.{decode};
+ghost use Rattle.layouts.specs.Records.{recordsAt};
+ghost use Rattle.rules.specs.Sound.{mostSlots, queueRoom};
+ghost use Rattle.slots.specs.Images.{blankSlot, blankWaiting};
+ghost use Rattle.lent_layout.specs.Layout.{slotFields, waitingFields, slotSize, waitingSize, slotsPlace, queuePlace};
+ghost use Rattle.lent_layout.specs.Numbers.{inUse, slotFrom, waitingFrom};
+ghost use Rattle.lent_layout.specs.Stations.{stationFrom, stationLaid};
+
+mod asked;
+mod numbers;
+mod records;
+pub mod said;
+
+use numbers::four_at;
+use numbers::lay;
+use numbers::lay_zeros;
+use numbers::low_first;
+use records::SLOT_SIZE;
+use records::WAITING_SIZE;
+use records::lay_slot;
+use records::lay_waiting;
+use records::slot_at;
+use records::waiting_at;
+use requests::least;
+use slots::MOST_SLOTS;
+use slots::MOST_WAITING;
+use slots::QUEUE_ROOM;
+use slots::SLOTS;
+use slots::Slot;
+use slots::Waiting;
+use slots::laying::blank_slot;
+use slots::laying::blank_waiting;
+use slots::mast::Mast;
+use station::Station;
+use units::Tenths;
+
+// Moves whenever a field does, or what a number in one stands for; it stands in front.
+const LAYOUT_VERSION: u8 = 1;
+
+// Where each field stands: behind the one before it, from the version on.
+const CLOCK: usize = 1;
+
+const IDENTITY: usize = CLOCK + 4;
+
+const SLOT_COUNT: usize = IDENTITY + 4;
+
+const WAITING_COUNT: usize = SLOT_COUNT + 1;
+
+const SLOTS_PLACE: usize = WAITING_COUNT + 1;
+
+const QUEUE_PLACE: usize = SLOTS_PLACE + SLOTS * SLOT_SIZE;
+
+pub const STATION_SIZE: usize = QUEUE_PLACE + QUEUE_ROOM * WAITING_SIZE;
+
+fn slots_from(bytes: &[u8], count: u8) -> [Slot; SLOTS]
+    requires { ⌜ queuePlace ≤ length (now bytes) ⌝ }
+    ensures { λ r. ⌜ r ≡ inUse blankSlot mostSlots count (recordsAt (λ p. slotFrom (decode slotFields (now (bytes .entry)) p)) mostSlots slotSize slotsPlace) ⌝ }
+{
+    let blank = blank_slot();
+    let mut a = [blank; SLOTS];
+    let n = least(count, MOST_SLOTS) as usize;
+    let mut i = 0;
+    while i < n {
+        let s = slot_at(bytes, SLOTS_PLACE + SLOT_SIZE * i);
+        a[i] = s;
+        i += 1;
+    }
+    a
+}
+
+fn queue_from(bytes: &[u8], waiting: u8) -> [Waiting; QUEUE_ROOM]
+    requires { ⌜ queuePlace + waitingSize * queueRoom ≤ length (now bytes) ⌝ }
+    ensures { λ r. ⌜ r ≡ inUse blankWaiting queueRoom waiting (recordsAt (λ p. waitingFrom (decode waitingFields (now (bytes .entry)) p)) queueRoom waitingSize queuePlace) ⌝ }
+{
+    let blank = blank_waiting();
+    let mut a = [blank; QUEUE_ROOM];
+    let n = least(waiting, MOST_WAITING) as usize;
+    let mut i = 0;
+    while i < n {
+        let w = waiting_at(bytes, QUEUE_PLACE + WAITING_SIZE * i);
+        a[i] = w;
+        i += 1;
+    }
+    a
+}
+
+// Bytes of another size or another version stand for the blank station, which is not sound.
+pub fn station_from(bytes: &[u8]) -> Station
+    ensures { λ r. ⌜ r ≡ stationFrom (now (bytes .entry)) ⌝ }
+{
+    if bytes.len() != STATION_SIZE {
+        return Station::blank();
+    }
+    if bytes[0] != LAYOUT_VERSION {
+        return Station::blank();
+    }
+    let count = bytes[SLOT_COUNT];
+    let waiting = bytes[WAITING_COUNT];
+    let a = slots_from(bytes, count);
+    let b = queue_from(bytes, waiting);
+    Station {
+        clock: Tenths(four_at(bytes, CLOCK)),
+        mast: Mast {
+            identity: four_at(bytes, IDENTITY),
+        },
+        count: count,
+        waiting: waiting,
+        slots: a,
+        queue: b,
+    }
+}
+
+// Lent bytes of another size stay as they are. A blank record is zeros.
+pub fn lay_station(s: Station, bytes: &mut [u8])
+    ensures { λ _. ⌜ now (bytes .exit) ≡ stationLaid s (now (bytes .entry)) ⌝ }
+{
+    if bytes.len() != STATION_SIZE {
+        return;
+    }
+    let version = [LAYOUT_VERSION];
+    let clock = s.clock;
+    let time = low_first(clock.0);
+    let mast = s.mast;
+    let identity = low_first(mast.identity);
+    let counts = [s.count, s.waiting];
+    lay(&version, 0, bytes);
+    lay(&time, CLOCK, bytes);
+    lay(&identity, IDENTITY, bytes);
+    lay(&counts, SLOT_COUNT, bytes);
+    // Record by record out of the station: an array handed on is copied whole.
+    let n = least(s.count, MOST_SLOTS) as usize;
+    let mut i = 0;
+    while i < n {
+        let x = s.slots[i];
+        lay_slot(x, SLOTS_PLACE + SLOT_SIZE * i, bytes);
+        i += 1;
+    }
+    lay_zeros(SLOT_SIZE * (SLOTS - n), SLOTS_PLACE + SLOT_SIZE * n, bytes);
+    let m = least(s.waiting, MOST_WAITING) as usize;
+    let mut k = 0;
+    while k < m {
+        let w = s.queue[k];
+        lay_waiting(w, QUEUE_PLACE + WAITING_SIZE * k, bytes);
+        k += 1;
+    }
+    lay_zeros(
+        WAITING_SIZE * (QUEUE_ROOM - m),
+        QUEUE_PLACE + WAITING_SIZE * m,
+        bytes,
+    );
+}

@@ -1,0 +1,164 @@
+// A meaning in bytes: laid into a lent room, and taken out of one.
+ghost use mathlib.Core.Path.{_≡_};
+ghost use Rattle.lent_layout.specs.Meanings.{fieldBytes, noField, fieldFrom, meaningFrom, meaningLaid};
+use crate::numbers::digits_at;
+use crate::numbers::four_at;
+use crate::numbers::lay;
+use crate::numbers::low_first;
+use reading::blank_meaning;
+use sequence::DIGITS;
+use sequence::Field;
+use sequence::Meaning;
+use sequence::Number;
+use units::Channel;
+use units::Duration;
+
+// Where each field stands: behind the one before it, from the address on.
+const SENDER: usize = 4;
+
+const FIRST: usize = SENDER + 4;
+
+const SECOND: usize = FIRST + 1;
+
+const KIND: usize = SECOND + 1;
+
+const FIELD_FIRST: usize = KIND + 1;
+
+const FIELD_SECOND: usize = FIELD_FIRST + 1;
+
+const FIELD_THIRD: usize = FIELD_SECOND + 1;
+
+const COUNT: usize = FIELD_THIRD + 1;
+
+const END: usize = COUNT + 1;
+
+const DIGITS_PLACE: usize = END + 1;
+
+pub const MEANING_SIZE: usize = DIGITS_PLACE + DIGITS;
+
+// The kind of a channel field, and what it holds.
+struct FieldBytes {
+    kind: u8,
+    first: u8,
+    second: u8,
+    third: u8,
+}
+
+fn field_bytes(field: Field) -> FieldBytes
+    ensures { λ r. ⌜ r ≡ fieldBytes field ⌝ }
+{
+    match field {
+        Field::Blank => FieldBytes {
+            kind: 0,
+            first: 0,
+            second: 0,
+            third: 0,
+        },
+        Field::Channel(c) => FieldBytes {
+            kind: 1,
+            first: (c.0 % 256) as u8,
+            second: 0,
+            third: 0,
+        },
+        Field::Duration(d) => FieldBytes {
+            kind: 2,
+            first: d.hours,
+            second: d.minutes,
+            third: d.seconds,
+        },
+    }
+}
+
+pub fn lay_meaning(m: Meaning, room: &mut [u8])
+    ensures { λ _. ⌜ now (room .exit) ≡ meaningLaid m (now (room .entry)) ⌝ }
+{
+    if room.len() < MEANING_SIZE {
+        return;
+    }
+    let number = m.number;
+    let digits = number.digits;
+    let field = m.field;
+    let held = field_bytes(field);
+    let address = low_first(m.address);
+    let sender = low_first(m.sender);
+    let marks = [
+        m.first,
+        m.second,
+        held.kind,
+        held.first,
+        held.second,
+        held.third,
+        number.count,
+        m.end,
+    ];
+    lay(&address, 0, room);
+    lay(&sender, SENDER, room);
+    lay(&marks, FIRST, room);
+    lay(&digits, DIGITS_PLACE, room);
+}
+
+fn no_field() -> Field
+    ensures { λ r. ⌜ r ≡ noField ⌝ }
+{
+    Field::Channel(Channel(0))
+}
+
+fn field_from(f: FieldBytes) -> Field
+    ensures { λ r. ⌜ r ≡ fieldFrom f ⌝ }
+{
+    let kind = f.kind;
+    let first = f.first;
+    let second = f.second;
+    let third = f.third;
+    if kind == 2 {
+        return Field::Duration(Duration {
+            hours: first,
+            minutes: second,
+            seconds: third,
+        });
+    }
+    if second != 0 {
+        return no_field();
+    }
+    if third != 0 {
+        return no_field();
+    }
+    if kind == 1 {
+        return Field::Channel(Channel(first as u32));
+    }
+    if kind != 0 {
+        return no_field();
+    }
+    if first != 0 {
+        return no_field();
+    }
+    Field::Blank
+}
+
+// Fewer bytes tell no meaning.
+pub fn meaning_from(bytes: &[u8]) -> Meaning
+    ensures { λ r. ⌜ r ≡ meaningFrom (now (bytes .entry)) ⌝ }
+{
+    if bytes.len() < MEANING_SIZE {
+        return blank_meaning();
+    }
+    let field = field_from(FieldBytes {
+        kind: bytes[KIND],
+        first: bytes[FIELD_FIRST],
+        second: bytes[FIELD_SECOND],
+        third: bytes[FIELD_THIRD],
+    });
+    let digits = digits_at(bytes, DIGITS_PLACE);
+    Meaning {
+        address: four_at(bytes, 0),
+        sender: four_at(bytes, SENDER),
+        first: bytes[FIRST],
+        second: bytes[SECOND],
+        field: field,
+        number: Number {
+            count: bytes[COUNT],
+            digits: digits,
+        },
+        end: bytes[END],
+    }
+}

@@ -1,0 +1,161 @@
+-- What a step hands back, from its contract: the refusal, or what the rules say; and that there is one for every event.
+use Prim.Native.Nat.{ℕ, _*_, _≤_}
+use mathlib.Core.Path.{_≡_, refl, sym, ap}
+use mathlib.Core.List.{List, [], _∷_, _++_}
+use mathlib.Core.Option.{Option, none, some}
+use native.Mathlib.Omega.{arith}
+use lib.ListN.{length, drop}
+use borrow.Author.Tests.{leb-false}
+use Rattle.rules.specs.Words.{Config, Event, Signal, lineLifted, lineHung, carrierHeard, carrierLost, Hand, handTakes, handGives, Happened, heard, signal, operator, What, tick, onChannel70, onSlot}
+use Rattle.rules.specs.Places.{Each}
+use Rattle.rules.specs.Station as R
+use Rattle.rules.specs.Calls.{act}
+use Rattle.rules.specs.Verdict.{verdict}
+use Rattle.rules.specs.Bytes.{blocks}
+use Rattle.rules.specs.Statement.{ZeroOrOne, AtMostEight, ChargesFit}
+use Rattle.rules.proofs.Accepted.{accepted}
+use Rattle.rules.proofs.Eight.{at-most-eight}
+use Rattle.rules.proofs.Answered.{zero-or-one}
+use Rattle.rules.proofs.Charged.{charges-fit}
+use Rattle.actions.proofs.Handed.{act-says}
+use Rattle.station.specs.declared.Stepped.{Stepped}
+use Rattle.station.specs.declared.Station.{Station}
+use Rattle.station.specs.Model.{modelOf, configOf}
+use Rattle.station.specs.Step.{eventAt, refusal, steppedFor, steppedBy, roomFor, roomAfter}
+use Rattle.station.proofs.GateLaws.{passed}
+use Rattle.station.proofs.StepLaws.{reads}
+use Rattle.station_theorems.specs.Rooms.{actionsIn, shownIn}
+use Rattle.station_theorems.specs.Steps.{Step, Allowed, by-heard-on-channel-70, by-heard-on-slot, by-off-hook, by-on-hook, by-carrier-up, by-carrier-down, by-take-slot, by-give-back, by-tick, stepOf}
+use Rattle.station_theorems.specs.Statement.{laidOut, RefusalsLeaveAll, RoomsStay}
+use Rattle.station_theorems.proofs.ReadBack.{actions-back, shown-back, laid-back}
+use contract.Lifetimes.{Lfts}
+use denote.Ref.{RefT}
+use Rattle.units.specs.declared.Tenths.{Tenths}
+use Rattle.units.specs.declared.SlotNumber.{SlotNumber}
+
+-- ── the contracts ────────────────────────────────────────────────────────────
+
+pub record Does (x : Step) : Type 0 where
+  pub back-is : x .back ≡ steppedBy (x .before) (x .event)
+  pub left-is : x .left ≡ roomAfter (x .before) (x .lent) (x .event)
+
+pub allowed-does : (x : Step) → Allowed x → Does x
+allowed-does _ (by-heard-on-channel-70 κs a r s p) = record { back-is = p .0; left-is = p .1 }
+allowed-does _ (by-heard-on-slot κs a r s p) = record { back-is = p .0; left-is = p .1 }
+allowed-does _ (by-off-hook κs a r s p) = record { back-is = p .0; left-is = p .1 }
+allowed-does _ (by-on-hook κs a r s p) = record { back-is = p .0; left-is = p .1 }
+allowed-does _ (by-carrier-up κs a r s p) = record { back-is = p .0; left-is = p .1 }
+allowed-does _ (by-carrier-down κs a r s p) = record { back-is = p .0; left-is = p .1 }
+allowed-does _ (by-take-slot κs a r s p) = record { back-is = p .0; left-is = p .1 }
+allowed-does _ (by-give-back κs a r s p) = record { back-is = p .0; left-is = p .1 }
+allowed-does _ (by-tick κs a r s p) = record { back-is = p .0; left-is = p .1 }
+
+-- lifetimes, and a slice of numbers lent for one
+life : Lfts 1
+life = ([], tt)
+
+pub lives : Lfts 2
+lives = ([], life)
+
+abbrev pub lent : List ℕ → RefT (List ℕ)
+lent l = record { ptr = (0, 0); name = 0; now = l }
+
+-- and one for every event on every station
+module _ (s : Station) (room : List ℕ) (time : ℕ) where
+  abbrev timed : Tenths
+  timed = record { 0 = time }
+
+  -- the parameters of an event on a slot
+  abbrev onto : ℕ → List ℕ → Station × (Tenths × (SlotNumber × (RefT (List ℕ) × Unit {0})))
+  onto i l = (s, (timed, (record { 0 = i }, (lent l, tt))))
+
+  abbrev pub stepFor : What → Step
+  stepFor w = stepOf (eventAt time w room) s room (steppedBy s (eventAt time w room)) (roomAfter s room (eventAt time w room))
+
+  on-slot : (i : ℕ) (h : Happened) → Allowed (stepFor (onSlot i h))
+  on-slot i (signal lineLifted) = by-off-hook life (onto i room) _ (onto i _) (refl, refl)
+  on-slot i (signal lineHung) = by-on-hook life (onto i room) _ (onto i _) (refl, refl)
+  on-slot i (signal carrierHeard) = by-carrier-up life (onto i room) _ (onto i _) (refl, refl)
+  on-slot i (signal carrierLost) = by-carrier-down life (onto i room) _ (onto i _) (refl, refl)
+  on-slot i (operator handTakes) = by-take-slot life (onto i room) _ (onto i _) (refl, refl)
+  on-slot i (operator handGives) = by-give-back life (onto i room) _ (onto i _) (refl, refl)
+  on-slot i (heard m) = by-heard-on-slot lives (s, (timed, (record { 0 = i }, (lent m, (lent room, tt))))) _ (s, (timed, (record { 0 = i }, (lent m, (lent _, tt))))) (refl, refl)
+
+  pub step-allowed : (w : What) → Allowed (stepFor w)
+  step-allowed tick = by-tick life (s, (timed, (lent room, tt))) _ (s, (timed, (lent _, tt))) (refl, refl)
+  step-allowed (onChannel70 m) = by-heard-on-channel-70 lives (s, (timed, (lent m, (lent room, tt)))) _ (s, (timed, (lent m, (lent _, tt)))) (refl, refl)
+  step-allowed (onSlot i h) = on-slot i h
+
+-- every signal and either hand: what holds of each
+abbrev pub signals : List Signal
+signals = lineLifted ∷ lineHung ∷ carrierHeard ∷ carrierLost ∷ []
+
+pub every-signal : (P : Signal → Type 0) → Each P signals → (g : Signal) → P g
+every-signal P h lineLifted = h .0
+every-signal P h lineHung = h .1 .0
+every-signal P h carrierHeard = h .1 .1 .0
+every-signal P h carrierLost = h .1 .1 .1 .0
+
+abbrev pub hands : List Hand
+hands = handTakes ∷ handGives ∷ []
+
+pub every-hand : (P : Hand → Type 0) → Each P hands → (n : Hand) → P n
+every-hand P h handTakes = h .0
+every-hand P h handGives = h .1 .0
+
+-- a refusal given or none, by what the step then is
+module _ (x : Step) (d : Does x) (o : Option ℕ) (e : refusal (x .before) (x .event) ≡ o) where
+  pub back-for : x .back ≡ steppedFor (x .before) (act (configOf (x .before)) (modelOf (x .before)) (x .event)) o
+  unfolding steppedBy
+  back-for = rw (← e) (d .back-is)
+
+  pub left-for : x .left ≡ roomFor (configOf (x .before)) (x .lent) (act (configOf (x .before)) (modelOf (x .before)) (x .event)) o
+  unfolding roomAfter
+  left-for = rw (← e) (d .left-is)
+
+-- ── the actions of an accepted event ─────────────────────────────────────────
+
+pub blocks-tell : (c : Config) (m : R.Station) (e : Event) → verdict c m e ≡ none → (rest : List ℕ)
+    → actionsIn (length (act c m e .acts)) (blocks c (act c m e .acts) ++ rest) ≡ act c m e .acts
+unfolding AtMostEight ChargesFit
+blocks-tell c m e v rest =
+    let a = accepted c m e v in
+    actions-back c (act c m e .acts) (act-says reads c m (a .is-sound) e (a .readable)) (at-most-eight c m e (a .is-sound) .1) (charges-fit c m e v) rest
+
+pub answer-told : (c : Config) (m : R.Station) (e : Event) → verdict c m e ≡ none → act c m e .answer ≤ 1
+unfolding ZeroOrOne
+answer-told c m e v = zero-or-one c m e .0 v
+
+-- ── every step, in a trace or not ────────────────────────────────────────────
+
+-- "leaves lent bytes untouched, and hands back the station unchanged, clock included"
+pub refusals-leave-all : RefusalsLeaveAll
+unfolding RefusalsLeaveAll
+refusals-leave-all x a f = go (refusal (x .before) (x .event)) refl
+  where
+    go : (o : Option ℕ) → refusal (x .before) (x .event) ≡ o → (x .back .station ≡ x .before) × ((x .left ≡ x .lent) × (x .back .count ≡ 0))
+    go none e =
+        let b = back-for x (allowed-does x a) none e in
+        let n = answer-told (configOf (x .before)) (modelOf (x .before)) (x .event) (passed (x .before) (x .event) (sym e) .judged) in
+        let k : x .back .answer ≤ 1 = rw b n in
+        absurd (omega (arith, leb-false (x .back .answer) 1 f))
+    go (some n) e =
+        let b = back-for x (allowed-does x a) (some n) e in
+        (ap (λ (r : Stepped). r .station) b, (left-for x (allowed-does x a) (some n) e, ap (λ (r : Stepped). r .count) b))
+
+pub rooms-stay : RoomsStay
+unfolding RoomsStay AtMostEight shownIn
+rooms-stay x a = go (refusal (x .before) (x .event)) refl
+  where
+    go : (o : Option ℕ) → refusal (x .before) (x .event) ≡ o → x .left ≡ laidOut (shownIn (x .back .count) (x .left)) ++ drop (40 * x .back .count) (x .lent)
+    go none e =
+        let c = configOf (x .before) in
+        let o = act (configOf (x .before)) (modelOf (x .before)) (x .event) in
+        let slim = at-most-eight c (modelOf (x .before)) (x .event) (passed (x .before) (x .event) (sym e) .sounds) .1 in
+        let l = left-for x (allowed-does x a) none e in
+        let n : x .back .count ≡ length (o .acts) = ap (λ (r : Stepped). r .count) (back-for x (allowed-does x a) none e) in
+        rw (n, l, shown-back c (o .acts) slim (drop (40 * length (o .acts)) (x .lent)), laid-back c (o .acts)) refl
+    go (some k) e =
+        let l = left-for x (allowed-does x a) (some k) e in
+        let n : x .back .count ≡ 0 = ap (λ (r : Stepped). r .count) (back-for x (allowed-does x a) (some k) e) in
+        rw (n, l) refl

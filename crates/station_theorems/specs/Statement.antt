@@ -1,0 +1,142 @@
+-- What is claimed of every trace: the theorem on charges and what stands beside it, carried from the rules to the station as it runs.
+use Prim.Native.Nat.{ℕ, _+_, _*_, _<_}
+use mathlib.Core.Path.{_≡_}
+use mathlib.Core.Bool.{Bool, true, false, cond, _&&_}
+use mathlib.Core.List.{List, [], _∷_, _++_}
+use mathlib.Core.Option.{none}
+use lib.Dec.{leb}
+use lib.ListN.{length, take, drop, getD}
+use Rattle.rules.specs.Places.{Each}
+use Rattle.rules.specs.Words.{Config, Event}
+use Rattle.rules.specs.Station as R
+use Rattle.rules.specs.Sound.{sound}
+use Rattle.rules.specs.Station.{isFree}
+use Rattle.rules.specs.Calls.{act}
+use Rattle.rules.specs.Verdict.{verdict, Entry}
+use Rattle.rules.specs.Bytes.{block, blocks, blockSize}
+use Rattle.rules.specs.Book.{blankBook}
+use Rattle.rules.specs.Reading.{stops, counted}
+use Rattle.rules.specs.Printed.{printed}
+use Rattle.rules.specs.Statement.{notes, charged, owedFor, heldFrom, tenthsIn, stationAfter, WordsAgree, EveryEntry}
+use Rattle.rules.specs.Repeated.{Answers, RingsSame, DialsNamed, DeedByDeed}
+use Rattle.slots.specs.declared.Slot.{Slot}
+use Rattle.slots.specs.Phases.{answeredSince}
+use Rattle.slots.specs.Views.{slotView}
+use Rattle.slots.specs.Images.{Fits}
+use Rattle.station.specs.declared.NextDue.{NextDue}
+use Rattle.station.specs.declared.NextDue.the-variants.{Never, At}
+use Rattle.station.specs.declared.Station.{Station}
+use Rattle.station.specs.Model.{modelOf, configOf}
+use Rattle.station.specs.Step.{recordsKeep}
+use Rattle.station_theorems.specs.Rooms.{actionsIn, shownIn}
+use Rattle.station_theorems.specs.Steps.{Step, Allowed, Trace, lastOf, eventsIn}
+
+-- ── the list: the accepted events with the actions in their rooms ────────────
+
+-- "0 done, 1 ignored"
+abbrev pub accepted : Step → Bool
+accepted x = leb (x .back .answer) 1
+
+abbrev pub entryIn : Step → Entry
+entryIn x = record { event = x .event; given = actionsIn (x .back .count) (x .left) }
+
+unfoldable pub entriesIn : List Step → List Entry
+entriesIn [] = []
+entriesIn (x ∷ xs) = cond (accepted x) (entryIn x ∷ entriesIn xs) (entriesIn xs)
+
+-- the actions that an accepted event gives are read back from their blocks
+unfoldable pub BlocksTell : Type 0
+BlocksTell = (c : Config) (m : R.Station) (e : Event) → verdict c m e ≡ none
+    → actionsIn (length (act c m e .acts)) (blocks c (act c m e .acts)) ≡ act c m e .acts
+
+-- ── the theorem on charges ───────────────────────────────────────────────────
+
+-- the calls that a station of the rack holds as answered, up to its clock
+abbrev pub heldOn : ℕ → List Slot → ℕ
+heldOn t [] = 0
+heldOn t (s ∷ ss) = heldFrom t (answeredSince (s .phase)) + heldOn t ss
+
+unfoldable pub heldBy : Station → ℕ
+heldBy s = heldOn (s .clock .0) (take (s .count) (s .slots))
+
+-- every stopped call has one charge, given at its stop, and no other charge exists; charged and held tenths are those counted from the list
+abbrev pub Obeys : Config → List Entry → Station → Type 0
+Obeys c es s =
+    (charged 0 es ≡ owedFor (stops c 0 (notes es) (blankBook c)))
+    × (tenthsIn (charged 0 es) + heldBy s ≡ counted c (notes es) (blankBook c))
+
+-- what holds of every trace: of the list that it shows, and of the station that was handed back last
+abbrev pub OfEveryTrace : (Config → List Entry → Station → Type 0) → Type 0
+OfEveryTrace P = (c : Config) (xs : List Step) (t : Trace c xs) → P c (entriesIn xs) (lastOf (t .first) xs)
+
+unfoldable pub RackObeys : Type 0
+RackObeys = OfEveryTrace Obeys
+
+-- ── beside it ────────────────────────────────────────────────────────────────
+
+-- every station handed back stands for the station of the rules' run, which fits its arrays
+unfoldable pub RackStands : Type 0
+RackStands = (c : Config) (xs : List Step) (t : Trace c xs)
+    → (configOf (lastOf (t .first) xs) ≡ c)
+    × ((modelOf (lastOf (t .first) xs) ≡ stationAfter c (eventsIn xs)) × Fits c (stationAfter c (eventsIn xs)))
+
+-- "dial", "release line" and off-hook alone say of every slot what the book says of its line
+unfoldable pub RackLiterally : Type 0
+RackLiterally = OfEveryTrace (λ c es s. WordsAgree c (notes es))
+
+-- what is acknowledged, rung back, rung back again and dialled is what was heard
+unfoldable pub RackAnswersRepeat : Type 0
+RackAnswersRepeat = OfEveryTrace (λ c es s. EveryEntry Answers c (notes es))
+
+unfoldable pub RackSecondRingRepeats : Type 0
+RackSecondRingRepeats = OfEveryTrace (λ c es s. EveryEntry (DeedByDeed RingsSame) c (notes es))
+
+unfoldable pub RackDialsAsked : Type 0
+RackDialsAsked = OfEveryTrace (λ c es s. EveryEntry (DeedByDeed DialsNamed) c (notes es))
+
+-- while a ship waits no slot in use is free
+abbrev pub NoneIdle : Station → Type 0
+NoneIdle s = 0 < s .waiting → Each (λ x. isFree (slotView x) ≡ false) (take (s .count) (s .slots))
+
+unfoldable pub RackNoChannelIdle : Type 0
+RackNoChannelIdle = OfEveryTrace (λ c es s. NoneIdle s)
+
+-- as `is_sound` finds it
+abbrev pub isSound : Station → Bool
+isSound s = recordsKeep s && sound (configOf s) (modelOf s)
+
+-- no step of a trace is answered 29, and every station handed back is sound
+unfoldable pub RackAlwaysSound : Type 0
+RackAlwaysSound = (c : Config) (xs : List Step) (t : Trace c xs)
+    → Each (λ x. x .back .answer ≡ 29 → ⊥) xs × (isSound (lastOf (t .first) xs) ≡ true)
+
+-- "hands back the station unchanged, clock included", "leaves lent bytes untouched": of every station, in a trace or not
+unfoldable pub RefusalsLeaveAll : Type 0
+RefusalsLeaveAll = (x : Step) → Allowed x → accepted x ≡ false
+    → (x .back .station ≡ x .before) × ((x .left ≡ x .lent) × (x .back .count ≡ 0))
+
+-- answer, clock, action count, next due time; then each action from the room's bytes
+abbrev pub dueIn : NextDue → List ℕ
+dueIn Never = []
+dueIn (At t) = t .0 ∷ []
+
+abbrev pub shownBy : Step → List (List ℕ)
+shownBy x =
+    (x .back .answer ∷ x .back .station .clock .0 ∷ x .back .count ∷ dueIn (x .back .due)) ∷ shownIn (x .back .count) (x .left)
+
+abbrev pub allShown : List Step → List (List (List ℕ))
+allShown [] = []
+allShown (x ∷ xs) = shownBy x ∷ allShown xs
+
+-- what any trace shows is what the rules print
+unfoldable pub RackShows : Type 0
+RackShows = (c : Config) (xs : List Step) → Trace c xs → allShown xs ≡ printed c (eventsIn xs) (R.fresh c)
+
+-- "Bytes after the last action stay": the room is the blocks of what is shown, then its own bytes
+abbrev pub laidOut : List (List ℕ) → List ℕ
+laidOut [] = []
+laidOut (a ∷ more) = block (getD a 0 0) (getD a 1 0) (drop 2 a) ++ laidOut more
+
+unfoldable pub RoomsStay : Type 0
+RoomsStay = (x : Step) → Allowed x
+    → x .left ≡ laidOut (shownIn (x .back .count) (x .left)) ++ drop (blockSize * x .back .count) (x .lent)
