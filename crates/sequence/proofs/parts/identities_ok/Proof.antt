@@ -11,7 +11,7 @@ is-coast-requires c κs = search needs
 
 returns : tie.Need-returns
 unfolding identitiesOk
-returns c = cc
+returns c = rw (← c .before .before .is-ship .ensures, c .before .if1 .taken) (c .is-coast .ensures)
 
 is-coast-requires-2 : tie.Need-is-coast-requires-2
 is-coast-requires-2 c κs = search needs
@@ -21,11 +21,12 @@ is-ship-requires-2 c κs = search needs
 
 returns-2 : tie.Need-returns-2
 unfolding identitiesOk
-returns-2 c = cc
+returns-2 c = let no = c .before .before .before in
+    rw (← no .before .is-ship .ensures, no .if1 .left, ← c .before .before .is-coast2 .ensures, c .before .if2 .taken) (c .is-ship2 .ensures)
 
 returns-3 : tie.Need-returns-3
 unfolding identitiesOk
-returns-3 c = cc
+returns-3 c = let no = c .before .before in rw (← no .before .is-ship .ensures, no .if1 .left, ← c .before .is-coast2 .ensures, c .if2 .left)
 
 pub identities-ok-spec : {M : Type 1} → statement M
 identities-ok-spec =
