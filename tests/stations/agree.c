@@ -72,7 +72,7 @@ static bool kept_to_its_bytes(struct side *side, const struct call *call) {
     return memcmp(before, &side->now, sizeof *before) == 0;
 }
 
-/* Beside a refusal no byte may change, else none behind the actions. */
+/* With a refusal no byte may change, else none behind the actions. */
 static bool kept_to_its_answer(struct side *side, const struct call *call, const uint8_t *room) {
     bool accepted = (side->returned & 255u) <= 1u && !only_asks(call->event->letter);
     size_t written = ACTION_BYTES * (side->returned >> 8 & 255u);
@@ -82,7 +82,7 @@ static bool kept_to_its_answer(struct side *side, const struct call *call, const
            memcmp(room_of(side) + written, room + written, call->room_size - written) == 0;
 }
 
-/* Beside 29 the due time, or the clock, counts only where the bytes were none of a station. */
+/* With 29 the due time, or the clock, counts only where the bytes were none of a station. */
 static bool same_returned(uint64_t a, uint64_t b, size_t size) {
     bool unsound = (b & 255u) == NOT_SOUND && size == station_ends();
     return unsound ? (a & 65535u) == (b & 65535u) : a == b;

@@ -18,7 +18,7 @@ fn write_in_part(meaning: Meaning, room: &mut [u8], n: usize) -> Written {
     write(meaning, room)
 }
 
-// The answer to a meaning written in the first n bytes of a room; beside a refusal the length is 0.
+// The answer to a meaning written in the first n bytes of a room; with a refusal the length is 0.
 fn written_in(n: usize, address: u32, first: u8, field: Field, number: Number, end: u8) -> u8 {
     let meaning = Meaning {
         address: address,

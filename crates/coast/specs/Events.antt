@@ -25,7 +25,7 @@ dueNumber (At t) = 65536 + 4294967296 * t .0
 unfoldable pub told : Stepped → ℕ
 told r = r .answer + 256 * r .count + dueNumber (r .due)
 
--- an event answered 0 or 1 leaves the next station's bytes; beside any other answer they stay
+-- an event answered 0 or 1 leaves the next station's bytes; with any other answer they stay
 unfoldable pub kept : List ℕ → Stepped → List ℕ
 kept b r = cond (leb (r .answer) 1) (stationLaid (r .station) b) b
 

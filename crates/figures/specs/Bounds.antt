@@ -259,7 +259,7 @@ readings =
     with 1 20 (with 6 99 p1) ∷ []) (11 ∷ 12 ∷ 13 ∷ 14 ∷ 15 ∷ [])
     ∷ answers (with 6 99 (with 12 103 p1) ∷ with 12 103 (with 14 125 p1) ∷ with 14 125 (with 17 104 p1) ∷
     with 17 104 (with 22 116 p1) ∷ []) (16 ∷ 17 ∷ 18 ∷ 19 ∷ [])
-    -- what is meant; beside a refusal "no value"
+    -- what is meant; with a refusal "no value"
     ∷ gives (meant (readingOf p1 .meaning)) (meant request)
     ∷ gives (meant (readingOf longestSymbols .meaning)) (meant longest)
     ∷ gives (meant (readingOf shortestSymbols .meaning)) (meant shortest)

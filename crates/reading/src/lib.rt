@@ -85,7 +85,7 @@ fn meaning_of(s: &[u8]) -> Meaning
     }
 }
 
-// The meaning beside a refusal.
+// The meaning that comes with a refusal.
 pub fn blank_meaning() -> Meaning
     ensures { λ r. ⌜ r ≡ blankMeaning ⌝ }
 {

@@ -136,7 +136,7 @@ meaningOf s =
       end = getD s (length s - 2) 0;
     }
 
--- beside a refusal, "no value": the blank meaning
+-- with a refusal, "no value": the blank meaning
 unfoldable pub blankMeaning : Meaning
 blankMeaning =
     record {

@@ -95,7 +95,7 @@ chosen n channels count = onMast (alone n) (countedOf channels count)
 unfoldable pub sixteenOf : List ℕ → List Channel
 sixteenOf l = padded (channelNumber 0) 16 (viewed channelNumber 16 l)
 
--- beside a refusal, "no value"
+-- with a refusal, "no value"
 unfoldable pub blankStation : Station
 blankStation = imageOf (given 0 []) (fresh (given 0 []))
 

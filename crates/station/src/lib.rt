@@ -45,7 +45,7 @@ pub struct Stepped {
     pub station: Station,
 }
 
-// What set-up hands back: the answer's number, and beside 36 the blank station.
+// What set-up hands back: the answer's number, and with 36 the blank station.
 pub struct SetUp {
     pub answer: u8,
     pub station: Station,
