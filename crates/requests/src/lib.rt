@@ -14,11 +14,11 @@ pub enum Mode {
 
 // A call request as it is stored: the ship with the station that it calls, and what it asks for.
 pub struct Request {
-    pub ship: u32,
-    pub station: u32,
+    pub number: Number,
     pub mode: Mode,
     pub second: u8,
-    pub number: Number,
+    pub ship: u32,
+    pub station: u32,
 }
 
 // The smaller of two.

@@ -87,8 +87,8 @@ pub enum Field {
 
 // A number of 1 to 16 digits; the unused digits are 0.
 pub struct Number {
-    pub count: u8,
     pub digits: [u8; DIGITS],
+    pub count: u8,
 }
 
 // What a sequence means. The sender is its self-identification.

@@ -75,14 +75,14 @@ pub enum Hand {
 }
 
 pub struct Slot {
-    pub phase: Phase,
-    pub channel: Channel,
     pub request: Request,
+    pub channel: Channel,
+    pub phase: Phase,
 }
 
 pub struct Waiting {
-    pub due: Tenths,
     pub request: Request,
+    pub due: Tenths,
 }
 
 // A place in the queue, 0 the oldest's.
