@@ -1,15 +1,16 @@
 // The events, each on a station in lent bytes.
 ghost use mathlib.Core.Path.{_≡_};
 ghost use Prim.Native.Nat.{_≤_};
-ghost use Rattle.rules.specs.Words.{heard, signal, carrierUp, carrierDown, offHook, onHook, operator, takes, givesBack, tick, onChannel70};
-ghost use Rattle.slots.specs.Views.{signalView, handView};
+ghost use Rattle.rules.specs.Words.{heard, carrierUp, carrierDown, offHook, onHook, takes, givesBack, tick, onChannel70};
 ghost use Rattle.station.specs.Step.{eventAt, slotAt};
+ghost use Rattle.station.specs.Pieces.{plainView};
 ghost use Rattle.coast.specs.Events.{dueNumber, told, kept, returned, stationAfter, roomLeft};
 use lent_layout::lay_station;
 use lent_layout::station_from;
 use slots::Hand;
 use slots::Signal;
 use station::NextDue;
+use station::Plain;
 use station::Stepped;
 use units::SlotNumber;
 use units::Tenths;
@@ -88,25 +89,14 @@ pub extern "C" fn coast_heard_on_slot(
     hand_back(r, station)
 }
 
-// Any of the four signals.
-fn signalled(g: Signal, station: &mut [u8], time: u32, slot: u32, room: &mut [u8]) -> u64
-    ensures { λ r. ⌜ r ≡ returned (now (station .entry)) (slotAt time slot (signal (signalView g)) (now (room .entry))) ⌝ }
-    ensures { λ _. ⌜ now (station .exit) ≡ stationAfter (now (station .entry)) (slotAt time slot (signal (signalView g)) (now (room .entry))) ⌝ }
-    ensures { λ _. ⌜ now (room .exit) ≡ roomLeft (now (station .entry)) (now (room .entry)) (slotAt time slot (signal (signalView g)) (now (room .entry))) ⌝ }
+// Whatever happens on a slot and is no sequence.
+fn plainly(w: Plain, station: &mut [u8], time: u32, slot: u32, room: &mut [u8]) -> u64
+    ensures { λ r. ⌜ r ≡ returned (now (station .entry)) (slotAt time slot (plainView w) (now (room .entry))) ⌝ }
+    ensures { λ _. ⌜ now (station .exit) ≡ stationAfter (now (station .entry)) (slotAt time slot (plainView w) (now (room .entry))) ⌝ }
+    ensures { λ _. ⌜ now (room .exit) ≡ roomLeft (now (station .entry)) (now (room .entry)) (slotAt time slot (plainView w) (now (room .entry))) ⌝ }
 {
     let s = station_from(station);
-    let r = s.signalled(g, Tenths(time), SlotNumber(slot), room);
-    hand_back(r, station)
-}
-
-// Either hand of the operator.
-fn handled(h: Hand, station: &mut [u8], time: u32, slot: u32, room: &mut [u8]) -> u64
-    ensures { λ r. ⌜ r ≡ returned (now (station .entry)) (slotAt time slot (operator (handView h)) (now (room .entry))) ⌝ }
-    ensures { λ _. ⌜ now (station .exit) ≡ stationAfter (now (station .entry)) (slotAt time slot (operator (handView h)) (now (room .entry))) ⌝ }
-    ensures { λ _. ⌜ now (room .exit) ≡ roomLeft (now (station .entry)) (now (room .entry)) (slotAt time slot (operator (handView h)) (now (room .entry))) ⌝ }
-{
-    let s = station_from(station);
-    let r = s.handled(h, Tenths(time), SlotNumber(slot), room);
+    let r = s.plainly(w, Tenths(time), SlotNumber(slot), room);
     hand_back(r, station)
 }
 
@@ -117,7 +107,13 @@ pub extern "C" fn coast_carrier_up(station: &mut [u8], time: u32, slot: u32, roo
     ensures { λ _. ⌜ now (station .exit) ≡ stationAfter (now (station .entry)) (slotAt time slot carrierUp (now (room .entry))) ⌝ }
     ensures { λ _. ⌜ now (room .exit) ≡ roomLeft (now (station .entry)) (now (room .entry)) (slotAt time slot carrierUp (now (room .entry))) ⌝ }
 {
-    signalled(Signal::CarrierHeard, station, time, slot, room)
+    plainly(
+        Plain::Signal(Signal::CarrierHeard),
+        station,
+        time,
+        slot,
+        room,
+    )
 }
 
 // The ship's carrier goes.
@@ -132,7 +128,13 @@ pub extern "C" fn coast_carrier_down(
     ensures { λ _. ⌜ now (station .exit) ≡ stationAfter (now (station .entry)) (slotAt time slot carrierDown (now (room .entry))) ⌝ }
     ensures { λ _. ⌜ now (room .exit) ≡ roomLeft (now (station .entry)) (now (room .entry)) (slotAt time slot carrierDown (now (room .entry))) ⌝ }
 {
-    signalled(Signal::CarrierLost, station, time, slot, room)
+    plainly(
+        Plain::Signal(Signal::CarrierLost),
+        station,
+        time,
+        slot,
+        room,
+    )
 }
 
 // Ashore the handset is lifted.
@@ -142,7 +144,7 @@ pub extern "C" fn coast_off_hook(station: &mut [u8], time: u32, slot: u32, room:
     ensures { λ _. ⌜ now (station .exit) ≡ stationAfter (now (station .entry)) (slotAt time slot offHook (now (room .entry))) ⌝ }
     ensures { λ _. ⌜ now (room .exit) ≡ roomLeft (now (station .entry)) (now (room .entry)) (slotAt time slot offHook (now (room .entry))) ⌝ }
 {
-    signalled(Signal::LineLifted, station, time, slot, room)
+    plainly(Plain::Signal(Signal::LineLifted), station, time, slot, room)
 }
 
 // Ashore it is put down.
@@ -152,7 +154,7 @@ pub extern "C" fn coast_on_hook(station: &mut [u8], time: u32, slot: u32, room: 
     ensures { λ _. ⌜ now (station .exit) ≡ stationAfter (now (station .entry)) (slotAt time slot onHook (now (room .entry))) ⌝ }
     ensures { λ _. ⌜ now (room .exit) ≡ roomLeft (now (station .entry)) (now (room .entry)) (slotAt time slot onHook (now (room .entry))) ⌝ }
 {
-    signalled(Signal::LineHung, station, time, slot, room)
+    plainly(Plain::Signal(Signal::LineHung), station, time, slot, room)
 }
 
 // The operator takes a free slot.
@@ -162,7 +164,7 @@ pub extern "C" fn coast_take(station: &mut [u8], time: u32, slot: u32, room: &mu
     ensures { λ _. ⌜ now (station .exit) ≡ stationAfter (now (station .entry)) (slotAt time slot takes (now (room .entry))) ⌝ }
     ensures { λ _. ⌜ now (room .exit) ≡ roomLeft (now (station .entry)) (now (room .entry)) (slotAt time slot takes (now (room .entry))) ⌝ }
 {
-    handled(Hand::Takes, station, time, slot, room)
+    plainly(Plain::Hand(Hand::Takes), station, time, slot, room)
 }
 
 // The operator gives a taken slot back.
@@ -172,5 +174,5 @@ pub extern "C" fn coast_give_back(station: &mut [u8], time: u32, slot: u32, room
     ensures { λ _. ⌜ now (station .exit) ≡ stationAfter (now (station .entry)) (slotAt time slot givesBack (now (room .entry))) ⌝ }
     ensures { λ _. ⌜ now (room .exit) ≡ roomLeft (now (station .entry)) (now (room .entry)) (slotAt time slot givesBack (now (room .entry))) ⌝ }
 {
-    handled(Hand::GivesBack, station, time, slot, room)
+    plainly(Plain::Hand(Hand::GivesBack), station, time, slot, room)
 }

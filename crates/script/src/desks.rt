@@ -15,6 +15,7 @@ use lines::Kind;
 use lines::Line;
 use slots::SLOTS;
 use station::NextDue;
+use station::Plain;
 use station::SetUp;
 use station::Station;
 use station::Stepped;
@@ -82,8 +83,8 @@ fn happening(station: Station, form: Form, line: Line, room: &mut [u8]) -> Stepp
     match form {
         Form::Symbols => with_symbols(station, line, room),
         Form::SlotSymbols => with_slot_symbols(station, line, room),
-        Form::Signalled(g) => station.signalled(g, time, slot, room),
-        Form::Operated(h) => station.handled(h, time, slot, room),
+        Form::Signalled(g) => station.plainly(Plain::Signal(g), time, slot, room),
+        Form::Operated(h) => station.plainly(Plain::Hand(h), time, slot, room),
         Form::Alone => station.tick(time, room),
     }
 }

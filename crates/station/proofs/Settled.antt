@@ -6,8 +6,7 @@ use Rattle.station.proofs.Station.is_sound.Reads as Station-is-sound
 use Rattle.station.proofs.Station.next_due.Reads as Station-next-due
 use Rattle.station.proofs.Station.heard_on_channel_70.Reads as Station-heard-on-channel-70
 use Rattle.station.proofs.Station.heard_on_slot.Reads as Station-heard-on-slot
-use Rattle.station.proofs.Station.signalled.Reads as Station-signalled
-use Rattle.station.proofs.Station.handled.Reads as Station-handled
+use Rattle.station.proofs.Station.plainly.Reads as Station-plainly
 use Rattle.station.proofs.Station.off_hook.Reads as Station-off-hook
 use Rattle.station.proofs.Station.carrier_up.Reads as Station-carrier-up
 use Rattle.station.proofs.Station.carrier_down.Reads as Station-carrier-down
@@ -29,13 +28,9 @@ pub Station-next-due-settled : (κs : Lfts 0) (a : _) (r r' : _) (s s' : _)
     → Station-next-due.Post κs a r s → Station-next-due.Post κs a r' s' → r ≡ r'
 Station-next-due-settled κs a r r' s s' p q = p ∙ sym q
 
-pub Station-signalled-settled : (κs : Lfts 1) (a : _) (r r' : _) (s s' : _)
-    → Station-signalled.Post κs a r s → Station-signalled.Post κs a r' s' → (r ≡ r') × (s .1 .1 .1 .1 .0 .now ≡ s' .1 .1 .1 .1 .0 .now)
-Station-signalled-settled κs a r r' s s' p q = (p .0 ∙ sym (q .0), p .1 ∙ sym (q .1))
-
-pub Station-handled-settled : (κs : Lfts 1) (a : _) (r r' : _) (s s' : _)
-    → Station-handled.Post κs a r s → Station-handled.Post κs a r' s' → (r ≡ r') × (s .1 .1 .1 .1 .0 .now ≡ s' .1 .1 .1 .1 .0 .now)
-Station-handled-settled κs a r r' s s' p q = (p .0 ∙ sym (q .0), p .1 ∙ sym (q .1))
+pub Station-plainly-settled : (κs : Lfts 1) (a : _) (r r' : _) (s s' : _)
+    → Station-plainly.Post κs a r s → Station-plainly.Post κs a r' s' → (r ≡ r') × (s .1 .1 .1 .1 .0 .now ≡ s' .1 .1 .1 .1 .0 .now)
+Station-plainly-settled κs a r r' s s' p q = (p .0 ∙ sym (q .0), p .1 ∙ sym (q .1))
 
 pub Station-off-hook-settled : (κs : Lfts 1) (a : _) (r r' : _) (s s' : _)
     → Station-off-hook.Post κs a r s → Station-off-hook.Post κs a r' s' → (r ≡ r') × (s .1 .1 .1 .0 .now ≡ s' .1 .1 .1 .0 .now)

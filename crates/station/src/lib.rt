@@ -52,7 +52,7 @@ pub struct SetUp {
 }
 
 // What happens on a slot and is no sequence.
-enum Plain {
+pub enum Plain {
     Signal(Signal),
     Hand(Hand),
 }

@@ -1,7 +1,6 @@
 // The operator's hand on a slot.
 ghost use mathlib.Core.Path.{_≡_};
-ghost use Rattle.rules.specs.Words.{takes, givesBack, operator};
-ghost use Rattle.slots.specs.Views.{handView};
+ghost use Rattle.rules.specs.Words.{takes, givesBack};
 ghost use Rattle.station.specs.Step.{slotAt, steppedBy, roomAfter};
 use crate::Plain;
 use crate::Station;
@@ -11,20 +10,12 @@ use units::SlotNumber;
 use units::Tenths;
 
 impl Station {
-    // Either of the two.
-    pub fn handled(self, h: Hand, time: Tenths, slot: SlotNumber, room: &mut [u8]) -> Stepped
-        ensures { λ r. ⌜ r ≡ steppedBy self (slotAt (time .0) (slot .0) (operator (handView h)) (now (room .entry))) ⌝ }
-        ensures { λ _. ⌜ now (room .exit) ≡ roomAfter self (now (room .entry)) (slotAt (time .0) (slot .0) (operator (handView h)) (now (room .entry))) ⌝ }
-    {
-        self.plainly(Plain::Hand(h), time, slot, room)
-    }
-
     // The operator takes a free slot.
     pub fn take(self, time: Tenths, slot: SlotNumber, room: &mut [u8]) -> Stepped
         ensures { λ r. ⌜ r ≡ steppedBy self (slotAt (time .0) (slot .0) takes (now (room .entry))) ⌝ }
         ensures { λ _. ⌜ now (room .exit) ≡ roomAfter self (now (room .entry)) (slotAt (time .0) (slot .0) takes (now (room .entry))) ⌝ }
     {
-        self.handled(Hand::Takes, time, slot, room)
+        self.plainly(Plain::Hand(Hand::Takes), time, slot, room)
     }
 
     // The operator gives back a taken slot.
@@ -32,6 +23,6 @@ impl Station {
         ensures { λ r. ⌜ r ≡ steppedBy self (slotAt (time .0) (slot .0) givesBack (now (room .entry))) ⌝ }
         ensures { λ _. ⌜ now (room .exit) ≡ roomAfter self (now (room .entry)) (slotAt (time .0) (slot .0) givesBack (now (room .entry))) ⌝ }
     {
-        self.handled(Hand::GivesBack, time, slot, room)
+        self.plainly(Plain::Hand(Hand::GivesBack), time, slot, room)
     }
 }

@@ -50,13 +50,8 @@ fn by_plain(w: Plain, t: Tenths, m: Mode, p: Phase) -> Outcome
 }
 
 impl Station {
-    pub(crate) fn plainly(
-        self,
-        w: Plain,
-        time: Tenths,
-        slot: SlotNumber,
-        room: &mut [u8],
-    ) -> Stepped
+    // Any of them.
+    pub fn plainly(self, w: Plain, time: Tenths, slot: SlotNumber, room: &mut [u8]) -> Stepped
         ensures { λ r. ⌜ r ≡ steppedBy self (slotAt (time .0) (slot .0) (plainView w) (now (room .entry))) ⌝ }
         ensures { λ _. ⌜ now (room .exit) ≡ roomAfter self (now (room .entry)) (slotAt (time .0) (slot .0) (plainView w) (now (room .entry))) ⌝ }
     {

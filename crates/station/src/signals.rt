@@ -1,7 +1,6 @@
 // The signals of a call: off-hook and on-hook ashore, the ship's carrier up and down.
 ghost use mathlib.Core.Path.{_≡_};
-ghost use Rattle.rules.specs.Words.{offHook, onHook, carrierUp, carrierDown, signal};
-ghost use Rattle.slots.specs.Views.{signalView};
+ghost use Rattle.rules.specs.Words.{offHook, onHook, carrierUp, carrierDown};
 ghost use Rattle.station.specs.Step.{slotAt, steppedBy, roomAfter};
 use crate::Plain;
 use crate::Station;
@@ -11,20 +10,12 @@ use units::SlotNumber;
 use units::Tenths;
 
 impl Station {
-    // Any of the four.
-    pub fn signalled(self, g: Signal, time: Tenths, slot: SlotNumber, room: &mut [u8]) -> Stepped
-        ensures { λ r. ⌜ r ≡ steppedBy self (slotAt (time .0) (slot .0) (signal (signalView g)) (now (room .entry))) ⌝ }
-        ensures { λ _. ⌜ now (room .exit) ≡ roomAfter self (now (room .entry)) (slotAt (time .0) (slot .0) (signal (signalView g)) (now (room .entry))) ⌝ }
-    {
-        self.plainly(Plain::Signal(g), time, slot, room)
-    }
-
     // Ashore the line is answered.
     pub fn off_hook(self, time: Tenths, slot: SlotNumber, room: &mut [u8]) -> Stepped
         ensures { λ r. ⌜ r ≡ steppedBy self (slotAt (time .0) (slot .0) offHook (now (room .entry))) ⌝ }
         ensures { λ _. ⌜ now (room .exit) ≡ roomAfter self (now (room .entry)) (slotAt (time .0) (slot .0) offHook (now (room .entry))) ⌝ }
     {
-        self.signalled(Signal::LineLifted, time, slot, room)
+        self.plainly(Plain::Signal(Signal::LineLifted), time, slot, room)
     }
 
     // Ashore the line is put down.
@@ -32,7 +23,7 @@ impl Station {
         ensures { λ r. ⌜ r ≡ steppedBy self (slotAt (time .0) (slot .0) onHook (now (room .entry))) ⌝ }
         ensures { λ _. ⌜ now (room .exit) ≡ roomAfter self (now (room .entry)) (slotAt (time .0) (slot .0) onHook (now (room .entry))) ⌝ }
     {
-        self.signalled(Signal::LineHung, time, slot, room)
+        self.plainly(Plain::Signal(Signal::LineHung), time, slot, room)
     }
 
     // The ship's carrier is present again.
@@ -40,7 +31,7 @@ impl Station {
         ensures { λ r. ⌜ r ≡ steppedBy self (slotAt (time .0) (slot .0) carrierUp (now (room .entry))) ⌝ }
         ensures { λ _. ⌜ now (room .exit) ≡ roomAfter self (now (room .entry)) (slotAt (time .0) (slot .0) carrierUp (now (room .entry))) ⌝ }
     {
-        self.signalled(Signal::CarrierHeard, time, slot, room)
+        self.plainly(Plain::Signal(Signal::CarrierHeard), time, slot, room)
     }
 
     // The ship's carrier is lost.
@@ -48,6 +39,6 @@ impl Station {
         ensures { λ r. ⌜ r ≡ steppedBy self (slotAt (time .0) (slot .0) carrierDown (now (room .entry))) ⌝ }
         ensures { λ _. ⌜ now (room .exit) ≡ roomAfter self (now (room .entry)) (slotAt (time .0) (slot .0) carrierDown (now (room .entry))) ⌝ }
     {
-        self.signalled(Signal::CarrierLost, time, slot, room)
+        self.plainly(Plain::Signal(Signal::CarrierLost), time, slot, room)
     }
 }
