@@ -25,6 +25,13 @@ extern "C" {
 /* Names: COAST_ANSWER_.. is an answer, COAST_ACTION_.. the kind of an action, COAST_AT_.. a place in lent bytes,
  * COAST_.._SIZE a count of bytes. */
 
+/* The library's version: MAJOR moves where a host has to be changed, MINOR where only something is added for it, PATCH where only
+ * a fault is mended. It is no version of the lent layout: COAST_LAYOUT_VERSION is that. */
+#define COAST_VERSION "1.0.0"
+#define COAST_VERSION_MAJOR 1
+#define COAST_VERSION_MINOR 0
+#define COAST_VERSION_PATCH 0
+
 /* The deepest that any entry reaches into the stack, as measured. */
 #define COAST_STACK_SIZE 12800
 
