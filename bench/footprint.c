@@ -42,7 +42,7 @@ static void print_copies(enum side side) {
     (void)hand_in_all(side);
     unsigned tenths = (unsigned)(copies.calls * 10u / event_count());
     printf("copied an event, %s: %u.%u calls, %u bytes\n", names[side], tenths / 10u, tenths % 10u,
-           (unsigned)(copies.bytes / event_count()));
+        (unsigned)(copies.bytes / event_count()));
 }
 
 /* Gives the deepest of them all. */

@@ -22,8 +22,8 @@ static bool call_from(uint32_t ship) {
     meaning[COAST_AT_DIGIT_COUNT] = 8;
     meaning[COAST_AT_END] = 117;
     uint32_t written = coast_write_sequence(meaning, sizeof meaning, symbols, sizeof symbols);
-    uint64_t heard = coast_heard_on_channel_70(lent.station, lent.size, NOW, symbols, coast_count(written), lent.room,
-                                               lent.room_size);
+    uint64_t heard =
+        coast_heard_on_channel_70(lent.station, lent.size, NOW, symbols, coast_count(written), lent.room, lent.room_size);
     return coast_answer(written) == COAST_ANSWER_DONE && coast_answer(heard) == COAST_ANSWER_DONE;
 }
 

@@ -57,6 +57,6 @@ bool time_both(const char *what, work *all, uint32_t pieces) {
     print_hundredths(" (", ratios[0]);
     print_hundredths(" to ", ratios[RUNS - 1u]);
     printf(")  %s: library %u ns, second implementation %u ns\n", what, (unsigned)(quickest[LIBRARY] / pieces),
-           (unsigned)(quickest[SECOND] / pieces));
+        (unsigned)(quickest[SECOND] / pieces));
     return true;
 }

@@ -172,8 +172,14 @@ static bool take_slot_event(const char **at, struct order *order) {
     static const struct {
         const char *word;
         slot_event *event;
-    } events[] = {{"up", coast_carrier_up},     {"down", coast_carrier_down}, {"off-hook", coast_off_hook},
-                  {"on-hook", coast_on_hook},   {"take", coast_take},         {"give-back", coast_give_back}};
+    } events[] = {
+        {"up", coast_carrier_up},
+        {"down", coast_carrier_down},
+        {"off-hook", coast_off_hook},
+        {"on-hook", coast_on_hook},
+        {"take", coast_take},
+        {"give-back", coast_give_back},
+    };
     order->kind = ON_SLOT;
     for (size_t i = 0; i < sizeof events / sizeof events[0]; i++)
         if (take_word(at, events[i].word)) {

@@ -34,8 +34,8 @@ enum kind { SET_UP, HEARD, ON_SLOT, TICK, LATE };
 struct order {
     enum kind kind;
     uint32_t time, channel;
-    uint32_t number;   /* SET_UP: the identity; LATE: tenths */
-    slot_event *event; /* ON_SLOT */
+    uint32_t number;               /* SET_UP: the identity; LATE: tenths */
+    slot_event *event;             /* ON_SLOT */
     uint8_t bytes[LINE_MOST / 2u]; /* SET_UP: channels; HEARD: symbols */
     size_t count;
 };

@@ -46,12 +46,12 @@ static void print_sequence(const uint8_t *symbols, size_t count) {
     if (coast_read_sequence(symbols, count, meaning, sizeof meaning) != COAST_ANSWER_DONE)
         return;
     printf("send to %09u: %s", (unsigned)coast_number_at(meaning + COAST_AT_ADDRESS),
-           NAME_OF(telecommands, meaning[COAST_AT_FIRST]));
+        NAME_OF(telecommands, meaning[COAST_AT_FIRST]));
     if (meaning[COAST_AT_FIRST] == UNABLE)
         printf(", %s", NAME_OF(reasons, meaning[COAST_AT_SECOND]));
     print_field(meaning);
     printf(", number %s (%s)", coast_digits_text(meaning + COAST_AT_DIGITS, meaning[COAST_AT_DIGIT_COUNT], number),
-           NAME_OF(ends, meaning[COAST_AT_END]));
+        NAME_OF(ends, meaning[COAST_AT_END]));
 }
 
 static void print_charge(const uint8_t *action) {

@@ -25,6 +25,13 @@ extern "C" {
 /* Names: COAST_ANSWER_.. is an answer, COAST_ACTION_.. the kind of an action, COAST_AT_.. a place in lent bytes,
  * COAST_.._SIZE a count of bytes. */
 
+/* The library's version: MAJOR moves where a host has to be changed, MINOR where only something is added for it, PATCH where only
+ * a fault is mended. It is no version of the lent layout: COAST_LAYOUT_VERSION is that. */
+#define COAST_VERSION "1.0.0"
+#define COAST_VERSION_MAJOR 1
+#define COAST_VERSION_MINOR 0
+#define COAST_VERSION_PATCH 0
+
 /* The deepest that any entry reaches into the stack, as measured. */
 #define COAST_STACK_SIZE 12800
 
@@ -36,19 +43,19 @@ extern "C" {
  * a ship 200000000 to 799999999, a coast station 2000000 to 7999999. One of the two identities is a ship's, the other a
  * coast station's. */
 #define COAST_MEANING_SIZE 32
-#define COAST_AT_ADDRESS 0        /* 4 bytes: whom the sequence calls */
-#define COAST_AT_SENDER 4         /* 4 bytes: who sends it (self-identification) */
-#define COAST_AT_FIRST 8          /* first telecommand: 100 simplex, 101 duplex, 104 unable, 105 end of call, 106 data */
-#define COAST_AT_SECOND 9         /* second: 100 to 126 with 100, 101, 106; 100 to 109 or 126 with 104; 126 with 105 */
-#define COAST_AT_FIELD_KIND 10    /* what the channel field holds: one of the three kinds below */
-#define COAST_AT_FIELD 11         /* 3 bytes, by that kind */
-#define COAST_AT_DIGIT_COUNT 14   /* count of the number's digits, 1 to 16 */
-#define COAST_AT_END 15           /* end of sequence: 117 RQ, 122 BQ or 127 */
-#define COAST_AT_DIGITS 16        /* 16 bytes: the digits 0 to 9, one a byte; those past the count are 0 */
+#define COAST_AT_ADDRESS 0      /* 4 bytes: whom the sequence calls */
+#define COAST_AT_SENDER 4       /* 4 bytes: who sends it (self-identification) */
+#define COAST_AT_FIRST 8        /* first telecommand: 100 simplex, 101 duplex, 104 unable, 105 end of call, 106 data */
+#define COAST_AT_SECOND 9       /* second: 100 to 126 with 100, 101, 106; 100 to 109 or 126 with 104; 126 with 105 */
+#define COAST_AT_FIELD_KIND 10  /* what the channel field holds: one of the three kinds below */
+#define COAST_AT_FIELD 11       /* 3 bytes, by that kind */
+#define COAST_AT_DIGIT_COUNT 14 /* count of the number's digits, 1 to 16 */
+#define COAST_AT_END 15         /* end of sequence: 117 RQ, 122 BQ or 127 */
+#define COAST_AT_DIGITS 16      /* 16 bytes: the digits 0 to 9, one a byte; those past the count are 0 */
 
-#define COAST_FIELD_BLANK 0       /* 126 126 126, with any telecommand; bytes 0, 0, 0 */
-#define COAST_FIELD_CHANNEL 1     /* with 100, 101, 106; bytes: channel 1 to 28 or 60 to 88, not 16 or 70; then 0, 0 */
-#define COAST_FIELD_DURATION 2    /* with 105; bytes: hours 0 to 99, minutes 0 to 59, seconds 0 to 59 */
+#define COAST_FIELD_BLANK 0    /* 126 126 126, with any telecommand; bytes 0, 0, 0 */
+#define COAST_FIELD_CHANNEL 1  /* with 100, 101, 106; bytes: channel 1 to 28 or 60 to 88, not 16 or 70; then 0, 0 */
+#define COAST_FIELD_DURATION 2 /* with 105; bytes: hours 0 to 99, minutes 0 to 59, seconds 0 to 59 */
 
 /* Answers. Where several would fit, the entries below say which is given.
  *
@@ -145,10 +152,10 @@ uint32_t coast_write_sequence(const uint8_t *meaning, size_t size, uint8_t *room
  * what it returned says how many. The room must have 320 bytes even where there are fewer. */
 #define COAST_ACTIONS_SIZE 320
 #define COAST_ONE_ACTION_SIZE 40
-#define COAST_AT_ACTION_KIND 0     /* one of the seven kinds below */
-#define COAST_AT_ACTION_SLOT 1     /* the slot's number, or 255 in an answer that gives no slot */
-#define COAST_AT_ACTION_LENGTH 2   /* count of the payload's bytes */
-#define COAST_AT_ACTION_PAYLOAD 4  /* the payload, at most 36 bytes; zeros behind it, and at byte 3 */
+#define COAST_AT_ACTION_KIND 0    /* one of the seven kinds below */
+#define COAST_AT_ACTION_SLOT 1    /* the slot's number, or 255 in an answer that gives no slot */
+#define COAST_AT_ACTION_LENGTH 2  /* count of the payload's bytes */
+#define COAST_AT_ACTION_PAYLOAD 4 /* the payload, at most 36 bytes; zeros behind it, and at byte 3 */
 
 /* What a host lends for one station, in one piece; it may as well lend the two from different places. */
 struct coast_lent {
@@ -158,11 +165,11 @@ struct coast_lent {
 
 #define COAST_ACTION_CARRIER_ON 1
 #define COAST_ACTION_CARRIER_OFF 2
-#define COAST_ACTION_SEND_CHANNEL_70 3    /* payload: a sequence of 21 to 28 symbols, to send on channel 70 */
-#define COAST_ACTION_SEND_WORKING 4       /* payload: a sequence, to send on the slot's working channel */
-#define COAST_ACTION_DIAL 5               /* payload: the digits 0 to 9 to dial, one a byte */
+#define COAST_ACTION_SEND_CHANNEL_70 3 /* payload: a sequence of 21 to 28 symbols, to send on channel 70 */
+#define COAST_ACTION_SEND_WORKING 4    /* payload: a sequence, to send on the slot's working channel */
+#define COAST_ACTION_DIAL 5            /* payload: the digits 0 to 9 to dial, one a byte */
 #define COAST_ACTION_RELEASE_LINE 6
-#define COAST_ACTION_CHARGE 7             /* payload: ship, start and stop in tenths, seconds; four bytes each, low byte first */
+#define COAST_ACTION_CHARGE 7 /* payload: ship, start and stop in tenths, seconds; four bytes each, low byte first */
 
 /* What the entries below return is one number: coast_answer, coast_count, coast_waits, coast_due and coast_time take it apart.
  *
@@ -201,12 +208,12 @@ uint64_t coast_clock(const uint8_t *station, size_t size);
 uint64_t coast_tick(uint8_t *station, size_t size, uint32_t time, uint8_t *room, size_t room_size);
 
 /* A sequence was heard on channel 70. Answers 0, 1; or 29, 30, 31, 32, 33, 11 to 20. */
-uint64_t coast_heard_on_channel_70(uint8_t *station, size_t size, uint32_t time, const uint8_t *symbols, size_t count,
-                                   uint8_t *room, size_t room_size);
+uint64_t coast_heard_on_channel_70(
+    uint8_t *station, size_t size, uint32_t time, const uint8_t *symbols, size_t count, uint8_t *room, size_t room_size);
 
 /* A sequence was heard on a slot's working channel. Answers 0, 1; or 29, 30, 31, 32, 33, 34, 11 to 20. */
-uint64_t coast_heard_on_slot(uint8_t *station, size_t size, uint32_t time, uint32_t slot, const uint8_t *symbols,
-                             size_t count, uint8_t *room, size_t room_size);
+uint64_t coast_heard_on_slot(uint8_t *station, size_t size, uint32_t time, uint32_t slot, const uint8_t *symbols, size_t count,
+    uint8_t *room, size_t room_size);
 
 /* The ship's carrier on a slot's working channel comes, or goes. Answers 0, 1; or 29, 30, 31, 32, 33, 34. */
 uint64_t coast_carrier_up(uint8_t *station, size_t size, uint32_t time, uint32_t slot, uint8_t *room, size_t room_size);

@@ -5,7 +5,8 @@ enum kind { setting_up, asking, alone, on_slot, by_hand, with_symbols, on_slot_w
 
 static enum kind kind_of(char letter) {
     switch (letter) {
-#define AS_KIND(letter, entry, takes) case letter: return takes;
+#define AS_KIND(letter, entry, takes) \
+    case letter: return takes;
         EVERY_ENTRY(AS_KIND)
     default: return no_entry;
     }
@@ -44,7 +45,8 @@ bool takes_symbols(char letter) {
 
 uint64_t call_entry(const struct entries *to, char letter, const struct handed *handed, const struct lent_bytes *lent) {
     switch (letter) {
-#define AS_CALL(letter, entry, takes) case letter: return CALL_##takes(to->entry);
+#define AS_CALL(letter, entry, takes) \
+    case letter: return CALL_##takes(to->entry);
         EVERY_ENTRY(AS_CALL)
     default: return UINT64_MAX;
     }

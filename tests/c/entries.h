@@ -24,9 +24,9 @@
 #define SET_UP_LETTER 'S'
 #define NEXT_DUE_LETTER 'N'
 #define CLOCK_LETTER 'C'
-#define OTHER_ENTRIES(X)                    \
-    X(SET_UP_LETTER, set_up, setting_up)    \
-    X(NEXT_DUE_LETTER, next_due, asking)    \
+#define OTHER_ENTRIES(X)                 \
+    X(SET_UP_LETTER, set_up, setting_up) \
+    X(NEXT_DUE_LETTER, next_due, asking) \
     X(CLOCK_LETTER, clock, asking)
 
 #define EVERY_ENTRY(X) OTHER_ENTRIES(X) EVENTS(X)
@@ -35,10 +35,10 @@
 typedef uint64_t alone_entry(uint8_t *station, size_t size, uint32_t time, uint8_t *room, size_t room_size);
 typedef uint64_t on_slot_entry(uint8_t *station, size_t size, uint32_t time, uint32_t slot, uint8_t *room, size_t room_size);
 typedef on_slot_entry by_hand_entry;
-typedef uint64_t with_symbols_entry(uint8_t *station, size_t size, uint32_t time, const uint8_t *symbols, size_t count,
-                                    uint8_t *room, size_t room_size);
-typedef uint64_t on_slot_with_symbols_entry(uint8_t *station, size_t size, uint32_t time, uint32_t slot,
-                                            const uint8_t *symbols, size_t count, uint8_t *room, size_t room_size);
+typedef uint64_t with_symbols_entry(
+    uint8_t *station, size_t size, uint32_t time, const uint8_t *symbols, size_t count, uint8_t *room, size_t room_size);
+typedef uint64_t on_slot_with_symbols_entry(uint8_t *station, size_t size, uint32_t time, uint32_t slot, const uint8_t *symbols,
+    size_t count, uint8_t *room, size_t room_size);
 typedef uint64_t setting_up_entry(uint32_t identity, const uint8_t *channels, size_t count, uint8_t *station, size_t size);
 typedef uint64_t asking_entry(const uint8_t *station, size_t size);
 

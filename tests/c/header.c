@@ -1,6 +1,6 @@
 /* Uses all of include/coast.h and of coast_words.h, twice included, in words that are C11 and C++17 alike: what tests/header
- * compiles. It writes computed.h, the sizes, places and version that the definitions come to. The types of the station's entries are
- * held by library.c. */
+ * compiles. It writes computed.h, the sizes, places and version that the definitions come to. The types of the station's entries
+ * are held by library.c. */
 #include "coast.h"
 #include "coast_words.h"
 #include "coast.h"
@@ -15,7 +15,7 @@
 #error "the layout's version, or its place, is wrong"
 #endif
 #if COAST_AT_ADDRESS != ADDRESS || COAST_AT_SENDER != SENDER || COAST_AT_FIRST != FIRST || COAST_AT_SECOND != SECOND || \
-    COAST_AT_FIELD_KIND != FIELD_KIND || COAST_AT_FIELD != FIELD || COAST_AT_DIGIT_COUNT != DIGIT_COUNT || \
+    COAST_AT_FIELD_KIND != FIELD_KIND || COAST_AT_FIELD != FIELD || COAST_AT_DIGIT_COUNT != DIGIT_COUNT ||              \
     COAST_AT_END != END || COAST_AT_DIGITS != DIGITS
 #error "a place in the meaning is wrong"
 #endif
@@ -25,23 +25,20 @@
 #if COAST_FIELD_BLANK != 0 || COAST_FIELD_CHANNEL != 1 || COAST_FIELD_DURATION != 2
 #error "a kind of field is wrong"
 #endif
-#if COAST_ANSWER_DONE != 0 || COAST_ANSWER_BAD_LENGTH != 11 || COAST_ANSWER_BAD_SYMBOL != 12 || \
-    COAST_ANSWER_BAD_CHECK != 13 || COAST_ANSWER_BAD_FORMAT != 14 || COAST_ANSWER_BAD_IDENTITIES != 15 || \
-    COAST_ANSWER_BAD_CATEGORY != 16 || COAST_ANSWER_BAD_TELECOMMANDS != 17 || COAST_ANSWER_BAD_CHANNEL_FIELD != 18 || \
-    COAST_ANSWER_BAD_NUMBER != 19 || COAST_ANSWER_BAD_END != 20 || COAST_ANSWER_ROOM_SHORT != 21 || \
-    COAST_ANSWER_MEANING_SHORT != 22 || COAST_ANSWER_WRONG_SIZE != 23 || COAST_ANSWER_IGNORED != 1 || \
-    COAST_ANSWER_NOT_SOUND != 29 || COAST_ANSWER_ACTIONS_SHORT != 30 || COAST_ANSWER_TIME_TOO_LATE != 31 || \
-    COAST_ANSWER_TIME_BEFORE_CLOCK != 32 || COAST_ANSWER_WAIT_DUE != 33 || COAST_ANSWER_NO_SLOT != 34 || \
-    COAST_ANSWER_OPERATOR != 35 || COAST_ANSWER_BAD_SET_UP != 36
+#if COAST_ANSWER_DONE != 0 || COAST_ANSWER_BAD_LENGTH != 11 || COAST_ANSWER_BAD_SYMBOL != 12 || COAST_ANSWER_BAD_CHECK != 13 || \
+    COAST_ANSWER_BAD_FORMAT != 14 || COAST_ANSWER_BAD_IDENTITIES != 15 || COAST_ANSWER_BAD_CATEGORY != 16 ||                    \
+    COAST_ANSWER_BAD_TELECOMMANDS != 17 || COAST_ANSWER_BAD_CHANNEL_FIELD != 18 || COAST_ANSWER_BAD_NUMBER != 19 ||             \
+    COAST_ANSWER_BAD_END != 20 || COAST_ANSWER_ROOM_SHORT != 21 || COAST_ANSWER_MEANING_SHORT != 22 ||                          \
+    COAST_ANSWER_WRONG_SIZE != 23 || COAST_ANSWER_IGNORED != 1 || COAST_ANSWER_NOT_SOUND != 29 ||                               \
+    COAST_ANSWER_ACTIONS_SHORT != 30 || COAST_ANSWER_TIME_TOO_LATE != 31 || COAST_ANSWER_TIME_BEFORE_CLOCK != 32 ||             \
+    COAST_ANSWER_WAIT_DUE != 33 || COAST_ANSWER_NO_SLOT != 34 || COAST_ANSWER_OPERATOR != 35 || COAST_ANSWER_BAD_SET_UP != 36
 #error "an answer is wrong"
 #endif
-#if COAST_AT_ACTION_KIND != 0 || COAST_AT_ACTION_SLOT != 1 || COAST_AT_ACTION_LENGTH != 2 || \
-    COAST_AT_ACTION_PAYLOAD != 4
+#if COAST_AT_ACTION_KIND != 0 || COAST_AT_ACTION_SLOT != 1 || COAST_AT_ACTION_LENGTH != 2 || COAST_AT_ACTION_PAYLOAD != 4
 #error "a place in an action is wrong"
 #endif
 #if COAST_ACTION_CARRIER_ON != 1 || COAST_ACTION_CARRIER_OFF != 2 || COAST_ACTION_SEND_CHANNEL_70 != 3 || \
-    COAST_ACTION_SEND_WORKING != 4 || COAST_ACTION_DIAL != 5 || COAST_ACTION_RELEASE_LINE != 6 || \
-    COAST_ACTION_CHARGE != 7
+    COAST_ACTION_SEND_WORKING != 4 || COAST_ACTION_DIAL != 5 || COAST_ACTION_RELEASE_LINE != 6 || COAST_ACTION_CHARGE != 7
 #error "a kind of action is wrong"
 #endif
 

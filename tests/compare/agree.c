@@ -86,8 +86,7 @@ static void count_answer(struct tally *tally, uint32_t returned) {
         tally->answers[answer]++;
 }
 
-static void print_difference(const char *what, const struct side *trial, const struct side *second,
-                             const struct area *before) {
+static void print_difference(const char *what, const struct side *trial, const struct side *second, const struct area *before) {
     printf("compare: the %s differ\n", what);
     print_side("on trial", trial->returned, &trial->out, before);
     print_side("second  ", second->returned, &second->out, before);
@@ -121,8 +120,7 @@ bool writes_agree(const uint8_t *meaning, size_t size, size_t room_size) {
     hand_in(&trial, meaning, size, 129, &before);
     hand_in(&second, meaning, size, 46, &before);
     trial.returned = on_trial->write(lent(&trial.in, size, null), size, lent(&trial.out, room_size, null), room_size);
-    second.returned =
-        second_write_bytes(lent(&second.in, size, null), size, lent(&second.out, room_size, null), room_size);
+    second.returned = second_write_bytes(lent(&second.in, size, null), size, lent(&second.out, room_size, null), room_size);
     count_answer(&writes, second.returned);
     if (sides_agree(&trial, &second, &before, second.returned >> 8))
         return true;

@@ -33,9 +33,9 @@ uint32_t any_identity(void);  /* the same of identities, of either kind or none 
 size_t any_size(size_t need); /* mostly the size needed, else shorter or longer */
 
 /* ---- draw.c: meanings and sequences by chance ---- */
-void draw_meaning(uint8_t *meaning);     /* a valid one */
-void damage_meaning(uint8_t *meaning);   /* another value in one field */
-size_t draw_sequence(uint8_t *symbols);  /* a valid one; hands back its length */
+void draw_meaning(uint8_t *meaning);                    /* a valid one */
+void damage_meaning(uint8_t *meaning);                  /* another value in one field */
+size_t draw_sequence(uint8_t *symbols);                 /* a valid one; hands back its length */
 size_t damage_sequence(uint8_t *symbols, size_t count); /* another value in one field; the length may be that field */
 void put_check_right(uint8_t *symbols, size_t count);
 

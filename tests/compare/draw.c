@@ -64,36 +64,19 @@ void damage_meaning(uint8_t *meaning) {
     uint8_t *one_identity = meaning + 4u * chance(2), *in_field = meaning + 11u + chance(3);
     uint8_t *digit = meaning + 16u + chance(16);
     switch (chance(10)) {
-    case 0:
-        put_identity(one_identity, any_identity());
-        return;
+    case 0: put_identity(one_identity, any_identity()); return;
     case 1: /* both of one kind */
         for (size_t i = 0; i < 4u; i++)
             meaning[4u + i] = meaning[i];
         return;
-    case 2:
-        meaning[8] = any_byte();
-        return;
-    case 3:
-        meaning[9] = any_byte();
-        return;
-    case 4: /* the kind of the field */
-        meaning[10] = one_in(4) ? any_byte() : (uint8_t)chance(4);
-        return;
-    case 5: /* one byte of the field */
-        *in_field = any_byte();
-        return;
-    case 6: /* a field such as some telecommand has */
-        draw_field(one_in(2) ? 101u : 105u, meaning + 10);
-        return;
-    case 7: /* the count of digits */
-        meaning[14] = one_in(2) ? any_byte() : (uint8_t)chance(20);
-        return;
-    case 8: /* one digit, used or not */
-        *digit = one_in(2) ? any_byte() : (uint8_t)chance(12);
-        return;
-    default:
-        meaning[15] = any_byte();
+    case 2: meaning[8] = any_byte(); return;
+    case 3: meaning[9] = any_byte(); return;
+    case 4: meaning[10] = one_in(4) ? any_byte() : (uint8_t)chance(4); return;  /* the kind of the field */
+    case 5: *in_field = any_byte(); return;                                     /* one byte of the field */
+    case 6: draw_field(one_in(2) ? 101u : 105u, meaning + 10); return;          /* a field such as some telecommand has */
+    case 7: meaning[14] = one_in(2) ? any_byte() : (uint8_t)chance(20); return; /* the count of digits */
+    case 8: *digit = one_in(2) ? any_byte() : (uint8_t)chance(12); return;      /* one digit, used or not */
+    default: meaning[15] = any_byte();
     }
 }
 
@@ -136,8 +119,7 @@ static void put_any_field(uint8_t *field) {
 
 /* One symbol of a field by chance: the table's places, then the number, the end and the check. */
 static size_t place_in_a_field(size_t count) {
-    static const struct { uint8_t at, length; } fields[] = {
-        {0, 1}, {1, 5}, {6, 1}, {7, 5}, {12, 1}, {13, 1}, {14, 3}, {17, 1}};
+    static const struct { uint8_t at, length; } fields[] = {{0, 1}, {1, 5}, {6, 1}, {7, 5}, {12, 1}, {13, 1}, {14, 3}, {17, 1}};
     uint32_t field = chance(11);
     if (field < 8u)
         return fields[field].at + chance(fields[field].length);
@@ -153,17 +135,9 @@ size_t damage_sequence(uint8_t *symbols, size_t count) {
         for (size_t i = count; i < MOST_SYMBOLS; i++)
             symbols[i] = (uint8_t)chance(100);
         return chance(MOST_SYMBOLS + 1u);
-    case 1: /* a symbol over 127 */
-        symbols[chance((uint32_t)count)] |= 128u;
-        return count;
-    case 2: /* an identity */
-        put_pairs(pairs, any_identity());
-        return count;
-    case 3:
-        put_any_field(symbols + 14);
-        return count;
-    default:
-        *one = any_byte();
-        return count;
+    case 1: symbols[chance((uint32_t)count)] |= 128u; return count; /* a symbol over 127 */
+    case 2: put_pairs(pairs, any_identity()); return count;         /* an identity */
+    case 3: put_any_field(symbols + 14); return count;
+    default: *one = any_byte(); return count;
     }
 }

@@ -41,12 +41,9 @@ static bool agrees(const struct trial *trial) {
     on_trial = trial;
     reads = writes = (struct tally){0};
     begin_chance(SEED);
-    if (!(run("P1 to P6, each symbol replaced", replace_each_symbol) &&
-          run("lengths 0 to 40", try_each_length) &&
-          run("P1 to P6 written, each byte replaced", write_checked) &&
-          run("sequences by chance", read_by_chance) &&
-          run("meanings by chance", write_by_chance) &&
-          run("two neighbours replaced", replace_neighbours)))
+    if (!(run("P1 to P6, each symbol replaced", replace_each_symbol) && run("lengths 0 to 40", try_each_length) &&
+            run("P1 to P6 written, each byte replaced", write_checked) && run("sequences by chance", read_by_chance) &&
+            run("meanings by chance", write_by_chance) && run("two neighbours replaced", replace_neighbours)))
         return false;
     bool enough = report("reads", &reads, of_reads, sizeof of_reads);
     return report("writes", &writes, of_writes, sizeof of_writes) && enough;

@@ -1,8 +1,8 @@
 /* The example host, ended at one of its writes: ending FEED KEPT PRINTED OLDER.
  *
  * For each line AT PART KIND of its standard input the host plays the feed, in a process of its own, with its state in KEPT and
- * what it prints in PRINTED. At the AT-th write, and 0 is none, it is ended there and then (KIND 0); or the power is cut, and what
- * was not synced is lost or is not (1); or the write fails (2). A write of bytes gets PART thousandths done before that.
+ * what it prints in PRINTED. At the AT-th write, and 0 is none, it is ended there and then (KIND 0); or the power is cut, and
+ * what was not synced is lost or is not (1); or the write fails (2). A write of bytes gets PART thousandths done before that.
  * KIND 3 starts the host AT times in one process, with the files KEPT-1, KEPT-2 and so on, while it refuses them.
  * Each order is told in a line: how many writes or refusals there were, whether the last rename was lost, and the status as
  * `waitpid` has it. In PRINTED each rename has its line, `=` and a digest of what was written. OLDER is a name for the file that
@@ -70,15 +70,15 @@ static struct {
 /* What has come of the order so far. */
 static struct play {
     long writes, read;
-    unsigned digest;          /* of the bytes that were written last */
-    bool undone;              /* the last rename */
-    int to;                   /* PRINTED */
+    unsigned digest; /* of the bytes that were written last */
+    bool undone;     /* the last rename */
+    int to;          /* PRINTED */
     size_t out_length;
-    int file;                 /* the file that was opened last */
-    const char *unsynced;     /* its name, while its bytes may be lost */
+    int file;             /* the file that was opened last */
+    const char *unsynced; /* its name, while its bytes may be lost */
     long unsynced_bytes;
-    bool renamed, was_there;  /* a rename that may be lost, and whether it replaced a file */
-    size_t length;            /* printed, and not flushed */
+    bool renamed, was_there; /* a rename that may be lost, and whether it replaced a file */
+    size_t length;           /* printed, and not flushed */
     char text[10000];
 } play;
 

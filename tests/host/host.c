@@ -116,19 +116,32 @@ struct faults {
 };
 
 static const struct faults of_symbols[] = {
-    {0, 128, 1, 100, COAST_ANSWER_BAD_SYMBOL},         {0, 122, 1, 100, COAST_ANSWER_BAD_FORMAT},
-    {5, 41, 6, 101, COAST_ANSWER_BAD_IDENTITIES},      {1, 20, 6, 101, COAST_ANSWER_BAD_IDENTITIES},
-    {6, 101, 12, 102, COAST_ANSWER_BAD_CATEGORY},      {12, 102, 14, 90, COAST_ANSWER_BAD_TELECOMMANDS},
-    {14, 90, 17, 107, COAST_ANSWER_BAD_CHANNEL_FIELD}, {17, 107, 22, 118, COAST_ANSWER_BAD_NUMBER},
-    {18, 10, 22, 118, COAST_ANSWER_BAD_NUMBER},        {22, 118, 22, 118, COAST_ANSWER_BAD_END}};
+    {0, 128, 1, 100, COAST_ANSWER_BAD_SYMBOL},
+    {0, 122, 1, 100, COAST_ANSWER_BAD_FORMAT},
+    {5, 41, 6, 101, COAST_ANSWER_BAD_IDENTITIES},
+    {1, 20, 6, 101, COAST_ANSWER_BAD_IDENTITIES},
+    {6, 101, 12, 102, COAST_ANSWER_BAD_CATEGORY},
+    {12, 102, 14, 90, COAST_ANSWER_BAD_TELECOMMANDS},
+    {14, 90, 17, 107, COAST_ANSWER_BAD_CHANNEL_FIELD},
+    {17, 107, 22, 118, COAST_ANSWER_BAD_NUMBER},
+    {18, 10, 22, 118, COAST_ANSWER_BAD_NUMBER},
+    {22, 118, 22, 118, COAST_ANSWER_BAD_END},
+};
 
 static const struct faults of_bytes[] = {
-    {3, 1, 8, 102, COAST_ANSWER_BAD_IDENTITIES},    {7, 0, 8, 102, COAST_ANSWER_BAD_IDENTITIES},
-    {8, 102, 10, 3, COAST_ANSWER_BAD_TELECOMMANDS}, {9, 127, 10, 3, COAST_ANSWER_BAD_TELECOMMANDS},
-    {10, 3, 14, 0, COAST_ANSWER_BAD_CHANNEL_FIELD}, {13, 1, 14, 0, COAST_ANSWER_BAD_CHANNEL_FIELD},
-    {10, 1, 11, 16, COAST_ANSWER_BAD_CHANNEL_FIELD}, {14, 0, 15, 0, COAST_ANSWER_BAD_NUMBER},
-    {14, 17, 15, 0, COAST_ANSWER_BAD_NUMBER},       {22, 10, 15, 0, COAST_ANSWER_BAD_NUMBER},
-    {23, 1, 15, 0, COAST_ANSWER_BAD_NUMBER},        {15, 118, 15, 118, COAST_ANSWER_BAD_END}};
+    {3, 1, 8, 102, COAST_ANSWER_BAD_IDENTITIES},
+    {7, 0, 8, 102, COAST_ANSWER_BAD_IDENTITIES},
+    {8, 102, 10, 3, COAST_ANSWER_BAD_TELECOMMANDS},
+    {9, 127, 10, 3, COAST_ANSWER_BAD_TELECOMMANDS},
+    {10, 3, 14, 0, COAST_ANSWER_BAD_CHANNEL_FIELD},
+    {13, 1, 14, 0, COAST_ANSWER_BAD_CHANNEL_FIELD},
+    {10, 1, 11, 16, COAST_ANSWER_BAD_CHANNEL_FIELD},
+    {14, 0, 15, 0, COAST_ANSWER_BAD_NUMBER},
+    {14, 17, 15, 0, COAST_ANSWER_BAD_NUMBER},
+    {22, 10, 15, 0, COAST_ANSWER_BAD_NUMBER},
+    {23, 1, 15, 0, COAST_ANSWER_BAD_NUMBER},
+    {15, 118, 15, 118, COAST_ANSWER_BAD_END},
+};
 
 /* Each with the check put right, and with a wrong check. */
 static void try_refusals_to_read(void) {
@@ -144,7 +157,7 @@ static void try_refusals_to_read(void) {
         symbols[CHECKED_LENGTH - 1] ^= 1u;
         answer = read_lent(symbols, CHECKED_LENGTH, COAST_MEANING_SIZE, true, meaning);
         want("with a wrong check", answer,
-             faults->answer == COAST_ANSWER_BAD_SYMBOL ? COAST_ANSWER_BAD_SYMBOL : COAST_ANSWER_BAD_CHECK);
+            faults->answer == COAST_ANSWER_BAD_SYMBOL ? COAST_ANSWER_BAD_SYMBOL : COAST_ANSWER_BAD_CHECK);
     }
 }
 
@@ -179,8 +192,8 @@ static void spoil(uint8_t *to, const uint8_t *from, size_t count, bool wholly) {
 static void read_garbage(const uint8_t *symbols, size_t count) {
     uint8_t meaning[COAST_MEANING_SIZE], again[COAST_LONGEST_SEQUENCE];
     uint32_t answer = read_lent(symbols, count, COAST_MEANING_SIZE, true, meaning);
-    want_true("an answer of the list", answer == COAST_ANSWER_DONE ||
-                                           (answer >= COAST_ANSWER_BAD_LENGTH && answer <= COAST_ANSWER_BAD_END));
+    want_true("an answer of the list",
+        answer == COAST_ANSWER_DONE || (answer >= COAST_ANSWER_BAD_LENGTH && answer <= COAST_ANSWER_BAD_END));
     if (answer != COAST_ANSWER_DONE)
         return;
     want("written again", write_lent(meaning, COAST_MEANING_SIZE, 40, true, again), (uint32_t)(count << 8));

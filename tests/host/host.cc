@@ -43,7 +43,7 @@ bool plays_events() {
     }
     const uint64_t due = rack.next_due(), clock = rack.clock();
     printf("cpp_host: %s, %s\n", coast_action_words(coast_action_kind(rack.action(0))),
-           coast_action_words(coast_action_kind(rack.action(1))));
+        coast_action_words(coast_action_kind(rack.action(1))));
     return good && coast_waits(due) && coast_due(due) == 261 && coast_answer(clock) == COAST_ANSWER_DONE &&
            coast_time(clock) == time - 1 && coast_action_kind(rack.action(1)) == COAST_ACTION_SEND_CHANNEL_70;
 }
@@ -54,7 +54,7 @@ bool reads_and_writes() {
     const uint32_t read = coast_read_sequence(checked[0], CHECKED_LENGTH, meaning, sizeof meaning);
     const uint32_t written = coast_write_sequence(meaning, sizeof meaning, symbols, sizeof symbols);
     printf("cpp_host: %s, number %s\n", coast_answer_words(read),
-           coast_digits_text(meaning + COAST_AT_DIGITS, meaning[COAST_AT_DIGIT_COUNT], number));
+        coast_digits_text(meaning + COAST_AT_DIGITS, meaning[COAST_AT_DIGIT_COUNT], number));
     return coast_count(written) == CHECKED_LENGTH && memcmp(symbols, checked[0], CHECKED_LENGTH) == 0;
 }
 

@@ -47,12 +47,12 @@ static bool tells_due(uint64_t returned) {
 }
 
 /* A refusal leaves the station; nobody touches the list, the room behind the actions, or what lies beside lent bytes. */
-static bool kept_to(uint64_t returned, const uint8_t *before, const struct event *event, const uint8_t *list,
-                    const uint8_t *room) {
+static bool kept_to(
+    uint64_t returned, const uint8_t *before, const struct event *event, const uint8_t *list, const uint8_t *room) {
     bool refused = coast_answer(returned) > COAST_ANSWER_IGNORED;
     return (!refused || (coast_count(returned) == 0u && memcmp(station, before, COAST_STATION_SIZE) == 0)) &&
-           left_alone(FOR_STATION, station, COAST_STATION_SIZE, FILLING) &&
-           memcmp(event->list, list, event->count) == 0 && left_alone(FOR_SYMBOLS, event->list, event->count, FILLING) &&
+           left_alone(FOR_STATION, station, COAST_STATION_SIZE, FILLING) && memcmp(event->list, list, event->count) == 0 &&
+           left_alone(FOR_SYMBOLS, event->list, event->count, FILLING) &&
            left_alone(FOR_ACTIONS, room, coast_count(returned) * COAST_ONE_ACTION_SIZE, FILLING);
 }
 

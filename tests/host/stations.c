@@ -18,12 +18,18 @@ struct step {
 
 /* From a fresh station on. */
 static const struct step course[] = {
-    {"Q 100 P1", COAST_ANSWER_DONE, 2, 261, 100},        {"Q 110 P2", COAST_ANSWER_IGNORED, 0, 261, 110},
-    {"W 250 0 P4", COAST_ANSWER_DONE, 1, 851, 250},      {"M 260 1", COAST_ANSWER_DONE, 0, 851, 260},
-    {"D 300 0", COAST_ANSWER_DONE, 0, 351, 300},         {"U 310 0", COAST_ANSWER_DONE, 0, 851, 310},
-    {"O 720 0", COAST_ANSWER_DONE, 0, NONE, 720},        {"F 730 1", COAST_ANSWER_DONE, 0, NONE, 730},
-    {"T 900", COAST_ANSWER_DONE, 0, NONE, 900},          {"W 4829 0 P5", COAST_ANSWER_DONE, 4, 4870, 4829},
-    {"H 4830 0", COAST_ANSWER_IGNORED, 0, 4870, 4830},   {"T 9000", COAST_ANSWER_DONE, 0, NONE, 4870},
+    {"Q 100 P1", COAST_ANSWER_DONE, 2, 261, 100},
+    {"Q 110 P2", COAST_ANSWER_IGNORED, 0, 261, 110},
+    {"W 250 0 P4", COAST_ANSWER_DONE, 1, 851, 250},
+    {"M 260 1", COAST_ANSWER_DONE, 0, 851, 260},
+    {"D 300 0", COAST_ANSWER_DONE, 0, 351, 300},
+    {"U 310 0", COAST_ANSWER_DONE, 0, 851, 310},
+    {"O 720 0", COAST_ANSWER_DONE, 0, NONE, 720},
+    {"F 730 1", COAST_ANSWER_DONE, 0, NONE, 730},
+    {"T 900", COAST_ANSWER_DONE, 0, NONE, 900},
+    {"W 4829 0 P5", COAST_ANSWER_DONE, 4, 4870, 4829},
+    {"H 4830 0", COAST_ANSWER_IGNORED, 0, 4870, 4830},
+    {"T 9000", COAST_ANSWER_DONE, 0, NONE, 4870},
 };
 #define STEPS (sizeof course / sizeof course[0])
 
@@ -92,7 +98,7 @@ static void try_course(bool at_end) {
         want_due("the next due time", coast_next_due(station, COAST_STATION_SIZE), course[i].due);
         want_clock(station, course[i].clock);
         want_true("bytes behind the actions stay",
-                  left_alone(FOR_ACTIONS, lent.room, coast_count(returned) * COAST_ONE_ACTION_SIZE, FILLING));
+            left_alone(FOR_ACTIONS, lent.room, coast_count(returned) * COAST_ONE_ACTION_SIZE, FILLING));
     }
     want_true("bytes beside a station stay", left_alone(FOR_STATION, station, COAST_STATION_SIZE, FILLING));
 }
@@ -129,10 +135,10 @@ static void try_taken_apart(void) {
 static void want_words(const char *(*words)(uint32_t), uint32_t most, uint32_t known) {
     uint32_t count = 0;
     for (uint32_t i = 0; i <= most; i++) {
-        bool new = words(i) != words(most);
+        bool unlike = words(i) != words(most);
         for (uint32_t j = 0; j < i; j++)
-            new = new && words(i) != words(j);
-        count += new ? 1u : 0u;
+            unlike = unlike && words(i) != words(j);
+        count += unlike ? 1u : 0u;
     }
     want("numbers that have words", count, known);
 }
@@ -144,8 +150,8 @@ static void want_untold(const uint8_t *station, size_t size) {
 }
 
 /* These bytes of a station, cut off or with more behind them, must get this refusal and stay as they are. */
-static void want_refused(const char *what, const char *line, const uint8_t *bytes, size_t size, size_t room_size,
-                         uint32_t wanted) {
+static void want_refused(
+    const char *what, const char *line, const uint8_t *bytes, size_t size, size_t room_size, uint32_t wanted) {
     size_t whole = size < COAST_STATION_SIZE ? size : COAST_STATION_SIZE;
     for (int end = 0; end < 2; end++) {
         uint8_t *station = lend(FOR_STATION, size, end == 1, FILLING);
@@ -159,8 +165,8 @@ static void want_refused(const char *what, const char *line, const uint8_t *byte
             want_untold(lent.station, size);
         else if (size == COAST_STATION_SIZE && wanted != COAST_ANSWER_BAD_SET_UP)
             want_due("a refusal tells the due time", returned, due_of(coast_next_due(station, size)));
-        want_true("a refusal leaves the station",
-                  equal(station, bytes, whole) && left_alone(FOR_STATION, station, whole, FILLING));
+        want_true(
+            "a refusal leaves the station", equal(station, bytes, whole) && left_alone(FOR_STATION, station, whole, FILLING));
         want_true("a refusal leaves the room", left_alone(FOR_ACTIONS, room, 0, FILLING));
     }
 }
@@ -192,13 +198,20 @@ static void try_refusals(void) {
         const char *line;
         uint32_t answer;
     } refused[] = {
-        {"T 4000000001", COAST_ANSWER_TIME_TOO_LATE},  {"T 99", COAST_ANSWER_TIME_BEFORE_CLOCK},
-        {"Q 261" SPOILT, COAST_ANSWER_WAIT_DUE},       {"W 261 9 P4", COAST_ANSWER_WAIT_DUE},
-        {"W 260 2" SPOILT, COAST_ANSWER_NO_SLOT},      {"O 260 4294967295", COAST_ANSWER_NO_SLOT},
-        {"W 260 65536 P4", COAST_ANSWER_NO_SLOT},      {"M 260 257", COAST_ANSWER_NO_SLOT},
-        {"Q 260", COAST_ANSWER_BAD_LENGTH},            {"W 260 0", COAST_ANSWER_BAD_LENGTH},
-        {"Q 260" SPOILT, COAST_ANSWER_BAD_SYMBOL},     {"M 260 0", COAST_ANSWER_OPERATOR},
-        {"F 260 1", COAST_ANSWER_OPERATOR}};
+        {"T 4000000001", COAST_ANSWER_TIME_TOO_LATE},
+        {"T 99", COAST_ANSWER_TIME_BEFORE_CLOCK},
+        {"Q 261" SPOILT, COAST_ANSWER_WAIT_DUE},
+        {"W 261 9 P4", COAST_ANSWER_WAIT_DUE},
+        {"W 260 2" SPOILT, COAST_ANSWER_NO_SLOT},
+        {"O 260 4294967295", COAST_ANSWER_NO_SLOT},
+        {"W 260 65536 P4", COAST_ANSWER_NO_SLOT},
+        {"M 260 257", COAST_ANSWER_NO_SLOT},
+        {"Q 260", COAST_ANSWER_BAD_LENGTH},
+        {"W 260 0", COAST_ANSWER_BAD_LENGTH},
+        {"Q 260" SPOILT, COAST_ANSWER_BAD_SYMBOL},
+        {"M 260 0", COAST_ANSWER_OPERATOR},
+        {"F 260 1", COAST_ANSWER_OPERATOR},
+    };
     struct own own = after(1);
     litter(&own);
     for (size_t i = 0; i < sizeof refused / sizeof refused[0]; i++)
@@ -206,9 +219,8 @@ static void try_refusals(void) {
 }
 
 static void try_bad_set_ups(void) {
-    static const char *const bad[] = {
-        "S 1999999 26 27", "S 200056789 26 27", "S 2001234", "S 2001234 26 26", "S 2001234 26 16", "S 2001234 70",
-        "S 2001234 255", "S 2001234 1 2 3 4 5 6 7 8 9 10 11 12 13 14 15 17 18"};
+    static const char *const bad[] = {"S 1999999 26 27", "S 200056789 26 27", "S 2001234", "S 2001234 26 26", "S 2001234 26 16",
+        "S 2001234 70", "S 2001234 255", "S 2001234 1 2 3 4 5 6 7 8 9 10 11 12 13 14 15 17 18"};
     struct own own = after(3);
     for (size_t i = 0; i < sizeof bad / sizeof bad[0]; i++)
         want_refused("a set-up", bad[i], own.station, COAST_STATION_SIZE, 0, COAST_ANSWER_BAD_SET_UP);
@@ -219,9 +231,8 @@ static void try_unsound(void) {
     static const struct {
         size_t steps, place;
         uint8_t value;
-    } wrong[] = {{3, 4, 255},  {3, 8, 1},    {3, 9, 0},   {3, 9, 17},  {3, 10, 33},  {3, 11, 9},
-                 {3, 11, 255}, {3, 13, 255}, {3, 25, 16}, {3, 26, 1},  {3, 32, 0},   {3, 37, 2},
-                 {3, 39, 17},  {5, 16, 2},   {5, 18, 255}, {10, 21, 2}, {10, 23, 60}};
+    } wrong[] = {{3, 4, 255}, {3, 8, 1}, {3, 9, 0}, {3, 9, 17}, {3, 10, 33}, {3, 11, 9}, {3, 11, 255}, {3, 13, 255}, {3, 25, 16},
+        {3, 26, 1}, {3, 32, 0}, {3, 37, 2}, {3, 39, 17}, {5, 16, 2}, {5, 18, 255}, {10, 21, 2}, {10, 23, 60}};
     for (size_t i = 0; i < sizeof wrong / sizeof wrong[0]; i++) {
         struct own own = after(wrong[i].steps);
         own.station[wrong[i].place] = wrong[i].value;
@@ -266,7 +277,8 @@ static void try_advice(void) {
     want("its due time", coast_answer(hand_in_own(&last, "T 4000000151")), COAST_ANSWER_TIME_TOO_LATE);
 }
 
-/* What coast.h tells a host that comes back after a while: its time goes on from the clock, and ticks come first, two at most here. */
+/* What coast.h tells a host that comes back after a while: its time goes on from the clock, and ticks come first, two at most
+ * here. */
 static void try_coming_back(void) {
     for (size_t steps = 0; steps <= STEPS; steps++) {
         struct own kept = after(steps);

@@ -111,8 +111,16 @@ static uint32_t stray(struct event *event) {
 }
 
 typedef uint32_t filler(struct event *event);
-static filler *const fillers[MOVES] = {[CALL] = call, [AGAIN] = call_again, [ANSWER] = answer, [LINE] = handset,
-    [CARRIER] = carrier, [END] = end_call, [HAND] = hand, [STRAY] = stray};
+static filler *const fillers[MOVES] = {
+    [CALL] = call,
+    [AGAIN] = call_again,
+    [ANSWER] = answer,
+    [LINE] = handset,
+    [CARRIER] = carrier,
+    [END] = end_call,
+    [HAND] = hand,
+    [STRAY] = stray,
+};
 
 /* ---- the whole line ---- */
 

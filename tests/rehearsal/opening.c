@@ -32,8 +32,7 @@ static void spoil_set_up(struct event *event) {
     case 1: *one = no_channels[chance(8)]; break;
     case 2: event->count = 0; break;
     case 3: put_channels(event, MOST_SLOTS + 1u + chance(8)); break;
-    default: /* the first once more, at the end */
-        event->symbols[event->count++] = event->symbols[0];
+    default: event->symbols[event->count++] = event->symbols[0]; /* the first once more, at the end */
     }
 }
 

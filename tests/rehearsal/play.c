@@ -60,7 +60,8 @@ static struct step follow(const struct event *event) {
     struct heard heard = {event->symbols, event->count};
     struct station station = stage.station;
     switch (event->letter) {
-#define AS_STEP(letter, entry, takes) case letter: return second_##entry(station, event->time, GIVES_##takes room);
+#define AS_STEP(letter, entry, takes) \
+    case letter: return second_##entry(station, event->time, GIVES_##takes room);
         EVENTS(AS_STEP)
     default: return (struct step){.station = station}; /* no event has another letter */
     }

@@ -40,7 +40,7 @@ extern struct stage stage;
 
 /* ---- play.c: a line is written and followed ---- */
 void play(const struct event *event);
-void write_text(const char *text, size_t length); /* a line that changes nothing */
+void write_text(const char *text, size_t length);       /* a line that changes nothing */
 size_t put_text(char *text, const struct event *event); /* at most LINE_MOST characters */
 void end_script(void);
 

@@ -85,9 +85,7 @@ struct meaning mistaken(struct meaning m) {
     case 5: /* another channel of the station, or of none */
         m.channel = m.kind == FIELD_CHANNEL ? stage.station.channels[chance(stage.station.channel_count)] : 0u;
         break;
-    case 6:
-        m.first = m.first == SIMPLEX ? DUPLEX : m.first == DUPLEX ? DATA : m.first;
-        break;
+    case 6: m.first = m.first == SIMPLEX ? DUPLEX : m.first == DUPLEX ? DATA : m.first; break;
     default: /* an end of call in place of anything, and the other way about */
         m.first = m.first == END_OF_CALL ? SIMPLEX : m.kind == FIELD_NONE ? END_OF_CALL : m.first;
         m.second = NO_INFORMATION;

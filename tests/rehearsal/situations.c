@@ -3,43 +3,86 @@
 
 #include "rehearsal.h"
 
-#define SITUATIONS(X) \
-    X(A, "rule a") X(A_KNOWN, "rule a, the ship stands somewhere") \
-    X(B_SAME, "rule b, identical") X(B_OTHER, "rule b, offered, another request") \
-    X(B_RING, "rule b, first ring-back") X(B_RING_AGAIN, "rule b, second ring-back") X(B_AGREED, "rule b, acknowledged") \
-    X(C_DUPLEX, "rule c, duplex without carrier") X(C_PRESENT, "rule c, simplex with carrier") \
-    X(C_DIALLING, "rule c ends a call not answered") X(C_ANSWERED, "rule c ends an answered call") \
-    X(C_SEVEN, "rule c, charge, ring-back and answer, seven actions") X(C_OFFERED, "rule c, then offered a slot again") \
-    X(D, "rule d") X(E, "rule e") X(E_GAP, "rule e, a slot above slot 0") X(F, "rule f") X(F_LAST, "rule f, the 32nd place") \
-    X(G, "rule g") X(CALL_IN_HOLD, "request of a ship in its hold") \
-    X(DIAL, "working call, offered") X(DIAL_AGREED, "working call, acknowledged") X(DIAL_LAST, "working call in the last tenth") \
-    X(DIAL_OTHER_MODE, "working call of the other mode") X(WORKING_IN_RING, "working call in ring-back") \
-    X(BQ_FIRST, "BQ, first ring-back") X(BQ_SECOND, "BQ, second ring-back") X(BQ_CHANNEL, "BQ, another channel") \
-    X(BQ_TWICE, "BQ, acknowledged already") \
-    X(END_DIALLING, "ship's end, dialling") X(END_ANSWERED, "ship's end, answered") X(END_HOLD, "ship's end in the hold") \
-    X(END_HOLD_LAST, "ship's end in the hold's last tenth") X(END_OTHER, "end of call of another ship") \
-    X(END_FIELD, "end of call with a duration") \
-    X(LIFT, "off-hook, carrier present") X(LIFT_SILENT, "off-hook, carrier wait runs on") X(LIFT_AGAIN, "off-hook, answered") \
-    X(LAY_DIALLING, "on-hook, dialling") X(LAY_ANSWERED, "on-hook, answered") \
-    X(DOWN_SIMPLEX, "carrier down, simplex") X(DOWN_DUPLEX, "carrier down, duplex") X(DOWN_AGAIN, "carrier down once more") \
-    X(UP, "carrier up ends the wait") X(UP_AGAIN, "carrier up, present already") X(CARRIER_ELSE, "carrier without a call") \
-    X(DUE_OFFER, "offer due") X(DUE_AGREED, "acknowledged due") X(DUE_RING, "first ring-back due") \
-    X(DUE_RING_AGAIN, "second ring-back due") X(DUE_REPLY, "no reply") X(DUE_SIMPLEX, "carrier loss, simplex") \
-    X(DUE_DUPLEX, "carrier loss, duplex") X(DUE_ANSWERED, "carrier loss, answered") X(DUE_HOLD, "hold due") \
-    X(DUE_QUEUE, "queue entry due") X(NONE_DUE, "tick, none due") X(LATE, "late tick") X(LATE_CHARGE, "late tick that charges") \
-    X(TIE_QUEUE, "due together: two queue entries") X(TIE_QUEUE_SLOT, "due together: queue entry and slot") \
-    X(TIE_SLOTS, "due together: two slots") X(TIE_ONE_SLOT, "due together: carrier loss and no reply of one slot") \
-    X(RING_HIGH, "ring-back on a slot above slot 0") X(TAKE, "operator takes") \
-    X(GIVE_BACK, "operator gives back") X(GIVE_BACK_RING, "operator gives back, ring-back") \
-    X(HUNDRED_SHIP, "100 hours and over, ship's end") X(HUNDRED_COAST, "100 hours and over, coast's end") \
-    X(NINETY, "90 hours and more, under 100") X(AT_LIMIT, "accepted at the limit") X(PAST_LIMIT, "a due time past the limit") \
+#define SITUATIONS(X)                                                      \
+    X(A, "rule a")                                                         \
+    X(A_KNOWN, "rule a, the ship stands somewhere")                        \
+    X(B_SAME, "rule b, identical")                                         \
+    X(B_OTHER, "rule b, offered, another request")                         \
+    X(B_RING, "rule b, first ring-back")                                   \
+    X(B_RING_AGAIN, "rule b, second ring-back")                            \
+    X(B_AGREED, "rule b, acknowledged")                                    \
+    X(C_DUPLEX, "rule c, duplex without carrier")                          \
+    X(C_PRESENT, "rule c, simplex with carrier")                           \
+    X(C_DIALLING, "rule c ends a call not answered")                       \
+    X(C_ANSWERED, "rule c ends an answered call")                          \
+    X(C_SEVEN, "rule c, charge, ring-back and answer, seven actions")      \
+    X(C_OFFERED, "rule c, then offered a slot again")                      \
+    X(D, "rule d")                                                         \
+    X(E, "rule e")                                                         \
+    X(E_GAP, "rule e, a slot above slot 0")                                \
+    X(F, "rule f")                                                         \
+    X(F_LAST, "rule f, the 32nd place")                                    \
+    X(G, "rule g")                                                         \
+    X(CALL_IN_HOLD, "request of a ship in its hold")                       \
+    X(DIAL, "working call, offered")                                       \
+    X(DIAL_AGREED, "working call, acknowledged")                           \
+    X(DIAL_LAST, "working call in the last tenth")                         \
+    X(DIAL_OTHER_MODE, "working call of the other mode")                   \
+    X(WORKING_IN_RING, "working call in ring-back")                        \
+    X(BQ_FIRST, "BQ, first ring-back")                                     \
+    X(BQ_SECOND, "BQ, second ring-back")                                   \
+    X(BQ_CHANNEL, "BQ, another channel")                                   \
+    X(BQ_TWICE, "BQ, acknowledged already")                                \
+    X(END_DIALLING, "ship's end, dialling")                                \
+    X(END_ANSWERED, "ship's end, answered")                                \
+    X(END_HOLD, "ship's end in the hold")                                  \
+    X(END_HOLD_LAST, "ship's end in the hold's last tenth")                \
+    X(END_OTHER, "end of call of another ship")                            \
+    X(END_FIELD, "end of call with a duration")                            \
+    X(LIFT, "off-hook, carrier present")                                   \
+    X(LIFT_SILENT, "off-hook, carrier wait runs on")                       \
+    X(LIFT_AGAIN, "off-hook, answered")                                    \
+    X(LAY_DIALLING, "on-hook, dialling")                                   \
+    X(LAY_ANSWERED, "on-hook, answered")                                   \
+    X(DOWN_SIMPLEX, "carrier down, simplex")                               \
+    X(DOWN_DUPLEX, "carrier down, duplex")                                 \
+    X(DOWN_AGAIN, "carrier down once more")                                \
+    X(UP, "carrier up ends the wait")                                      \
+    X(UP_AGAIN, "carrier up, present already")                             \
+    X(CARRIER_ELSE, "carrier without a call")                              \
+    X(DUE_OFFER, "offer due")                                              \
+    X(DUE_AGREED, "acknowledged due")                                      \
+    X(DUE_RING, "first ring-back due")                                     \
+    X(DUE_RING_AGAIN, "second ring-back due")                              \
+    X(DUE_REPLY, "no reply")                                               \
+    X(DUE_SIMPLEX, "carrier loss, simplex")                                \
+    X(DUE_DUPLEX, "carrier loss, duplex")                                  \
+    X(DUE_ANSWERED, "carrier loss, answered")                              \
+    X(DUE_HOLD, "hold due")                                                \
+    X(DUE_QUEUE, "queue entry due")                                        \
+    X(NONE_DUE, "tick, none due")                                          \
+    X(LATE, "late tick")                                                   \
+    X(LATE_CHARGE, "late tick that charges")                               \
+    X(TIE_QUEUE, "due together: two queue entries")                        \
+    X(TIE_QUEUE_SLOT, "due together: queue entry and slot")                \
+    X(TIE_SLOTS, "due together: two slots")                                \
+    X(TIE_ONE_SLOT, "due together: carrier loss and no reply of one slot") \
+    X(RING_HIGH, "ring-back on a slot above slot 0")                       \
+    X(TAKE, "operator takes")                                              \
+    X(GIVE_BACK, "operator gives back")                                    \
+    X(GIVE_BACK_RING, "operator gives back, ring-back")                    \
+    X(HUNDRED_SHIP, "100 hours and over, ship's end")                      \
+    X(HUNDRED_COAST, "100 hours and over, coast's end")                    \
+    X(NINETY, "90 hours and more, under 100")                              \
+    X(AT_LIMIT, "accepted at the limit")                                   \
+    X(PAST_LIMIT, "a due time past the limit")                             \
     X(NOT_OURS, "sequence to another")
 
 enum situation {
 #define AS_NAME(name, words) SEEN_##name,
     SITUATIONS(AS_NAME)
 #undef AS_NAME
-    SEEN_COUNT
+        SEEN_COUNT
 };
 
 static const char *const words[] = {

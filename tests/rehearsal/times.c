@@ -55,10 +55,15 @@ uint32_t soon(uint32_t wait, uint32_t slot) {
     uint32_t clock = stage.station.clock, due = 0, time = clock;
     bool runs = next_due(&due);
     switch (chance(16)) {
-    case 0: case 1: case 2: break;
+    case 0:
+    case 1:
+    case 2: break;
     case 3: time = runs ? due - 1u : clock; break;
     case 4: time = clock + chance(600); break;
-    case 5: case 6: case 9: case 10: time = together(wait, slot); break;
+    case 5:
+    case 6:
+    case 9:
+    case 10: time = together(wait, slot); break;
     case 7: time = at_an_edge(); break;
     case 8: time = clock + chance(200); break;
     default: time = clock + chance(40);

@@ -6,8 +6,17 @@
 #define ROOM_SHORT 21u
 #define MEANING_SHORT 22u
 
-enum byte_at { ADDRESS_BYTE = 0, SELF_BYTE = 4, FIRST_BYTE = 8, SECOND_BYTE, KIND_BYTE, FIELD_BYTE,
-               COUNT_BYTE = 14, END_BYTE, DIGITS_BYTE };
+enum byte_at {
+    ADDRESS_BYTE = 0,
+    SELF_BYTE = 4,
+    FIRST_BYTE = 8,
+    SECOND_BYTE,
+    KIND_BYTE,
+    FIELD_BYTE,
+    COUNT_BYTE = 14,
+    END_BYTE,
+    DIGITS_BYTE
+};
 
 static void put_identity(uint8_t *bytes, uint32_t identity) {
     for (size_t i = 0; i < 4u; i++)

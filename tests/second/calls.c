@@ -9,19 +9,16 @@
 
 /* "Duration: whole seconds, rounded down." The only turn of tenths to
  * charged seconds. */
-uint32_t charged_seconds(uint32_t tenths)
-{
+uint32_t charged_seconds(uint32_t tenths) {
     return tenths / TENTHS_A_SECOND;
 }
 
-static struct slot *slot_at(struct work *work, uint32_t slot)
-{
+static struct slot *slot_at(struct work *work, uint32_t slot) {
     return &work->station->slots[slot];
 }
 
 /* "Answers repeat the request with identities exchanged". */
-struct meaning exchanged(const struct meaning *request)
-{
+struct meaning exchanged(const struct meaning *request) {
     struct meaning m = *request;
     m.address = request->self;
     m.self = request->address;
@@ -30,8 +27,7 @@ struct meaning exchanged(const struct meaning *request)
 
 /* The acknowledgement (BQ) or the ring-back's "able" answer (RQ): "with the
  * channel". */
-void send_able(struct work *work, uint32_t slot, uint8_t end)
-{
+void send_able(struct work *work, uint32_t slot, uint8_t end) {
     struct meaning m = exchanged(&slot_at(work, slot)->request);
     m.kind = FIELD_CHANNEL;
     m.channel = work->station->channels[slot];
@@ -40,9 +36,7 @@ void send_able(struct work *work, uint32_t slot, uint8_t end)
 }
 
 /* The slot is now this request's, in this phase, its wait begun now. */
-static void store(struct work *work, uint32_t slot, enum phase phase,
-                  const struct meaning *request)
-{
+static void store(struct work *work, uint32_t slot, enum phase phase, const struct meaning *request) {
     struct slot next = {0};
     next.phase = phase;
     next.request = *request;
@@ -52,15 +46,13 @@ static void store(struct work *work, uint32_t slot, enum phase phase,
 
 /* "new request stored, acknowledgement sent, .. wait 160 from now"; the
  * carrier, if it is not yet on, was put on before. */
-void offer(struct work *work, uint32_t slot, const struct meaning *request)
-{
+void offer(struct work *work, uint32_t slot, const struct meaning *request) {
     store(work, slot, PHASE_OFFERED, request);
     send_able(work, slot, BQ);
 }
 
 /* "takes the oldest: carrier on, the "able" answer but with RQ; wait 50" */
-static void ring_back(struct work *work, uint32_t slot)
-{
+static void ring_back(struct work *work, uint32_t slot) {
     struct meaning request = work->station->queue[0].request;
     queue_drop(work->station, 0);
     store(work, slot, PHASE_RING_BACK, &request);
@@ -69,24 +61,21 @@ static void ring_back(struct work *work, uint32_t slot)
 }
 
 /* "send once more, wait 50" */
-void repeat_ring_back(struct work *work, uint32_t slot)
-{
+void repeat_ring_back(struct work *work, uint32_t slot) {
     struct meaning request = slot_at(work, slot)->request;
     store(work, slot, PHASE_RING_BACK_REPEATED, &request);
     send_able(work, slot, RQ);
 }
 
 /* "acknowledged, wait 160" */
-void acknowledge(struct work *work, uint32_t slot)
-{
+void acknowledge(struct work *work, uint32_t slot) {
     struct meaning request = slot_at(work, slot)->request;
     store(work, slot, PHASE_ACKNOWLEDGED, &request);
 }
 
 /* "Whenever a slot is freed and a ship waits, the same event takes the
  * oldest." */
-void free_slot(struct work *work, uint32_t slot)
-{
+void free_slot(struct work *work, uint32_t slot) {
     static const struct slot empty = {0};
     *slot_at(work, slot) = empty;
     if (work->station->waiting_count > 0u)
@@ -95,15 +84,13 @@ void free_slot(struct work *work, uint32_t slot)
 
 /* "Offer due: carrier off, slot freed"; the same for an acknowledged slot
  * and after the second ring-back call. */
-void close_unused(struct work *work, uint32_t slot)
-{
+void close_unused(struct work *work, uint32_t slot) {
     act_carrier_off(work, slot);
     free_slot(work, slot);
 }
 
 /* "dial the stored request's number .. Carrier counts as present; wait 600" */
-void dial(struct work *work, uint32_t slot)
-{
+void dial(struct work *work, uint32_t slot) {
     struct meaning request = slot_at(work, slot)->request;
     store(work, slot, PHASE_DIALLING, &request);
     slot_at(work, slot)->carrier = CARRIER_PRESENT;
@@ -112,8 +99,7 @@ void dial(struct work *work, uint32_t slot)
 
 /* "Off-hook while dialling: answered, the reply wait ends, a carrier wait
  * runs on." */
-void begin_talk(struct work *work, uint32_t slot)
-{
+void begin_talk(struct work *work, uint32_t slot) {
     struct slot *held = slot_at(work, slot);
     held->phase = PHASE_ANSWERED;
     held->start = work->station->clock;
@@ -122,8 +108,7 @@ void begin_talk(struct work *work, uint32_t slot)
 
 /* "Duration: whole seconds, rounded down; unanswered, or 100 hours and over:
  * 126s." */
-static struct duration call_duration(const struct slot *call, uint32_t clock)
-{
+static struct duration call_duration(const struct slot *call, uint32_t clock) {
     struct duration result = {FIELD_NONE, 0, 0, 0};
     uint32_t seconds, hours;
     if (!talks(call->phase))
@@ -141,9 +126,7 @@ static struct duration call_duration(const struct slot *call, uint32_t clock)
 
 /* "send 105/126 with .. the duration"; "At either end the number sent is the
  * stored request's." */
-static void send_end(struct work *work, uint32_t slot,
-                     struct duration duration, uint8_t end)
-{
+static void send_end(struct work *work, uint32_t slot, struct duration duration, uint8_t end) {
     struct meaning m = exchanged(&slot_at(work, slot)->request);
     m.first = END_OF_CALL;
     m.second = NO_INFORMATION;
@@ -157,10 +140,8 @@ static void send_end(struct work *work, uint32_t slot,
 
 /* What both ends share: "charge if answered, release line, send 105/126 ..,
  * carrier off". The call stops at the clock. */
-static struct duration end_call(struct work *work, uint32_t slot, uint8_t end)
-{
-    struct duration duration =
-        call_duration(slot_at(work, slot), work->station->clock);
+static struct duration end_call(struct work *work, uint32_t slot, uint8_t end) {
+    struct duration duration = call_duration(slot_at(work, slot), work->station->clock);
     if (talks(slot_at(work, slot)->phase))
         act_charge(work, slot);
     act_release(work, slot);
@@ -171,15 +152,13 @@ static struct duration end_call(struct work *work, uint32_t slot, uint8_t end)
 
 /* "Coast's end (on-hook .., no reply, carrier loss, rule c): .. with 127 ..,
  * slot freed at once." */
-void coasts_end(struct work *work, uint32_t slot)
-{
+void coasts_end(struct work *work, uint32_t slot) {
     end_call(work, slot, OTHER_END);
     free_slot(work, slot);
 }
 
 /* "Ship's end of call: .. with BQ and the duration, .. hold for 40" */
-void ships_end(struct work *work, uint32_t slot)
-{
+void ships_end(struct work *work, uint32_t slot) {
     struct meaning request = slot_at(work, slot)->request;
     struct duration duration = end_call(work, slot, BQ);
     store(work, slot, PHASE_HOLD, &request);
@@ -188,8 +167,7 @@ void ships_end(struct work *work, uint32_t slot)
 
 /* "Another such end from that ship in the hold: carrier on, the same answer
  * sent, carrier off; the wait unchanged." */
-void repeat_ships_end(struct work *work, uint32_t slot)
-{
+void repeat_ships_end(struct work *work, uint32_t slot) {
     act_carrier_on(work, slot);
     send_end(work, slot, slot_at(work, slot)->duration, BQ);
     act_carrier_off(work, slot);

@@ -16,10 +16,8 @@ struct work {
 /* ---- actions.c: blocks of 40 bytes ---- */
 void act_carrier_on(struct work *work, uint32_t slot);
 void act_carrier_off(struct work *work, uint32_t slot);
-void act_send_calling(struct work *work, uint8_t slot_byte,
-                      const struct meaning *m);
-void act_send_working(struct work *work, uint32_t slot,
-                      const struct meaning *m);
+void act_send_calling(struct work *work, uint8_t slot_byte, const struct meaning *m);
+void act_send_working(struct work *work, uint32_t slot, const struct meaning *m);
 void act_dial(struct work *work, uint32_t slot);
 void act_release(struct work *work, uint32_t slot);
 void act_charge(struct work *work, uint32_t slot);
@@ -65,7 +63,6 @@ struct meaning to_ours(const struct station *station, struct meaning m);
 
 /* ---- request.c: sequences heard, addressed to this station ---- */
 int heard_on_calling(struct work *work, const struct meaning *m);
-int heard_on_working(struct work *work, uint32_t slot,
-                     const struct meaning *m);
+int heard_on_working(struct work *work, uint32_t slot, const struct meaning *m);
 
 #endif

@@ -10,14 +10,34 @@
 #define WAITING_BYTES 31u
 
 enum layout {
-    VERSION_AT = 0, CLOCK_AT = 1, IDENTITY_AT = 5, SLOT_COUNT_AT = 9, WAITING_COUNT_AT = 10, SLOTS_AT = 11, QUEUE_AT = 731,
+    VERSION_AT = 0,
+    CLOCK_AT = 1,
+    IDENTITY_AT = 5,
+    SLOT_COUNT_AT = 9,
+    WAITING_COUNT_AT = 10,
+    SLOTS_AT = 11,
+    QUEUE_AT = 731,
     /* in a slot */
-    PHASE_AT = 0, TIME_AT = 1, CARRIER_AT = 5, CARRIER_DUE_AT = 6, TOLD_AT = 10, HOURS_AT = 11, MINUTES_AT = 12,
-    SECONDS_AT = 13, CHANNEL_AT = 14, SLOT_REQUEST_AT = 18,
+    PHASE_AT = 0,
+    TIME_AT = 1,
+    CARRIER_AT = 5,
+    CARRIER_DUE_AT = 6,
+    TOLD_AT = 10,
+    HOURS_AT = 11,
+    MINUTES_AT = 12,
+    SECONDS_AT = 13,
+    CHANNEL_AT = 14,
+    SLOT_REQUEST_AT = 18,
     /* in a waiting ship */
-    WAITING_DUE_AT = 0, WAITING_REQUEST_AT = 4,
+    WAITING_DUE_AT = 0,
+    WAITING_REQUEST_AT = 4,
     /* in a stored request */
-    SHIP_AT = 0, CALLED_AT = 4, MODE_AT = 8, SECOND_AT = 9, COUNT_AT = 10, DIGITS_AT = 11
+    SHIP_AT = 0,
+    CALLED_AT = 4,
+    MODE_AT = 8,
+    SECOND_AT = 9,
+    COUNT_AT = 10,
+    DIGITS_AT = 11
 };
 
 /* Lays down what the station's phases and counts use; the other bytes stay. */

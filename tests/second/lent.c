@@ -219,13 +219,13 @@ uint64_t second_clock_bytes(const uint8_t *station, size_t size) {
 #define GIVES_with_symbols (struct heard){symbols, count},
 #define GIVES_on_slot_with_symbols slot, (struct heard){symbols, count},
 
-#define ON_BYTES(letter, entry, takes)                                                                                  \
-    uint64_t second_##entry##_bytes(uint8_t *station, size_t size, uint32_t time, TAKES_##takes uint8_t *room,          \
-                                    size_t room_size) {                                                                 \
-        struct station before;                                                                                          \
-        if (!get_whole(station, size, &before))                                                                         \
-            return NOT_SOUND;                                                                                           \
-        struct step step = second_##entry(before, time, GIVES_##takes (struct lent){room, room_size});                  \
-        return handed_back(&step, station);                                                                             \
+#define ON_BYTES(letter, entry, takes)                                                                 \
+    uint64_t second_##entry##_bytes(                                                                   \
+        uint8_t *station, size_t size, uint32_t time, TAKES_##takes uint8_t *room, size_t room_size) { \
+        struct station before;                                                                         \
+        if (!get_whole(station, size, &before))                                                        \
+            return NOT_SOUND;                                                                          \
+        struct step step = second_##entry(before, time, GIVES_##takes(struct lent){room, room_size});  \
+        return handed_back(&step, station);                                                            \
     }
 EVENTS(ON_BYTES)

@@ -4,85 +4,70 @@
 
 #include "station.h"
 
-static inline bool is_free(enum phase phase)
-{
+static inline bool is_free(enum phase phase) {
     return phase == PHASE_FREE;
 }
 
-static inline bool is_taken(enum phase phase)
-{
+static inline bool is_taken(enum phase phase) {
     return phase == PHASE_TAKEN;
 }
 
-static inline bool is_offered(enum phase phase)
-{
+static inline bool is_offered(enum phase phase) {
     return phase == PHASE_OFFERED;
 }
 
-static inline bool is_rung_once(enum phase phase)
-{
+static inline bool is_rung_once(enum phase phase) {
     return phase == PHASE_RING_BACK;
 }
 
 /* Sent once, or once more. */
-static inline bool is_rung(enum phase phase)
-{
+static inline bool is_rung(enum phase phase) {
     return is_rung_once(phase) || phase == PHASE_RING_BACK_REPEATED;
 }
 
 /* "on an offered or acknowledged slot" */
-static inline bool expects_working_call(enum phase phase)
-{
+static inline bool expects_working_call(enum phase phase) {
     return is_offered(phase) || phase == PHASE_ACKNOWLEDGED;
 }
 
 /* To call on the channel, or to answer there when it is rung back. */
-static inline bool expects_ship(enum phase phase)
-{
+static inline bool expects_ship(enum phase phase) {
     return expects_working_call(phase) || is_rung(phase);
 }
 
 /* A line was dialled .. */
-static inline bool expects_reply(enum phase phase)
-{
+static inline bool expects_reply(enum phase phase) {
     return phase == PHASE_DIALLING;
 }
 
 /* .. and answered. */
-static inline bool talks(enum phase phase)
-{
+static inline bool talks(enum phase phase) {
     return phase == PHASE_ANSWERED;
 }
 
 /* A line was dialled and is not released. */
-static inline bool has_call(enum phase phase)
-{
+static inline bool has_call(enum phase phase) {
     return expects_reply(phase) || talks(phase);
 }
 
 /* "the offered, ring-back, acknowledged, dialling and answered slots" */
-static inline bool holds_ship(enum phase phase)
-{
+static inline bool holds_ship(enum phase phase) {
     return expects_ship(phase) || has_call(phase);
 }
 
-static inline bool is_held(enum phase phase)
-{
+static inline bool is_held(enum phase phase) {
     return phase == PHASE_HOLD;
 }
 
-static inline bool stores_request(enum phase phase)
-{
+static inline bool stores_request(enum phase phase) {
     return holds_ship(phase) || is_held(phase);
 }
 
-static inline bool has_slot_wait(enum phase phase)
-{
+static inline bool has_slot_wait(enum phase phase) {
     return expects_ship(phase) || expects_reply(phase) || is_held(phase);
 }
 
-static inline uint32_t slot_wait(enum phase phase)
-{
+static inline uint32_t slot_wait(enum phase phase) {
     if (expects_working_call(phase))
         return OFFER_WAIT;
     if (is_rung(phase))

@@ -8,8 +8,7 @@
 #define QUEUED 103u
 #define MODE_NOT_USABLE 109u
 
-static bool same_number(const struct meaning *a, const struct meaning *b)
-{
+static bool same_number(const struct meaning *a, const struct meaning *b) {
     bool same = a->count == b->count;
     for (size_t i = 0; i < MOST_DIGITS; i++)
         same = same && a->digits[i] == b->digits[i];
@@ -17,16 +16,12 @@ static bool same_number(const struct meaning *a, const struct meaning *b)
 }
 
 /* "an identical request": both are call requests to this station. */
-static bool same_request(const struct meaning *a, const struct meaning *b)
-{
-    return a->self == b->self && a->first == b->first &&
-           a->second == b->second && same_number(a, b);
+static bool same_request(const struct meaning *a, const struct meaning *b) {
+    return a->self == b->self && a->first == b->first && a->second == b->second && same_number(a, b);
 }
 
 /* "answer 104/.." with "identities exchanged, BQ, .. the field 126s" */
-static void answer_unable(struct work *work, const struct meaning *request,
-                          uint8_t reason)
-{
+static void answer_unable(struct work *work, const struct meaning *request, uint8_t reason) {
     struct meaning m = exchanged(request);
     m.first = UNABLE;
     m.second = reason;
@@ -34,17 +29,14 @@ static void answer_unable(struct work *work, const struct meaning *request,
     act_send_calling(work, NO_SLOT_BYTE, &m);
 }
 
-static uint32_t ships_slot(const struct station *station, uint32_t ship)
-{
+static uint32_t ships_slot(const struct station *station, uint32_t ship) {
     for (uint32_t i = 0; i < station->channel_count; i++)
-        if (holds_ship(station->slots[i].phase) &&
-            station->slots[i].request.self == ship)
+        if (holds_ship(station->slots[i].phase) && station->slots[i].request.self == ship)
             return i;
     return NO_SLOT;
 }
 
-static uint32_t lowest_free(const struct station *station)
-{
+static uint32_t lowest_free(const struct station *station) {
     for (uint32_t i = 0; i < station->channel_count; i++)
         if (is_free(station->slots[i].phase))
             return i;
@@ -52,8 +44,7 @@ static uint32_t lowest_free(const struct station *station)
 }
 
 /* Rules d to g. */
-static void place_ship(struct work *work, const struct meaning *request)
-{
+static void place_ship(struct work *work, const struct meaning *request) {
     struct station *station = work->station;
     uint32_t place = place_in_queue(station, request->self);
     uint32_t slot = lowest_free(station);
@@ -72,9 +63,7 @@ static void place_ship(struct work *work, const struct meaning *request)
 }
 
 /* Rule b: offered, ring-back or acknowledged. */
-static void ask_again(struct work *work, uint32_t slot,
-                      const struct meaning *request)
-{
+static void ask_again(struct work *work, uint32_t slot, const struct meaning *request) {
     const struct slot *held = &work->station->slots[slot];
     if (is_offered(held->phase) && same_request(&held->request, request))
         send_able(work, slot, BQ);
@@ -83,8 +72,7 @@ static void ask_again(struct work *work, uint32_t slot,
 }
 
 /* Call request, "first rule that fits". */
-static int call_request(struct work *work, const struct meaning *request)
-{
+static int call_request(struct work *work, const struct meaning *request) {
     uint32_t slot = ships_slot(work->station, request->self);
     if (request->first == DATA) {
         answer_unable(work, request, MODE_NOT_USABLE);
@@ -107,8 +95,7 @@ static int call_request(struct work *work, const struct meaning *request)
 
 /* "BQ on channel 70 from that ship, telecommand 100 or 101, naming that
  * channel: acknowledged, wait 160". */
-static int ring_back_answer(struct work *work, const struct meaning *m)
-{
+static int ring_back_answer(struct work *work, const struct meaning *m) {
     struct station *station = work->station;
     uint32_t slot = ships_slot(station, m->self);
     if (slot == NO_SLOT || m->channel != station->channels[slot])
@@ -119,13 +106,11 @@ static int ring_back_answer(struct work *work, const struct meaning *m)
     return DONE;
 }
 
-static bool is_voice(const struct meaning *m)
-{
+static bool is_voice(const struct meaning *m) {
     return m->first == SIMPLEX || m->first == DUPLEX;
 }
 
-int heard_on_calling(struct work *work, const struct meaning *m)
-{
+int heard_on_calling(struct work *work, const struct meaning *m) {
     bool asks = is_voice(m) || m->first == DATA;
     if (!is_ours(work->station, m))
         return IGNORED;
@@ -139,15 +124,12 @@ int heard_on_calling(struct work *work, const struct meaning *m)
 /* "Working call (127; 100 or 101; field 126s) on an offered or acknowledged
  * slot"; "Ship's end of call (117, 105, field 126s) while dialling or
  * answered", or in the hold; "same ship" each time. */
-int heard_on_working(struct work *work, uint32_t slot,
-                     const struct meaning *m)
-{
+int heard_on_working(struct work *work, uint32_t slot, const struct meaning *m) {
     const struct slot *held = &work->station->slots[slot];
     enum phase phase = held->phase;
     bool working_call = m->end == OTHER_END && is_voice(m);
     bool ends = m->end == RQ && m->first == END_OF_CALL;
-    if (!is_ours(work->station, m) || m->kind != FIELD_NONE ||
-        !stores_request(phase) || m->self != held->request.self)
+    if (!is_ours(work->station, m) || m->kind != FIELD_NONE || !stores_request(phase) || m->self != held->request.self)
         return IGNORED;
     if (working_call && expects_working_call(phase))
         dial(work, slot);

@@ -35,8 +35,7 @@ struct desk {
 /* ---- reading a line ---- */
 
 /* False at the end of the input; a last line may lack its line feed. */
-static bool read_line(struct line *line)
-{
+static bool read_line(struct line *line) {
     int c = getchar();
     line->length = 0;
     line->too_long = false;
@@ -52,14 +51,12 @@ static bool read_line(struct line *line)
     return true;
 }
 
-static bool is_digit(uint8_t c)
-{
+static bool is_digit(uint8_t c) {
     return c >= '0' && c <= '9';
 }
 
 /* One decimal number from *at on; false if none or over 4,294,967,295. */
-static bool read_number(const struct line *line, size_t *at, uint32_t *number)
-{
+static bool read_number(const struct line *line, size_t *at, uint32_t *number) {
     uint64_t value = 0;
     size_t begin = *at;
     while (*at < line->length && is_digit(line->text[*at])) {
@@ -73,8 +70,7 @@ static bool read_number(const struct line *line, size_t *at, uint32_t *number)
 }
 
 /* The letter and its numbers: "Fields are decimal, one space apart". */
-static bool read_fields(const struct line *line, struct command *command)
-{
+static bool read_fields(const struct line *line, struct command *command) {
     size_t at = 1;
     command->count = 0;
     if (line->too_long || line->length == 0u)
@@ -92,8 +88,7 @@ static bool read_fields(const struct line *line, struct command *command)
 }
 
 /* "a symbol over 255": from this place on the numbers are symbols. */
-static bool symbols_fit(const struct command *command, size_t from)
-{
+static bool symbols_fit(const struct command *command, size_t from) {
     for (size_t i = from; i < command->count; i++)
         if (command->numbers[i] > SYMBOL_LIMIT)
             return false;
@@ -108,32 +103,24 @@ static bool symbols_fit(const struct command *command, size_t from)
 
 /* "S identity channels", or an event: its time, its slot if it is on one, its
  * symbols if it has any; "a list may be empty". */
-static bool is_readable(const struct command *command)
-{
+static bool is_readable(const struct command *command) {
     switch (command->letter) {
-    case 'S':
-        return command->count >= 1u;
-#define AS_READABLE(letter, entry, takes)                                      \
-    case letter:                                                               \
-        return READABLE_##takes;
+    case 'S': return command->count >= 1u;
+#define AS_READABLE(letter, entry, takes) \
+    case letter: return READABLE_##takes;
         EVENTS(AS_READABLE)
-    default:
-        return false;
+    default: return false;
     }
 }
 
 /* ---- doing it ---- */
 
-static struct step set_up(const struct command *command)
-{
-    return second_set_up(command->numbers[0], command->numbers + 1,
-                         command->count - 1u);
+static struct step set_up(const struct command *command) {
+    return second_set_up(command->numbers[0], command->numbers + 1, command->count - 1u);
 }
 
 /* The numbers from this place on, as symbols. */
-static struct heard heard_in(const struct command *command, size_t from,
-                             uint8_t *symbols)
-{
+static struct heard heard_in(const struct command *command, size_t from, uint8_t *symbols) {
     struct heard heard = {symbols, command->count - from};
     for (size_t i = 0; i < heard.count; i++)
         symbols[i] = (uint8_t)command->numbers[from + i];
@@ -144,29 +131,22 @@ static struct heard heard_in(const struct command *command, size_t from,
 #define GIVEN_on_slot command->numbers[1],
 #define GIVEN_by_hand command->numbers[1],
 #define GIVEN_with_symbols heard_in(command, 1, symbols),
-#define GIVEN_on_slot_with_symbols                                             \
-    command->numbers[1], heard_in(command, 2, symbols),
+#define GIVEN_on_slot_with_symbols command->numbers[1], heard_in(command, 2, symbols),
 
 /* Of a letter that is_readable knows. */
-static struct step happen(struct desk *desk, const struct command *command)
-{
+static struct step happen(struct desk *desk, const struct command *command) {
     struct lent room = {desk->room.bytes, sizeof desk->room};
     uint8_t symbols[NUMBERS_MOST];
     switch (command->letter) {
-#define AS_STEP(letter, entry, takes)                                          \
-    case letter:                                                               \
-        return second_##entry(desk->station, command->numbers[0],             \
-                              GIVEN_##takes room);
+#define AS_STEP(letter, entry, takes) \
+    case letter: return second_##entry(desk->station, command->numbers[0], GIVEN_##takes room);
         EVENTS(AS_STEP)
-    default:
-        return (struct step){0};
+    default: return (struct step){0};
     }
 }
 
 /* "40, tested first. No station yet, or an S when one stands: 41." */
-static int do_line(struct desk *desk, const struct line *line,
-                   uint32_t *actions)
-{
+static int do_line(struct desk *desk, const struct line *line, uint32_t *actions) {
     struct command command;
     struct step step;
     *actions = 0;
@@ -185,8 +165,7 @@ static int do_line(struct desk *desk, const struct line *line,
 
 /* ---- printing ---- */
 
-static void print_number(uint32_t number)
-{
+static void print_number(uint32_t number) {
     char digits[10];
     size_t count = 0;
     do {
@@ -197,15 +176,13 @@ static void print_number(uint32_t number)
         putchar(digits[--count]);
 }
 
-static void print_next(uint32_t number)
-{
+static void print_next(uint32_t number) {
     putchar(' ');
     print_number(number);
 }
 
 /* "each action as kind, slot, payload bytes in decimal" */
-static void print_action(const uint8_t *block)
-{
+static void print_action(const uint8_t *block) {
     print_number(block[0]);
     print_next(block[1]);
     for (size_t i = 0; i < block[2]; i++)
@@ -215,9 +192,7 @@ static void print_action(const uint8_t *block)
 
 /* "It prints answer, clock, action count, next due time (`-` if none)";
  * "Without a station the rest is `0 0 -`." */
-static void print_answer(const struct desk *desk, int answer,
-                         uint32_t actions)
-{
+static void print_answer(const struct desk *desk, int answer, uint32_t actions) {
     uint32_t due = 0;
     print_number((uint32_t)answer);
     print_next(desk->stands ? desk->station.clock : 0u);
@@ -233,8 +208,7 @@ static void print_answer(const struct desk *desk, int answer,
         print_action(desk->room.bytes + i * ACTION_BYTES);
 }
 
-int main(void)
-{
+int main(void) {
     struct desk desk = {0};
     struct line line;
     while (read_line(&line)) {

@@ -9,52 +9,51 @@
 
 /* The table's places. */
 enum place {
-    AT_FORMAT = 0, AT_ADDRESS = 1, AT_CATEGORY = 6, AT_SELF = 7,
-    AT_FIRST = 12, AT_SECOND = 13, AT_FIELD = 14, AT_COUNT = 17, AT_NUMBER = 18
+    AT_FORMAT = 0,
+    AT_ADDRESS = 1,
+    AT_CATEGORY = 6,
+    AT_SELF = 7,
+    AT_FIRST = 12,
+    AT_SECOND = 13,
+    AT_FIELD = 14,
+    AT_COUNT = 17,
+    AT_NUMBER = 18
 };
 
 #define IDENTITY_PAIRS 5u
 
 /* ---- the rules that reader and writer share ---- */
 
-bool second_is_ship(uint32_t identity)
-{
+bool second_is_ship(uint32_t identity) {
     return identity >= 200000000u && identity <= 799999999u;
 }
 
-bool second_is_coast(uint32_t identity)
-{
+bool second_is_coast(uint32_t identity) {
     return identity >= 2000000u && identity <= 7999999u;
 }
 
-bool second_is_channel(uint32_t channel)
-{
+bool second_is_channel(uint32_t channel) {
     bool low = channel >= 1u && channel <= 28u && channel != 16u;
     bool high = channel >= 60u && channel <= 88u && channel != 70u;
     return low || high;
 }
 
-bool second_is_duration(uint8_t hours, uint8_t minutes, uint8_t seconds)
-{
+bool second_is_duration(uint8_t hours, uint8_t minutes, uint8_t seconds) {
     return hours <= 99u && minutes <= 59u && seconds <= 59u;
 }
 
 /* "One of the two identities is a ship's, the other a coast station's." */
-static bool identities_fit(uint32_t address, uint32_t self)
-{
-    return (second_is_ship(address) && second_is_coast(self)) ||
-           (second_is_coast(address) && second_is_ship(self));
+static bool identities_fit(uint32_t address, uint32_t self) {
+    return (second_is_ship(address) && second_is_coast(self)) || (second_is_coast(address) && second_is_ship(self));
 }
 
-static bool is_call(uint8_t first)
-{
+static bool is_call(uint8_t first) {
     return first == SIMPLEX || first == DUPLEX || first == DATA;
 }
 
 /* "Telecommands: 100 simplex, 101 duplex or 106 data, second 100 to 126; 104
  * unable, second 100 to 109 or 126; 105 end of call, second 126." */
-static bool telecommands_fit(uint8_t first, uint8_t second)
-{
+static bool telecommands_fit(uint8_t first, uint8_t second) {
     if (is_call(first))
         return second >= 100u && second <= 126u;
     if (first == UNABLE)
@@ -62,40 +61,31 @@ static bool telecommands_fit(uint8_t first, uint8_t second)
     return first == END_OF_CALL && second == NO_INFORMATION;
 }
 
-static bool end_fits(uint8_t end)
-{
+static bool end_fits(uint8_t end) {
     return end == RQ || end == BQ || end == OTHER_END;
 }
 
 /* ---- judging a meaning ---- */
 
-static bool no_duration(const struct meaning *m)
-{
+static bool no_duration(const struct meaning *m) {
     return m->hours == 0u && m->minutes == 0u && m->seconds == 0u;
 }
 
 /* "The channel field may always be 126 126 126. Otherwise with 100, 101 and
  * 106 it is 90, 0, channel ..; with 105 it is hours ..; with 104 nothing else
  * is allowed." Unused parts must be 0, so that a sequence has one meaning. */
-static bool field_fits(const struct meaning *m)
-{
+static bool field_fits(const struct meaning *m) {
     switch (m->kind) {
-    case FIELD_NONE:
-        return m->channel == 0u && no_duration(m);
-    case FIELD_CHANNEL:
-        return is_call(m->first) && second_is_channel(m->channel) &&
-               no_duration(m);
+    case FIELD_NONE: return m->channel == 0u && no_duration(m);
+    case FIELD_CHANNEL: return is_call(m->first) && second_is_channel(m->channel) && no_duration(m);
     case FIELD_DURATION:
-        return m->first == END_OF_CALL && m->channel == 0u &&
-               second_is_duration(m->hours, m->minutes, m->seconds);
-    default:
-        return false;
+        return m->first == END_OF_CALL && m->channel == 0u && second_is_duration(m->hours, m->minutes, m->seconds);
+    default: return false;
     }
 }
 
 /* "A number has 1 to 16 digits .. the writer wants [unused digits] 0." */
-static bool number_fits(const struct meaning *m)
-{
+static bool number_fits(const struct meaning *m) {
     if (m->count < 1u || m->count > MOST_DIGITS)
         return false;
     for (size_t i = 0; i < MOST_DIGITS; i++) {
@@ -106,8 +96,7 @@ static bool number_fits(const struct meaning *m)
     return true;
 }
 
-int second_judge(const struct meaning *m)
-{
+int second_judge(const struct meaning *m) {
     if (!identities_fit(m->address, m->self))
         return 15;
     if (!telecommands_fit(m->first, m->second))
@@ -121,8 +110,7 @@ int second_judge(const struct meaning *m)
 
 /* ---- reading ---- */
 
-static uint8_t check_of(const uint8_t *symbols, size_t n)
-{
+static uint8_t check_of(const uint8_t *symbols, size_t n) {
     uint8_t check = 0;
     for (size_t i = 0; i < n; i++)
         check = (uint8_t)(check ^ symbols[i]);
@@ -130,8 +118,7 @@ static uint8_t check_of(const uint8_t *symbols, size_t n)
 }
 
 /* Refusals 11 to 14: length, symbols, check, format. */
-static int judge_frame(const uint8_t *symbols, size_t n)
-{
+static int judge_frame(const uint8_t *symbols, size_t n) {
     if (n < SHORTEST_SEQUENCE || n > LONGEST_SEQUENCE)
         return 11;
     for (size_t i = 0; i < n; i++)
@@ -143,8 +130,7 @@ static int judge_frame(const uint8_t *symbols, size_t n)
 }
 
 /* "An identity is nine digits and a final 0, in pairs." */
-static bool read_identity(const uint8_t *pairs, uint32_t *identity)
-{
+static bool read_identity(const uint8_t *pairs, uint32_t *identity) {
     uint32_t value = 0;
     for (size_t i = 0; i < IDENTITY_PAIRS; i++)
         if (pairs[i] > 99u)
@@ -157,19 +143,15 @@ static bool read_identity(const uint8_t *pairs, uint32_t *identity)
     return true;
 }
 
-static bool read_identities(const uint8_t *symbols, struct meaning *m)
-{
-    return read_identity(symbols + AT_ADDRESS, &m->address) &&
-           read_identity(symbols + AT_SELF, &m->self) &&
+static bool read_identities(const uint8_t *symbols, struct meaning *m) {
+    return read_identity(symbols + AT_ADDRESS, &m->address) && read_identity(symbols + AT_SELF, &m->self) &&
            identities_fit(m->address, m->self);
 }
 
 /* The field's meaning depends on the first telecommand: 90 0 26 is a channel
  * in a call, and ninety hours and 26 s in an end of call. */
-static bool read_field(const uint8_t *field, struct meaning *m)
-{
-    if (field[0] == NO_INFORMATION && field[1] == NO_INFORMATION &&
-        field[2] == NO_INFORMATION) {
+static bool read_field(const uint8_t *field, struct meaning *m) {
+    if (field[0] == NO_INFORMATION && field[1] == NO_INFORMATION && field[2] == NO_INFORMATION) {
         m->kind = FIELD_NONE;
     } else if (is_call(m->first)) {
         if (field[0] != CHANNEL_MARK || field[1] != 0u)
@@ -187,8 +169,7 @@ static bool read_field(const uint8_t *field, struct meaning *m)
 
 /* "105 if the number has an odd count of digits, 106 if even", "1 to 8 digit
  * pairs, each 0 to 99", "an odd one has a 0 put before it". */
-static bool read_number(const uint8_t *symbols, size_t n, struct meaning *m)
-{
+static bool read_number(const uint8_t *symbols, size_t n, struct meaning *m) {
     size_t pairs = n - SHORTEST_SEQUENCE + 1u;
     size_t skipped = symbols[AT_COUNT] == ODD_COUNT ? 1u : 0u;
     if (symbols[AT_COUNT] != ODD_COUNT && symbols[AT_COUNT] != EVEN_COUNT)
@@ -207,8 +188,7 @@ static bool read_number(const uint8_t *symbols, size_t n, struct meaning *m)
     return true;
 }
 
-int second_read(const uint8_t *symbols, size_t n, struct meaning *m)
-{
+int second_read(const uint8_t *symbols, size_t n, struct meaning *m) {
     struct meaning found = {0};
     int frame = judge_frame(symbols, n);
     if (frame != 0)
@@ -234,8 +214,7 @@ int second_read(const uint8_t *symbols, size_t n, struct meaning *m)
 
 /* ---- writing ---- */
 
-static void write_identity(uint32_t identity, uint8_t *pairs)
-{
+static void write_identity(uint32_t identity, uint8_t *pairs) {
     uint32_t rest = identity / 10u;
     pairs[4] = (uint8_t)(identity % 10u * 10u);
     for (size_t i = 4; i > 0u; i--) {
@@ -244,8 +223,7 @@ static void write_identity(uint32_t identity, uint8_t *pairs)
     }
 }
 
-static void write_field(const struct meaning *m, uint8_t *field)
-{
+static void write_field(const struct meaning *m, uint8_t *field) {
     if (m->kind == FIELD_CHANNEL) {
         field[0] = CHANNEL_MARK;
         field[1] = 0;
@@ -260,8 +238,7 @@ static void write_field(const struct meaning *m, uint8_t *field)
 }
 
 /* Writes the count's parity and the pairs; hands back the place after them. */
-static size_t write_number(const struct meaning *m, uint8_t *room)
-{
+static size_t write_number(const struct meaning *m, uint8_t *room) {
     size_t skipped = m->count % 2u;
     size_t pairs = (m->count + skipped) / 2u;
     room[AT_COUNT] = skipped == 1u ? ODD_COUNT : EVEN_COUNT;
@@ -274,9 +251,7 @@ static size_t write_number(const struct meaning *m, uint8_t *room)
     return AT_NUMBER + pairs;
 }
 
-int second_write(const struct meaning *m, uint8_t *room, size_t room_len,
-                 size_t *written)
-{
+int second_write(const struct meaning *m, uint8_t *room, size_t room_len, size_t *written) {
     int refusal = room_len < LONGEST_SEQUENCE ? 21 : second_judge(m);
     size_t at;
     if (refusal != 0)

@@ -58,7 +58,6 @@ int second_judge(const struct meaning *m);
 int second_read(const uint8_t *symbols, size_t n, struct meaning *m);
 
 /* 0, or 21 first, then 15, 17, 18, 19, 20; a refusal touches nothing. */
-int second_write(const struct meaning *m, uint8_t *room, size_t room_len,
-                 size_t *written);
+int second_write(const struct meaning *m, uint8_t *room, size_t room_len, size_t *written);
 
 #endif

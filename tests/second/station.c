@@ -1,9 +1,7 @@
 /* Set-up and the events: refusals in 01's order, then the event itself. */
 #include "inside.h"
 
-static bool set_up_fits(uint32_t identity, const uint32_t *channels,
-                        size_t count)
-{
+static bool set_up_fits(uint32_t identity, const uint32_t *channels, size_t count) {
     if (!second_is_coast(identity) || count < 1u || count > MOST_SLOTS)
         return false;
     for (size_t i = 0; i < count; i++) {
@@ -17,9 +15,7 @@ static bool set_up_fits(uint32_t identity, const uint32_t *channels,
 }
 
 /* "All slots begin free at clock 0." */
-struct step second_set_up(uint32_t identity, const uint32_t *channels,
-                          size_t count)
-{
+struct step second_set_up(uint32_t identity, const uint32_t *channels, size_t count) {
     struct step step = {0};
     if (!set_up_fits(identity, channels, count)) {
         step.answer = SET_UP_BAD;
@@ -34,13 +30,11 @@ struct step second_set_up(uint32_t identity, const uint32_t *channels,
 }
 
 /* "to this station" */
-bool is_ours(const struct station *station, const struct meaning *m)
-{
+bool is_ours(const struct station *station, const struct meaning *m) {
     return m->address == station->identity;
 }
 
-struct meaning to_ours(const struct station *station, struct meaning m)
-{
+struct meaning to_ours(const struct station *station, struct meaning m) {
     m.address = station->identity;
     return m;
 }
@@ -48,9 +42,7 @@ struct meaning to_ours(const struct station *station, struct meaning m)
 /* ---- refusals that every event shares, in order ---- */
 
 /* 29 to 32: every event. */
-static int judge_any(const struct station *station, uint32_t time,
-                     struct lent room)
-{
+static int judge_any(const struct station *station, uint32_t time, struct lent room) {
     if (!second_is_sound(station))
         return NOT_SOUND;
     if (room.length < ACTION_ROOM)
@@ -61,9 +53,7 @@ static int judge_any(const struct station *station, uint32_t time,
 }
 
 /* 29 to 33: "not a tick and a wait is due at or before its time". */
-static int judge_untimed(const struct station *station, uint32_t time,
-                         struct lent room)
-{
+static int judge_untimed(const struct station *station, uint32_t time, struct lent room) {
     int refusal = judge_any(station, time, room);
     uint32_t due = 0;
     if (refusal != DONE)
@@ -74,25 +64,21 @@ static int judge_untimed(const struct station *station, uint32_t time,
 }
 
 /* 29 to 34. */
-static int judge_slot_event(const struct station *station, uint32_t time,
-                            uint32_t slot, struct lent room)
-{
+static int judge_slot_event(const struct station *station, uint32_t time, uint32_t slot, struct lent room) {
     int refusal = judge_untimed(station, time, room);
     if (refusal != DONE)
         return refusal;
     return slot < station->channel_count ? DONE : NO_SUCH_SLOT;
 }
 
-static struct step unchanged(int refusal, const struct station *station)
-{
+static struct step unchanged(int refusal, const struct station *station) {
     struct step step = {0};
     step.answer = refusal;
     step.station = *station;
     return step;
 }
 
-static struct step changed(int answer, const struct work *work)
-{
+static struct step changed(int answer, const struct work *work) {
     struct step step = {0};
     step.answer = answer;
     step.actions = work->actions;
@@ -101,9 +87,7 @@ static struct step changed(int answer, const struct work *work)
 }
 
 /* "Any other accepted event sets the clock to its own time." */
-static struct work begin(struct station *station, uint32_t time,
-                         struct lent room)
-{
+static struct work begin(struct station *station, uint32_t time, struct lent room) {
     struct work work = {station, room.bytes, 0};
     station->clock = time;
     return work;
@@ -111,9 +95,7 @@ static struct work begin(struct station *station, uint32_t time,
 
 /* ---- sequences ---- */
 
-struct step second_heard_on_channel_70(struct station station, uint32_t time,
-                                       struct heard heard, struct lent room)
-{
+struct step second_heard_on_channel_70(struct station station, uint32_t time, struct heard heard, struct lent room) {
     struct meaning m = {0};
     struct work work;
     int refusal = judge_untimed(&station, time, room);
@@ -125,10 +107,7 @@ struct step second_heard_on_channel_70(struct station station, uint32_t time,
     return changed(heard_on_calling(&work, &m), &work);
 }
 
-struct step second_heard_on_slot(struct station station, uint32_t time,
-                                 uint32_t slot, struct heard heard,
-                                 struct lent room)
-{
+struct step second_heard_on_slot(struct station station, uint32_t time, uint32_t slot, struct heard heard, struct lent room) {
     struct meaning m = {0};
     struct work work;
     int refusal = judge_slot_event(&station, time, slot, room);
@@ -143,8 +122,7 @@ struct step second_heard_on_slot(struct station station, uint32_t time,
 /* ---- the ship's carrier: "Either answers 0 even where nothing changes" ---- */
 
 /* "carrier up ends it" */
-static int carrier_comes(struct work *work, uint32_t slot)
-{
+static int carrier_comes(struct work *work, uint32_t slot) {
     struct slot *held = &work->station->slots[slot];
     if (!has_call(held->phase))
         return IGNORED;
@@ -155,23 +133,20 @@ static int carrier_comes(struct work *work, uint32_t slot)
 
 /* "starts a wait of 50 duplex, 450 simplex; a second down doesn't restart
  * it" */
-static int carrier_goes(struct work *work, uint32_t slot)
-{
+static int carrier_goes(struct work *work, uint32_t slot) {
     struct slot *held = &work->station->slots[slot];
     if (!has_call(held->phase))
         return IGNORED;
     if (held->carrier == CARRIER_PRESENT) {
         held->carrier = CARRIER_ABSENT;
-        held->carrier_due =
-            due_after(work->station->clock, carrier_wait(held));
+        held->carrier_due = due_after(work->station->clock, carrier_wait(held));
     }
     return DONE;
 }
 
 /* ---- the line ---- */
 
-static int handset_lifted(struct work *work, uint32_t slot)
-{
+static int handset_lifted(struct work *work, uint32_t slot) {
     if (!expects_reply(work->station->slots[slot].phase))
         return IGNORED;
     begin_talk(work, slot);
@@ -179,8 +154,7 @@ static int handset_lifted(struct work *work, uint32_t slot)
 }
 
 /* "Coast's end (on-hook while dialling or answered, ..)" */
-static int handset_laid_down(struct work *work, uint32_t slot)
-{
+static int handset_laid_down(struct work *work, uint32_t slot) {
     if (!has_call(work->station->slots[slot].phase))
         return IGNORED;
     coasts_end(work, slot);
@@ -189,15 +163,13 @@ static int handset_laid_down(struct work *work, uint32_t slot)
 
 /* ---- the operator ---- */
 
-static int taken_by_hand(struct work *work, uint32_t slot)
-{
+static int taken_by_hand(struct work *work, uint32_t slot) {
     work->station->slots[slot].phase = PHASE_TAKEN;
     return DONE;
 }
 
 /* "gives it back (freed)" */
-static int given_back(struct work *work, uint32_t slot)
-{
+static int given_back(struct work *work, uint32_t slot) {
     free_slot(work, slot);
     return DONE;
 }
@@ -206,10 +178,7 @@ static int given_back(struct work *work, uint32_t slot)
 
 typedef int slot_rule(struct work *work, uint32_t slot);
 
-static struct step slot_event(struct station *station, uint32_t time,
-                              uint32_t slot, struct lent room,
-                              slot_rule *rule)
-{
+static struct step slot_event(struct station *station, uint32_t time, uint32_t slot, struct lent room, slot_rule *rule) {
     struct work work;
     int refusal = judge_slot_event(station, time, slot, room);
     if (refusal != DONE)
@@ -219,11 +188,8 @@ static struct step slot_event(struct station *station, uint32_t time,
 }
 
 /* 35 comes after 29 to 34. */
-static struct step operator_event(struct station *station, uint32_t time,
-                                  uint32_t slot, struct lent room,
-                                  bool (*wanted)(enum phase),
-                                  slot_rule *rule)
-{
+static struct step operator_event(
+    struct station *station, uint32_t time, uint32_t slot, struct lent room, bool (*wanted)(enum phase), slot_rule *rule) {
     int refusal = judge_slot_event(station, time, slot, room);
     if (refusal == DONE && !wanted(station->slots[slot].phase))
         refusal = OPERATOR_REFUSED;
@@ -232,49 +198,35 @@ static struct step operator_event(struct station *station, uint32_t time,
     return slot_event(station, time, slot, room, rule);
 }
 
-struct step second_carrier_up(struct station station, uint32_t time,
-                              uint32_t slot, struct lent room)
-{
+struct step second_carrier_up(struct station station, uint32_t time, uint32_t slot, struct lent room) {
     return slot_event(&station, time, slot, room, carrier_comes);
 }
 
-struct step second_carrier_down(struct station station, uint32_t time,
-                                uint32_t slot, struct lent room)
-{
+struct step second_carrier_down(struct station station, uint32_t time, uint32_t slot, struct lent room) {
     return slot_event(&station, time, slot, room, carrier_goes);
 }
 
-struct step second_off_hook(struct station station, uint32_t time,
-                            uint32_t slot, struct lent room)
-{
+struct step second_off_hook(struct station station, uint32_t time, uint32_t slot, struct lent room) {
     return slot_event(&station, time, slot, room, handset_lifted);
 }
 
-struct step second_on_hook(struct station station, uint32_t time,
-                           uint32_t slot, struct lent room)
-{
+struct step second_on_hook(struct station station, uint32_t time, uint32_t slot, struct lent room) {
     return slot_event(&station, time, slot, room, handset_laid_down);
 }
 
 /* "operator takes a slot not free": 35 */
-struct step second_take(struct station station, uint32_t time, uint32_t slot,
-                        struct lent room)
-{
+struct step second_take(struct station station, uint32_t time, uint32_t slot, struct lent room) {
     return operator_event(&station, time, slot, room, is_free, taken_by_hand);
 }
 
 /* "or gives back one not taken": 35 */
-struct step second_give_back(struct station station, uint32_t time,
-                             uint32_t slot, struct lent room)
-{
+struct step second_give_back(struct station station, uint32_t time, uint32_t slot, struct lent room) {
     return operator_event(&station, time, slot, room, is_taken, given_back);
 }
 
 /* "The tick event at t fires the earliest wait due at or before t, one only,
  * and sets the clock to its due time; with none due the clock becomes t." */
-struct step second_tick(struct station station, uint32_t time,
-                        struct lent room)
-{
+struct step second_tick(struct station station, uint32_t time, struct lent room) {
     struct work work;
     struct wait wait;
     int refusal = judge_any(&station, time, room);

@@ -24,15 +24,30 @@
 
 /* Answers and refusals. */
 enum answer {
-    DONE = 0, IGNORED = 1, WRONG_SIZE = 23, NOT_SOUND = 29, ROOM_TOO_SMALL = 30,
-    TIME_OVER_LIMIT = 31, TIME_BEFORE_CLOCK = 32, WAIT_IS_DUE = 33,
-    NO_SUCH_SLOT = 34, OPERATOR_REFUSED = 35, SET_UP_BAD = 36
+    DONE = 0,
+    IGNORED = 1,
+    WRONG_SIZE = 23,
+    NOT_SOUND = 29,
+    ROOM_TOO_SMALL = 30,
+    TIME_OVER_LIMIT = 31,
+    TIME_BEFORE_CLOCK = 32,
+    WAIT_IS_DUE = 33,
+    NO_SUCH_SLOT = 34,
+    OPERATOR_REFUSED = 35,
+    SET_UP_BAD = 36
 };
 
 /* In the order of their numbers in lent bytes. */
 enum phase {
-    PHASE_FREE, PHASE_OFFERED, PHASE_RING_BACK, PHASE_RING_BACK_REPEATED,
-    PHASE_ACKNOWLEDGED, PHASE_DIALLING, PHASE_ANSWERED, PHASE_HOLD, PHASE_TAKEN,
+    PHASE_FREE,
+    PHASE_OFFERED,
+    PHASE_RING_BACK,
+    PHASE_RING_BACK_REPEATED,
+    PHASE_ACKNOWLEDGED,
+    PHASE_DIALLING,
+    PHASE_ANSWERED,
+    PHASE_HOLD,
+    PHASE_TAKEN,
     PHASES
 };
 
@@ -93,8 +108,7 @@ struct heard {
 };
 
 /* Set-up: 0 or 36; for 36 the station handed back means nothing. */
-struct step second_set_up(uint32_t identity, const uint32_t *channels,
-                          size_t count);
+struct step second_set_up(uint32_t identity, const uint32_t *channels, size_t count);
 
 bool second_is_sound(const struct station *station);
 
@@ -108,9 +122,8 @@ bool second_next_due(const struct station *station, uint32_t *due);
 #define BY_VALUE_by_hand uint32_t slot,
 #define BY_VALUE_with_symbols struct heard heard,
 #define BY_VALUE_on_slot_with_symbols uint32_t slot, struct heard heard,
-#define AS_EVENT(letter, entry, takes)                                         \
-    struct step second_##entry(struct station station, uint32_t time,         \
-                               BY_VALUE_##takes struct lent room);
+#define AS_EVENT(letter, entry, takes) \
+    struct step second_##entry(struct station station, uint32_t time, BY_VALUE_##takes struct lent room);
 EVENTS(AS_EVENT)
 #undef AS_EVENT
 

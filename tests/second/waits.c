@@ -1,21 +1,16 @@
 /* "Time and the slots": when waits fall due, in which order, what they do. */
 #include "inside.h"
 
-uint32_t due_after(uint32_t begun, uint32_t wait)
-{
+uint32_t due_after(uint32_t begun, uint32_t wait) {
     return begun + wait + 1u;
 }
 
 /* "a wait of 50 duplex, 450 simplex"; "The stored request's mode holds". */
-uint32_t carrier_wait(const struct slot *slot)
-{
-    return slot->request.first == DUPLEX ? DUPLEX_CARRIER_WAIT
-                                         : SIMPLEX_CARRIER_WAIT;
+uint32_t carrier_wait(const struct slot *slot) {
+    return slot->request.first == DUPLEX ? DUPLEX_CARRIER_WAIT : SIMPLEX_CARRIER_WAIT;
 }
 
-static void take_if_earlier(struct wait *earliest, enum wait_kind kind,
-                            uint32_t place, uint32_t due)
-{
+static void take_if_earlier(struct wait *earliest, enum wait_kind kind, uint32_t place, uint32_t due) {
     if (earliest->kind != WAIT_NONE && due >= earliest->due)
         return;
     earliest->kind = kind;
@@ -25,8 +20,7 @@ static void take_if_earlier(struct wait *earliest, enum wait_kind kind,
 
 /* "Waits due together go in this order: queue entries, oldest first; slots,
  * lowest first; in one slot carrier loss before no reply." */
-struct wait earliest_wait(const struct station *station)
-{
+struct wait earliest_wait(const struct station *station) {
     struct wait earliest = {WAIT_NONE, 0, 0};
     for (uint32_t i = 0; i < station->waiting_count; i++)
         take_if_earlier(&earliest, WAIT_QUEUE, i, station->queue[i].due);
@@ -40,8 +34,7 @@ struct wait earliest_wait(const struct station *station)
     return earliest;
 }
 
-bool second_next_due(const struct station *station, uint32_t *due)
-{
+bool second_next_due(const struct station *station, uint32_t *due) {
     struct wait earliest = earliest_wait(station);
     if (earliest.kind == WAIT_NONE)
         return false;
@@ -50,8 +43,7 @@ bool second_next_due(const struct station *station, uint32_t *due)
 }
 
 /* What a slot's own wait does when it falls due. */
-static void fire_slot(struct work *work, uint32_t slot)
-{
+static void fire_slot(struct work *work, uint32_t slot) {
     enum phase phase = work->station->slots[slot].phase;
     if (is_rung_once(phase))
         repeat_ring_back(work, slot);
@@ -64,8 +56,7 @@ static void fire_slot(struct work *work, uint32_t slot)
 }
 
 /* The clock already stands at the due time. "A queue entry due is dropped." */
-void fire_wait(struct work *work, struct wait wait)
-{
+void fire_wait(struct work *work, struct wait wait) {
     if (wait.kind == WAIT_QUEUE)
         queue_drop(work->station, wait.place);
     else if (wait.kind == WAIT_CARRIER)

@@ -17,8 +17,22 @@ void play_odd(void) {
 }
 
 struct event draw_event(void) {
-    static const struct mood mood = {.weights = {[CALL] = 5, [AGAIN] = 4, [ANSWER] = 4, [LINE] = 4, [CARRIER] = 4, [END] = 4,
-        [TIME] = 6, [HAND] = 4, [STRAY] = 1, [LEAP] = 1}, .spoilt = 4};
+    static const struct mood mood = {
+        .weights =
+            {
+                [CALL] = 5,
+                [AGAIN] = 4,
+                [ANSWER] = 4,
+                [LINE] = 4,
+                [CARRIER] = 4,
+                [END] = 4,
+                [TIME] = 6,
+                [HAND] = 4,
+                [STRAY] = 1,
+                [LEAP] = 1,
+            },
+        .spoilt = 4,
+    };
     make_move(&mood);
     if (one_in(24)) /* a slot's number whose low byte alone is one */
         kept.slot += 256u << (8u * chance(3));
@@ -67,7 +81,8 @@ size_t any_room_size(void) {
     case 0: return chance(ACTION_ROOM);
     case 1: return ACTION_ROOM - 1u;
     case 2: return 0;
-    case 3: case 4: return ACTION_ROOM + chance(MOST_ROOM_SIZE - ACTION_ROOM + 1u);
+    case 3:
+    case 4: return ACTION_ROOM + chance(MOST_ROOM_SIZE - ACTION_ROOM + 1u);
     default: return ACTION_ROOM;
     }
 }

@@ -114,7 +114,10 @@ static bool try_set_up(void) {
 static bool try_station(uint32_t number) {
     clear_bytes();
     switch (number % 10u) {
-    case 0: case 1: case 2: case 3: return try_sound();
+    case 0:
+    case 1:
+    case 2:
+    case 3: return try_sound();
     case 4: return try_garbage() && try_set_up();
     case 5: return try_garbage();
     default: return try_moved();

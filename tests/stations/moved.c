@@ -23,7 +23,8 @@ struct field {
     int64_t values[MOST_VALUES];
 };
 
-/* The fields of a request, in a slot and in a waiting ship. */
+/* The fields of a request, in a slot and in a waiting ship; clang-format would take the last row for a block. */
+/* clang-format off */
 #define OF_REQUEST(where, part, phases, begins)                                                                                \
     {where "ship", part, AS_DRAWN, phases, begins + SHIP_AT, 4, PLAINLY, 6,                                                    \
      {199999999, 200000000, 799999999, 800000000, 2000000, 4294967295}},                                                       \
@@ -36,22 +37,21 @@ struct field {
     {where "first digit", part, AS_DRAWN, phases, begins + DIGITS_AT, 1, PLAINLY, 4, {0, 9, 10, 255}},                         \
     {where "last digit", part, SIXTEEN_DIGITS, phases, begins + DIGITS_AT + 15, 1, PLAINLY, 4, {0, 9, 10, 255}},               \
     {where "unused digit", part, FIFTEEN_DIGITS, phases, begins + DIGITS_AT + 15, 1, PLAINLY, 4, {0, 0, 1, 9}}
+/* clang-format on */
 
 static const struct field fields[] = {
-    {"clock, all due times with it", WHOLE_AT_CLOCK, AS_DRAWN, ANY_PHASE, 0, 0, PLAINLY, 3,
-     {4000000000, 4000000001, 4000000002}},
+    {"clock, all due times with it", WHOLE_AT_CLOCK, AS_DRAWN, ANY_PHASE, 0, 0, PLAINLY, 3, {4000000000, 4000000001, 4000000002}},
     {"identity, all requests with it", WHOLE_OF_IDENTITY, AS_DRAWN, ANY_PHASE, 0, 0, PLAINLY, 5,
-     {1999999, 2000000, 7999999, 8000000, 200000000}},
+        {1999999, 2000000, 7999999, 8000000, 200000000}},
     {"identity of an idle station", WHOLE_OF_IDENTITY, IDLE, ANY_PHASE, 0, 0, PLAINLY, 5,
-     {1999999, 2000000, 7999999, 8000000, 200000000}},
+        {1999999, 2000000, 7999999, 8000000, 200000000}},
     {"version", HEAD, AS_DRAWN, ANY_PHASE, VERSION_AT, 1, PLAINLY, 6, {0, 1, 2, 3, 129, 255}},
     {"clock", HEAD, AS_DRAWN, ANY_PHASE, CLOCK_AT, 4, FROM_CLOCK, 2, {-1, 1}},
     {"identity", HEAD, AS_DRAWN, ANY_PHASE, IDENTITY_AT, 4, FROM_IDENTITY, 3, {-1, 0, 1}},
     {"count of slots", HEAD, FULL, ANY_PHASE, SLOT_COUNT_AT, 1, PLAINLY, 7, {0, 1, 15, 16, 17, 18, 255}},
     {"count of waiting ships", HEAD, FULL, ANY_PHASE, WAITING_COUNT_AT, 1, PLAINLY, 7, {0, 1, 31, 32, 33, 34, 255}},
     {"channel", SLOT, AS_DRAWN, ANY_PHASE, CHANNEL_AT, 4, PLAINLY, 20,
-     {0, 1, 15, 16, 17, 28, 29, 59, 60, 69, 70, 71, 88, 89, 255, 256 + 26, 26 << 8, (1 << 16) + 26, (1 << 24) + 26,
-      26 << 24}},
+        {0, 1, 15, 16, 17, 28, 29, 59, 60, 69, 70, 71, 88, 89, 255, 256 + 26, 26 << 8, (1 << 16) + 26, (1 << 24) + 26, 26 << 24}},
     {"phase", SLOT, AS_DRAWN, ANY_PHASE, PHASE_AT, 1, PLAINLY, 12, {0, 1, 2, 3, 4, 5, 6, 7, 8, 9, 10, 255}},
     {"offer's due time", SLOT, AS_DRAWN, expects_working_call, TIME_AT, 4, FROM_CLOCK, 4, {-1, 0, 161, 162}},
     {"ring-back's due time", SLOT, AS_DRAWN, is_rung, TIME_AT, 4, FROM_CLOCK, 4, {-1, 0, 51, 52}},
@@ -195,8 +195,8 @@ bool each_field_moved(uint32_t enough) {
     bool all = true;
     for (size_t i = 0; i < FIELDS; i++)
         if (sounds[i] < enough || unsounds[i] < enough) {
-            printf("stations: hardly tried: %s, %u times inside its rule and %u outside\n", fields[i].name,
-                   (unsigned)sounds[i], (unsigned)unsounds[i]);
+            printf("stations: hardly tried: %s, %u times inside its rule and %u outside\n", fields[i].name, (unsigned)sounds[i],
+                (unsigned)unsounds[i]);
             all = false;
         }
     return all;

@@ -61,11 +61,14 @@ static bool may_answer(char letter, uint32_t answer) {
     case 0: return true;
     case 29: return letter != SET_UP_LETTER;
     case 1: return no_tick && !hand;
-    case 30: case 31: case 32: return is_event(letter);
+    case 30:
+    case 31:
+    case 32: return is_event(letter);
     case 33: return no_tick;
     case 34: return takes_slot(letter);
     case 35: return hand;
-    case 23: case 36: return letter == SET_UP_LETTER;
+    case 23:
+    case 36: return letter == SET_UP_LETTER;
     default: return takes_symbols(letter) && answer >= 11u && answer <= 20u;
     }
 }
@@ -76,7 +79,7 @@ static bool enough_answers(void) {
         for (uint32_t answer = 0; answer < MOST_ANSWERS; answer++)
             if (may_answer(letters[kind], answer) && tally.answers[kind][answer] < ENOUGH_ANSWERS) {
                 printf("stations: hardly tried: %c answered %u, %u times\n", letters[kind], (unsigned)answer,
-                       (unsigned)tally.answers[kind][answer]);
+                    (unsigned)tally.answers[kind][answer]);
                 all = false;
             }
     for (uint32_t kind = 1; kind < ACTION_KINDS; kind++)
@@ -105,7 +108,7 @@ bool tell_tally(uint32_t stations) {
     for (uint32_t kind = 1; kind < ACTION_KINDS; kind++)
         printf("%s%u: %u", kind == 1u ? " " : ", ", (unsigned)kind, (unsigned)tally.actions[kind]);
     printf("; sound stations accepted %u of %u, and %u had a free slot beside waiting ships\n", (unsigned)tally.accepted,
-           (unsigned)tally.on_sound, (unsigned)tally.idle_beside_waiting);
+        (unsigned)tally.on_sound, (unsigned)tally.idle_beside_waiting);
     if (!often)
         printf("stations: hardly tried: events that a sound station accepts\n");
     if (!idle)

@@ -11,8 +11,8 @@ static void tell_request(const uint8_t *bytes) {
     while (told > bytes[COUNT_AT] && bytes[DIGITS_AT + told - 1u] == 0u)
         told--;
     printf(" ship %u calls %u, mode %u, second %u, %u digits:", (unsigned)number_at(bytes + SHIP_AT, 4),
-           (unsigned)number_at(bytes + CALLED_AT, 4), (unsigned)bytes[MODE_AT], (unsigned)bytes[SECOND_AT],
-           (unsigned)bytes[COUNT_AT]);
+        (unsigned)number_at(bytes + CALLED_AT, 4), (unsigned)bytes[MODE_AT], (unsigned)bytes[SECOND_AT],
+        (unsigned)bytes[COUNT_AT]);
     for (size_t i = 0; i < told; i++)
         printf(" %u", (unsigned)bytes[DIGITS_AT + i]);
     printf("\n");
@@ -32,11 +32,11 @@ static void tell_told(const uint8_t *bytes) {
 
 /* What its phase uses. */
 static void tell_slot(uint32_t slot, const uint8_t *bytes) {
-    static const char *const names[] = {"free", "offered", "ring-back", "ring-back repeated", "acknowledged", "dialling",
-        "answered", "hold", "taken"};
+    static const char *const names[] = {
+        "free", "offered", "ring-back", "ring-back repeated", "acknowledged", "dialling", "answered", "hold", "taken"};
     uint8_t phase = bytes[PHASE_AT];
     printf("  slot %u: phase %u (%s), channel %u", (unsigned)slot, (unsigned)phase, phase <= 8u ? names[phase] : "none",
-           (unsigned)number_at(bytes + CHANNEL_AT, 4));
+        (unsigned)number_at(bytes + CHANNEL_AT, 4));
     if (phase == 0u || phase >= 8u) {
         printf("\n");
         return;
@@ -84,14 +84,14 @@ static void tell_place(size_t at) {
     else if (at < QUEUE_AT)
         printf("  byte %u of slot %u", (unsigned)((at - SLOTS_AT) % SLOT_BYTES), (unsigned)((at - SLOTS_AT) / SLOT_BYTES));
     else
-        printf("  byte %u of waiting %u", (unsigned)((at - QUEUE_AT) % WAITING_BYTES),
-               (unsigned)((at - QUEUE_AT) / WAITING_BYTES));
+        printf(
+            "  byte %u of waiting %u", (unsigned)((at - QUEUE_AT) % WAITING_BYTES), (unsigned)((at - QUEUE_AT) / WAITING_BYTES));
 }
 
 static void tell_returned(const struct outcome *outcome) {
     uint64_t returned = outcome->returned;
     printf("  %s: answer %u, %u actions, waits %u, due or clock %u\n", outcome->who, (unsigned)(returned & 255u),
-           (unsigned)(returned >> 8 & 255u), (unsigned)(returned >> 16 & 65535u), (unsigned)(returned >> 32));
+        (unsigned)(returned >> 8 & 255u), (unsigned)(returned >> 16 & 65535u), (unsigned)(returned >> 32));
 }
 
 void tell_outcomes(const struct call *call, const struct outcome *a, const struct outcome *b) {
@@ -102,13 +102,13 @@ void tell_outcomes(const struct call *call, const struct outcome *a, const struc
         if (a->station[i] != b->station[i]) {
             tell_place(i);
             printf(": was %u, %s %u, %s %u\n", (unsigned)call->station[i], a->who, (unsigned)a->station[i], b->who,
-                   (unsigned)b->station[i]);
+                (unsigned)b->station[i]);
             told++;
         }
     for (size_t i = 0; i < call->room_size && told < MOST_TOLD; i++)
         if (a->room[i] != b->room[i]) {
-            printf("  byte %u of action %u: %s %u, %s %u\n", (unsigned)(i % ACTION_BYTES), (unsigned)(i / ACTION_BYTES),
-                   a->who, (unsigned)a->room[i], b->who, (unsigned)b->room[i]);
+            printf("  byte %u of action %u: %s %u, %s %u\n", (unsigned)(i % ACTION_BYTES), (unsigned)(i / ACTION_BYTES), a->who,
+                (unsigned)a->room[i], b->who, (unsigned)b->room[i]);
             told++;
         }
 }

@@ -6,8 +6,7 @@
 
 static int failures;
 
-static void want(const char *what, long got, long wanted)
-{
+static void want(const char *what, long got, long wanted) {
     if (got == wanted)
         return;
     failures++;
@@ -17,21 +16,17 @@ static void want(const char *what, long got, long wanted)
 #define COAST 2001234u
 #define SHIP 200056789u
 
-static const uint8_t P1[24] = {123, 0, 20, 1, 23, 40, 100, 20, 0, 56, 78, 90,
-    101, 126, 126, 126, 126, 105, 5, 55, 12, 34, 117, 104};
-static const uint8_t P6[24] = {123, 20, 0, 56, 78, 90, 100, 0, 20, 1, 23, 40,
-    105, 126, 0, 6, 50, 105, 5, 55, 12, 34, 122, 33};
+static const uint8_t P1[24] = {
+    123, 0, 20, 1, 23, 40, 100, 20, 0, 56, 78, 90, 101, 126, 126, 126, 126, 105, 5, 55, 12, 34, 117, 104};
+static const uint8_t P6[24] = {123, 20, 0, 56, 78, 90, 100, 0, 20, 1, 23, 40, 105, 126, 0, 6, 50, 105, 5, 55, 12, 34, 122, 33};
 
-static struct meaning p1_meaning(void)
-{
-    struct meaning m = {COAST, SHIP, 101, 126, FIELD_NONE, 0, 0, 0, 0, 7,
-                        {5, 5, 5, 1, 2, 3, 4}, 117};
+static struct meaning p1_meaning(void) {
+    struct meaning m = {COAST, SHIP, 101, 126, FIELD_NONE, 0, 0, 0, 0, 7, {5, 5, 5, 1, 2, 3, 4}, 117};
     return m;
 }
 
 /* The writer's answer; on a refusal nothing may be touched. */
-static int written(const struct meaning *m, size_t room_len, uint8_t *room)
-{
+static int written(const struct meaning *m, size_t room_len, uint8_t *room) {
     size_t length = 777;
     uint8_t before[28];
     int answer;
@@ -48,41 +43,62 @@ static int written(const struct meaning *m, size_t room_len, uint8_t *room)
     return (int)length;
 }
 
-static void try_writer(void)
-{
+static void try_writer(void) {
     uint8_t room[28];
     struct meaning m = p1_meaning();
     want("P1 length", written(&m, 28, room), 24);
     want("P1", memcmp(room, P1, 24), 0);
     want("room 27", written(&m, 27, room), 21);
-    m = p1_meaning(); m.address = SHIP; m.first = 110; m.kind = FIELD_CHANNEL;
-    m.count = 0; m.end = 1;
+    m = p1_meaning();
+    m.address = SHIP;
+    m.first = 110;
+    m.kind = FIELD_CHANNEL;
+    m.count = 0;
+    m.end = 1;
     want("21 before all", written(&m, 0, room), 21);
     want("15", written(&m, 28, room), 15);
-    m.address = COAST; want("17", written(&m, 28, room), 17);
-    m.first = 101; want("18", written(&m, 28, room), 18);
-    m.channel = 26; want("19", written(&m, 28, room), 19);
-    m.count = 7; want("20", written(&m, 28, room), 20);
-    m.end = 127; want("done", written(&m, 28, room), 24);
-    m.kind = (enum field_kind)7; want("no such kind", written(&m, 28, room), 18);
-    m = p1_meaning(); m.channel = 26;
+    m.address = COAST;
+    want("17", written(&m, 28, room), 17);
+    m.first = 101;
+    want("18", written(&m, 28, room), 18);
+    m.channel = 26;
+    want("19", written(&m, 28, room), 19);
+    m.count = 7;
+    want("20", written(&m, 28, room), 20);
+    m.end = 127;
+    want("done", written(&m, 28, room), 24);
+    m.kind = (enum field_kind)7;
+    want("no such kind", written(&m, 28, room), 18);
+    m = p1_meaning();
+    m.channel = 26;
     want("unused channel", written(&m, 28, room), 18);
-    m = p1_meaning(); m.digits[7] = 1;
+    m = p1_meaning();
+    m.digits[7] = 1;
     want("unused digit", written(&m, 28, room), 19);
-    m = p1_meaning(); m.digits[6] = 10;
+    m = p1_meaning();
+    m.digits[6] = 10;
     want("digit 10", written(&m, 28, room), 19);
-    m = p1_meaning(); m.count = 17;
+    m = p1_meaning();
+    m.count = 17;
     want("17 digits", written(&m, 28, room), 19);
-    m = p1_meaning(); m.address = SHIP; m.self = COAST; m.first = 105;
-    m.kind = FIELD_DURATION; m.minutes = 6; m.seconds = 50; m.end = 122;
+    m = p1_meaning();
+    m.address = SHIP;
+    m.self = COAST;
+    m.first = 105;
+    m.kind = FIELD_DURATION;
+    m.minutes = 6;
+    m.seconds = 50;
+    m.end = 122;
     want("P6 length", written(&m, 28, room), 24);
     want("P6", memcmp(room, P6, 24), 0);
-    m.kind = FIELD_CHANNEL; m.minutes = 0; m.seconds = 0; m.channel = 26;
+    m.kind = FIELD_CHANNEL;
+    m.minutes = 0;
+    m.seconds = 0;
+    m.channel = 26;
     want("channel in an end", written(&m, 28, room), 18);
 }
 
-static void try_reader(void)
-{
+static void try_reader(void) {
     struct meaning m, kept;
     uint8_t symbols[24];
     memset(&m, 0x5A, sizeof m);
@@ -100,7 +116,9 @@ static void try_reader(void)
     want("unused digit", m.digits[7], 0);
     /* 90 0 26 in an end of call: ninety hours and 26 s */
     memcpy(symbols, P6, 24);
-    symbols[14] = 90; symbols[15] = 0; symbols[16] = 26;
+    symbols[14] = 90;
+    symbols[15] = 0;
+    symbols[16] = 26;
     symbols[23] = (uint8_t)(33 ^ 6 ^ 50 ^ 90 ^ 26);
     want("90 0 26", second_read(symbols, 24, &m), 0);
     want("kind", m.kind, FIELD_DURATION);
@@ -109,8 +127,7 @@ static void try_reader(void)
     want("channel", m.channel, 0);
 }
 
-static struct station two_channels(void)
-{
+static struct station two_channels(void) {
     static const uint32_t channels[2] = {26, 27};
     struct step step = second_set_up(COAST, channels, 2);
     want("set-up", step.answer, 0);
@@ -118,8 +135,7 @@ static struct station two_channels(void)
 }
 
 /* The answer of a tick at its own clock; refusals must leave the rest. */
-static int ticked(struct station s, size_t room_len)
-{
+static int ticked(struct station s, size_t room_len) {
     uint8_t room[ACTION_ROOM], before[ACTION_ROOM];
     struct lent lent = {room, room_len};
     struct step step;
@@ -136,8 +152,7 @@ static int ticked(struct station s, size_t room_len)
 
 /* A sound station at clock 1000: slot 0 answered simplex with the carrier
  * absent, slot 1 free, one ship waiting. */
-static struct station busy(void)
-{
+static struct station busy(void) {
     struct station s = two_channels();
     struct slot *call = &s.slots[0];
     s.clock = 1000;
@@ -154,18 +169,17 @@ static struct station busy(void)
     return s;
 }
 
-static void unsound(const char *what, struct station s)
-{
+static void unsound(const char *what, struct station s) {
     want(what, second_is_sound(&s), 0);
     want(what, ticked(s, ACTION_ROOM), 29);
     want(what, ticked(s, 0), 29);
 }
 
-static void try_soundness(void)
-{
+static void try_soundness(void) {
     struct station s = busy();
     want("sound", ticked(s, ACTION_ROOM), 0);
     want("30", ticked(s, ACTION_ROOM - 1), 30);
+    /* clang-format off */
     s.identity = SHIP; unsound("identity", s);
     s = busy(); s.channel_count = 0; unsound("no channel", s);
     s = busy(); s.channel_count = 17; unsound("17 channels", s);
@@ -187,11 +201,11 @@ static void try_soundness(void)
     s = busy(); s.queue[0].due = 10002; unsound("queue late", s);
     s = busy(); s.queue[0].due = 999; unsound("queue early", s);
     s = busy(); s.slots[1].phase = (enum phase)9; unsound("no such phase", s);
+    /* clang-format on */
 }
 
 /* Each wait, by the number that include/coast.h gives the phase. */
-static void try_phases(void)
-{
+static void try_phases(void) {
     static const uint32_t waits[PHASES] = {0, 160, 50, 50, 160, 600, 0, 40, 0};
     for (size_t i = 0; i < PHASES; i++) {
         struct station s = busy();
@@ -218,8 +232,7 @@ static void try_phases(void)
 }
 
 /* Rule c on a sound station with a free slot and a waiting ship: 4 + 2 + 2. */
-static void try_eight(void)
-{
+static void try_eight(void) {
     static const uint8_t kinds[8] = {7, 6, 4, 2, 1, 3, 1, 3};
     static const uint8_t slots[8] = {0, 0, 0, 0, 0, 0, 1, 1};
     static const uint8_t lengths[8] = {16, 0, 24, 0, 0, 24, 0, 24};
@@ -256,8 +269,7 @@ static void try_eight(void)
         want("bytes after the last action stay", room[i], 0xA5);
 }
 
-int main(void)
-{
+int main(void) {
     try_writer();
     try_reader();
     try_soundness();

@@ -21,12 +21,12 @@ static int failures;
 
 extern const struct entries second; /* of ../stations/second.c */
 
-static const uint8_t request[24] = {123, 0, 20, 1, 23, 40, 100, 20, 0, 56, 78, 90,
-    101, 126, 126, 126, 126, 105, 5, 55, 12, 34, 117, 104};
-static const uint8_t working_call[24] = {123, 0, 20, 1, 23, 40, 100, 20, 0, 56, 78, 90,
-    101, 126, 126, 126, 126, 105, 5, 55, 12, 34, 127, 98};
-static const uint8_t end_of_call[24] = {123, 0, 20, 1, 23, 40, 100, 20, 0, 56, 78, 90,
-    105, 126, 126, 126, 126, 105, 5, 55, 12, 34, 117, 100};
+static const uint8_t request[24] = {
+    123, 0, 20, 1, 23, 40, 100, 20, 0, 56, 78, 90, 101, 126, 126, 126, 126, 105, 5, 55, 12, 34, 117, 104};
+static const uint8_t working_call[24] = {
+    123, 0, 20, 1, 23, 40, 100, 20, 0, 56, 78, 90, 101, 126, 126, 126, 126, 105, 5, 55, 12, 34, 127, 98};
+static const uint8_t end_of_call[24] = {
+    123, 0, 20, 1, 23, 40, 100, 20, 0, 56, 78, 90, 105, 126, 126, 126, 126, 105, 5, 55, 12, 34, 117, 100};
 
 /* 2001234, 200056789 and 200056780 */
 static const uint8_t coast[4] = {82, 137, 30, 0}, ship[4] = {213, 159, 236, 11}, other[4] = {204, 159, 236, 11};
@@ -141,7 +141,7 @@ static void versions(void) {
 static void call_and_wait(void) {
     uint8_t another[24];
     wanted[SLOT] = 5;
-    want_time(CLOCK, 4, 1);        /* 260 */
+    want_time(CLOCK, 4, 1);     /* 260 */
     want_time(SLOT + 1, 93, 3); /* 861 */
     want("working call", heard("W 260 0", working_call), told(0, 1, 861));
     memcpy(another, request, 24);
@@ -149,8 +149,8 @@ static void call_and_wait(void) {
     another[12] = 100; /* simplex */
     another[23] = (uint8_t)(104 ^ 90 ^ 0 ^ 101 ^ 100);
     wanted[WAITING_COUNT] = 1;
-    want_time(CLOCK, 44, 1);       /* 300 */
-    want_time(QUEUE, 85, 36);  /* 9301 */
+    want_time(CLOCK, 44, 1);  /* 300 */
+    want_time(QUEUE, 85, 36); /* 9301 */
     want_request(QUEUE + 4, other, 0);
     want("another request", heard("Q 300", another), told(0, 1, 861));
     wanted[SLOT] = 6;
@@ -165,7 +165,7 @@ static void call_and_wait(void) {
 
 static void end_and_ring_back(void) {
     wanted[SLOT] = 7;
-    want_time(CLOCK, 38, 2);        /* 550 */
+    want_time(CLOCK, 38, 2);    /* 550 */
     want_time(SLOT + 1, 79, 2); /* 591 */
     wanted[SLOT + 5] = wanted[SLOT + 6] = wanted[SLOT + 7] = 0;
     wanted[SLOT + 10] = 1;
