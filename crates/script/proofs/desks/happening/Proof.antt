@@ -18,7 +18,7 @@ returns-3 : tie.Need-returns-3
 returns-3 c = let e = c .before .before .before .before .before .form .given .1 in (rw e (c .before .before .plainly .ensures .0), rw e (c .before .before .plainly .ensures .1))
 
 returns-4 : tie.Need-returns-4
-returns-4 c = let e = c .before .before .before .before .before .form2 .given .1 in (rw e (c .before .before .plainly .ensures .0), rw e (c .before .before .plainly .ensures .1))
+returns-4 c = let e = c .before .before .before .before .before .form2 .given .1 in (rw e (c .before .before .plainly2 .ensures .0), rw e (c .before .before .plainly2 .ensures .1))
 
 returns-5 : tie.Need-returns-5
 returns-5 c = let e = c .before .before .before .before .enum-told3 .given .1 in (rw e (c .before .before .tick .ensures .0), rw e (c .before .before .tick .ensures .1))
