@@ -15,7 +15,7 @@ use Rattle.sequence.specs.Writing.{writingAnswer, writtenOf, roomAfter}
 use Rattle.sequence.proofs.Tests.{Either, yes!, no!, which}
 use Rattle.writing.proofs.Valid.{parts, valid-done, written, layout-length}
 use Rattle.writing.proofs.EvenedLaws.{fit}
-use Rattle.rules.specs.Bytes.{padded, numberOf, block}
+use Rattle.rules.specs.Rules.Bytes.{padded, numberOf, block}
 use Rattle.requests.specs.Views.{viewed, itself, digitsOf}
 use Rattle.requests.proofs.ArrayLaws.{padded-front, viewed-length, viewed-min}
 use Rattle.actions.specs.declared.Action.{Action}

@@ -17,19 +17,19 @@ use Rattle.sequence.specs.Layout.{valid}
 use Rattle.sequence.specs.Reading.{readingOf}
 use Rattle.writing.proofs.Valid.{parts}
 use Rattle.writing.proofs.EvenedLaws.{fit, all-take}
-use Rattle.rules.specs.Words.{Party, Request, Config, Event, unable, Ours}
-use Rattle.rules.specs.Heard.{Heard, callRequest, dataRequest, digitsIn, sentBy, addressed, meaning}
-use Rattle.rules.specs.Kinds.{Means, asCallRequest, asDataRequest, asWorkingCall, asEndOfCall, asBq, asNothing, OnlyThese}
-use Rattle.rules.specs.Actions.{does}
-use Rattle.rules.specs.Bytes.{blocks}
-use Rattle.rules.specs.Station.{Station, theSlot, setClock}
-use Rattle.rules.specs.Sound.{configKeeps, numberKeeps, requestKeeps, sound}
-use Rattle.rules.specs.Requests.{standing, ruleA, Out}
-use Rattle.rules.specs.Calls.{act}
-use Rattle.rules.specs.Verdict.{readIn, verdict}
-use Rattle.rules.specs.Book.{Stop, Book}
-use Rattle.rules.specs.Reading.{moment}
-use Rattle.rules.specs.ThreeWords.{Word}
+use Rattle.rules.specs.Rules.Words.{Party, Request, Config, Event, unable, Ours}
+use Rattle.rules.specs.Rules.Heard.{Heard, callRequest, dataRequest, digitsIn, sentBy, addressed, meaning}
+use Rattle.rules.specs.Rules.Kinds.{Means, asCallRequest, asDataRequest, asWorkingCall, asEndOfCall, asBq, asNothing, OnlyThese}
+use Rattle.rules.specs.Rules.Actions.{does}
+use Rattle.rules.specs.Rules.Bytes.{blocks}
+use Rattle.rules.specs.Rules.Station.{Station, theSlot, setClock}
+use Rattle.rules.specs.Rules.Sound.{configKeeps, numberKeeps, requestKeeps, sound}
+use Rattle.rules.specs.Rules.Requests.{standing, ruleA, Out}
+use Rattle.rules.specs.Rules.Calls.{act}
+use Rattle.rules.specs.Rules.Verdict.{readIn, verdict}
+use Rattle.rules.specs.ListAlone.Book.{Stop, Book}
+use Rattle.rules.specs.ListAlone.Reading.{moment}
+use Rattle.rules.specs.ListAlone.ThreeWords.{Word}
 use Rattle.rules.proofs.KindLaws.{only-these}
 use Rattle.rules.proofs.Readable.{heard-keeps, from-ship}
 use Rattle.rules.proofs.SentLaws.{unable-valid}

@@ -9,14 +9,14 @@ use lib.Dec.{ltb}
 use lib.ListN.{length}
 use Rattle.sequence.specs.Field.{unableSecond}
 use Rattle.sequence.proofs.Tests.{both-true}
-use Rattle.rules.specs.Places.{all, Each, lowest}
-use Rattle.rules.specs.Words.{Request, Config, unable}
-use Rattle.rules.specs.Actions.{Action, Ender, theShip, theCoast, does}
-use Rattle.rules.specs.Station.{Slot, pending, busy, Waiting, Station, theSlot, answeredAt, isFree}
-use Rattle.rules.specs.Sound.{configKeeps, requestKeeps, durationKeeps, slotKeeps, waitingKeeps, queueRoom}
-use Rattle.rules.specs.Requests.{Out, rungBack, freedFor, freed, lasted, endActs, coastEnd, Standing, nowhere, holds, waits, placeOf, repeated, afresh, ruleD, offer, ruleF, ruleG, eToG, newcomer, dToG, redial, requested}
-use Rattle.rules.specs.Book.{Stop, Line}
-use Rattle.rules.specs.ThreeWords.{Word}
+use Rattle.rules.specs.Rules.Places.{all, Each, lowest}
+use Rattle.rules.specs.Rules.Words.{Request, Config, unable}
+use Rattle.rules.specs.Rules.Actions.{Action, Ender, theShip, theCoast, does}
+use Rattle.rules.specs.Rules.Station.{Slot, pending, busy, Waiting, Station, theSlot, answeredAt, isFree}
+use Rattle.rules.specs.Rules.Sound.{configKeeps, requestKeeps, durationKeeps, slotKeeps, waitingKeeps, queueRoom}
+use Rattle.rules.specs.Rules.Requests.{Out, rungBack, freedFor, freed, lasted, endActs, coastEnd, Standing, nowhere, holds, waits, placeOf, repeated, afresh, ruleD, offer, ruleF, ruleG, eToG, newcomer, dToG, redial, requested}
+use Rattle.rules.specs.ListAlone.Book.{Stop, Line}
+use Rattle.rules.specs.ListAlone.ThreeWords.{Word}
 use Rattle.rules.proofs.PlaceLaws.{each-append, lowest-there}
 use Rattle.rules.proofs.Outcome.{Next, stays, becomes, frees, Move, to-dial, to-agree, to-ring, to-drop, to-answer, to-lose, to-regain, to-hold, to-end, to-repeat, to-run-out, to-take, to-give, Outcome, passed, moved}
 use Rattle.rules.proofs.Ruling.{Ruling, passes, repeats, renews, redials, bOrC-ruling}

@@ -14,11 +14,11 @@ use Rattle.sequence.specs.Identity.{isShip, isCoast}
 use Rattle.sequence.specs.Field.{unableSecond, channelOk}
 use Rattle.sequence.specs.Layout.{endOk}
 use Rattle.sequence.proofs.Tests.{both-true}
-use Rattle.rules.specs.Places.{all, Each}
-use Rattle.rules.specs.Words.{Request, Config, carrierOn, carrierOff, acknowledge, ringBack, unable, dial, releaseLine, ours, Ours}
-use Rattle.rules.specs.Actions.{Ender, Action, does, over, charge}
-use Rattle.rules.specs.Bytes.{channelAt, kindNumber, slotNumber, payloadOf, block, blockOf, blocks}
-use Rattle.rules.specs.Sound.{identityKeeps, channelsKeep, configKeeps, numberKeeps, requestKeeps, durationKeeps}
+use Rattle.rules.specs.Rules.Places.{all, Each}
+use Rattle.rules.specs.Rules.Words.{Request, Config, carrierOn, carrierOff, acknowledge, ringBack, unable, dial, releaseLine, ours, Ours}
+use Rattle.rules.specs.Rules.Actions.{Ender, Action, does, over, charge}
+use Rattle.rules.specs.Rules.Bytes.{channelAt, kindNumber, slotNumber, payloadOf, block, blockOf, blocks}
+use Rattle.rules.specs.Rules.Sound.{identityKeeps, channelsKeep, configKeeps, numberKeeps, requestKeeps, durationKeeps}
 use Rattle.rules.proofs.SentLaws.{able-valid, unable-valid, over-valid}
 use Rattle.actions.specs.Blocks.{inBytes, joined}
 use Rattle.actions.specs.Sent.{sent, sentPayload, sentOn, sentBlock, speaks}

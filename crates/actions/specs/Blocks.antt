@@ -6,7 +6,7 @@ use lib.Dec.{leb}
 use lib.ListN.{length, take, drop}
 use Rattle.units.specs.declared.Tenths.{Tenths}
 use Rattle.units.specs.Units.{wholeSeconds}
-use Rattle.rules.specs.Bytes.{padded, block, four, blockSize, payloadRoom}
+use Rattle.rules.specs.Rules.Bytes.{padded, block, four, blockSize, payloadRoom}
 use Rattle.actions.specs.declared.Action.{Action}
 
 -- an action as it is laid out: its payload, and zeros

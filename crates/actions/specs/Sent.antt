@@ -6,10 +6,10 @@ use Rattle.units.specs.declared.Channel.{Channel}
 use Rattle.sequence.specs.declared.Meaning.{Meaning}
 use Rattle.sequence.specs.Figures.{endRq, endBq}
 use Rattle.sequence.specs.Layout.{valid, layout}
-use Rattle.rules.specs.Words.{Party, Config, carrierOn, carrierOff, acknowledge, ringBack, unable, dial, releaseLine}
-use Rattle.rules.specs.Actions as R
-use Rattle.rules.specs.Actions.{theShip, theCoast, does, over, charge, chargeNumbers}
-use Rattle.rules.specs.Bytes.{ableSaid, unableSaid, overSaid, channelAt, kindNumber, slotNumber, block, fours}
+use Rattle.rules.specs.Rules.Words.{Party, Config, carrierOn, carrierOff, acknowledge, ringBack, unable, dial, releaseLine}
+use Rattle.rules.specs.Rules.Actions as R
+use Rattle.rules.specs.Rules.Actions.{theShip, theCoast, does, over, charge, chargeNumbers}
+use Rattle.rules.specs.Rules.Bytes.{ableSaid, unableSaid, overSaid, channelAt, kindNumber, slotNumber, block, fours}
 use Rattle.actions.specs.declared.Ender.{Ender}
 use Rattle.actions.specs.declared.Ender.the-variants.{Ship, Coast}
 

@@ -3,7 +3,7 @@ ghost use mathlib.Core.Path.{_≡_};
 ghost use mathlib.Core.List.{[]};
 ghost use Prim.Native.Nat.{_-_};
 ghost use Rattle.units.specs.Units.{wholeSeconds, durationOf};
-ghost use Rattle.rules.specs.Bytes.{block};
+ghost use Rattle.rules.specs.Rules.Bytes.{block};
 ghost use Rattle.requests.specs.Views.{digitsOf};
 ghost use Rattle.actions.specs.Blocks.{actionOf, actionBlock, chargeBytes, span};
 use crate::Action;

@@ -1,8 +1,8 @@
 // The actions that send a sequence: the writer lays it into the payload.
 ghost use mathlib.Core.Path.{_≡_};
 ghost use Rattle.sequence.specs.Figures.{endRq, endBq};
-ghost use Rattle.rules.specs.Words.{modeNumber};
-ghost use Rattle.rules.specs.Bytes.{block, numberOf, ableSaid, unableSaid, overSaid, toldField, endSymbol, unableSlot};
+ghost use Rattle.rules.specs.Rules.Words.{modeNumber};
+ghost use Rattle.rules.specs.Rules.Bytes.{block, numberOf, ableSaid, unableSaid, overSaid, toldField, endSymbol, unableSlot};
 ghost use Rattle.requests.specs.Views.{digitsOf, requestOf, modeOf};
 ghost use Rattle.actions.specs.Blocks.{actionOf, actionBlock};
 ghost use Rattle.actions.specs.Sent.{sent, party, enderOf};

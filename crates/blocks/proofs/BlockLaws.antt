@@ -6,7 +6,7 @@ use native.Mathlib.Omega.{arith}
 use native.Mathlib.Nat.{le-of-suc-le-suc, not-suc-le-zero}
 use lib.ListN.{length, getD, take, length-take, List·getD-eq-default}
 use lib.Seq.{getD-take}
-use Rattle.rules.specs.Bytes.{padded, block}
+use Rattle.rules.specs.Rules.Bytes.{padded, block}
 use Rattle.requests.proofs.ArrayLaws.{padded-length}
 use Rattle.actions.specs.declared.Action.{Action}
 use Rattle.actions.specs.Blocks.{actionBlock, inBytes}

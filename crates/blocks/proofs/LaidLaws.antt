@@ -8,8 +8,8 @@ use lib.ListN.{length, take, drop, getD, set, length-take, take-append-drop}
 use lib.Seq.{paste, paste-zero, take-all, length-paste, take-paste, drop-paste, drop-drop}
 use borrow.Author.Tests.{le-leb, lt-leb, lt-ltb, le-ltb}
 use Rattle.sequence.proofs.Paste.{paste-turn}
-use Rattle.rules.specs.Places.{Each}
-use Rattle.rules.specs.Bytes.{padded, block}
+use Rattle.rules.specs.Rules.Places.{Each}
+use Rattle.rules.specs.Rules.Bytes.{padded, block}
 use Rattle.requests.proofs.ArrayLaws.{padded-length}
 use Rattle.actions.specs.declared.Action.{Action}
 use Rattle.actions.specs.Blocks.{actionBlock, inBytes, joined, holds, putCount, putRoom}

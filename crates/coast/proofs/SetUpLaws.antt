@@ -4,9 +4,9 @@ use mathlib.Core.Path.{_≡_, refl}
 use mathlib.Core.Bool.{Bool, true, false, cond}
 use mathlib.Core.List.{List}
 use lib.Dec.{eqb}
-use Rattle.rules.specs.Words.{Config}
-use Rattle.rules.specs.Sound.{configKeeps}
-use Rattle.rules.specs.Verdict.{setUpVerdict}
+use Rattle.rules.specs.Rules.Words.{Config}
+use Rattle.rules.specs.Rules.Sound.{configKeeps}
+use Rattle.rules.specs.Rules.Verdict.{setUpVerdict}
 use Rattle.station.specs.declared.SetUp.{SetUp}
 use Rattle.station.specs.declared.Stepped.{Stepped}
 use Rattle.station.specs.declared.NextDue.the-variants.{Never}

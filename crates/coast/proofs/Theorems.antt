@@ -9,14 +9,14 @@ use lib.Dec.{ltb}
 use borrow.Author.Tests.{le-leb, lt-leb, ltb-true}
 use Rattle.sequence.specs.Identity.{isCoast}
 use Rattle.sequence.proofs.Tests.{Either, yes!, no!, which, both-true}
-use Rattle.rules.specs.Places.{all}
-use Rattle.rules.specs.Words.{Config, Event}
-use Rattle.rules.specs.Calls.{act}
-use Rattle.rules.specs.Bytes.{padded}
-use Rattle.rules.specs.Station.{fresh}
-use Rattle.rules.specs.Sound.{identityKeeps, configKeeps, sound}
+use Rattle.rules.specs.Rules.Places.{all}
+use Rattle.rules.specs.Rules.Words.{Config, Event}
+use Rattle.rules.specs.Rules.Calls.{act}
+use Rattle.rules.specs.Rules.Bytes.{padded}
+use Rattle.rules.specs.Rules.Station.{fresh}
+use Rattle.rules.specs.Rules.Sound.{identityKeeps, configKeeps, sound}
 use Rattle.rules.specs.Statement.{ZeroOrOne}
-use Rattle.rules.specs.Verdict.{verdict, setUpVerdict}
+use Rattle.rules.specs.Rules.Verdict.{verdict, setUpVerdict}
 use Rattle.rules.proofs.Answered as Rules
 use Rattle.rules.proofs.Answered.{otherNumbers, zero-or-one}
 use Rattle.requests.specs.Views.{viewed}

@@ -3,14 +3,14 @@ use Prim.Native.Nat.{ℕ, _+_, _*_}
 use mathlib.Core.Bool.{cond, _&&_}
 use mathlib.Core.List.{List}
 use lib.Dec.{leb, eqb}
-use Rattle.rules.specs.Words.{Config, Event}
-use Rattle.rules.specs.Sound.{sound}
+use Rattle.rules.specs.Rules.Words.{Config, Event}
+use Rattle.rules.specs.Rules.Sound.{sound}
 use Rattle.station.specs.declared.NextDue.{NextDue}
 use Rattle.station.specs.declared.NextDue.the-variants.{Never, At}
 use Rattle.station.specs.declared.Station.{Station}
 use Rattle.station.specs.declared.Stepped.{Stepped}
 use Rattle.station.specs.declared.SetUp.{SetUp}
-use Rattle.rules.specs.Station.{nextDue}
+use Rattle.rules.specs.Rules.Station.{nextDue}
 use Rattle.station.specs.Model.{modelOf, configOf}
 use Rattle.station.specs.Step.{recordsKeep, dueImage, steppedBy, roomAfter, setUpOf}
 use Rattle.lent_layout.specs.Stations.{sized, stationFrom, stationLaid}

@@ -1,7 +1,7 @@
 // The events, each on a station in lent bytes.
 ghost use mathlib.Core.Path.{_≡_};
 ghost use Prim.Native.Nat.{_≤_};
-ghost use Rattle.rules.specs.Words.{heard, carrierUp, carrierDown, offHook, onHook, takes, givesBack, tick, onChannel70};
+ghost use Rattle.rules.specs.Rules.Words.{heard, carrierUp, carrierDown, offHook, onHook, takes, givesBack, tick, onChannel70};
 ghost use Rattle.station.specs.Step.{eventAt, slotAt};
 ghost use Rattle.station.specs.Pieces.{plainView};
 ghost use Rattle.coast.specs.Events.{dueNumber, told, kept, returned, stationAfter, roomLeft};

@@ -2,7 +2,7 @@
 ghost use mathlib.Core.Path.{_≡_};
 ghost use Prim.Native.Nat.{_≤_};
 ghost use lib.ListN.{length};
-ghost use Rattle.rules.specs.Sound.{mostSlots};
+ghost use Rattle.rules.specs.Rules.Sound.{mostSlots};
 ghost use Rattle.station.specs.Step.{given, sixteenOf};
 ghost use Rattle.lent_layout.specs.Stations.{stationFrom};
 ghost use Rattle.coast.specs.Events.{setUpReturned, stationSetUp, dueReturned, clockReturned};

@@ -6,15 +6,15 @@ use mathlib.Core.Path.{_≡_, refl, ap, sym, _∙_}
 use native.Mathlib.Omega.{arith}
 use lib.ListN.{length}
 use lib.Dec.{ltb}
-use Rattle.rules.specs.Places.{lowest}
-use Rattle.rules.specs.Sound.{limit, queueRoom}
-use Rattle.rules.specs.Words as W
-use Rattle.rules.specs.Words.{Party, is, Request, simplex, duplex}
-use Rattle.rules.specs.Waits.{ofQueue}
-use Rattle.rules.specs.Station as R
-use Rattle.rules.specs.Station.{setClock, kindWait, carrierWait, queueWait, isFree}
-use Rattle.rules.specs.Requests.{coastEnd, same, placeOf, ruleA, ruleB, ruleC, ruleF, ruleG, redial, bOrC, eToG, newcomer, dToG}
-use Rattle.rules.specs.Calls.{workingOn, workingKind, bqFor, bqKind, agreed, offHookOn, offHookStage, startLoss, downOn, upOn, shipEnd, shipEndOn, endOn, signalOn, takeOn, giveOn, handOn, pendingDue, replyDue, mainOn, fire, ticked}
+use Rattle.rules.specs.Rules.Places.{lowest}
+use Rattle.rules.specs.Rules.Sound.{limit, queueRoom}
+use Rattle.rules.specs.Rules.Words as W
+use Rattle.rules.specs.Rules.Words.{Party, is, Request, simplex, duplex}
+use Rattle.rules.specs.Rules.Waits.{ofQueue}
+use Rattle.rules.specs.Rules.Station as R
+use Rattle.rules.specs.Rules.Station.{setClock, kindWait, carrierWait, queueWait, isFree}
+use Rattle.rules.specs.Rules.Requests.{coastEnd, same, placeOf, ruleA, ruleB, ruleC, ruleF, ruleG, redial, bOrC, eToG, newcomer, dToG}
+use Rattle.rules.specs.Rules.Calls.{workingOn, workingKind, bqFor, bqKind, agreed, offHookOn, offHookStage, startLoss, downOn, upOn, shipEnd, shipEndOn, endOn, signalOn, takeOn, giveOn, handOn, pendingDue, replyDue, mainOn, fire, ticked}
 use Rattle.requests.specs.declared.Mode.{Mode}
 use Rattle.requests.specs.declared.Mode.the-variants.{Simplex, Duplex}
 use Rattle.requests.specs.Views.{modeOf}

@@ -4,8 +4,8 @@ use mathlib.Core.Bool.{Bool, cond}
 use lib.Dec.{ltb}
 use Rattle.units.specs.declared.Tenths.{Tenths}
 use Rattle.units.specs.declared.Told.{Told}
-use Rattle.rules.specs.Station.{Kind, offered, firstRing, secondRing, acknowledged, kindWait, carrierWait}
-use Rattle.rules.specs.Sound.{queueRoom}
+use Rattle.rules.specs.Rules.Station.{Kind, offered, firstRing, secondRing, acknowledged, kindWait, carrierWait}
+use Rattle.rules.specs.Rules.Sound.{queueRoom}
 use Rattle.requests.specs.declared.Mode.{Mode}
 use Rattle.requests.specs.declared.Mode.the-variants.{Simplex, Duplex}
 use Rattle.requests.specs.Views.{modeOf}

@@ -7,7 +7,7 @@ use lib.Dec.{eqb}
 use lib.ListN.{length, drop, getD, drop-of-length-le}
 use borrow.Author.Tests.{eq-eqb, ne-eqb}
 use Rattle.sequence.proofs.Rest.{rest}
-use Rattle.rules.specs.Places.{elem, distinct}
+use Rattle.rules.specs.Rules.Places.{elem, distinct}
 
 or-yes : (b : Bool) → true ≡ (b || true)
 or-yes true = refl

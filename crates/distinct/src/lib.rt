@@ -1,7 +1,7 @@
 // Whether no number stands twice.
 ghost use mathlib.Core.Path.{_≡_};
 ghost use lib.Dec.{eqb};
-ghost use Rattle.rules.specs.Places.{elem, distinct};
+ghost use Rattle.rules.specs.Rules.Places.{elem, distinct};
 
 // Looks at every number, also past the first that is the same: so the compiler compares several at once.
 fn is_among(x: u32, s: &[u32]) -> bool

@@ -6,10 +6,10 @@ use mathlib.Core.Option.{Option, none, some}
 use mathlib.Core.Path.{_≡_, refl, ap}
 use native.Mathlib.Omega.{arith}
 use lib.ListN.{length, getD}
-use Rattle.rules.specs.Places.{isSome}
-use Rattle.rules.specs.Waits as T
-use Rattle.rules.specs.Waits.{loss, main, ofQueue, sooner, earliest, running, queueTable}
-use Rattle.rules.specs.Station.{lossDue, mainDue, slotTable}
+use Rattle.rules.specs.Rules.Places.{isSome}
+use Rattle.rules.specs.Rules.Waits as T
+use Rattle.rules.specs.Rules.Waits.{loss, main, ofQueue, sooner, earliest, running, queueTable}
+use Rattle.rules.specs.Rules.Station.{lossDue, mainDue, slotTable}
 use Rattle.requests.specs.Views.{left}
 use Rattle.requests.proofs.ArrayLaws.{left-more, left-none}
 use Rattle.slots.specs.declared.Slot.{Slot}

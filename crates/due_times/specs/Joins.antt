@@ -2,8 +2,8 @@
 use Prim.Native.Nat.{ℕ, suc}
 use mathlib.Core.List.{List, [], _∷_}
 use mathlib.Core.Option.{Option, none, some}
-use Rattle.rules.specs.Waits as T
-use Rattle.rules.specs.Waits.{ofQueue, sooner}
+use Rattle.rules.specs.Rules.Waits as T
+use Rattle.rules.specs.Rules.Waits.{ofQueue, sooner}
 
 -- a wait that may run, set before the others
 abbrev pub joinDue : T.Wait → Option ℕ → Option T.Due → Option T.Due

@@ -2,9 +2,9 @@
 ghost use mathlib.Core.Path.{_≡_};
 ghost use Prim.Native.Nat.{min};
 ghost use Rattle.units.specs.Units.{greatest};
-ghost use Rattle.rules.specs.Places.{isSome};
-ghost use Rattle.rules.specs.Waits.{loss, main, sooner, ifDue};
-ghost use Rattle.rules.specs.Station.{lossDue, mainDue, carrierWait, dueAfter};
+ghost use Rattle.rules.specs.Rules.Places.{isSome};
+ghost use Rattle.rules.specs.Rules.Waits.{loss, main, sooner, ifDue};
+ghost use Rattle.rules.specs.Rules.Station.{lossDue, mainDue, carrierWait, dueAfter};
 ghost use Rattle.requests.specs.Views.{modeOf};
 ghost use Rattle.slots.specs.Views.{slotView, waitView, whenView, dueView};
 ghost use Rattle.due_times.specs.Joins.{joinDue};

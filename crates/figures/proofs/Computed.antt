@@ -7,17 +7,17 @@ use Rattle.sequence.specs.Number.{numberOk, parity, evened}
 use Rattle.sequence.specs.Layout.{endOk, valid, front, body, layout}
 use Rattle.sequence.specs.Reading as Reader
 use Rattle.sequence.specs.Writing.{meaningRefusals, writingAnswer, writtenOf, roomAfter}
-use Rattle.rules.specs.Station.{fresh}
-use Rattle.rules.specs.Verdict.{play}
-use Rattle.rules.specs.Printed.{runsOpen}
-use Rattle.rules.specs.Book.{alike, blankBook, falls}
-use Rattle.rules.specs.Reading.{reads, turn, stopsIn, stops, readAll, counted, countedByCalls}
-use Rattle.rules.specs.Repeated.{lastAsked}
+use Rattle.rules.specs.Rules.Station.{fresh}
+use Rattle.rules.specs.Rules.Verdict.{play}
+use Rattle.rules.specs.Rules.Printed.{runsOpen}
+use Rattle.rules.specs.ListAlone.Book.{alike, blankBook, falls}
+use Rattle.rules.specs.ListAlone.Reading.{reads, turn, stopsIn, stops, readAll, counted, countedByCalls}
+use Rattle.rules.specs.ListAlone.Repeated.{lastAsked}
 use Rattle.rules.specs.Statement.{charged, notes, owedFor, heldTenths}
-use Rattle.rules.specs.Runs.{station}
+use Rattle.rules.specs.Tables.Runs.{station}
 use Rattle.rules.proofs.Tested.{as-expected}
 use Rattle.figures.specs.BoundCases.{boundCases, boundSounds}
-use Rattle.rules.specs.ThreeWords.{wordsDone, wordAfter}
+use Rattle.rules.specs.ListAlone.ThreeWords.{wordsDone, wordAfter}
 use Rattle.figures.specs.Pages.{pageCases, pageRuns}
 use Rattle.figures.specs.Bounds.{bounds}
 

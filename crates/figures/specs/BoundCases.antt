@@ -7,18 +7,18 @@ use lib.ListN.{replicate, take, drop}
 use Rattle.units.specs.declared.Told.the-variants.{Nothing}
 use Rattle.sequence.specs.declared.Field.the-variants.{Blank, Channel}
 use Rattle.sequence.specs.Layout.{valid, layout}
-use Rattle.rules.specs.Words.{Party, is, Mode, simplex, duplex, modeNumber, Config, Event, carrierOn}
-use Rattle.rules.specs.Actions.{theShip, does, over, charge}
-use Rattle.rules.specs.Station.{offered, free, taken, Station, fresh}
-use Rattle.rules.specs.Slots.{pending, held}
-use Rattle.rules.specs.Verdict.{step}
-use Rattle.rules.specs.Bytes.{numberOf, ableSaid, unableSaid, overSaid, blocks}
-use Rattle.rules.specs.Printed.{lines}
-use Rattle.rules.specs.Runs.{channel, station, seven, eight, nine, sends, usual, callsFor, calls, accepts, works, ends, ticks, paid, says, saysOn, picksUp, hangs, regains, loses, reserves, restores, ticksIn, stationOf}
-use Rattle.rules.specs.Cases.{Row}
-use Rattle.rules.specs.Scripts.{gives, waits, waitingShips, charges, ackEight26, ackSeven26, ackSeven26Again, ackSeven26Simplex, ackSeven27, overSeven, overSevenByCoast, ringEight26, ringNine26, ringSeven26, unable102Nine, unable103Eight, unable103Seven}
-use Rattle.rules.specs.Phases.{waitingWith, phases}
-use Rattle.rules.specs.SoundCases.{kinds, asking, from, lasting, holding, asked, with, queued, setUp, Judged, sounds, unsound, refused36}
+use Rattle.rules.specs.Rules.Words.{Party, is, Mode, simplex, duplex, modeNumber, Config, Event, carrierOn}
+use Rattle.rules.specs.Rules.Actions.{theShip, does, over, charge}
+use Rattle.rules.specs.Rules.Station.{offered, free, taken, Station, fresh}
+use Rattle.rules.specs.Rules.Slots.{pending, held}
+use Rattle.rules.specs.Rules.Verdict.{step}
+use Rattle.rules.specs.Rules.Bytes.{numberOf, ableSaid, unableSaid, overSaid, blocks}
+use Rattle.rules.specs.Rules.Printed.{lines}
+use Rattle.rules.specs.Tables.Runs.{channel, station, seven, eight, nine, sends, usual, callsFor, calls, accepts, works, ends, ticks, paid, says, saysOn, picksUp, hangs, regains, loses, reserves, restores, ticksIn, stationOf}
+use Rattle.rules.specs.Tables.Cases.{Row}
+use Rattle.rules.specs.Tables.Scripts.{gives, waits, waitingShips, charges, ackEight26, ackSeven26, ackSeven26Again, ackSeven26Simplex, ackSeven27, overSeven, overSevenByCoast, ringEight26, ringNine26, ringSeven26, unable102Nine, unable103Eight, unable103Seven}
+use Rattle.rules.specs.Tables.Phases.{waitingWith, phases}
+use Rattle.rules.specs.Tables.SoundCases.{kinds, asking, from, lasting, holding, asked, with, queued, setUp, Judged, sounds, unsound, refused36}
 
 -- ── how a row is written ─────────────────────────────────────────────────────
 

@@ -5,8 +5,8 @@ use mathlib.Core.List.{List, [], _∷_, _++_}
 use mathlib.Core.Option.{Option, none, some}
 use mathlib.Core.Path.{_≡_, refl, sym, ap, _∙_}
 use Rattle.sequence.specs.Refusals.{Row, firstRefusal}
-use Rattle.rules.specs.Places.{Each, isSome}
-use Rattle.rules.specs.Verdict.{unless}
+use Rattle.rules.specs.Rules.Places.{Each, isSome}
+use Rattle.rules.specs.Rules.Verdict.{unless}
 use Rattle.gate.specs.declared.Verdict.{Verdict}
 use Rattle.gate.specs.declared.Verdict.the-variants.{Accepted, Refused}
 use Rattle.gate.specs.Asked.{verdictOf, andThen}

@@ -5,10 +5,10 @@ use mathlib.Core.List.{List, [], _∷_, _++_}
 use mathlib.Core.Option.{Option, none, some}
 use lib.Dec.{leb, ltb}
 use Rattle.sequence.specs.Refusals.{Row}
-use Rattle.rules.specs.Places.{isSome}
-use Rattle.rules.specs.Waits.{ifDue}
-use Rattle.rules.specs.Sound.{limit}
-use Rattle.rules.specs.Verdict.{unless, roomNeeded}
+use Rattle.rules.specs.Rules.Places.{isSome}
+use Rattle.rules.specs.Rules.Waits.{ifDue}
+use Rattle.rules.specs.Rules.Sound.{limit}
+use Rattle.rules.specs.Rules.Verdict.{unless, roomNeeded}
 use Rattle.slots.specs.Views.{dueView}
 use Rattle.gate.specs.declared.Look.{Look}
 use Rattle.gate.specs.declared.Verdict.{Verdict}

@@ -6,10 +6,10 @@ use mathlib.Core.Path.{_≡_, refl, sym, ap, _∙_}
 use lib.Dec.{eqb}
 use borrow.Author.Tests.{eqb-true}
 use Rattle.sequence.specs.declared.Meaning.{Meaning}
-use Rattle.rules.specs.Words as W
-use Rattle.rules.specs.Words.{simplex, duplex}
-use Rattle.rules.specs.Heard as H
-use Rattle.rules.specs.Heard.{callRequest, dataRequest, bq, workingCall, endOfCall, nothing, isBlank, says, requestIn}
+use Rattle.rules.specs.Rules.Words as W
+use Rattle.rules.specs.Rules.Words.{simplex, duplex}
+use Rattle.rules.specs.Rules.Heard as H
+use Rattle.rules.specs.Rules.Heard.{callRequest, dataRequest, bq, workingCall, endOfCall, nothing, isBlank, says, requestIn}
 use Rattle.requests.specs.Views.{viewed, digitsOf, modeOf, requestOf}
 use Rattle.hearing.specs.declared.Kind.{Kind}
 use Rattle.hearing.specs.declared.Kind.the-variants.{CallRequest, DataRequest, Bq, WorkingCall, EndOfCall, Nothing}

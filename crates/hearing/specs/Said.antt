@@ -3,9 +3,9 @@ use Prim.Native.Nat.{ℕ}
 use mathlib.Core.Bool.{cond}
 use lib.Dec.{eqb}
 use Rattle.sequence.specs.declared.Meaning.{Meaning}
-use Rattle.rules.specs.Words as W
-use Rattle.rules.specs.Heard as H
-use Rattle.rules.specs.Heard.{callRequest, dataRequest, bq, workingCall, endOfCall, nothing}
+use Rattle.rules.specs.Rules.Words as W
+use Rattle.rules.specs.Rules.Heard as H
+use Rattle.rules.specs.Rules.Heard.{callRequest, dataRequest, bq, workingCall, endOfCall, nothing}
 use Rattle.requests.specs.declared.Mode.{Mode}
 use Rattle.requests.specs.declared.Mode.the-variants.{Simplex, Duplex}
 use Rattle.requests.specs.declared.Request.{Request}

@@ -2,9 +2,9 @@
 ghost use mathlib.Core.Path.{_≡_};
 ghost use mathlib.Core.Bool.{_||_};
 ghost use Rattle.sequence.specs.Figures.{firstSimplex, firstDuplex, endLast};
-ghost use Rattle.rules.specs.Words as W;
-ghost use Rattle.rules.specs.Words.{Config};
-ghost use Rattle.rules.specs.Heard.{isBlank, says, slotNamed, bqOn, agrees, kindOf, addressed};
+ghost use Rattle.rules.specs.Rules.Words as W;
+ghost use Rattle.rules.specs.Rules.Words.{Config};
+ghost use Rattle.rules.specs.Rules.Heard.{isBlank, says, slotNamed, bqOn, agrees, kindOf, addressed};
 ghost use Rattle.requests.specs.Views.{requestOf};
 ghost use Rattle.slots.specs.declared.mast.Mast.{Mast};
 ghost use Rattle.slots.specs.Views.{foundView, configFor};

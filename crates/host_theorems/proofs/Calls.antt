@@ -14,9 +14,9 @@ use Rattle.sequence.specs.Symbols.{allAtMost}
 use Rattle.sequence.specs.Answers.{isDone}
 use Rattle.sequence.specs.Reading.{readingOf}
 use Rattle.reading.proofs.Passed.{passed}
-use Rattle.rules.specs.Words.{Happened, heard, signal, operator, lineLifted, lineHung, carrierHeard, carrierLost, handTakes, handGives, offHook, onHook, carrierUp, carrierDown, takes, givesBack, What, tick, onChannel70, onSlot}
-use Rattle.rules.specs.Sound.{limit}
-use Rattle.rules.specs.Verdict.{slotThere, readerSays, readOn, readIn}
+use Rattle.rules.specs.Rules.Words.{Happened, heard, signal, operator, lineLifted, lineHung, carrierHeard, carrierLost, handTakes, handGives, offHook, onHook, carrierUp, carrierDown, takes, givesBack, What, tick, onChannel70, onSlot}
+use Rattle.rules.specs.Rules.Sound.{limit}
+use Rattle.rules.specs.Rules.Verdict.{slotThere, readerSays, readOn, readIn}
 use Rattle.rules.proofs.PlaceLaws.{and-true}
 use Rattle.rules.proofs.Accepted.{accepted}
 use Rattle.soundness.proofs.FitLaws.{sound-fits}

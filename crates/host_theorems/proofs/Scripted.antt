@@ -7,8 +7,8 @@ use mathlib.Core.Option.{none}
 use native.Mathlib.Omega.{arith}
 use lib.ListN.{length}
 use Rattle.units.specs.declared.Channel.{Channel}
-use Rattle.rules.specs.Words.{Event}
-use Rattle.rules.specs.Verdict.{setUpVerdict}
+use Rattle.rules.specs.Rules.Words.{Event}
+use Rattle.rules.specs.Rules.Verdict.{setUpVerdict}
 use Rattle.station.specs.Step.{channelNumber, given, setUpOf}
 use Rattle.lent_layout.specs.Stations.{sized, stationBytes}
 use Rattle.lent_layout.proofs.FoundAgain.{handed-out-is-found-again}

@@ -5,7 +5,7 @@ use mathlib.Core.Option.{Option, none, some}
 use native.Mathlib.Omega.{arith}
 use lib.Dec.{ltb}
 use borrow.Author.Tests.{ltb-true}
-use Rattle.rules.specs.Words.{Event}
+use Rattle.rules.specs.Rules.Words.{Event}
 use Rattle.rules.specs.Statement.{AtMostEight, ZeroOrOne}
 use Rattle.rules.proofs.Answered.{zero-or-one}
 use Rattle.rules.proofs.Eight.{at-most-eight}

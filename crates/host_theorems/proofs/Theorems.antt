@@ -7,12 +7,12 @@ use mathlib.Core.Option.{none}
 use native.Mathlib.Omega.{arith}
 use lib.Dec.{leb}
 use Rattle.sequence.proofs.Tests.{Either, yes!, no!, which}
-use Rattle.rules.specs.Places.{Each}
-use Rattle.rules.specs.Words.{Config, Event}
-use Rattle.rules.specs.Sound.{configKeeps}
+use Rattle.rules.specs.Rules.Places.{Each}
+use Rattle.rules.specs.Rules.Words.{Config, Event}
+use Rattle.rules.specs.Rules.Sound.{configKeeps}
 use Rattle.rules.specs.Statement.{notes, WordsAgree, EveryEntry}
-use Rattle.rules.specs.Repeated.{Answers, RingsSame, DialsNamed, DeedByDeed}
-use Rattle.rules.specs.Verdict.{setUpVerdict, Entry}
+use Rattle.rules.specs.ListAlone.Repeated.{Answers, RingsSame, DialsNamed, DeedByDeed}
+use Rattle.rules.specs.Rules.Verdict.{setUpVerdict, Entry}
 use Rattle.station.specs.declared.Station.{Station}
 use Rattle.station.specs.declared.Stepped.{Stepped}
 use Rattle.station.specs.Step.{given, refusal, steppedBy, roomAfter, setUpOf}

@@ -3,7 +3,7 @@ use Prim.Native.Nat.{ℕ, _<_}
 use mathlib.Core.Path.{_≡_}
 use mathlib.Core.List.{List, [], _∷_}
 use contract.Lifetimes.{Lfts}
-use Rattle.rules.specs.Words.{Config, Happened, heard, signal, offHook, onHook, carrierUp, carrierDown, operator, takes, givesBack, What, tick, onChannel70, onSlot, Event}
+use Rattle.rules.specs.Rules.Words.{Config, Happened, heard, signal, offHook, onHook, carrierUp, carrierDown, operator, takes, givesBack, What, tick, onChannel70, onSlot, Event}
 use Rattle.station.specs.Step.{eventAt, slotAt, given}
 use Rattle.coast.proofs.setting.coast_set_up.Reads as set-up
 use Rattle.coast.proofs.events.coast_tick.Reads as on-tick

@@ -4,9 +4,9 @@ use mathlib.Core.Path.{_≡_}
 use mathlib.Core.List.{List, map}
 use mathlib.Core.Option.{none}
 use lib.ListN.{length}
-use Rattle.rules.specs.Words.{Config, Event}
-use Rattle.rules.specs.Station.{Station}
-use Rattle.rules.specs.Verdict.{verdict, setUpVerdict}
+use Rattle.rules.specs.Rules.Words.{Config, Event}
+use Rattle.rules.specs.Rules.Station.{Station}
+use Rattle.rules.specs.Rules.Verdict.{verdict, setUpVerdict}
 use Rattle.host_theorems.specs.Calls.{Call, HostRun, WhatInC}
 
 pub record Hosted (c : Config) (es : List Event) (rooms : List (List ℕ)) : Type 0 where

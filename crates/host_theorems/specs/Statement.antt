@@ -5,11 +5,11 @@ use mathlib.Core.Bool.{true, cond}
 use mathlib.Core.List.{List, [], _∷_}
 use lib.Dec.{leb}
 use contract.Lifetimes.{Lfts}
-use Rattle.rules.specs.Places.{Each}
-use Rattle.rules.specs.Words.{Config}
-use Rattle.rules.specs.Verdict.{Entry}
+use Rattle.rules.specs.Rules.Places.{Each}
+use Rattle.rules.specs.Rules.Words.{Config}
+use Rattle.rules.specs.Rules.Verdict.{Entry}
 use Rattle.rules.specs.Statement.{notes, WordsAgree, EveryEntry}
-use Rattle.rules.specs.Repeated.{Answers, RingsSame, DialsNamed, DeedByDeed}
+use Rattle.rules.specs.ListAlone.Repeated.{Answers, RingsSame, DialsNamed, DeedByDeed}
 use Rattle.station.specs.declared.Station.{Station}
 use Rattle.lent_layout.specs.Stations.{stationFrom}
 use Rattle.coast.proofs.setting.coast_set_up.Reads as set-up

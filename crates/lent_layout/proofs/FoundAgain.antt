@@ -9,15 +9,15 @@ use lib.ListN.{length, drop, length-map}
 use lib.Seq.{drop-at}
 use Rattle.units.specs.declared.Channel.{Channel}
 use Rattle.sequence.specs.Identity.{isCoast}
-use Rattle.rules.specs.Places.{Each}
-use Rattle.rules.specs.Words.{Config, Event}
-use Rattle.rules.specs.Words as W
-use Rattle.rules.specs.Bytes.{padded}
-use Rattle.rules.specs.Station as R
-use Rattle.rules.specs.Station.{fresh}
-use Rattle.rules.specs.Sound.{identityKeeps, configKeeps, sound}
-use Rattle.rules.specs.Verdict.{refusals, setUpVerdict}
-use Rattle.rules.specs.Calls.{act}
+use Rattle.rules.specs.Rules.Places.{Each}
+use Rattle.rules.specs.Rules.Words.{Config, Event}
+use Rattle.rules.specs.Rules.Words as W
+use Rattle.rules.specs.Rules.Bytes.{padded}
+use Rattle.rules.specs.Rules.Station as R
+use Rattle.rules.specs.Rules.Station.{fresh}
+use Rattle.rules.specs.Rules.Sound.{identityKeeps, configKeeps, sound}
+use Rattle.rules.specs.Rules.Verdict.{refusals, setUpVerdict}
+use Rattle.rules.specs.Rules.Calls.{act}
 use Rattle.requests.specs.declared.Mode.{Mode}
 use Rattle.requests.specs.declared.Mode.the-variants.{Simplex, Duplex}
 use Rattle.requests.specs.declared.Request.{Request}

@@ -9,7 +9,7 @@ use native.Mathlib.Numerals.{add-one}
 use lib.ListN.{length, getD, set, take, drop, replicate, length-take, replicate-append-replicate}
 use lib.Seq.{drop-cons, drop-length, length-take-le, take-suc, take-suc-set}
 use Rattle.sequence.specs.declared.Meaning.{Meaning}
-use Rattle.rules.specs.Bytes.{padded}
+use Rattle.rules.specs.Rules.Bytes.{padded}
 use Rattle.requests.specs.declared.Request.{Request}
 use Rattle.requests.specs.Images.{blankRequest}
 use Rattle.requests.proofs.ArrayLaws.{padded-snoc}

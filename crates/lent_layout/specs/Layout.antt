@@ -6,7 +6,7 @@ use mathlib.Core.List.{List, [], _∷_, _++_}
 use Rattle.sequence.specs.Figures.{mostDigits}
 use Rattle.layouts.specs.Fields.{Field, row, size}
 use Rattle.layouts.specs.Records.{repeated}
-use Rattle.rules.specs.Sound.{mostSlots, queueRoom}
+use Rattle.rules.specs.Rules.Sound.{mostSlots, queueRoom}
 
 -- so many fields of one byte
 abbrev pub run : String → ℕ → List Field

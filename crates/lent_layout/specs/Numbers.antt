@@ -5,8 +5,8 @@ use mathlib.Core.List.{List, [], _∷_, _++_, flatMap}
 use lib.Dec.{leb, eqb}
 use lib.ListN.{length, getD, take, drop}
 use Rattle.sequence.specs.Figures.{mostDigits}
-use Rattle.rules.specs.Bytes.{padded}
-use Rattle.rules.specs.Sound.{mostSlots, queueRoom}
+use Rattle.rules.specs.Rules.Bytes.{padded}
+use Rattle.rules.specs.Rules.Sound.{mostSlots, queueRoom}
 use Rattle.requests.specs.declared.Mode.{Mode}
 use Rattle.requests.specs.declared.Mode.the-variants.{Simplex, Duplex}
 use Rattle.requests.specs.declared.Request.{Request}

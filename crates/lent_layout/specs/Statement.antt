@@ -8,7 +8,7 @@ use lib.ListN.{length, take}
 use Rattle.sequence.specs.declared.Meaning.{Meaning}
 use Rattle.sequence.specs.Symbols.{allAtMost}
 use Rattle.sequence.specs.Layout.{valid}
-use Rattle.rules.specs.Words.{Config, Event}
+use Rattle.rules.specs.Rules.Words.{Config, Event}
 use Rattle.station.specs.declared.Station.{Station}
 use Rattle.station.specs.Step.{refusal, steppedBy, setUpOf}
 use Rattle.lent_layout.specs.Meanings.{meaningSize, meaningBytes, meaningFrom}

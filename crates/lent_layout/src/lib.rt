@@ -4,7 +4,7 @@ ghost use Prim.Native.Nat.{_+_, _*_, _≤_};
 ghost use lib.ListN.{length};
 ghost use Rattle.layouts.specs.Fields.{decode};
 ghost use Rattle.layouts.specs.Records.{recordsAt};
-ghost use Rattle.rules.specs.Sound.{mostSlots, queueRoom};
+ghost use Rattle.rules.specs.Rules.Sound.{mostSlots, queueRoom};
 ghost use Rattle.slots.specs.Images.{blankSlot, blankWaiting};
 ghost use Rattle.lent_layout.specs.Layout.{slotFields, waitingFields, slotSize, waitingSize, slotsPlace, queuePlace};
 ghost use Rattle.lent_layout.specs.Numbers.{inUse, slotFrom, waitingFrom};

@@ -7,7 +7,7 @@ use Prim.Native.Nat.{ℕ}
 use lib.Dec.{leb}
 use lib.ListN.{length}
 use borrow.Author.Tests.{le-leb, leb-true}
-use Rattle.rules.specs.Places.{all}
+use Rattle.rules.specs.Rules.Places.{all}
 use Rattle.sequence.proofs.Tests.{Either, yes!, no!, which}
 use Rattle.lines.specs.Decimal.{valueOf}
 use Rattle.lines.specs.Lines.{Said, letterOf, kindOf, numbersOf, spaced, LineOf, isNumber, inRange}

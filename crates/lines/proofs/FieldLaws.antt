@@ -7,7 +7,7 @@ use Prim.Native.Nat.{ℕ, _+_, _-_, _*_, _≤_}
 use native.Mathlib.Omega.{arith}
 use lib.Dec.{eqb}
 use borrow.Author.Tests.{le-leb, leb-true, eqb-true, leb-false}
-use Rattle.rules.specs.Places.{all}
+use Rattle.rules.specs.Rules.Places.{all}
 use Rattle.sequence.proofs.Tests.{Either, yes!, no!, which, both-true}
 use Rattle.lines.specs.Decimal.{isDigit, isDecimal, valueFrom, valueOf}
 use Rattle.lines.specs.Lines.{spaced, isNumber}

@@ -9,7 +9,7 @@ use native.Mathlib.Omega.{arith}
 use lib.ListN.{length, take, drop, getD, length-drop}
 use lib.Seq.{take-all}
 use borrow.Author.Tests.{le-leb, lt-leb, ne-eqb}
-use Rattle.rules.specs.Places.{all, isSome}
+use Rattle.rules.specs.Rules.Places.{all, isSome}
 use Rattle.sequence.proofs.Rest.{rest}
 use Rattle.lines.specs.declared.Form.{Form}
 use Rattle.lines.specs.Lines.{Said, isSymbol}

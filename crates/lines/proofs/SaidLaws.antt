@@ -8,8 +8,8 @@ use Prim.Native.Nat.{ℕ}
 use native.Mathlib.Omega.{arith}
 use lib.Dec.{eqb}
 use borrow.Author.Tests.{eqb-true, le-leb, leb-true}
-use Rattle.rules.specs.Places.{all}
-use Rattle.rules.specs.Words.{lineLifted, lineHung, carrierHeard, carrierLost, handTakes, handGives, heard, signal, operator, What, tick, onChannel70, onSlot}
+use Rattle.rules.specs.Rules.Places.{all}
+use Rattle.rules.specs.Rules.Words.{lineLifted, lineHung, carrierHeard, carrierLost, handTakes, handGives, heard, signal, operator, What, tick, onChannel70, onSlot}
 use Rattle.sequence.proofs.Tests.{Either, yes!, no!, which, both-true}
 use Rattle.slots.specs.declared.Signal.the-variants.{LineLifted, LineHung, CarrierHeard, CarrierLost}
 use Rattle.slots.specs.declared.Hand.the-variants.{Takes, GivesBack}

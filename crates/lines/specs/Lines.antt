@@ -5,8 +5,8 @@ use mathlib.Core.List.{List, [], _∷_, _++_, map}
 use mathlib.Core.Path.{_≡_}
 use Prim.Native.Nat.{ℕ}
 use lib.Dec.{leb, eqb}
-use Rattle.rules.specs.Places.{all}
-use Rattle.rules.specs.Words.{Happened, lineLifted, lineHung, carrierHeard, carrierLost, handTakes, handGives, heard, signal, operator, What, tick, onChannel70, onSlot}
+use Rattle.rules.specs.Rules.Places.{all}
+use Rattle.rules.specs.Rules.Words.{Happened, lineLifted, lineHung, carrierHeard, carrierLost, handTakes, handGives, heard, signal, operator, What, tick, onChannel70, onSlot}
 use Rattle.slots.specs.declared.Signal.the-variants.{LineLifted, LineHung, CarrierHeard, CarrierLost}
 use Rattle.slots.specs.declared.Hand.the-variants.{Takes, GivesBack}
 use Rattle.slots.specs.Views.{signalView, handView}

@@ -5,8 +5,8 @@ use mathlib.Core.Option.{Option, none, some}
 use Prim.Native.Nat.{ℕ, _+_, _-_, _*_}
 use lib.Dec.{leb, eqb}
 use lib.ListN.{length}
-use Rattle.rules.specs.Places.{all}
-use Rattle.rules.specs.Bytes.{padded}
+use Rattle.rules.specs.Rules.Places.{all}
+use Rattle.rules.specs.Rules.Bytes.{padded}
 use Rattle.lines.specs.declared.Form.{Form}
 use Rattle.lines.specs.declared.Form.the-variants.{Symbols, SlotSymbols, Signalled, Operated, Alone}
 use Rattle.lines.specs.declared.Kind.{Kind}

@@ -3,7 +3,7 @@ ghost use mathlib.Core.Path.{_≡_};
 ghost use mathlib.Core.Bool.{_&&_};
 ghost use lib.Dec.{leb};
 ghost use lib.ListN.{length, drop};
-ghost use Rattle.rules.specs.Places.{all, isSome};
+ghost use Rattle.rules.specs.Rules.Places.{all, isSome};
 ghost use Rattle.lines.specs.Lines.{kindOf, isSymbol};
 ghost use Rattle.lines.specs.Readable.{saysForm, says};
 use crate::Form;

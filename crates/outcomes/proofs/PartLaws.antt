@@ -3,13 +3,13 @@ use Prim.Native.Nat.{ℕ, _≤_}
 use mathlib.Core.List.{List, [], _∷_}
 use mathlib.Core.Path.{_≡_, refl, ap}
 use native.Mathlib.Omega.{arith}
-use Rattle.rules.specs.Words.{Request, carrierOff}
-use Rattle.rules.specs.Actions.{Action, does, theCoast}
-use Rattle.rules.specs.Station as R
-use Rattle.rules.specs.Station.{kindWait, replyWait, holdWait, queueWait}
-use Rattle.rules.specs.Sound.{limit}
-use Rattle.rules.specs.Requests.{also, rungBack, freedFor, freed, endActs, coastEnd, repeated, afresh, ruleD, offer, ruleF}
-use Rattle.rules.specs.Calls.{dialNow, shipEnd, sayAgain, offerDue, ringAgain, fire}
+use Rattle.rules.specs.Rules.Words.{Request, carrierOff}
+use Rattle.rules.specs.Rules.Actions.{Action, does, theCoast}
+use Rattle.rules.specs.Rules.Station as R
+use Rattle.rules.specs.Rules.Station.{kindWait, replyWait, holdWait, queueWait}
+use Rattle.rules.specs.Rules.Sound.{limit}
+use Rattle.rules.specs.Rules.Requests.{also, rungBack, freedFor, freed, endActs, coastEnd, repeated, afresh, ruleD, offer, ruleF}
+use Rattle.rules.specs.Rules.Calls.{dialNow, shipEnd, sayAgain, offerDue, ringAgain, fire}
 use Rattle.outcomes.specs.declared.Talk.{Talk}
 use Rattle.outcomes.specs.declared.Outcome.{Outcome}
 use Rattle.outcomes.specs.declared.Outcome.the-variants.{Ignored, Passes, Turns, Dials, RingsAgain, Frees, Clears, CoastEnds, ShipEnds, SaysAgain, Repeats, Renews, Redials, Offers, Joins, Replaces, Unable, Drops}

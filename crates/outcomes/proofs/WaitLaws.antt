@@ -3,8 +3,8 @@ use Prim.Native.Nat.{ℕ, _≤_, min}
 use mathlib.Core.Path.{_≡_, ap}
 use native.Mathlib.Omega.{arith}
 use Rattle.units.specs.declared.Tenths.{Tenths}
-use Rattle.rules.specs.Station.{dueAfter, queueWait}
-use Rattle.rules.specs.Sound.{limit}
+use Rattle.rules.specs.Rules.Station.{dueAfter, queueWait}
+use Rattle.rules.specs.Rules.Sound.{limit}
 
 pub time-is : (d : Tenths) (n : ℕ) → d .0 ≡ n → d ≡ record { 0 = n }
 time-is d n e = ap (λ m. record { 0 = m }) e

@@ -6,14 +6,14 @@ use mathlib.Core.Bool.{Bool, true, false, cond}
 use lib.ListN.{length, getD}
 use Rattle.units.specs.declared.Tenths.{Tenths}
 use Rattle.units.specs.declared.Told.{Told}
-use Rattle.rules.specs.Places.{modAt, dropAt}
-use Rattle.rules.specs.Words.{Request, carrierOn, carrierOff, acknowledge, ringBack, unable, dial}
-use Rattle.rules.specs.Actions.{Action, does, over, theShip, theCoast}
-use Rattle.rules.specs.Station as R
-use Rattle.rules.specs.Station.{dealing, offered, firstRing, secondRing, setSlot, setQueue, dueAfter, kindWait, replyWait, holdWait, queueWait}
-use Rattle.rules.specs.Requests.{Out, done, ignored, saying, also, freed, lasted, endActs, coastEnd, placeOf, repeated, afresh, ruleD, offer, ruleF, dToG}
-use Rattle.rules.specs.Calls.{dialNow, shipEnd, sayAgain, offerDue, ringAgain, fire}
-use Rattle.rules.specs.Waits.{ofQueue}
+use Rattle.rules.specs.Rules.Places.{modAt, dropAt}
+use Rattle.rules.specs.Rules.Words.{Request, carrierOn, carrierOff, acknowledge, ringBack, unable, dial}
+use Rattle.rules.specs.Rules.Actions.{Action, does, over, theShip, theCoast}
+use Rattle.rules.specs.Rules.Station as R
+use Rattle.rules.specs.Rules.Station.{dealing, offered, firstRing, secondRing, setSlot, setQueue, dueAfter, kindWait, replyWait, holdWait, queueWait}
+use Rattle.rules.specs.Rules.Requests.{Out, done, ignored, saying, also, freed, lasted, endActs, coastEnd, placeOf, repeated, afresh, ruleD, offer, ruleF, dToG}
+use Rattle.rules.specs.Rules.Calls.{dialNow, shipEnd, sayAgain, offerDue, ringAgain, fire}
+use Rattle.rules.specs.Rules.Waits.{ofQueue}
 use Rattle.slots.specs.declared.Carrier.the-variants.{Present}
 use Rattle.slots.specs.declared.Phase.the-variants.{Free, Offered, RingBack, RingAgain, Dialling, Hold}
 use Rattle.requests.specs.declared.Request.{Request as Stored}

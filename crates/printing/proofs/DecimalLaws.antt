@@ -7,7 +7,7 @@ use native.Mathlib.Omega.{arith}
 use lib.Dec.{eqb}
 use borrow.Author.Tests.{le-leb, eqb-true}
 use Rattle.sequence.proofs.Tests.{both-true, Either, yes!, no!, which}
-use Rattle.rules.specs.Places.{all}
+use Rattle.rules.specs.Rules.Places.{all}
 use Rattle.lines.specs.Decimal.{isDigit, isDecimal, valueOf}
 use Rattle.printing.specs.Texts.{tenDigits, shortened, decimal}
 use Rattle.printing.specs.Statement.{DecimalSaysIt}

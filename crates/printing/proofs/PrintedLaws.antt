@@ -7,15 +7,15 @@ use Prim.Native.Nat.{ℕ, zero, suc, _+_, _*_, _≤_, min}
 use native.Mathlib.Omega.{arith}
 use lib.ListN.{length, take, drop}
 use lib.Seq.{take-at, drop-at, drop-drop}
-use Rattle.rules.specs.Places.{Each}
-use Rattle.rules.specs.Words.{Config, Event}
-use Rattle.rules.specs.Actions.{Action}
-use Rattle.rules.specs.Station.{nextDue}
-use Rattle.rules.specs.Requests.{Out}
-use Rattle.rules.specs.Calls.{act}
-use Rattle.rules.specs.Verdict.{verdict, step}
-use Rattle.rules.specs.Bytes.{payloadOf, block, blockOf, blocks}
-use Rattle.rules.specs.Printed.{dueShown, shown, lines}
+use Rattle.rules.specs.Rules.Places.{Each}
+use Rattle.rules.specs.Rules.Words.{Config, Event}
+use Rattle.rules.specs.Rules.Actions.{Action}
+use Rattle.rules.specs.Rules.Station.{nextDue}
+use Rattle.rules.specs.Rules.Requests.{Out}
+use Rattle.rules.specs.Rules.Calls.{act}
+use Rattle.rules.specs.Rules.Verdict.{verdict, step}
+use Rattle.rules.specs.Rules.Bytes.{payloadOf, block, blockOf, blocks}
+use Rattle.rules.specs.Rules.Printed.{dueShown, shown, lines}
 use Rattle.rules.specs.Statement.{AtMostEight}
 use Rattle.rules.proofs.Accepted.{accepted}
 use Rattle.rules.proofs.Eight.{at-most-eight}

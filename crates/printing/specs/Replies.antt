@@ -4,7 +4,7 @@ use mathlib.Core.List.{List, [], _∷_, _++_}
 use Prim.Native.Nat.{ℕ, zero, suc, _*_, min}
 use lib.Dec.{leb}
 use lib.ListN.{length, getD, take, drop}
-use Rattle.rules.specs.Bytes.{mostActions, blockSize, payloadRoom}
+use Rattle.rules.specs.Rules.Bytes.{mostActions, blockSize, payloadRoom}
 use Rattle.station.specs.declared.NextDue.{NextDue}
 use Rattle.station.specs.declared.NextDue.the-variants.{Never, At}
 use Rattle.printing.specs.Texts.{decimal, numbersText, putAt}

@@ -5,9 +5,9 @@ use mathlib.Core.Path.{_≡_}
 use Prim.Native.Nat.{ℕ, _≤_}
 use lib.Dec.{eqb}
 use lib.ListN.{length}
-use Rattle.rules.specs.Words.{Event}
-use Rattle.rules.specs.Verdict.{step}
-use Rattle.rules.specs.Printed.{lines}
+use Rattle.rules.specs.Rules.Words.{Event}
+use Rattle.rules.specs.Rules.Verdict.{step}
+use Rattle.rules.specs.Rules.Printed.{lines}
 use Rattle.lines.specs.Decimal.{isDecimal, valueOf}
 use Rattle.station.specs.declared.Station.{Station}
 use Rattle.station.specs.declared.Stepped.{Stepped}

@@ -2,8 +2,8 @@
 ghost use mathlib.Core.Path.{_≡_};
 ghost use Prim.Native.Nat.{_+_, _*_, _≤_};
 ghost use lib.ListN.{length};
-ghost use Rattle.rules.specs.Bytes.{mostActions, blockSize};
-ghost use Rattle.rules.specs.Verdict.{roomNeeded};
+ghost use Rattle.rules.specs.Rules.Bytes.{mostActions, blockSize};
+ghost use Rattle.rules.specs.Rules.Verdict.{roomNeeded};
 ghost use Rattle.printing.specs.Texts.{Put};
 ghost use Rattle.printing.specs.Replies.{dueText, headText, actionText, actionTexts};
 use crate::texts::put_byte;

@@ -8,8 +8,8 @@ use native.Mathlib.Nat.{le-of-suc-le-suc, not-suc-le-zero}
 use native.Mathlib.Numerals.{add-one}
 use lib.ListN.{length, take, drop, getD, set, length-take, length-map, List·getD-eq-default, drop-of-length-le}
 use lib.Seq.{drop-cons}
-use Rattle.rules.specs.Places.{all, modAt}
-use Rattle.rules.specs.Bytes.{padded}
+use Rattle.rules.specs.Rules.Places.{all, modAt}
+use Rattle.rules.specs.Rules.Bytes.{padded}
 use Rattle.requests.specs.Views.{viewed, left, itself}
 
 pub padded-length : {B : Type 0} (b : B) (m : ℕ) (l : List B) → length (padded b m l) ≡ m

@@ -6,7 +6,7 @@ use mathlib.Core.Path.{_≡_, refl, ap}
 use lib.Dec.{eqb}
 use lib.ListN.{length, getD}
 use borrow.Author.Tests.{eq-eqb, ne-eqb}
-use Rattle.rules.specs.Requests.{sameNumber}
+use Rattle.rules.specs.Rules.Requests.{sameNumber}
 use Rattle.requests.specs.Views.{left, itself}
 use Rattle.requests.proofs.ArrayLaws.{left-more}
 

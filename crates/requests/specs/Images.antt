@@ -1,9 +1,9 @@
 -- How a request is laid out for what it stands for, every unused place blank.
 use lib.ListN.{replicate}
 use Rattle.sequence.specs.Figures.{mostDigits}
-use Rattle.rules.specs.Words as W
-use Rattle.rules.specs.Words.{simplex, duplex}
-use Rattle.rules.specs.Bytes.{numberOf}
+use Rattle.rules.specs.Rules.Words as W
+use Rattle.rules.specs.Rules.Words.{simplex, duplex}
+use Rattle.rules.specs.Rules.Bytes.{numberOf}
 use Rattle.requests.specs.declared.Mode.{Mode}
 use Rattle.requests.specs.declared.Mode.the-variants.{Simplex, Duplex}
 use Rattle.requests.specs.declared.Request.{Request}

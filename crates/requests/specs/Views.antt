@@ -3,8 +3,8 @@ use Prim.Native.Nat.{ℕ}
 use mathlib.Core.List.{List, map}
 use lib.ListN.{take, drop}
 use Rattle.sequence.specs.declared.Number.{Number}
-use Rattle.rules.specs.Words as W
-use Rattle.rules.specs.Words.{simplex, duplex}
+use Rattle.rules.specs.Rules.Words as W
+use Rattle.rules.specs.Rules.Words.{simplex, duplex}
 use Rattle.requests.specs.declared.Mode.{Mode}
 use Rattle.requests.specs.declared.Mode.the-variants.{Simplex, Duplex}
 use Rattle.requests.specs.declared.Request.{Request}

@@ -1,8 +1,8 @@
 // Whether a request is by a ship; rule b: whether it is identical to the one stored.
 ghost use mathlib.Core.Path.{_≡_};
 ghost use Prim.Native.Nat.{_<_};
-ghost use Rattle.rules.specs.Words.{is};
-ghost use Rattle.rules.specs.Requests.{same, sameMode, sameNumber};
+ghost use Rattle.rules.specs.Rules.Words.{is};
+ghost use Rattle.rules.specs.Rules.Requests.{same, sameMode, sameNumber};
 ghost use Rattle.requests.specs.Views.{requestOf, partyOf, modeOf, digitsOf};
 use crate::Mode;
 use crate::Request;

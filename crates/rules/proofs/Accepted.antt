@@ -9,13 +9,13 @@ use borrow.Author.Tests.{not-true}
 use lib.ListN.{getD, length}
 use Rattle.sequence.specs.Refusals.{Row, firstRefusal, allHold}
 use Rattle.sequence.specs.Answers.{isDone}
-use Rattle.rules.specs.Places.{lowest, all, elem, distinct, isSome}
-use Rattle.rules.specs.Words.{Party, is, Config, Event}
-use Rattle.rules.specs.Waits.{Wait, loss, main, Due, running, queueTable}
-use Rattle.rules.specs.Station.{Slot, shipOf, Waiting, Station, dueAfter, lossDue, mainDue, slotTable, table, queueWait}
-use Rattle.rules.specs.Sound.{configKeeps, oneSlotEach, slotKeeps, waitingKeeps, limit, queueRoom, listed, owners, noShipTwice, slotFits, placeFits, storedKeeps, timesFit, sound}
-use Rattle.rules.specs.Requests.{owns, waitsFor}
-use Rattle.rules.specs.Verdict.{roomNeeded, overtaken, slotThere, readIn, refusals, verdict}
+use Rattle.rules.specs.Rules.Places.{lowest, all, elem, distinct, isSome}
+use Rattle.rules.specs.Rules.Words.{Party, is, Config, Event}
+use Rattle.rules.specs.Rules.Waits.{Wait, loss, main, Due, running, queueTable}
+use Rattle.rules.specs.Rules.Station.{Slot, shipOf, Waiting, Station, dueAfter, lossDue, mainDue, slotTable, table, queueWait}
+use Rattle.rules.specs.Rules.Sound.{configKeeps, oneSlotEach, slotKeeps, waitingKeeps, limit, queueRoom, listed, owners, noShipTwice, slotFits, placeFits, storedKeeps, timesFit, sound}
+use Rattle.rules.specs.Rules.Requests.{owns, waitsFor}
+use Rattle.rules.specs.Rules.Verdict.{roomNeeded, overtaken, slotThere, readIn, refusals, verdict}
 use Rattle.rules.proofs.PlaceLaws.{or-false, and-true}
 use Rattle.rules.proofs.Asked.{owned, rest-distinct}
 use Rattle.rules.proofs.Base.{begunBy, fitting}

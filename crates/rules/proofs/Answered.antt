@@ -11,11 +11,11 @@ use Rattle.sequence.specs.declared.Answer.{Answer}
 use Rattle.sequence.specs.declared.Answer.the-variants.{Done, BadLength, BadSymbol, BadCheck, BadFormat, BadIdentities, BadCategory, BadTelecommands, BadField, BadNumber, BadEnd, ShortRoom}
 use Rattle.sequence.specs.Refusals.{Row, firstRefusal}
 use Rattle.sequence.specs.Answers.{answerNumber, isDone}
-use Rattle.rules.specs.Places.{all, Each, elem}
-use Rattle.rules.specs.Words.{Config, Event}
-use Rattle.rules.specs.Station.{Station}
-use Rattle.rules.specs.Sound.{sound}
-use Rattle.rules.specs.Verdict.{readIn, refusals, verdict}
+use Rattle.rules.specs.Rules.Places.{all, Each, elem}
+use Rattle.rules.specs.Rules.Words.{Config, Event}
+use Rattle.rules.specs.Rules.Station.{Station}
+use Rattle.rules.specs.Rules.Sound.{sound}
+use Rattle.rules.specs.Rules.Verdict.{readIn, refusals, verdict}
 use Rattle.rules.specs.Statement.{ZeroOrOne}
 use Rattle.rules.proofs.PlaceLaws.{all-elem}
 use Rattle.rules.proofs.Accepted.{accepted}

@@ -8,13 +8,13 @@ use native.Mathlib.Nat.{zero-add, add-zero, add-suc, suc-add}
 use native.Mathlib.Omega.{arith}
 use borrow.Author.Tests.{not-true}
 use lib.ListN.{getD}
-use Rattle.rules.specs.Places.{modAt, shift, lowest, elem, distinct}
-use Rattle.rules.specs.Words.{Party, is, Request}
-use Rattle.rules.specs.Station.{Dealing, Stage, answeredAt, Slot, pending, busy, shipOf, Waiting, Station, theSlot, setSlot, setQueue, lossDue, offerOf}
-use Rattle.rules.specs.Sound.{listed, owner, owners}
-use Rattle.rules.specs.Requests.{Out, rungBack, freedFor, freed, coastEnd, isOf, owns, slotOf, placeOf, standsAt, repeated, afresh, dToG, redial, requested}
-use Rattle.rules.specs.Book.{Stop, Line, Book, blank, atLine, Call}
-use Rattle.rules.specs.Reading.{again, tell, letGo, hush, reads, stopOf, askedAgain, stopsAgain}
+use Rattle.rules.specs.Rules.Places.{modAt, shift, lowest, elem, distinct}
+use Rattle.rules.specs.Rules.Words.{Party, is, Request}
+use Rattle.rules.specs.Rules.Station.{Dealing, Stage, answeredAt, Slot, pending, busy, shipOf, Waiting, Station, theSlot, setSlot, setQueue, lossDue, offerOf}
+use Rattle.rules.specs.Rules.Sound.{listed, owner, owners}
+use Rattle.rules.specs.Rules.Requests.{Out, rungBack, freedFor, freed, coastEnd, isOf, owns, slotOf, placeOf, standsAt, repeated, afresh, dToG, redial, requested}
+use Rattle.rules.specs.ListAlone.Book.{Stop, Line, Book, blank, atLine, Call}
+use Rattle.rules.specs.ListAlone.Reading.{again, tell, letGo, hush, reads, stopOf, askedAgain, stopsAgain}
 use Rattle.rules.proofs.PlaceLaws.{or-false, and-true, shift-none}
 use Rattle.rules.proofs.Base.{callIn, view, seen, is-true, atLine², stay, moves, Calling, no-call, a-call, calling, slot-mapped, slot-lowest}
 use Rattle.rules.proofs.Ruling.{againOf, Ruling, passes, repeats, renews, redials, bOrC-ruling}

@@ -8,15 +8,15 @@ use lib.Dec.{eqb, leb}
 use lib.ListN.{List·getD-map, getD, length, replicate, length-replicate}
 use borrow.Author.Tests.{eq-eqb, eqb-true, leb-true, le-leb}
 use Rattle.units.specs.declared.Told.{Told}
-use Rattle.rules.specs.Words.{Party, is, Mode, simplex, duplex, Request, Deed, Config}
-use Rattle.rules.specs.Actions.{Action, does, over, charge}
-use Rattle.rules.specs.Station.{bySlot, shipOf, Kind, offered, firstRing, secondRing, acknowledged, Slot, free, taken, pending, busy, held, Waiting, Station, theSlot, setSlot, carrierWait, lossDue, mainDue, slotTable, table, fires, answeredAt, answeredIn, Dealing, Stage, dialling, answered, fresh, dueAfter, kindWait, replyWait, holdWait, isFree, offerOf, ringOf, rungAgain, agreedAt}
-use Rattle.rules.specs.Requests.{sameMode, sameNumber, same}
-use Rattle.rules.specs.Book.{silence, alikeMode, alikeDigits, alike, Said, silent, toldBQ, toldRQ, settled, Call, quiet, dialled, talking, Line, Place, Book, atLine, line, lineTable, falls}
-use Rattle.rules.specs.Reading.{read, reads}
+use Rattle.rules.specs.Rules.Words.{Party, is, Mode, simplex, duplex, Request, Deed, Config}
+use Rattle.rules.specs.Rules.Actions.{Action, does, over, charge}
+use Rattle.rules.specs.Rules.Station.{bySlot, shipOf, Kind, offered, firstRing, secondRing, acknowledged, Slot, free, taken, pending, busy, held, Waiting, Station, theSlot, setSlot, carrierWait, lossDue, mainDue, slotTable, table, fires, answeredAt, answeredIn, Dealing, Stage, dialling, answered, fresh, dueAfter, kindWait, replyWait, holdWait, isFree, offerOf, ringOf, rungAgain, agreedAt}
+use Rattle.rules.specs.Rules.Requests.{sameMode, sameNumber, same}
+use Rattle.rules.specs.ListAlone.Book.{silence, alikeMode, alikeDigits, alike, Said, silent, toldBQ, toldRQ, settled, Call, quiet, dialled, talking, Line, Place, Book, atLine, line, lineTable, falls}
+use Rattle.rules.specs.ListAlone.Reading.{read, reads}
 use Rattle.rules.specs.Statement.{deedsOf, chargesOf}
-use Rattle.rules.specs.Places.{lowest, all, Each, modAt}
-use Rattle.rules.specs.Sound.{fits, stageFits, lossFits, slotFits}
+use Rattle.rules.specs.Rules.Places.{lowest, all, Each, modAt}
+use Rattle.rules.specs.Rules.Sound.{fits, stageFits, lossFits, slotFits}
 use Rattle.rules.proofs.PlaceLaws.{modAt-modAt, modAt-map, modAt-same, and-true, all-at, each-at, lowest-is}
 use native.Mathlib.Omega.{arith}
 

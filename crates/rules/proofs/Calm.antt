@@ -4,16 +4,16 @@ use mathlib.Core.List.{List, [], _∷_, _++_, map}
 use mathlib.Core.Bool.{Bool, true, false, _||_}
 use mathlib.Core.Option.{Option, none, some}
 use Prim.Native.Nat.{ℕ}
-use Rattle.rules.specs.Places.{dropAt, Each}
-use Rattle.rules.specs.Words.{Party, Request, Deed}
-use Rattle.rules.specs.Heard.{Heard, callRequest}
-use Rattle.rules.specs.Actions.{Ender, theShip, theCoast, Action}
-use Rattle.rules.specs.Station.{Dealing, dealing, Slot, Waiting, Station, theSlot, setSlot, setClock, setQueue, answeredAt, ringOf}
-use Rattle.rules.specs.Requests.{Out, also, rungBack, freedFor, freed, endActs, coastEnd, done}
-use Rattle.rules.specs.Book.{silent, Stop, Line, Book, atLine, line}
-use Rattle.rules.specs.Reading.{letGo, hush, read, reads}
-use Rattle.rules.specs.Repeated.{putsOff, toldToWait, Repeats, switchedOn, RingsSame, DialsNamed, EachRead}
-use Rattle.rules.specs.ThreeWords.{Word}
+use Rattle.rules.specs.Rules.Places.{dropAt, Each}
+use Rattle.rules.specs.Rules.Words.{Party, Request, Deed}
+use Rattle.rules.specs.Rules.Heard.{Heard, callRequest}
+use Rattle.rules.specs.Rules.Actions.{Ender, theShip, theCoast, Action}
+use Rattle.rules.specs.Rules.Station.{Dealing, dealing, Slot, Waiting, Station, theSlot, setSlot, setClock, setQueue, answeredAt, ringOf}
+use Rattle.rules.specs.Rules.Requests.{Out, also, rungBack, freedFor, freed, endActs, coastEnd, done}
+use Rattle.rules.specs.ListAlone.Book.{silent, Stop, Line, Book, atLine, line}
+use Rattle.rules.specs.ListAlone.Reading.{letGo, hush, read, reads}
+use Rattle.rules.specs.ListAlone.Repeated.{putsOff, toldToWait, Repeats, switchedOn, RingsSame, DialsNamed, EachRead}
+use Rattle.rules.specs.ListAlone.ThreeWords.{Word}
 use Rattle.rules.specs.Statement.{deedsOf}
 use Rattle.rules.proofs.PlaceLaws.{each-set, each-dropped, each-append}
 use Rattle.rules.proofs.Base.{rungOnce, view, deeds-append, slot-each, slot-mapped}

@@ -8,14 +8,14 @@ use native.Mathlib.Omega.{arith}
 use lib.Dec.{leb}
 use borrow.Author.Tests.{leb-true}
 use Rattle.sequence.specs.Identity.{isShip}
-use Rattle.rules.specs.Places.{all, Each}
-use Rattle.rules.specs.Words.{Request, Config, Event}
-use Rattle.rules.specs.Station.{Slot, Station, answeredAt}
-use Rattle.rules.specs.Sound.{requestKeeps, slotKeeps, limit}
-use Rattle.rules.specs.Calls.{act}
-use Rattle.rules.specs.Verdict.{verdict}
-use Rattle.rules.specs.Book.{Stop, Call, quiet, dialled, talking}
-use Rattle.rules.specs.Reading.{stopsIn, falling, moment, stopOf}
+use Rattle.rules.specs.Rules.Places.{all, Each}
+use Rattle.rules.specs.Rules.Words.{Request, Config, Event}
+use Rattle.rules.specs.Rules.Station.{Slot, Station, answeredAt}
+use Rattle.rules.specs.Rules.Sound.{requestKeeps, slotKeeps, limit}
+use Rattle.rules.specs.Rules.Calls.{act}
+use Rattle.rules.specs.Rules.Verdict.{verdict}
+use Rattle.rules.specs.ListAlone.Book.{Stop, Call, quiet, dialled, talking}
+use Rattle.rules.specs.ListAlone.Reading.{stopsIn, falling, moment, stopOf}
 use Rattle.rules.specs.Statement.{owed, InOrder, ChargesFit, FourBytes, EndsAt}
 use Rattle.rules.proofs.PlaceLaws.{and-true}
 use Rattle.rules.proofs.Base.{callIn, view, seen, Calling, no-call, a-call, calling}

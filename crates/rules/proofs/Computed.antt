@@ -1,22 +1,22 @@
 -- The cases of 01, its sample script, and the runs on both sides: computed.
 use mathlib.Core.Path.{_≡_, refl}
 use mathlib.Core.List.{[], _∷_, _++_, map}
-use Rattle.rules.specs.Words.{simplex, duplex, carrierOn, ringBack, unable}
-use Rattle.rules.specs.Heard.{callRequest, nothing}
-use Rattle.rules.specs.Station.{fresh}
-use Rattle.rules.specs.Verdict.{play}
-use Rattle.rules.specs.Printed.{printed, runsOpen}
-use Rattle.rules.specs.Book.{alike, blankBook, falls}
-use Rattle.rules.specs.Reading.{reads, turn, stopsIn, stops}
-use Rattle.rules.specs.Repeated.{lastAsked}
+use Rattle.rules.specs.Rules.Words.{simplex, duplex, carrierOn, ringBack, unable}
+use Rattle.rules.specs.Rules.Heard.{callRequest, nothing}
+use Rattle.rules.specs.Rules.Station.{fresh}
+use Rattle.rules.specs.Rules.Verdict.{play}
+use Rattle.rules.specs.Rules.Printed.{printed, runsOpen}
+use Rattle.rules.specs.ListAlone.Book.{alike, blankBook, falls}
+use Rattle.rules.specs.ListAlone.Reading.{reads, turn, stopsIn, stops}
+use Rattle.rules.specs.ListAlone.Repeated.{lastAsked}
 use Rattle.rules.specs.Statement.{charged, notes, owedFor}
-use Rattle.rules.specs.Runs.{station, seven, usual, asksAnew, runs}
-use Rattle.rules.specs.Cases.{cases, sample, sampleShows}
-use Rattle.rules.specs.RequestCases.{requestCases}
-use Rattle.rules.specs.CallCases.{callCases}
-use Rattle.rules.specs.RefusalCases.{refusalCases}
-use Rattle.rules.specs.Phases.{rowOf, phases}
-use Rattle.rules.specs.SoundCases.{from, setUpCases, storedCases, countCases, timeCases}
+use Rattle.rules.specs.Tables.Runs.{station, seven, usual, asksAnew, runs}
+use Rattle.rules.specs.Tables.Cases.{cases, sample, sampleShows}
+use Rattle.rules.specs.Tables.RequestCases.{requestCases}
+use Rattle.rules.specs.Tables.CallCases.{callCases}
+use Rattle.rules.specs.Tables.RefusalCases.{refusalCases}
+use Rattle.rules.specs.Tables.Phases.{rowOf, phases}
+use Rattle.rules.specs.Tables.SoundCases.{from, setUpCases, storedCases, countCases, timeCases}
 use Rattle.rules.proofs.Tested.{as-expected}
 
 -- P1 to P12, "Hold begun at 6000", "Number 7"

@@ -9,17 +9,17 @@ use lib.ListN.{getD, length}
 use lib.Dec.{eqb}
 use Rattle.sequence.specs.Answers.{isDone}
 use Rattle.sequence.specs.Reading.{readingOf}
-use Rattle.rules.specs.Places.{modAt, dropAt, isSome}
-use Rattle.rules.specs.Words.{Party, Request, Config, What, tick, onChannel70, onSlot, Event, isAnswering}
-use Rattle.rules.specs.Waits.{Wait, ofQueue, loss, main, Due}
-use Rattle.rules.specs.Heard.{Heard, callRequest, dataRequest, bq, workingCall, endOfCall, nothing, meaning}
-use Rattle.rules.specs.Station.{Station, theSlot, setClock, setQueue, fires}
-use Rattle.rules.specs.Requests.{Out, done, standing, ruleA, requested}
-use Rattle.rules.specs.Calls.{fire, ticked, heardOn70, actAt}
-use Rattle.rules.specs.Verdict.{overtaken, readIn, verdict}
-use Rattle.rules.specs.Book.{Stop, Line, Book, atLine, atPlaces}
-use Rattle.rules.specs.Reading.{hearHeard, hearDue, hear, setNow, fallsAt, momentOf, moment, stopsDue, stopsAgain, stopsHeard, stopsAt, heardAt}
-use Rattle.rules.specs.ThreeWords.{Word, idle, wordHeard, answer}
+use Rattle.rules.specs.Rules.Places.{modAt, dropAt, isSome}
+use Rattle.rules.specs.Rules.Words.{Party, Request, Config, What, tick, onChannel70, onSlot, Event, isAnswering}
+use Rattle.rules.specs.Rules.Waits.{Wait, ofQueue, loss, main, Due}
+use Rattle.rules.specs.Rules.Heard.{Heard, callRequest, dataRequest, bq, workingCall, endOfCall, nothing, meaning}
+use Rattle.rules.specs.Rules.Station.{Station, theSlot, setClock, setQueue, fires}
+use Rattle.rules.specs.Rules.Requests.{Out, done, standing, ruleA, requested}
+use Rattle.rules.specs.Rules.Calls.{fire, ticked, heardOn70, actAt}
+use Rattle.rules.specs.Rules.Verdict.{overtaken, readIn, verdict}
+use Rattle.rules.specs.ListAlone.Book.{Stop, Line, Book, atLine, atPlaces}
+use Rattle.rules.specs.ListAlone.Reading.{hearHeard, hearDue, hear, setNow, fallsAt, momentOf, moment, stopsDue, stopsAgain, stopsHeard, stopsAt, heardAt}
+use Rattle.rules.specs.ListAlone.ThreeWords.{Word, idle, wordHeard, answer}
 use Rattle.rules.proofs.PlaceLaws.{modAt-length, modAt-none}
 use Rattle.rules.proofs.Base.{seen, falls-fires, line-is}
 use Rattle.rules.proofs.Outcome.{lifted, Outcome, end-outcome, bq-outcome, main-outcome, happened-outcome}

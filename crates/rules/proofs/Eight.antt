@@ -7,16 +7,16 @@ use Prim.Native.Nat.{ℕ, _+_, _≤_}
 use native.Mathlib.Omega.{arith}
 use lib.Dec.{ltb}
 use lib.ListN.{length, length-append}
-use Rattle.rules.specs.Places.{lowest, all, Each}
-use Rattle.rules.specs.Words.{Request, Config, What, Event, carrierOn}
-use Rattle.rules.specs.Heard.{Heard}
-use Rattle.rules.specs.Actions.{Ender, theShip, theCoast, Action, does}
-use Rattle.rules.specs.Station.{Slot, Waiting, Station, theSlot, setClock, answeredAt, isFree}
-use Rattle.rules.specs.Sound.{slotKeeps, sound}
-use Rattle.rules.specs.Requests.{Out, also, rungBack, freedFor, freed, bill, lasted, endActs, coastEnd, Standing, nowhere, holds, waits, placeOf, standing, ruleA, repeated, afresh, ruleD, offer, ruleF, ruleG, eToG, newcomer, dToG, redial, requested}
-use Rattle.rules.specs.Calls.{actAt, act}
-use Rattle.rules.specs.Book.{Stop, Line, Book}
-use Rattle.rules.specs.ThreeWords.{Word}
+use Rattle.rules.specs.Rules.Places.{lowest, all, Each}
+use Rattle.rules.specs.Rules.Words.{Request, Config, What, Event, carrierOn}
+use Rattle.rules.specs.Rules.Heard.{Heard}
+use Rattle.rules.specs.Rules.Actions.{Ender, theShip, theCoast, Action, does}
+use Rattle.rules.specs.Rules.Station.{Slot, Waiting, Station, theSlot, setClock, answeredAt, isFree}
+use Rattle.rules.specs.Rules.Sound.{slotKeeps, sound}
+use Rattle.rules.specs.Rules.Requests.{Out, also, rungBack, freedFor, freed, bill, lasted, endActs, coastEnd, Standing, nowhere, holds, waits, placeOf, standing, ruleA, repeated, afresh, ruleD, offer, ruleF, ruleG, eToG, newcomer, dToG, redial, requested}
+use Rattle.rules.specs.Rules.Calls.{actAt, act}
+use Rattle.rules.specs.ListAlone.Book.{Stop, Line, Book}
+use Rattle.rules.specs.ListAlone.ThreeWords.{Word}
 use Rattle.rules.specs.Statement.{AtMostEight}
 use Rattle.rules.proofs.PlaceLaws.{each-append}
 use Rattle.rules.proofs.Outcome.{Next, stays, becomes, frees, Move, to-dial, to-agree, to-ring, to-drop, to-answer, to-lose, to-regain, to-hold, to-end, to-repeat, to-run-out, to-take, to-give, played, Outcome, passed, moved}

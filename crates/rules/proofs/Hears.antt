@@ -5,12 +5,12 @@ use mathlib.Core.Bool.{Bool, true, false, cond}
 use mathlib.Core.Option.{Option, none, some}
 use Prim.Native.Nat.{ℕ}
 use lib.Dec.{eqb}
-use Rattle.rules.specs.Places.{modAt, dropAt}
-use Rattle.rules.specs.Words.{Party, is, Mode, Request, Config, lineLifted, lineHung, carrierHeard, carrierLost, Happened, heard, signal, operator, answeringOn, What, onSlot, Deed, carrierOn, carrierOff, acknowledge, ringBack, unable, dial, releaseLine, tick, onChannel70}
-use Rattle.rules.specs.Heard.{Heard, callRequest, dataRequest, bq, workingCall, endOfCall, nothing, meaning}
-use Rattle.rules.specs.Book.{Stop, after, offerTime, alike, Said, silent, toldBQ, toldRQ, settled, Call, quiet, dialled, talking, Line, Book, atPlaces, Place, line}
-use Rattle.rules.specs.Reading.{close, withGone, pickUp, lose, signOff, hearSaid, hearLine, settle, told, tell, rungUp, beginCall, dialUp, letGo, hush, join, queued, read, withWait, again, hearHeard, hearDue, hear, setNow, stopOf, callOf, stopsSaid, stopsOn, stopsDue, stopsAgain, stopsHeard, stopsAt}
-use Rattle.rules.specs.Waits.{Wait, ofQueue, loss, main, Due}
+use Rattle.rules.specs.Rules.Places.{modAt, dropAt}
+use Rattle.rules.specs.Rules.Words.{Party, is, Mode, Request, Config, lineLifted, lineHung, carrierHeard, carrierLost, Happened, heard, signal, operator, answeringOn, What, onSlot, Deed, carrierOn, carrierOff, acknowledge, ringBack, unable, dial, releaseLine, tick, onChannel70}
+use Rattle.rules.specs.Rules.Heard.{Heard, callRequest, dataRequest, bq, workingCall, endOfCall, nothing, meaning}
+use Rattle.rules.specs.ListAlone.Book.{Stop, after, offerTime, alike, Said, silent, toldBQ, toldRQ, settled, Call, quiet, dialled, talking, Line, Book, atPlaces, Place, line}
+use Rattle.rules.specs.ListAlone.Reading.{close, withGone, pickUp, lose, signOff, hearSaid, hearLine, settle, told, tell, rungUp, beginCall, dialUp, letGo, hush, join, queued, read, withWait, again, hearHeard, hearDue, hear, setNow, stopOf, callOf, stopsSaid, stopsOn, stopsDue, stopsAgain, stopsHeard, stopsAt}
+use Rattle.rules.specs.Rules.Waits.{Wait, ofQueue, loss, main, Due}
 
 abbrev pub line-of : Said → Option ℕ → Call → Option ℕ → Line
 line-of s w c g = record { said = s; wait = w; call = c; gone = g }

@@ -6,13 +6,13 @@ use mathlib.Core.Bool.{Bool, true, false}
 use mathlib.Core.Option.{Option, none, some}
 use Prim.Native.Nat.{ℕ, zero, suc}
 use native.Mathlib.Omega.{arith}
-use Rattle.rules.specs.Places.{modAt, dropAt, lowest}
-use Rattle.rules.specs.Words.{Request, Config, Event}
-use Rattle.rules.specs.Actions.{Action}
-use Rattle.rules.specs.Station.{Slot, Waiting, Station, fresh, setSlot, setClock, setQueue, isFree, offerOf}
-use Rattle.rules.specs.Requests.{rungBack, freedFor, freed, ruleD, ruleF}
-use Rattle.rules.specs.Calls.{act}
-use Rattle.rules.specs.Verdict.{verdict, final}
+use Rattle.rules.specs.Rules.Places.{modAt, dropAt, lowest}
+use Rattle.rules.specs.Rules.Words.{Request, Config, Event}
+use Rattle.rules.specs.Rules.Actions.{Action}
+use Rattle.rules.specs.Rules.Station.{Slot, Waiting, Station, fresh, setSlot, setClock, setQueue, isFree, offerOf}
+use Rattle.rules.specs.Rules.Requests.{rungBack, freedFor, freed, ruleD, ruleF}
+use Rattle.rules.specs.Rules.Calls.{act}
+use Rattle.rules.specs.Rules.Verdict.{verdict, final}
 use Rattle.rules.specs.Statement.{NoChannelIdle}
 use Rattle.rules.proofs.PlaceLaws.{shift-none}
 use Rattle.rules.proofs.Run.{final-on, final-past}

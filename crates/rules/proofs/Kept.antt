@@ -9,13 +9,13 @@ use lib.Dec.{leb}
 use lib.ListN.{length}
 use borrow.Author.Tests.{leb-true, le-leb, eq-eqb, eqb-true}
 use Rattle.sequence.specs.Symbols.{within}
-use Rattle.rules.specs.Places.{all, distinct, isSome}
-use Rattle.rules.specs.Words.{is, Config, Event, Party}
-use Rattle.rules.specs.Station.{Station, fresh, setClock, Slot, shipOf}
-use Rattle.rules.specs.Sound.{identityKeeps, channelsKeep, configKeeps, oneSlotEach, slotKeeps, limit, queueRoom, owners, slotFits, sound, listed}
-use Rattle.rules.specs.Calls.{act}
-use Rattle.rules.specs.Verdict.{unless, verdict, setUpVerdict, final}
-use Rattle.rules.specs.Reading.{moment}
+use Rattle.rules.specs.Rules.Places.{all, distinct, isSome}
+use Rattle.rules.specs.Rules.Words.{is, Config, Event, Party}
+use Rattle.rules.specs.Rules.Station.{Station, fresh, setClock, Slot, shipOf}
+use Rattle.rules.specs.Rules.Sound.{identityKeeps, channelsKeep, configKeeps, oneSlotEach, slotKeeps, limit, queueRoom, owners, slotFits, sound, listed}
+use Rattle.rules.specs.Rules.Calls.{act}
+use Rattle.rules.specs.Rules.Verdict.{unless, verdict, setUpVerdict, final}
+use Rattle.rules.specs.ListAlone.Reading.{moment}
 use Rattle.rules.specs.Statement.{AlwaysSound, AlwaysFits}
 use Rattle.rules.proofs.PlaceLaws.{and-true}
 use Rattle.rules.proofs.Base.{seen, fresh-all, fresh-length}

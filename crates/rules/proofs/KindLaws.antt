@@ -8,10 +8,10 @@ use borrow.Author.Tests.{eq-eqb, eqb-true}
 use Rattle.sequence.specs.declared.Field.{Field}
 use Rattle.sequence.specs.declared.Field.the-variants.{Blank, Channel, Duration}
 use Rattle.sequence.specs.declared.Meaning.{Meaning}
-use Rattle.rules.specs.Places.{lowest}
-use Rattle.rules.specs.Words.{Mode, simplex, duplex, modeNumber, Config, ours, Ours}
-use Rattle.rules.specs.Heard.{Heard, nothing, sentBy, isBlank, says, sameChannel, slotNamed, bqOn, agrees, kindOf, addressed}
-use Rattle.rules.specs.Kinds.{Plain, Means, asCallRequest, asDataRequest, asWorkingCall, asEndOfCall, asBq, asNothing, OnlyThese, AllThese}
+use Rattle.rules.specs.Rules.Places.{lowest}
+use Rattle.rules.specs.Rules.Words.{Mode, simplex, duplex, modeNumber, Config, ours, Ours}
+use Rattle.rules.specs.Rules.Heard.{Heard, nothing, sentBy, isBlank, says, sameChannel, slotNamed, bqOn, agrees, kindOf, addressed}
+use Rattle.rules.specs.Rules.Kinds.{Plain, Means, asCallRequest, asDataRequest, asWorkingCall, asEndOfCall, asBq, asNothing, OnlyThese, AllThese}
 use Rattle.rules.proofs.PlaceLaws.{and-true}
 
 blank-is : (f : Field) → isBlank f ≡ true → f ≡ Blank

@@ -10,12 +10,12 @@ use Prim.Native.Nat.{ℕ, zero, suc, _+_}
 use native.Mathlib.Nat.{add-zero, add-suc, suc-add, zero-add}
 use native.Mathlib.Omega.{arith}
 use lib.ListN.{getD}
-use Rattle.rules.specs.Places.{modAt}
-use Rattle.rules.specs.Words.{Party, is, Mode, Config, answeringOn, What, Deed}
-use Rattle.rules.specs.Waits.{Due}
-use Rattle.rules.specs.Book.{Note, Stop, after, holdTime, Said, Call, quiet, dialled, talking, Line, Book, blank, line}
-use Rattle.rules.specs.Reading.{closed, close, pickUp, signOff, again, hear, read, reads, setNow, turn, stopsIn, falling, moment, stopOf, callOf, lost, askedAgain, stopsAgain, stopsAt}
-use Rattle.rules.specs.ReadingLaws.{In, stopAt, Begins, Lifts, Ends}
+use Rattle.rules.specs.Rules.Places.{modAt}
+use Rattle.rules.specs.Rules.Words.{Party, is, Mode, Config, answeringOn, What, Deed}
+use Rattle.rules.specs.Rules.Waits.{Due}
+use Rattle.rules.specs.ListAlone.Book.{Note, Stop, after, holdTime, Said, Call, quiet, dialled, talking, Line, Book, blank, line}
+use Rattle.rules.specs.ListAlone.Reading.{closed, close, pickUp, signOff, again, hear, read, reads, setNow, turn, stopsIn, falling, moment, stopOf, callOf, lost, askedAgain, stopsAgain, stopsAt}
+use Rattle.rules.specs.ListAlone.ReadingLaws.{In, stopAt, Begins, Lifts, Ends}
 use Rattle.rules.proofs.Hears.{line-of, talk, talk-is, Same, Leaves, elsewhere, at-line, read-leaves, Hears, says-nothing, says-begun, says-over, says-end, Hearing, no-line, one-line, all-lines, event-hearing}
 
 -- ── no deed begins or stops an answered call ─────────────────────────────────

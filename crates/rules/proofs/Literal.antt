@@ -5,16 +5,16 @@ use mathlib.Core.Option.{Option, none, some}
 use Prim.Native.Nat.{ℕ, zero, suc, _<_}
 use lib.Dec.{ltb}
 use lib.ListN.{getD, length, length-map, replicate}
-use Rattle.rules.specs.Places.{lowest}
-use Rattle.rules.specs.Words.{Request, Config, What, Event, Deed, carrierOn, carrierOff, acknowledge, ringBack, unable, dial, releaseLine}
-use Rattle.rules.specs.Heard.{Heard}
-use Rattle.rules.specs.Station.{Slot, Station, theSlot, fresh, setClock, setQueue, answeredAt, isFree, offerOf}
-use Rattle.rules.specs.Requests.{Out, coastEnd, slotOf, placeOf, standsAt, standing, ruleA, repeated, afresh, ruleD, offer, ruleF, ruleG, eToG, newcomer, dToG, redial, requested}
-use Rattle.rules.specs.Calls.{actAt, act}
-use Rattle.rules.specs.Verdict.{verdict, play}
-use Rattle.rules.specs.Book.{Stop, Line, Book, line}
-use Rattle.rules.specs.Reading.{readAll}
-use Rattle.rules.specs.ThreeWords.{Word, idle, ringing, wordHeard, wordDone, wordsDone, wordAfter, wordOf}
+use Rattle.rules.specs.Rules.Places.{lowest}
+use Rattle.rules.specs.Rules.Words.{Request, Config, What, Event, Deed, carrierOn, carrierOff, acknowledge, ringBack, unable, dial, releaseLine}
+use Rattle.rules.specs.Rules.Heard.{Heard}
+use Rattle.rules.specs.Rules.Station.{Slot, Station, theSlot, fresh, setClock, setQueue, answeredAt, isFree, offerOf}
+use Rattle.rules.specs.Rules.Requests.{Out, coastEnd, slotOf, placeOf, standsAt, standing, ruleA, repeated, afresh, ruleD, offer, ruleF, ruleG, eToG, newcomer, dToG, redial, requested}
+use Rattle.rules.specs.Rules.Calls.{actAt, act}
+use Rattle.rules.specs.Rules.Verdict.{verdict, play}
+use Rattle.rules.specs.ListAlone.Book.{Stop, Line, Book, line}
+use Rattle.rules.specs.ListAlone.Reading.{readAll}
+use Rattle.rules.specs.ListAlone.ThreeWords.{Word, idle, ringing, wordHeard, wordDone, wordsDone, wordAfter, wordOf}
 use Rattle.rules.specs.Statement.{deedsOf, notes, Literally}
 use Rattle.rules.proofs.PlaceLaws.{modAt-length}
 use Rattle.rules.proofs.Base.{view, seen, slot-lowest, slot-mapped, fresh-mapped, fresh-length, free-is}

@@ -7,12 +7,12 @@ use Prim.Native.Nat.{ℕ, _≤_}
 use native.Mathlib.Omega.{arith}
 use lib.Dec.{leb}
 use borrow.Author.Tests.{leb-true, leb-false, le-leb}
-use Rattle.rules.specs.Places.{all}
-use Rattle.rules.specs.Words.{Config, Event}
-use Rattle.rules.specs.Waits.{Due, sooner, earliest, ifDue}
-use Rattle.rules.specs.Station.{Station, table, fires}
-use Rattle.rules.specs.Verdict.{verdict}
-use Rattle.rules.specs.Reading.{momentOf, moment}
+use Rattle.rules.specs.Rules.Places.{all}
+use Rattle.rules.specs.Rules.Words.{Config, Event}
+use Rattle.rules.specs.Rules.Waits.{Due, sooner, earliest, ifDue}
+use Rattle.rules.specs.Rules.Station.{Station, table, fires}
+use Rattle.rules.specs.Rules.Verdict.{verdict}
+use Rattle.rules.specs.ListAlone.Reading.{momentOf, moment}
 use Rattle.rules.proofs.PlaceLaws.{and-true}
 use Rattle.rules.proofs.Base.{seen}
 use Rattle.rules.proofs.Accepted.{accepted, Sound, sounds, due-all}

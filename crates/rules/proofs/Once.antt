@@ -6,11 +6,11 @@ use mathlib.Core.Option.{Option, none, some}
 use Prim.Native.Nat.{ℕ, zero, suc, _+_, _≤_}
 use native.Mathlib.Omega.{arith}
 use borrow.Author.Tests.{not-true}
-use Rattle.rules.specs.Places.{modAt, lowest, elem, distinct}
-use Rattle.rules.specs.Words.{Party, is, Request}
-use Rattle.rules.specs.Station.{Slot, shipOf, Waiting, Station, theSlot, setSlot, setQueue, ringOf}
-use Rattle.rules.specs.Sound.{listed, owners}
-use Rattle.rules.specs.Requests.{rungBack, freedFor, freed, coastEnd, isOf, owns, waitsFor}
+use Rattle.rules.specs.Rules.Places.{modAt, lowest, elem, distinct}
+use Rattle.rules.specs.Rules.Words.{Party, is, Request}
+use Rattle.rules.specs.Rules.Station.{Slot, shipOf, Waiting, Station, theSlot, setSlot, setQueue, ringOf}
+use Rattle.rules.specs.Rules.Sound.{listed, owners}
+use Rattle.rules.specs.Rules.Requests.{rungBack, freedFor, freed, coastEnd, isOf, owns, waitsFor}
 use Rattle.rules.proofs.PlaceLaws.{or-false, and-true, shift-none}
 use Rattle.rules.proofs.Base.{is-same, is-true}
 

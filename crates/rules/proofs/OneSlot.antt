@@ -4,14 +4,14 @@ use mathlib.Core.List.{List, [], _∷_, map, append-nil}
 use mathlib.Core.Bool.{Bool, true, false}
 use mathlib.Core.Option.{Option, none, some}
 use Prim.Native.Nat.{ℕ, zero}
-use Rattle.rules.specs.Places.{lowest, Each}
-use Rattle.rules.specs.Words.{Party, is, Deed, carrierOn, carrierOff, acknowledge, ringBack, unable, dial, releaseLine}
-use Rattle.rules.specs.Actions.{Action}
-use Rattle.rules.specs.Station.{Slot, Waiting, Station, theSlot}
-use Rattle.rules.specs.Requests.{Out, freed, waitsFor}
-use Rattle.rules.specs.Book.{Stop, Line, Book, atLine}
-use Rattle.rules.specs.Reading.{tell, rungUp, dialUp, letGo, hush, leave, reads}
-use Rattle.rules.specs.ThreeWords.{Word}
+use Rattle.rules.specs.Rules.Places.{lowest, Each}
+use Rattle.rules.specs.Rules.Words.{Party, is, Deed, carrierOn, carrierOff, acknowledge, ringBack, unable, dial, releaseLine}
+use Rattle.rules.specs.Rules.Actions.{Action}
+use Rattle.rules.specs.Rules.Station.{Slot, Waiting, Station, theSlot}
+use Rattle.rules.specs.Rules.Requests.{Out, freed, waitsFor}
+use Rattle.rules.specs.ListAlone.Book.{Stop, Line, Book, atLine}
+use Rattle.rules.specs.ListAlone.Reading.{tell, rungUp, dialUp, letGo, hush, leave, reads}
+use Rattle.rules.specs.ListAlone.ThreeWords.{Word}
 use Rattle.rules.specs.Statement.{deedsOf, chargesOf, owed}
 use Rattle.rules.proofs.PlaceLaws.{modAt-modAt, shift-none}
 use Rattle.rules.proofs.Base.{view, place, seen, atLine², stay, moves}

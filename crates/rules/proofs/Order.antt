@@ -9,10 +9,10 @@ use native.Mathlib.Omega.{arith}
 use lib.ListN.{getD, length}
 use lib.Dec.{leb}
 use borrow.Author.Tests.{leb-true, leb-false}
-use Rattle.rules.specs.Places.{Each}
-use Rattle.rules.specs.Waits.{ofQueue, Due, sooner, earliest, ifDue, queueTable}
-use Rattle.rules.specs.Book.{waitsIn, falls}
-use Rattle.rules.specs.ReadingLaws.{First, FiredIsFirst, NoneFired, QueueNamed}
+use Rattle.rules.specs.Rules.Places.{Each}
+use Rattle.rules.specs.Rules.Waits.{ofQueue, Due, sooner, earliest, ifDue, queueTable}
+use Rattle.rules.specs.ListAlone.Book.{waitsIn, falls}
+use Rattle.rules.specs.ListAlone.ReadingLaws.{First, FiredIsFirst, NoneFired, QueueNamed}
 use Rattle.rules.proofs.PlaceLaws.{each-append, each-weaken}
 
 earliest-none : (l : List Due) → earliest l ≡ none → l ≡ []

@@ -6,14 +6,14 @@ use mathlib.Core.Option.{Option, none, some}
 use Prim.Native.Nat.{ℕ, _+_, _-_, _≤_}
 use native.Mathlib.Omega.{arith}
 use borrow.Author.Tests.{leb-true}
-use Rattle.rules.specs.Places.{all, Each}
-use Rattle.rules.specs.Words.{Config, What, Event}
-use Rattle.rules.specs.Waits.{Due}
-use Rattle.rules.specs.Station.{Slot, Station, fresh}
-use Rattle.rules.specs.Calls.{act}
-use Rattle.rules.specs.Verdict.{verdict, play, final}
-use Rattle.rules.specs.Book.{Stop, Call, quiet, dialled, talking, Book, blankBook}
-use Rattle.rules.specs.Reading.{stopsIn, Numbered, stops, readAll, talkedBy, lengths, countedByCalls, falling, moment, stopOf, stopsAt}
+use Rattle.rules.specs.Rules.Places.{all, Each}
+use Rattle.rules.specs.Rules.Words.{Config, What, Event}
+use Rattle.rules.specs.Rules.Waits.{Due}
+use Rattle.rules.specs.Rules.Station.{Slot, Station, fresh}
+use Rattle.rules.specs.Rules.Calls.{act}
+use Rattle.rules.specs.Rules.Verdict.{verdict, play, final}
+use Rattle.rules.specs.ListAlone.Book.{Stop, Call, quiet, dialled, talking, Book, blankBook}
+use Rattle.rules.specs.ListAlone.Reading.{stopsIn, Numbered, stops, readAll, talkedBy, lengths, countedByCalls, falling, moment, stopOf, stopsAt}
 use Rattle.rules.specs.Statement.{notes, owed, owedFor, ChargesAreStops, tenthsIn, heldTenths, TenthsAgree, CountsAgree, InOrder, ClockIsNow, EndsAt}
 use Rattle.rules.proofs.PlaceLaws.{and-true}
 use Rattle.rules.proofs.Base.{view, seen, begunBy}

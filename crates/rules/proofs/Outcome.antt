@@ -5,19 +5,19 @@ use mathlib.Core.Bool.{Bool, true, false, cond, _&&_}
 use mathlib.Core.Option.{Option, none, some}
 use Prim.Native.Nat.{ℕ}
 use Rattle.units.specs.declared.Told.{Told}
-use Rattle.rules.specs.Places.{Each}
-use Rattle.rules.specs.Words.{Party, is, Request, Config, lineLifted, lineHung, carrierHeard, carrierLost, handTakes, handGives, Happened, heard, signal, operator, offHook, Deed, carrierOn, carrierOff, acknowledge, ringBack, unable, dial, releaseLine, Mode, isAnswering}
-use Rattle.rules.specs.Heard.{Heard, callRequest, dataRequest, bq, workingCall, endOfCall, nothing, meaning}
-use Rattle.rules.specs.Actions.{Action, does, over, Ender, theShip, theCoast}
-use Rattle.rules.specs.Station.{Kind, firstRing, rungAgain, agreedAt, Stage, answeredAt, dialling, answered, Dealing, Slot, free, taken, pending, busy, held, Station, setSlot, dueAfter, replyWait, holdWait, carrierWait}
-use Rattle.rules.specs.Requests.{Out, ignored, also, freed, lasted, endActs, coastEnd}
-use Rattle.rules.specs.Calls.{dialNow, workingKind, workingOn, agreed, bqKind, bqFor, offHookStage, offHookOn, startLoss, downOn, upOn, shipEnd, sayAgain, shipEndOn, endOn, takeOn, giveOn, offerDue, ringAgain, pendingDue, replyDue, mainOn, heardOn, happenedOn}
-use Rattle.rules.specs.Book.{Stop, Line, Place}
-use Rattle.rules.specs.Reading.{close, withWait, withGone, pickUp, lose, signOff, hearSaid, hearLine, settle, tell, rungUp, dialUp, letGo, hush, leave, stopOf, callOf, stopsSaid, stopsOn}
-use Rattle.rules.specs.Repeated.{Dials}
-use Rattle.rules.specs.ThreeWords.{Word, idle, ringing, answer, wordOf}
+use Rattle.rules.specs.Rules.Places.{Each}
+use Rattle.rules.specs.Rules.Words.{Party, is, Request, Config, lineLifted, lineHung, carrierHeard, carrierLost, handTakes, handGives, Happened, heard, signal, operator, offHook, Deed, carrierOn, carrierOff, acknowledge, ringBack, unable, dial, releaseLine, Mode, isAnswering}
+use Rattle.rules.specs.Rules.Heard.{Heard, callRequest, dataRequest, bq, workingCall, endOfCall, nothing, meaning}
+use Rattle.rules.specs.Rules.Actions.{Action, does, over, Ender, theShip, theCoast}
+use Rattle.rules.specs.Rules.Station.{Kind, firstRing, rungAgain, agreedAt, Stage, answeredAt, dialling, answered, Dealing, Slot, free, taken, pending, busy, held, Station, setSlot, dueAfter, replyWait, holdWait, carrierWait}
+use Rattle.rules.specs.Rules.Requests.{Out, ignored, also, freed, lasted, endActs, coastEnd}
+use Rattle.rules.specs.Rules.Calls.{dialNow, workingKind, workingOn, agreed, bqKind, bqFor, offHookStage, offHookOn, startLoss, downOn, upOn, shipEnd, sayAgain, shipEndOn, endOn, takeOn, giveOn, offerDue, ringAgain, pendingDue, replyDue, mainOn, heardOn, happenedOn}
+use Rattle.rules.specs.ListAlone.Book.{Stop, Line, Place}
+use Rattle.rules.specs.ListAlone.Reading.{close, withWait, withGone, pickUp, lose, signOff, hearSaid, hearLine, settle, tell, rungUp, dialUp, letGo, hush, leave, stopOf, callOf, stopsSaid, stopsOn}
+use Rattle.rules.specs.ListAlone.Repeated.{Dials}
+use Rattle.rules.specs.ListAlone.ThreeWords.{Word, idle, ringing, answer, wordOf}
 use Rattle.rules.specs.Statement.{deedsOf, chargesOf, owed}
-use Rattle.rules.specs.Sound.{fits, stageFits, lossFits, slotFits}
+use Rattle.rules.specs.Rules.Sound.{fits, stageFits, lossFits, slotFits}
 use Rattle.rules.proofs.Base.{by-kind, saidOf, view, silence-is, new-wait, again-fits, agreed-fits}
 use Rattle.rules.proofs.PlaceLaws.{and-true}
 use borrow.Author.Tests.{le-leb}

@@ -14,12 +14,12 @@ use lib.ListN.{length, take, length-append, length-take}
 use Rattle.sequence.specs.declared.Meaning.{Meaning}
 use Rattle.sequence.specs.Number.{evened, pairsOf}
 use Rattle.sequence.specs.Layout.{front, body, layout}
-use Rattle.rules.specs.Places.{Each}
-use Rattle.rules.specs.Words.{Party, Request, Config, carrierOn, carrierOff, acknowledge, ringBack, unable, dial, releaseLine, ours}
-use Rattle.rules.specs.Actions.{Ender, Action, does, over}
-use Rattle.rules.specs.Sound.{numberKeeps, requestKeeps}
-use Rattle.rules.specs.Requests.{bill}
-use Rattle.rules.specs.Bytes.{padded, numberOf, answerTo, ableSaid, unableSaid, overSaid, block, channelAt, payloadOf, blockOf, blocks, blockSize}
+use Rattle.rules.specs.Rules.Places.{Each}
+use Rattle.rules.specs.Rules.Words.{Party, Request, Config, carrierOn, carrierOff, acknowledge, ringBack, unable, dial, releaseLine, ours}
+use Rattle.rules.specs.Rules.Actions.{Ender, Action, does, over}
+use Rattle.rules.specs.Rules.Sound.{numberKeeps, requestKeeps}
+use Rattle.rules.specs.Rules.Requests.{bill}
+use Rattle.rules.specs.Rules.Bytes.{padded, numberOf, answerTo, ableSaid, unableSaid, overSaid, block, channelAt, payloadOf, blockOf, blocks, blockSize}
 use Rattle.rules.proofs.PlaceLaws.{and-true}
 
 pub padded-length : {A : Type 0} (b : A) (n : ℕ) (l : List A) → length (padded b n l) ≡ n

@@ -7,17 +7,17 @@ use Prim.Native.Nat.{ℕ, zero, suc}
 use lib.Dec.{ltb}
 use lib.ListN.{length}
 use native.Mathlib.Omega.{arith}
-use Rattle.rules.specs.Places.{modAt, shift, lowest}
-use Rattle.rules.specs.Words.{Party, is, Request}
-use Rattle.rules.specs.Actions.{theCoast, Action}
-use Rattle.rules.specs.Station.{Slot, Waiting, Station, theSlot, setSlot, setQueue, dueAfter, queueWait, isFree, ringOf, offerOf}
-use Rattle.rules.specs.Requests.{Out, done, also, rungBack, freedFor, freed, endActs, coastEnd, waitsFor, afresh, ruleD, offer, ruleF, ruleG, eToG, newcomer}
-use Rattle.rules.specs.Book.{Stop, Line, Place, Book, blank, atLine}
-use Rattle.rules.specs.Reading.{tell, rungUp, letGo, hush, leave, join, reads, stopOf}
+use Rattle.rules.specs.Rules.Places.{modAt, shift, lowest}
+use Rattle.rules.specs.Rules.Words.{Party, is, Request}
+use Rattle.rules.specs.Rules.Actions.{theCoast, Action}
+use Rattle.rules.specs.Rules.Station.{Slot, Waiting, Station, theSlot, setSlot, setQueue, dueAfter, queueWait, isFree, ringOf, offerOf}
+use Rattle.rules.specs.Rules.Requests.{Out, done, also, rungBack, freedFor, freed, endActs, coastEnd, waitsFor, afresh, ruleD, offer, ruleF, ruleG, eToG, newcomer}
+use Rattle.rules.specs.ListAlone.Book.{Stop, Line, Place, Book, blank, atLine}
+use Rattle.rules.specs.ListAlone.Reading.{tell, rungUp, letGo, hush, leave, join, reads, stopOf}
 use Rattle.rules.specs.Statement.{deedsOf, chargesOf, owed}
 use Rattle.rules.proofs.PlaceLaws.{modAt-modAt, shift-some, shift-none}
 use Rattle.rules.proofs.Base.{callIn, view, place, seen, is-same, is-true, deeds-append, charges-append, reads-append, atLine², moves, free-is, slot-set, slot-lowest}
-use Rattle.rules.specs.Sound.{queueRoom}
+use Rattle.rules.specs.Rules.Sound.{queueRoom}
 
 -- ── what is shown of a piece ─────────────────────────────────────────────────
 

@@ -8,7 +8,7 @@ use native.Mathlib.Omega.{arith}
 use lib.Dec.{eqb}
 use lib.ListN.{getD, length}
 use borrow.Author.Tests.{eqb-true}
-use Rattle.rules.specs.Places.{modAt, dropAt, shift, lowest, all, Each, elem}
+use Rattle.rules.specs.Rules.Places.{modAt, dropAt, shift, lowest, all, Each, elem}
 
 -- ── tests ────────────────────────────────────────────────────────────────────
 

@@ -14,13 +14,13 @@ use Rattle.sequence.specs.Identity.{isShip, isCoast, identitiesOk}
 use Rattle.sequence.specs.Field.{isCall, telecommandsOk}
 use Rattle.sequence.specs.Reading as S
 use Rattle.sequence.proofs.RefusalLaws.{done-held}
-use Rattle.rules.specs.Words.{Mode, simplex, duplex, modeNumber, Request, Config, Ours}
-use Rattle.rules.specs.Heard.{Heard, callRequest, digitsIn, requestIn, addressed, meaning}
-use Rattle.rules.specs.Kinds.{Plain, Means, asCallRequest, asDataRequest, asWorkingCall, asEndOfCall, asBq, asNothing, OnlyThese}
-use Rattle.rules.specs.Sound.{identityKeeps, configKeeps, numberKeeps, requestKeeps}
-use Rattle.rules.specs.Requests.{done}
-use Rattle.rules.specs.Verdict.{refusals}
-use Rattle.rules.specs.Bytes.{numberOf}
+use Rattle.rules.specs.Rules.Words.{Mode, simplex, duplex, modeNumber, Request, Config, Ours}
+use Rattle.rules.specs.Rules.Heard.{Heard, callRequest, digitsIn, requestIn, addressed, meaning}
+use Rattle.rules.specs.Rules.Kinds.{Plain, Means, asCallRequest, asDataRequest, asWorkingCall, asEndOfCall, asBq, asNothing, OnlyThese}
+use Rattle.rules.specs.Rules.Sound.{identityKeeps, configKeeps, numberKeeps, requestKeeps}
+use Rattle.rules.specs.Rules.Requests.{done}
+use Rattle.rules.specs.Rules.Verdict.{refusals}
+use Rattle.rules.specs.Rules.Bytes.{numberOf}
 use Rattle.rules.proofs.PlaceLaws.{and-true}
 use Rattle.rules.proofs.KindLaws.{only-these}
 

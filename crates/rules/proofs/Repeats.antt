@@ -7,18 +7,18 @@ use Prim.Native.Nat.{ℕ, zero, suc, _+_, _≤_}
 use native.Mathlib.Omega.{arith}
 use lib.Dec.{ltb}
 use lib.ListN.{length}
-use Rattle.rules.specs.Places.{modAt, shift, lowest, Each}
-use Rattle.rules.specs.Words.{Party, is, Request, Config, What, Event, Deed}
-use Rattle.rules.specs.Heard.{Heard, callRequest, nothing}
-use Rattle.rules.specs.Station.{Slot, Waiting, Station, theSlot, fresh, setSlot, setClock, setQueue, dueAfter, queueWait, answeredAt, isFree, offerOf}
-use Rattle.rules.specs.Requests.{Out, also, rungBack, freedFor, freed, coastEnd, owns, waitsFor, slotOf, placeOf, standsAt, standing, ruleA, repeated, afresh, ruleD, offer, ruleF, ruleG, eToG, newcomer, dToG, redial, requested}
-use Rattle.rules.specs.Calls.{actAt, act}
-use Rattle.rules.specs.Verdict.{verdict, play}
-use Rattle.rules.specs.Book.{Note, Stop, Book, blankBook}
-use Rattle.rules.specs.Reading.{read, reads, turn, readAll, heardAt}
-use Rattle.rules.specs.Repeated.{heardIn, toldToWait, lastAsked, Repeats, switchedOn, EachRead}
+use Rattle.rules.specs.Rules.Places.{modAt, shift, lowest, Each}
+use Rattle.rules.specs.Rules.Words.{Party, is, Request, Config, What, Event, Deed}
+use Rattle.rules.specs.Rules.Heard.{Heard, callRequest, nothing}
+use Rattle.rules.specs.Rules.Station.{Slot, Waiting, Station, theSlot, fresh, setSlot, setClock, setQueue, dueAfter, queueWait, answeredAt, isFree, offerOf}
+use Rattle.rules.specs.Rules.Requests.{Out, also, rungBack, freedFor, freed, coastEnd, owns, waitsFor, slotOf, placeOf, standsAt, standing, ruleA, repeated, afresh, ruleD, offer, ruleF, ruleG, eToG, newcomer, dToG, redial, requested}
+use Rattle.rules.specs.Rules.Calls.{actAt, act}
+use Rattle.rules.specs.Rules.Verdict.{verdict, play}
+use Rattle.rules.specs.ListAlone.Book.{Note, Stop, Book, blankBook}
+use Rattle.rules.specs.ListAlone.Reading.{read, reads, turn, readAll, heardAt}
+use Rattle.rules.specs.ListAlone.Repeated.{heardIn, toldToWait, lastAsked, Repeats, switchedOn, EachRead}
 use Rattle.rules.specs.Statement.{deedsOf, notes, AnswersRepeat, SecondRingRepeats, DialsAsked}
-use Rattle.rules.specs.ThreeWords.{Word}
+use Rattle.rules.specs.ListAlone.ThreeWords.{Word}
 use Rattle.rules.proofs.PlaceLaws.{shift-some, each-append}
 use Rattle.rules.proofs.Base.{rung-owns, view, seen, is-same, deeds-append, slot-lowest, fresh-each}
 use Rattle.rules.proofs.Accepted.{accepted, sounds}

@@ -4,11 +4,11 @@ use mathlib.Core.List.{List, [], map}
 use mathlib.Core.Bool.{Bool, true, false, cond}
 use mathlib.Core.Option.{Option, none, some}
 use Prim.Native.Nat.{ℕ}
-use Rattle.rules.specs.Words.{Party, Mode, simplex, duplex, Request}
-use Rattle.rules.specs.Station.{Kind, Stage, answeredAt, Dealing, Slot, pending, busy, Station, offerOf}
-use Rattle.rules.specs.Requests.{Out, ignored, owns, repeated, afresh, same, ruleB, redial, ruleC, bOrC}
-use Rattle.rules.specs.Book.{Stop, Line, blank}
-use Rattle.rules.specs.Reading.{again, tell, letGo, hush, stopOf, askedAgain}
+use Rattle.rules.specs.Rules.Words.{Party, Mode, simplex, duplex, Request}
+use Rattle.rules.specs.Rules.Station.{Kind, Stage, answeredAt, Dealing, Slot, pending, busy, Station, offerOf}
+use Rattle.rules.specs.Rules.Requests.{Out, ignored, owns, repeated, afresh, same, ruleB, redial, ruleC, bOrC}
+use Rattle.rules.specs.ListAlone.Book.{Stop, Line, blank}
+use Rattle.rules.specs.ListAlone.Reading.{again, tell, letGo, hush, stopOf, askedAgain}
 use Rattle.rules.specs.Statement.{owed}
 use Rattle.rules.proofs.Base.{by-slot, by-kind, by-stage, callIn, view, alike-same}
 

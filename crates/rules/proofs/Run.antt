@@ -4,18 +4,18 @@ use mathlib.Core.List.{List, [], _∷_, map}
 use mathlib.Core.Bool.{true}
 use mathlib.Core.Option.{Option, none, some}
 use Prim.Native.Nat.{ℕ, zero, suc}
-use Rattle.rules.specs.Places.{dropAt, distinct}
-use Rattle.rules.specs.Words.{is, Config, What, Event}
-use Rattle.rules.specs.Heard.{Heard}
-use Rattle.rules.specs.Actions.{Action}
-use Rattle.rules.specs.Station.{Waiting, Station, theSlot, fresh, setClock, setQueue}
-use Rattle.rules.specs.Sound.{owners}
-use Rattle.rules.specs.Requests.{Out, slotOf, placeOf, standing, ruleA, owns}
-use Rattle.rules.specs.Calls.{actAt, act}
-use Rattle.rules.specs.Verdict.{verdict, step, play, final}
-use Rattle.rules.specs.Book.{Note, Stop, Line, Place, atLine, blankBook, Book}
-use Rattle.rules.specs.Reading.{hear, reads, setNow, turn, stopsIn, Numbered, numbered, stops, fallsAt, momentOf, stopsAt}
-use Rattle.rules.specs.ThreeWords.{Word}
+use Rattle.rules.specs.Rules.Places.{dropAt, distinct}
+use Rattle.rules.specs.Rules.Words.{is, Config, What, Event}
+use Rattle.rules.specs.Rules.Heard.{Heard}
+use Rattle.rules.specs.Rules.Actions.{Action}
+use Rattle.rules.specs.Rules.Station.{Waiting, Station, theSlot, fresh, setClock, setQueue}
+use Rattle.rules.specs.Rules.Sound.{owners}
+use Rattle.rules.specs.Rules.Requests.{Out, slotOf, placeOf, standing, ruleA, owns}
+use Rattle.rules.specs.Rules.Calls.{actAt, act}
+use Rattle.rules.specs.Rules.Verdict.{verdict, step, play, final}
+use Rattle.rules.specs.ListAlone.Book.{Note, Stop, Line, Place, atLine, blankBook, Book}
+use Rattle.rules.specs.ListAlone.Reading.{hear, reads, setNow, turn, stopsIn, Numbered, numbered, stops, fallsAt, momentOf, stopsAt}
+use Rattle.rules.specs.ListAlone.ThreeWords.{Word}
 use Rattle.rules.specs.Statement.{deedsOf, chargesOf, notes, charged, owed, owedFor, ChargesAreStops, RefusedLeavesAll, Accepts, eventsOf, AllPlayed}
 use Rattle.rules.proofs.Base.{view, place, seen, is-same, fresh-mapped}
 use Rattle.rules.proofs.Pieces.{Good, good-done}

@@ -16,10 +16,10 @@ use Rattle.sequence.specs.Identity.{isShip, isCoast, identitiesOk}
 use Rattle.sequence.specs.Field.{isCall, unableSecond, telecommandsOk, channelOk, fieldOk}
 use Rattle.sequence.specs.Number.{numberOk}
 use Rattle.sequence.specs.Layout.{endOk, valid}
-use Rattle.rules.specs.Words.{Party, Mode, simplex, duplex, modeNumber, Request, Config, ours, Ours}
-use Rattle.rules.specs.Actions.{Ender, theShip, theCoast}
-use Rattle.rules.specs.Sound.{numberKeeps, requestKeeps, durationKeeps}
-use Rattle.rules.specs.Bytes.{padded, numberOf, answerTo, ableSaid, unableSaid, toldField, endSymbol, overSaid}
+use Rattle.rules.specs.Rules.Words.{Party, Mode, simplex, duplex, modeNumber, Request, Config, ours, Ours}
+use Rattle.rules.specs.Rules.Actions.{Ender, theShip, theCoast}
+use Rattle.rules.specs.Rules.Sound.{numberKeeps, requestKeeps, durationKeeps}
+use Rattle.rules.specs.Rules.Bytes.{padded, numberOf, answerTo, ableSaid, unableSaid, toldField, endSymbol, overSaid}
 use Rattle.rules.proofs.PlaceLaws.{and-true}
 use Rattle.rules.proofs.Spoken.{keeps}
 use Rattle.rules.proofs.Payloads.{padded-length}

@@ -6,13 +6,13 @@ use mathlib.Core.Bool.{Bool, true, false, cond}
 use Prim.Native.Nat.{ℕ, zero, suc, _<_}
 use lib.ListN.{getD, length}
 use lib.Dec.{eqb}
-use Rattle.rules.specs.Places.{modAt, Each}
-use Rattle.rules.specs.Words.{Request, Deed, carrierOn, carrierOff, acknowledge, ringBack, unable, dial, releaseLine}
-use Rattle.rules.specs.Actions.{theCoast, Action}
-use Rattle.rules.specs.Station.{Slot, Waiting, Station, theSlot, setSlot, setQueue, ringOf}
-use Rattle.rules.specs.Requests.{Out, ignored, also, rungBack, freedFor, freed, endActs, coastEnd}
-use Rattle.rules.specs.Book.{Stop, Line}
-use Rattle.rules.specs.ThreeWords.{Word, idle, ringing}
+use Rattle.rules.specs.Rules.Places.{modAt, Each}
+use Rattle.rules.specs.Rules.Words.{Request, Deed, carrierOn, carrierOff, acknowledge, ringBack, unable, dial, releaseLine}
+use Rattle.rules.specs.Rules.Actions.{theCoast, Action}
+use Rattle.rules.specs.Rules.Station.{Slot, Waiting, Station, theSlot, setSlot, setQueue, ringOf}
+use Rattle.rules.specs.Rules.Requests.{Out, ignored, also, rungBack, freedFor, freed, endActs, coastEnd}
+use Rattle.rules.specs.ListAlone.Book.{Stop, Line}
+use Rattle.rules.specs.ListAlone.ThreeWords.{Word, idle, ringing}
 use Rattle.rules.specs.Statement.{deedsOf}
 use Rattle.rules.proofs.PlaceLaws.{modAt-modAt, modAt-none}
 use Rattle.rules.proofs.Base.{deeds-append, slot-set, slot-stays}

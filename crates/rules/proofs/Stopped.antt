@@ -5,11 +5,11 @@ use mathlib.Core.Bool.{Bool, true, false, cond}
 use mathlib.Core.Option.{Option}
 use Prim.Native.Nat.{ℕ, zero, suc}
 use lib.ListN.{getD}
-use Rattle.rules.specs.Places.{all, Each}
-use Rattle.rules.specs.Words.{Party, Config, What}
-use Rattle.rules.specs.Waits.{Due}
-use Rattle.rules.specs.Book.{Stop, Call, quiet, Line, Book, blank, line}
-use Rattle.rules.specs.Reading.{stopOf, callOf, askedAgain, stopsAgain, stopsAt}
+use Rattle.rules.specs.Rules.Places.{all, Each}
+use Rattle.rules.specs.Rules.Words.{Party, Config, What}
+use Rattle.rules.specs.Rules.Waits.{Due}
+use Rattle.rules.specs.ListAlone.Book.{Stop, Call, quiet, Line, Book, blank, line}
+use Rattle.rules.specs.ListAlone.Reading.{stopOf, callOf, askedAgain, stopsAgain, stopsAt}
 use Rattle.rules.proofs.Hears.{Hears, says-nothing, says-begun, says-over, says-end, Hearing, no-line, one-line, all-lines, event-hearing}
 use Rattle.rules.proofs.PlaceLaws.{and-true, each-append}
 

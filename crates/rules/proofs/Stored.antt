@@ -12,12 +12,12 @@ use Rattle.units.specs.Units.{wholeSeconds, durationOf}
 use Rattle.units.specs.declared.Seconds.{Seconds}
 use Rattle.units.specs.declared.Told.the-variants.{Nothing, Lasting}
 use Rattle.sequence.specs.Field.{durationOk}
-use Rattle.rules.specs.Places.{modAt, dropAt, all}
-use Rattle.rules.specs.Words.{Request, Config}
-use Rattle.rules.specs.Actions.{Action}
-use Rattle.rules.specs.Station.{Slot, Waiting, Station, theSlot, setSlot, setClock, setQueue, answeredAt, ringOf, offerOf}
-use Rattle.rules.specs.Sound.{requestKeeps, durationKeeps, slotKeeps, waitingKeeps}
-use Rattle.rules.specs.Requests.{rungBack, freedFor, freed, lasted, ruleD, ruleF}
+use Rattle.rules.specs.Rules.Places.{modAt, dropAt, all}
+use Rattle.rules.specs.Rules.Words.{Request, Config}
+use Rattle.rules.specs.Rules.Actions.{Action}
+use Rattle.rules.specs.Rules.Station.{Slot, Waiting, Station, theSlot, setSlot, setClock, setQueue, answeredAt, ringOf, offerOf}
+use Rattle.rules.specs.Rules.Sound.{requestKeeps, durationKeeps, slotKeeps, waitingKeeps}
+use Rattle.rules.specs.Rules.Requests.{rungBack, freedFor, freed, lasted, ruleD, ruleF}
 use Rattle.rules.proofs.PlaceLaws.{and-true, modAt-length, all-set, all-end, all-dropped}
 use Rattle.rules.proofs.Outcome.{becomes, Move, to-dial, to-agree, to-ring, to-answer, to-lose, to-regain, to-hold, to-take}
 use Rattle.rules.proofs.Walk.{Closed}

@@ -6,10 +6,10 @@ use mathlib.Core.Option.{none, some}
 use Prim.Native.Nat.{ℕ, zero, suc, _+_, _-_}
 use native.Mathlib.Omega.{arith}
 use lib.ListN.{getD}
-use Rattle.rules.specs.Places.{modAt}
-use Rattle.rules.specs.Words.{Party, is, Mode, Config, What, Deed}
-use Rattle.rules.specs.Book.{Note, Stop, after, holdTime, Call, quiet, dialled, talking, Line, Book, blank}
-use Rattle.rules.specs.Reading.{closed, close, pickUp, signOff, again, hear, read, reads, setNow, turn, stopsIn, talked, talkedBy, falling, moment, stopOf, callOf, askedAgain, stopsAgain}
+use Rattle.rules.specs.Rules.Places.{modAt}
+use Rattle.rules.specs.Rules.Words.{Party, is, Mode, Config, What, Deed}
+use Rattle.rules.specs.ListAlone.Book.{Note, Stop, after, holdTime, Call, quiet, dialled, talking, Line, Book, blank}
+use Rattle.rules.specs.ListAlone.Reading.{closed, close, pickUp, signOff, again, hear, read, reads, setNow, turn, stopsIn, talked, talkedBy, falling, moment, stopOf, callOf, askedAgain, stopsAgain}
 use Rattle.rules.proofs.Hears.{line-of, talk, Same, Leaves, elsewhere, at-line, read-leaves, Hears, says-nothing, says-begun, says-over, says-end, Hearing, no-line, one-line, all-lines, event-hearing}
 
 -- ── the answered calls of a list of lines, up to a time ──────────────────────

@@ -8,14 +8,14 @@ use native.Mathlib.Omega.{arith}
 use lib.Dec.{eqb}
 use lib.ListN.{length, replicate}
 use borrow.Author.Tests.{leb-true}
-use Rattle.rules.specs.Places.{all}
-use Rattle.rules.specs.Words.{Party, Request, Config, What, Event, Deed, carrierOn, carrierOff, acknowledge, ringBack, unable, dial, releaseLine}
-use Rattle.rules.specs.Actions.{Charge}
-use Rattle.rules.specs.Station.{Slot, Station, fresh, answeredAt, answeredIn}
-use Rattle.rules.specs.Calls.{act}
-use Rattle.rules.specs.Verdict.{verdict, play, final}
-use Rattle.rules.specs.Book.{Note, Stop, after, Call, quiet, dialled, talking, Book, atPlaces, blank}
-use Rattle.rules.specs.Reading.{join, read, reads, turn, stopsIn, Numbered, numbered, isTalking, talkers, counted, talked, talkedBy, falling, moment}
+use Rattle.rules.specs.Rules.Places.{all}
+use Rattle.rules.specs.Rules.Words.{Party, Request, Config, What, Event, Deed, carrierOn, carrierOff, acknowledge, ringBack, unable, dial, releaseLine}
+use Rattle.rules.specs.Rules.Actions.{Charge}
+use Rattle.rules.specs.Rules.Station.{Slot, Station, fresh, answeredAt, answeredIn}
+use Rattle.rules.specs.Rules.Calls.{act}
+use Rattle.rules.specs.Rules.Verdict.{verdict, play, final}
+use Rattle.rules.specs.ListAlone.Book.{Note, Stop, after, Call, quiet, dialled, talking, Book, atPlaces, blank}
+use Rattle.rules.specs.ListAlone.Reading.{join, read, reads, turn, stopsIn, Numbered, numbered, isTalking, talkers, counted, talked, talkedBy, falling, moment}
 use Rattle.rules.specs.Statement.{notes, charged, owed, tenthsIn, heldFrom, heldSlot, heldSlots, heldTenths, TenthsAgree}
 use Rattle.rules.proofs.PlaceLaws.{and-true}
 use Rattle.rules.proofs.Base.{callIn, view, seen, Calling, no-call, a-call, calling, fresh-mapped, begun, begunBy}

@@ -5,7 +5,7 @@ use mathlib.Core.List.{List, [], _∷_, map}
 use lib.Dec.{eqb}
 use borrow.Author.Tests.{eqb-true}
 use Rattle.sequence.proofs.Tests.{both-true}
-use Rattle.rules.specs.Cases.{Row}
+use Rattle.rules.specs.Tables.Cases.{Row}
 
 abbrev alike : {A : Type 0} → (A → A → Bool) → List A → List A → Bool
 alike t [] [] = true

@@ -6,18 +6,18 @@ use mathlib.Core.Option.{Option, none, some}
 use Prim.Native.Nat.{ℕ}
 use lib.Dec.{ltb}
 use lib.ListN.{length}
-use Rattle.rules.specs.Places.{dropAt, lowest}
-use Rattle.rules.specs.Words.{is, Request, Config, Event}
-use Rattle.rules.specs.Heard.{Heard, callRequest}
-use Rattle.rules.specs.Station.{Dealing, Kind, Slot, pending, Station, theSlot, setSlot, setClock, setQueue, answeredAt, isFree, offerOf}
-use Rattle.rules.specs.Sound.{requestKeeps, queueRoom}
-use Rattle.rules.specs.Requests.{Out, freed, coastEnd, owns, slotOf, placeOf, standsAt, standing, ruleA, repeated, afresh, ruleD, offer, ruleF, ruleG, eToG, newcomer, dToG, redial, requested}
-use Rattle.rules.specs.Calls.{act}
-use Rattle.rules.specs.Verdict.{verdict}
-use Rattle.rules.specs.Actions.{Action}
-use Rattle.rules.specs.Book.{Stop, Line, Book}
-use Rattle.rules.specs.Reading.{closed, moment}
-use Rattle.rules.specs.ThreeWords.{Word}
+use Rattle.rules.specs.Rules.Places.{dropAt, lowest}
+use Rattle.rules.specs.Rules.Words.{is, Request, Config, Event}
+use Rattle.rules.specs.Rules.Heard.{Heard, callRequest}
+use Rattle.rules.specs.Rules.Station.{Dealing, Kind, Slot, pending, Station, theSlot, setSlot, setClock, setQueue, answeredAt, isFree, offerOf}
+use Rattle.rules.specs.Rules.Sound.{requestKeeps, queueRoom}
+use Rattle.rules.specs.Rules.Requests.{Out, freed, coastEnd, owns, slotOf, placeOf, standsAt, standing, ruleA, repeated, afresh, ruleD, offer, ruleF, ruleG, eToG, newcomer, dToG, redial, requested}
+use Rattle.rules.specs.Rules.Calls.{act}
+use Rattle.rules.specs.Rules.Verdict.{verdict}
+use Rattle.rules.specs.Rules.Actions.{Action}
+use Rattle.rules.specs.ListAlone.Book.{Stop, Line, Book}
+use Rattle.rules.specs.ListAlone.Reading.{closed, moment}
+use Rattle.rules.specs.ListAlone.ThreeWords.{Word}
 use Rattle.rules.proofs.Readable.{heard-keeps}
 use Rattle.rules.proofs.Base.{seen, slot-lowest}
 use Rattle.rules.proofs.Outcome.{stays, becomes, frees, Move, Outcome, passed, moved}

@@ -8,12 +8,12 @@ use native.Mathlib.Omega.{arith}
 use lib.Dec.{ltb}
 use lib.ListN.{getD, length, length-append}
 use borrow.Author.Tests.{leb-true, ltb-true}
-use Rattle.rules.specs.Places.{modAt, dropAt, all}
-use Rattle.rules.specs.Words.{Party, is, Request, Config}
-use Rattle.rules.specs.Actions.{Action}
-use Rattle.rules.specs.Station.{Dealing, Kind, Slot, pending, Waiting, Station, theSlot, setSlot, setQueue, dueAfter, queueWait, ringOf, offerOf}
-use Rattle.rules.specs.Sound.{queueRoom, slotFits, placeFits}
-use Rattle.rules.specs.Requests.{rungBack, freedFor, freed, owns, waitsFor, placeOf, ruleD, ruleF}
+use Rattle.rules.specs.Rules.Places.{modAt, dropAt, all}
+use Rattle.rules.specs.Rules.Words.{Party, is, Request, Config}
+use Rattle.rules.specs.Rules.Actions.{Action}
+use Rattle.rules.specs.Rules.Station.{Dealing, Kind, Slot, pending, Waiting, Station, theSlot, setSlot, setQueue, dueAfter, queueWait, ringOf, offerOf}
+use Rattle.rules.specs.Rules.Sound.{queueRoom, slotFits, placeFits}
+use Rattle.rules.specs.Rules.Requests.{rungBack, freedFor, freed, owns, waitsFor, placeOf, ruleD, ruleF}
 use Rattle.rules.proofs.PlaceLaws.{and-true, lowest-is, all-set, all-end, all-dropped, dropped-length}
 use Rattle.rules.proofs.Base.{is-true, slot-all, offer-fits, ring-fits, new-wait}
 use Rattle.rules.proofs.Accepted.{Sound}

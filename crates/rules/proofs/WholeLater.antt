@@ -7,10 +7,10 @@ use Prim.Native.Nat.{ℕ, suc, _≤_}
 use native.Mathlib.Omega.{arith}
 use lib.Dec.{leb}
 use borrow.Author.Tests.{leb-true}
-use Rattle.rules.specs.Places.{all}
-use Rattle.rules.specs.Waits.{Wait, loss, main, Due, running, queueTable}
-use Rattle.rules.specs.Station.{Slot, Waiting, Station, setClock, lossDue, mainDue, slotTable, table, queueWait}
-use Rattle.rules.specs.Sound.{slotFits, placeFits}
+use Rattle.rules.specs.Rules.Places.{all}
+use Rattle.rules.specs.Rules.Waits.{Wait, loss, main, Due, running, queueTable}
+use Rattle.rules.specs.Rules.Station.{Slot, Waiting, Station, setClock, lossDue, mainDue, slotTable, table, queueWait}
+use Rattle.rules.specs.Rules.Sound.{slotFits, placeFits}
 use Rattle.rules.proofs.PlaceLaws.{and-true}
 use Rattle.rules.proofs.Whole.{Whole}
 use Rattle.rules.proofs.Moments.{From}

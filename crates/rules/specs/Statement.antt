@@ -6,18 +6,18 @@ use mathlib.Core.Option.{Option, none, some}
 use Prim.Native.Nat.{ℕ, suc, _+_, _-_, _/_, _<_, _≤_}
 use lib.ListN.{length}
 use Rattle.units.specs.declared.Seconds.{Seconds}
-use Rattle.rules.specs.Places.{lowest, Each}
-use Rattle.rules.specs.Words.{Config, Event, Deed}
-use Rattle.rules.specs.Actions.{Charge, Action, does, over, charge}
-use Rattle.rules.specs.Station.{Slot, Waiting, Station, fresh, answeredIn, isFree}
-use Rattle.rules.specs.Sound.{sound}
-use Rattle.rules.specs.Calls.{act}
-use Rattle.rules.specs.Verdict.{verdict, setUpVerdict, Entry, play, final}
-use Rattle.rules.specs.Bytes.{payloadOf}
-use Rattle.rules.specs.Book.{Book, Note, Stop, line, blankBook}
-use Rattle.rules.specs.Reading.{Numbered, numbered, stops, counted, countedByCalls, readAll}
-use Rattle.rules.specs.ThreeWords.{idle, wordAfter, wordOf}
-use Rattle.rules.specs.Repeated.{Answers, RingsSame, DialsNamed, DeedByDeed}
+use Rattle.rules.specs.Rules.Places.{lowest, Each}
+use Rattle.rules.specs.Rules.Words.{Config, Event, Deed}
+use Rattle.rules.specs.Rules.Actions.{Charge, Action, does, over, charge}
+use Rattle.rules.specs.Rules.Station.{Slot, Waiting, Station, fresh, answeredIn, isFree}
+use Rattle.rules.specs.Rules.Sound.{sound}
+use Rattle.rules.specs.Rules.Calls.{act}
+use Rattle.rules.specs.Rules.Verdict.{verdict, setUpVerdict, Entry, play, final}
+use Rattle.rules.specs.Rules.Bytes.{payloadOf}
+use Rattle.rules.specs.ListAlone.Book.{Book, Note, Stop, line, blankBook}
+use Rattle.rules.specs.ListAlone.Reading.{Numbered, numbered, stops, counted, countedByCalls, readAll}
+use Rattle.rules.specs.ListAlone.ThreeWords.{idle, wordAfter, wordOf}
+use Rattle.rules.specs.ListAlone.Repeated.{Answers, RingsSame, DialsNamed, DeedByDeed}
 
 -- ── the list, and the charges in it ──────────────────────────────────────────
 

@@ -11,8 +11,8 @@ use borrow.Author.Tests.{leb-true, eq-eqb, ne-eqb}
 use Rattle.units.specs.declared.Channel.{Channel}
 use Rattle.sequence.proofs.Paste.{front-turn}
 use Rattle.sequence.proofs.Tests.{both-true}
-use Rattle.rules.specs.Places.{all}
-use Rattle.rules.specs.Bytes.{padded}
+use Rattle.rules.specs.Rules.Places.{all}
+use Rattle.rules.specs.Rules.Bytes.{padded}
 use Rattle.requests.proofs.ArrayLaws.{padded-front}
 use Rattle.lines.specs.declared.Form.{Form}
 use Rattle.lines.specs.declared.Form.the-variants.{Symbols, SlotSymbols, Signalled, Operated, Alone}

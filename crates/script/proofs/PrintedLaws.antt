@@ -8,15 +8,15 @@ use native.Mathlib.Omega.{arith}
 use lib.Dec.{eqb}
 use lib.ListN.{length}
 use Rattle.sequence.proofs.Tests.{Either, yes!, no!, which}
-use Rattle.rules.specs.Places.{Each}
-use Rattle.rules.specs.Words.{Config, What, Event}
-use Rattle.rules.specs.Station as R
-use Rattle.rules.specs.Station.{fresh, nextDue}
-use Rattle.rules.specs.Sound.{configKeeps, sound}
-use Rattle.rules.specs.Requests.{done}
-use Rattle.rules.specs.Calls.{act}
-use Rattle.rules.specs.Verdict.{verdict, setUpVerdict, step, final}
-use Rattle.rules.specs.Printed.{lines, printed}
+use Rattle.rules.specs.Rules.Places.{Each}
+use Rattle.rules.specs.Rules.Words.{Config, What, Event}
+use Rattle.rules.specs.Rules.Station as R
+use Rattle.rules.specs.Rules.Station.{fresh, nextDue}
+use Rattle.rules.specs.Rules.Sound.{configKeeps, sound}
+use Rattle.rules.specs.Rules.Requests.{done}
+use Rattle.rules.specs.Rules.Calls.{act}
+use Rattle.rules.specs.Rules.Verdict.{verdict, setUpVerdict, step, final}
+use Rattle.rules.specs.Rules.Printed.{lines, printed}
 use Rattle.rules.specs.Statement.{AtMostEight, AlwaysSound}
 use Rattle.rules.proofs.Eight.{at-most-eight}
 use Rattle.rules.proofs.Kept.{stays-sound, always-sound}

@@ -11,7 +11,7 @@ use lib.ListN.{length, take, drop, set, length-append}
 use lib.Seq.{take-at, take-all}
 use borrow.Author.Tests.{le-leb, lt-leb, ltb-true, ltb-false, leb-true, leb-false, eqb-true, ne-eqb}
 use Rattle.sequence.proofs.Tests.{Either, yes!, no!, which}
-use Rattle.rules.specs.Bytes.{padded}
+use Rattle.rules.specs.Rules.Bytes.{padded}
 use Rattle.requests.proofs.ArrayLaws.{padded-front, padded-snoc}
 use Rattle.lines.specs.Lines.{Said}
 use Rattle.lines.specs.Readable.{readsAs}

@@ -5,9 +5,9 @@ use mathlib.Core.Option.{Option, none, some}
 use Prim.Native.Nat.{ℕ}
 use lib.Dec.{eqb}
 use lib.ListN.{replicate}
-use Rattle.rules.specs.Words.{Config}
-use Rattle.rules.specs.Station.{nextDue}
-use Rattle.rules.specs.Verdict.{roomNeeded}
+use Rattle.rules.specs.Rules.Words.{Config}
+use Rattle.rules.specs.Rules.Station.{nextDue}
+use Rattle.rules.specs.Rules.Verdict.{roomNeeded}
 use Rattle.slots.specs.Images.{tenths}
 use Rattle.units.specs.declared.Tenths.{Tenths}
 use Rattle.lines.specs.Lines.{Asked, Said, setsUp, happens}

@@ -3,7 +3,7 @@ use mathlib.Core.List.{List, map}
 use mathlib.Core.Option.{Option, none, some}
 use Prim.Native.Nat.{ℕ, _-_, _%_, min}
 use lib.ListN.{getD, take, drop}
-use Rattle.rules.specs.Words.{What, Event}
+use Rattle.rules.specs.Rules.Words.{What, Event}
 use Rattle.lines.specs.declared.Form.{Form}
 use Rattle.lines.specs.declared.Form.the-variants.{Symbols, SlotSymbols, Signalled, Operated, Alone}
 use Rattle.lines.specs.declared.Kind.{Kind}

@@ -5,12 +5,12 @@ use mathlib.Core.Option.{Option, none, some}
 use mathlib.Core.Path.{_≡_}
 use Prim.Native.Nat.{ℕ}
 use lib.Dec.{eqb}
-use Rattle.rules.specs.Places.{Each}
-use Rattle.rules.specs.Words.{Config, What, Event}
-use Rattle.rules.specs.Station.{Station, fresh}
-use Rattle.rules.specs.Requests.{Out, done}
-use Rattle.rules.specs.Verdict.{setUpVerdict, roomNeeded, step}
-use Rattle.rules.specs.Printed.{lines, printed}
+use Rattle.rules.specs.Rules.Places.{Each}
+use Rattle.rules.specs.Rules.Words.{Config, What, Event}
+use Rattle.rules.specs.Rules.Station.{Station, fresh}
+use Rattle.rules.specs.Rules.Requests.{Out, done}
+use Rattle.rules.specs.Rules.Verdict.{setUpVerdict, roomNeeded, step}
+use Rattle.rules.specs.Rules.Printed.{lines, printed}
 use Rattle.lines.specs.Lines.{Asked, Said, setsUp, happens}
 use Rattle.lines.specs.Readable.{readsAs}
 use Rattle.printing.specs.Statement.{linesText}

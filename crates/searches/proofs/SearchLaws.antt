@@ -6,7 +6,7 @@ use mathlib.Core.Option.{none, some}
 use mathlib.Core.Path.{_≡_, refl, ap, _∙_}
 use native.Mathlib.Numerals.{add-one}
 use lib.ListN.{length, getD}
-use Rattle.rules.specs.Places.{lowest, shift}
+use Rattle.rules.specs.Rules.Places.{lowest, shift}
 use Rattle.requests.specs.Views.{viewed, left}
 use Rattle.requests.proofs.ArrayLaws.{left-all, left-more, left-none}
 use Rattle.searches.specs.Searches.{lowestFrom}

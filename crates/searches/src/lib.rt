@@ -2,10 +2,10 @@
 ghost use mathlib.Core.Path.{_≡_};
 ghost use Prim.Native.Nat.{_<_};
 ghost use mathlib.Core.Option.{none};
-ghost use Rattle.rules.specs.Places.{lowest};
-ghost use Rattle.rules.specs.Heard.{sameChannel};
-ghost use Rattle.rules.specs.Station.{isFree};
-ghost use Rattle.rules.specs.Requests.{owns, waitsFor, standsAt};
+ghost use Rattle.rules.specs.Rules.Places.{lowest};
+ghost use Rattle.rules.specs.Rules.Heard.{sameChannel};
+ghost use Rattle.rules.specs.Rules.Station.{isFree};
+ghost use Rattle.rules.specs.Rules.Requests.{owns, waitsFor, standsAt};
 ghost use Rattle.requests.specs.Views.{viewed, left, partyOf};
 ghost use Rattle.slots.specs.Views.{slotView, waitingView, channelOf, foundView, placeView, standingView};
 ghost use Rattle.searches.specs.Searches.{lowestFrom};

@@ -7,11 +7,11 @@ use native.Mathlib.Nat.{le-of-suc-le-suc, not-suc-le-zero}
 use native.Mathlib.Omega.{arith}
 use lib.ListN.{length, length-map, take}
 use Rattle.units.specs.declared.Channel.{Channel}
-use Rattle.rules.specs.Words as W
-use Rattle.rules.specs.Words.{Config, simplex, duplex}
-use Rattle.rules.specs.Places.{Each}
-use Rattle.rules.specs.Bytes.{padded}
-use Rattle.rules.specs.Station as R
+use Rattle.rules.specs.Rules.Words as W
+use Rattle.rules.specs.Rules.Words.{Config, simplex, duplex}
+use Rattle.rules.specs.Rules.Places.{Each}
+use Rattle.rules.specs.Rules.Bytes.{padded}
+use Rattle.rules.specs.Rules.Station as R
 use Rattle.requests.specs.Views.{viewed, itself, modeOf, digitsOf, requestOf}
 use Rattle.requests.specs.Images.{modeImage, requestImage}
 use Rattle.slots.specs.declared.Slot.{Slot}

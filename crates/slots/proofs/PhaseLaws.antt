@@ -9,14 +9,14 @@ use types.Run.{OneOf, miss}
 use denote.Enum.Declared.{tagOf}
 use Rattle.units.specs.declared.Tenths.{Tenths}
 use Rattle.units.specs.declared.Told.{Told}
-use Rattle.rules.specs.Words as W
-use Rattle.rules.specs.Words.{is, Party, Config}
-use Rattle.rules.specs.Places.{isSome}
-use Rattle.rules.specs.Station as R
-use Rattle.rules.specs.Station.{dealing, free, taken, pending, busy, held, offered, firstRing, secondRing, acknowledged, dialling, answered, shipOf, answeredIn, lossDue, mainDue}
-use Rattle.rules.specs.Requests.{isOf, owns}
+use Rattle.rules.specs.Rules.Words as W
+use Rattle.rules.specs.Rules.Words.{is, Party, Config}
+use Rattle.rules.specs.Rules.Places.{isSome}
+use Rattle.rules.specs.Rules.Station as R
+use Rattle.rules.specs.Rules.Station.{dealing, free, taken, pending, busy, held, offered, firstRing, secondRing, acknowledged, dialling, answered, shipOf, answeredIn, lossDue, mainDue}
+use Rattle.rules.specs.Rules.Requests.{isOf, owns}
 use Rattle.rules.proofs.PlaceLaws.{and-true}
-use Rattle.rules.specs.Sound.{listed, owner, requestKeeps, durationKeeps, slotKeeps, lossFits, slotFits}
+use Rattle.rules.specs.Rules.Sound.{listed, owner, requestKeeps, durationKeeps, slotKeeps, lossFits, slotFits}
 use Rattle.requests.specs.Images.{requestImage, blankRequest}
 use Rattle.slots.specs.declared.Carrier.{Carrier}
 use Rattle.slots.specs.declared.Carrier.the-variants.{Present, Lost}

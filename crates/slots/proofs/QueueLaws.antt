@@ -7,7 +7,7 @@ use native.Mathlib.Nat.{le-of-suc-le-suc, not-suc-le-zero, eq-or-lt-of-le}
 use native.Mathlib.Omega.{arith}
 use native.Mathlib.Numerals.{add-one}
 use lib.ListN.{length, getD, set, take}
-use Rattle.rules.specs.Places.{modAt, dropAt}
+use Rattle.rules.specs.Rules.Places.{modAt, dropAt}
 use Rattle.requests.proofs.ArrayLaws.{viewed-length}
 use Rattle.requests.specs.Views.{viewed}
 

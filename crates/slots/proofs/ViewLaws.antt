@@ -1,7 +1,7 @@
 -- A mode laid out again is the mode; two records that stand for one thing are one.
 use mathlib.Core.Path.{_≡_, refl, ap}
 use Rattle.units.specs.declared.SlotNumber.{SlotNumber}
-use Rattle.rules.specs.Waits as T
+use Rattle.rules.specs.Rules.Waits as T
 use Rattle.requests.specs.declared.Mode.{Mode}
 use Rattle.requests.specs.declared.Mode.the-variants.{Simplex, Duplex}
 use Rattle.requests.specs.Views.{modeOf}

@@ -7,11 +7,11 @@ use lib.ListN.{length}
 use Rattle.units.specs.declared.Channel.{Channel}
 use Rattle.units.specs.declared.Tenths.{Tenths}
 use Rattle.sequence.specs.Figures.{mostDigits}
-use Rattle.rules.specs.Words.{Config, Request as Asked}
-use Rattle.rules.specs.Places.{Each}
-use Rattle.rules.specs.Station as R
-use Rattle.rules.specs.Station.{free}
-use Rattle.rules.specs.Sound.{mostSlots, queueRoom}
+use Rattle.rules.specs.Rules.Words.{Config, Request as Asked}
+use Rattle.rules.specs.Rules.Places.{Each}
+use Rattle.rules.specs.Rules.Station as R
+use Rattle.rules.specs.Rules.Station.{free}
+use Rattle.rules.specs.Rules.Sound.{mostSlots, queueRoom}
 use Rattle.requests.specs.declared.Request.{Request}
 use Rattle.requests.specs.Images.{requestImage, blankRequest}
 use Rattle.slots.specs.declared.Slot.{Slot}

@@ -3,13 +3,13 @@ use Prim.Native.Nat.{ℕ}
 use mathlib.Core.List.{List, []}
 use mathlib.Core.Option.{Option, none, some}
 use Rattle.units.specs.declared.Channel.{Channel}
-use Rattle.rules.specs.Words as W
-use Rattle.rules.specs.Words.{lineLifted, lineHung, carrierHeard, carrierLost, handTakes, handGives}
-use Rattle.rules.specs.Waits as T
-use Rattle.rules.specs.Waits.{ofQueue, loss, main}
-use Rattle.rules.specs.Station as R
-use Rattle.rules.specs.Requests as Q
-use Rattle.rules.specs.Requests.{nowhere, holds, waits}
+use Rattle.rules.specs.Rules.Words as W
+use Rattle.rules.specs.Rules.Words.{lineLifted, lineHung, carrierHeard, carrierLost, handTakes, handGives}
+use Rattle.rules.specs.Rules.Waits as T
+use Rattle.rules.specs.Rules.Waits.{ofQueue, loss, main}
+use Rattle.rules.specs.Rules.Station as R
+use Rattle.rules.specs.Rules.Requests as Q
+use Rattle.rules.specs.Rules.Requests.{nowhere, holds, waits}
 use Rattle.requests.specs.declared.Mode.the-variants.{Simplex}
 use Rattle.requests.specs.declared.Request.{Request}
 use Rattle.requests.specs.Views.{viewed, requestOf}

@@ -2,7 +2,7 @@
 ghost use mathlib.Core.Path.{_≡_};
 ghost use Prim.Native.Nat.{_<_};
 ghost use Rattle.sequence.specs.Figures.{mostDigits};
-ghost use Rattle.rules.specs.Bytes.{padded};
+ghost use Rattle.rules.specs.Rules.Bytes.{padded};
 ghost use Rattle.requests.specs.Views.{viewed, itself};
 ghost use Rattle.requests.specs.Images.{tidyRequest};
 ghost use Rattle.slots.specs.Images.{freeOn, blankSlot, blankWaiting, tidySlot, tidyWaiting};

@@ -3,7 +3,7 @@ pub mod laying;
 pub mod mast;
 
 ghost use mathlib.Core.Path.{_≡_};
-ghost use Rattle.rules.specs.Station.{isFree, isTaken, lossDue, mainDue};
+ghost use Rattle.rules.specs.Rules.Station.{isFree, isTaken, lossDue, mainDue};
 ghost use Rattle.slots.specs.Phases.{carrierOf, stored, owned, toldIn, spanOf, dueIn, carrierIn};
 ghost use Rattle.slots.specs.Views.{slotView, whenView};
 use requests::Request;

@@ -1,7 +1,7 @@
 // Whose calls a station answers.
 ghost use mathlib.Core.Path.{_≡_};
-ghost use Rattle.rules.specs.Words.{ours};
-ghost use Rattle.rules.specs.Sound.{identityKeeps};
+ghost use Rattle.rules.specs.Rules.Words.{ours};
+ghost use Rattle.rules.specs.Rules.Sound.{identityKeeps};
 ghost use Rattle.slots.specs.Views.{named};
 use sequence::parts::is_coast;
 

@@ -11,8 +11,8 @@ use borrow.Author.Tests.{le-leb, lt-leb, ltb-true, ltb-false}
 use Rattle.sequence.specs.Symbols.{allAtMost}
 use Rattle.sequence.proofs.Rest.{rest}
 use Rattle.units.specs.declared.Channel.{Channel}
-use Rattle.rules.specs.Places.{all}
-use Rattle.rules.specs.Sound.{requestKeeps, slotKeeps, waitingKeeps}
+use Rattle.rules.specs.Rules.Places.{all}
+use Rattle.rules.specs.Rules.Sound.{requestKeeps, slotKeeps, waitingKeeps}
 use Rattle.requests.specs.Views.{viewed, itself, requestOf}
 use Rattle.slots.specs.declared.Slot.{Slot}
 use Rattle.slots.specs.declared.Waiting.{Waiting}

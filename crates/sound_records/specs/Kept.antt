@@ -9,7 +9,7 @@ use Rattle.sequence.specs.Figures.{mostDigits}
 use Rattle.sequence.specs.Symbols.{allAtMost}
 use Rattle.sequence.specs.Field.{channelOk}
 use Rattle.units.specs.declared.Tenths.{Tenths}
-use Rattle.rules.specs.Sound.{slotKeeps, waitingKeeps, slotFits, placeFits}
+use Rattle.rules.specs.Rules.Sound.{slotKeeps, waitingKeeps, slotFits, placeFits}
 use Rattle.slots.specs.declared.Slot.{Slot}
 use Rattle.slots.specs.declared.mast.Mast.{Mast}
 use Rattle.slots.specs.declared.Waiting.{Waiting}

@@ -1,7 +1,7 @@
 // The stored requests and the hold durations.
 ghost use mathlib.Core.Path.{_≡_};
 ghost use mathlib.Core.Bool.{_&&_};
-ghost use Rattle.rules.specs.Sound.{numberKeeps, requestKeeps, durationKeeps, slotKeeps};
+ghost use Rattle.rules.specs.Rules.Sound.{numberKeeps, requestKeeps, durationKeeps, slotKeeps};
 ghost use Rattle.requests.specs.Views.{requestOf, digitsOf};
 ghost use Rattle.slots.specs.Views.{named, slotView};
 ghost use Rattle.sound_records.specs.Kept.{mostAt, digitsFit, numberExact, slotExact};

@@ -1,7 +1,7 @@
 // The due times and the answered starts, held to the clock.
 ghost use mathlib.Core.Path.{_≡_};
 ghost use Prim.Native.Nat.{_+_, _<_};
-ghost use Rattle.rules.specs.Sound.{fits, lossFits, slotFits};
+ghost use Rattle.rules.specs.Rules.Sound.{fits, lossFits, slotFits};
 ghost use Rattle.requests.specs.Views.{modeOf};
 ghost use Rattle.slots.specs.Phases.{carrierOf, spanFits};
 ghost use Rattle.slots.specs.Views.{slotView};

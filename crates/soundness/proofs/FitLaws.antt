@@ -9,10 +9,10 @@ use lib.ListN.{length}
 use borrow.Author.Tests.{leb-true, eqb-true}
 use Rattle.sequence.specs.Identity.{isShip}
 use Rattle.sequence.specs.Symbols.{within}
-use Rattle.rules.specs.Words.{Config, Request, ours}
-use Rattle.rules.specs.Places.{all, Each}
-use Rattle.rules.specs.Station as R
-use Rattle.rules.specs.Sound.{identityKeeps, channelsKeep, configKeeps, oneSlotEach, numberKeeps, requestKeeps, slotKeeps, waitingKeeps, sound}
+use Rattle.rules.specs.Rules.Words.{Config, Request, ours}
+use Rattle.rules.specs.Rules.Places.{all, Each}
+use Rattle.rules.specs.Rules.Station as R
+use Rattle.rules.specs.Rules.Sound.{identityKeeps, channelsKeep, configKeeps, oneSlotEach, numberKeeps, requestKeeps, slotKeeps, waitingKeeps, sound}
 use Rattle.rules.proofs.PlaceLaws.{and-true}
 use Rattle.rules.proofs.Accepted.{sounds}
 use Rattle.slots.specs.Images.{Short, ShortSlot, Fits}

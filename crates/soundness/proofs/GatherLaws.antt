@@ -9,12 +9,12 @@ use lib.ListN.{length, take, getD, set, length-append}
 use borrow.Author.Tests.{eqb-true, eq-eqb}
 use Rattle.units.specs.declared.Channel.{Channel}
 use Rattle.sequence.specs.Identity.{isShip}
-use Rattle.rules.specs.Words.{is, Party, Request, Config, ours}
-use Rattle.rules.specs.Places.{all, elem, distinct}
-use Rattle.rules.specs.Heard.{sameChannel}
-use Rattle.rules.specs.Sound.{requestKeeps, durationKeeps, slotKeeps, waitingKeeps, owner, owners}
+use Rattle.rules.specs.Rules.Words.{is, Party, Request, Config, ours}
+use Rattle.rules.specs.Rules.Places.{all, elem, distinct}
+use Rattle.rules.specs.Rules.Heard.{sameChannel}
+use Rattle.rules.specs.Rules.Sound.{requestKeeps, durationKeeps, slotKeeps, waitingKeeps, owner, owners}
 use Rattle.rules.proofs.PlaceLaws.{and-true}
-use Rattle.rules.specs.Bytes.{padded}
+use Rattle.rules.specs.Rules.Bytes.{padded}
 use Rattle.requests.specs.Views.{viewed, left, itself, requestOf}
 use Rattle.requests.proofs.ArrayLaws.{padded-length, padded-front, padded-snoc, viewed-more, viewed-min, viewed-length, left-all, left-more}
 use Rattle.slots.specs.declared.Phase.{Phase}

@@ -10,10 +10,10 @@ use borrow.Author.Tests.{leb-true, le-leb, eq-eqb}
 use Rattle.units.specs.declared.Tenths.{Tenths}
 use Rattle.sequence.specs.Symbols.{within}
 use Rattle.sequence.specs.Field.{channelOk}
-use Rattle.rules.specs.Places.{all, distinct}
-use Rattle.rules.specs.Heard.{sameChannel}
-use Rattle.rules.specs.Station as R
-use Rattle.rules.specs.Sound.{identityKeeps, channelsKeep, configKeeps, oneSlotEach, slotKeeps, waitingKeeps, slotFits, placeFits, limit, sound}
+use Rattle.rules.specs.Rules.Places.{all, distinct}
+use Rattle.rules.specs.Rules.Heard.{sameChannel}
+use Rattle.rules.specs.Rules.Station as R
+use Rattle.rules.specs.Rules.Sound.{identityKeeps, channelsKeep, configKeeps, oneSlotEach, slotKeeps, waitingKeeps, slotFits, placeFits, limit, sound}
 use Rattle.rules.proofs.PlaceLaws.{and-true}
 use Rattle.rules.proofs.Accepted.{sounds, is-sound}
 use Rattle.requests.specs.Views.{viewed, itself}

@@ -4,7 +4,7 @@ use mathlib.Core.Bool.{Bool, cond, _&&_}
 use mathlib.Core.List.{List, [], _∷_}
 use lib.Dec.{leb}
 use Rattle.units.specs.declared.Tenths.{Tenths}
-use Rattle.rules.specs.Sound.{identityKeeps, mostSlots, queueRoom, limit}
+use Rattle.rules.specs.Rules.Sound.{identityKeeps, mostSlots, queueRoom, limit}
 use Rattle.slots.specs.declared.Slot.{Slot}
 use Rattle.slots.specs.declared.Waiting.{Waiting}
 use Rattle.slots.specs.declared.mast.Mast.{Mast}

@@ -1,7 +1,7 @@
 // What a station is held to beside its single records: identity, clock, counts, and channels of which none stands twice.
 ghost use mathlib.Core.Path.{_≡_};
 ghost use Prim.Native.Nat.{_<_};
-ghost use Rattle.rules.specs.Sound.{channelsKeep, configKeeps};
+ghost use Rattle.rules.specs.Rules.Sound.{channelsKeep, configKeeps};
 ghost use Rattle.requests.specs.Views.{viewed};
 ghost use Rattle.slots.specs.Views.{channelOf, configFor};
 ghost use Rattle.soundness.specs.Soundly.{headSound};

@@ -4,9 +4,9 @@ use mathlib.Core.Bool.{Bool, true, false, cond}
 use mathlib.Core.Path.{_≡_, refl}
 use lib.Dec.{ltb}
 use Rattle.units.specs.declared.Tenths.{Tenths}
-use Rattle.rules.specs.Words.{Request}
-use Rattle.rules.specs.Sound.{queueRoom}
-use Rattle.rules.specs.Station as R
+use Rattle.rules.specs.Rules.Words.{Request}
+use Rattle.rules.specs.Rules.Sound.{queueRoom}
+use Rattle.rules.specs.Rules.Station as R
 use Rattle.slots.specs.declared.Phase.{Phase}
 use Rattle.slots.proofs.PhaseLaws.{by-phase}
 use Rattle.outcomes.specs.declared.Outcome.{Outcome}

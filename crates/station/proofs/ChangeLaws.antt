@@ -4,9 +4,9 @@ use mathlib.Core.List.{List, [], _∷_, _++_}
 use mathlib.Core.Path.{_≡_, refl, sym, ap, _∙_}
 use native.Mathlib.Omega.{arith}
 use lib.ListN.{length, length-append, getD, set}
-use Rattle.rules.specs.Places.{dropAt, modAt}
-use Rattle.rules.specs.Station as R
-use Rattle.rules.specs.Station.{setSlot, setQueue}
+use Rattle.rules.specs.Rules.Places.{dropAt, modAt}
+use Rattle.rules.specs.Rules.Station as R
+use Rattle.rules.specs.Rules.Station.{setSlot, setQueue}
 use Rattle.requests.specs.Views.{viewed, requestOf}
 use Rattle.requests.proofs.ArrayLaws.{viewed-set, viewed-same, viewed-push, viewed-length, modAt-past}
 use Rattle.slots.specs.declared.Slot.{Slot}

@@ -6,13 +6,13 @@ use Rattle.units.specs.declared.SlotNumber.{SlotNumber}
 use Rattle.units.specs.declared.Tenths.{Tenths}
 use Rattle.sequence.specs.declared.Reading.{Reading}
 use Rattle.sequence.specs.Reading.{readingOf}
-use Rattle.rules.specs.Words as W
-use Rattle.rules.specs.Words.{onSlot}
-use Rattle.rules.specs.Heard.{addressed, meaning}
-use Rattle.rules.specs.Station as R
-use Rattle.rules.specs.Station.{setClock}
-use Rattle.rules.specs.Sound.{limit}
-use Rattle.rules.specs.Calls.{happenedOn, act}
+use Rattle.rules.specs.Rules.Words as W
+use Rattle.rules.specs.Rules.Words.{onSlot}
+use Rattle.rules.specs.Rules.Heard.{addressed, meaning}
+use Rattle.rules.specs.Rules.Station as R
+use Rattle.rules.specs.Rules.Station.{setClock}
+use Rattle.rules.specs.Rules.Sound.{limit}
+use Rattle.rules.specs.Rules.Calls.{happenedOn, act}
 use Rattle.requests.specs.declared.Mode.{Mode}
 use Rattle.requests.specs.Views.{modeOf, requestOf}
 use Rattle.slots.specs.declared.Phase.{Phase}

@@ -4,9 +4,9 @@ use mathlib.Core.List.{List, [], _∷_, map}
 use mathlib.Core.Path.{_≡_, refl, sym, ap, _∙_}
 use native.Mathlib.Omega.{arith}
 use lib.ListN.{length}
-use Rattle.rules.specs.Bytes.{padded}
-use Rattle.rules.specs.Waits.{earliest}
-use Rattle.rules.specs.Station.{slotTable, table, nextDue, dueAt}
+use Rattle.rules.specs.Rules.Bytes.{padded}
+use Rattle.rules.specs.Rules.Waits.{earliest}
+use Rattle.rules.specs.Rules.Station.{slotTable, table, nextDue, dueAt}
 use Rattle.requests.specs.Views.{viewed, left}
 use Rattle.requests.proofs.ArrayLaws.{viewed-length, left-all}
 use Rattle.slots.specs.declared.Slot.{Slot}

@@ -9,11 +9,11 @@ use lib.ListN.{length}
 use borrow.Author.Tests.{leb-true}
 use Rattle.sequence.specs.Answers.{answerNumber, isDone}
 use Rattle.sequence.specs.Refusals.{Row, firstRefusal}
-use Rattle.rules.specs.Places.{isSome}
-use Rattle.rules.specs.Words.{Happened, signal, operator, What, onSlot, Event}
-use Rattle.rules.specs.Station.{theSlot, fires}
-use Rattle.rules.specs.Sound.{limit, sound}
-use Rattle.rules.specs.Verdict.{unless, roomNeeded, overtaken, slotThere, readIn, barred, refusals, verdict}
+use Rattle.rules.specs.Rules.Places.{isSome}
+use Rattle.rules.specs.Rules.Words.{Happened, signal, operator, What, onSlot, Event}
+use Rattle.rules.specs.Rules.Station.{theSlot, fires}
+use Rattle.rules.specs.Rules.Sound.{limit, sound}
+use Rattle.rules.specs.Rules.Verdict.{unless, roomNeeded, overtaken, slotThere, readIn, barred, refusals, verdict}
 use Rattle.gate.specs.declared.Look.{Look}
 use Rattle.gate.specs.Asked.{andThen, askedAlways, askedNow, askedOnSlot}
 use Rattle.gate.proofs.AskedLaws.{one-more}

@@ -2,9 +2,9 @@
 use mathlib.Core.List.{List}
 use mathlib.Core.Option.{none}
 use mathlib.Core.Path.{_≡_}
-use Rattle.rules.specs.Words.{Config, Event}
-use Rattle.rules.specs.Station as R
-use Rattle.rules.specs.Verdict.{setUpVerdict}
+use Rattle.rules.specs.Rules.Words.{Config, Event}
+use Rattle.rules.specs.Rules.Station as R
+use Rattle.rules.specs.Rules.Verdict.{setUpVerdict}
 use Rattle.rules.specs.Statement.{AlwaysSound, stationAfter}
 use Rattle.rules.proofs.Kept.{always-sound}
 use Rattle.slots.specs.Images.{Fits}

@@ -4,8 +4,8 @@ use mathlib.Core.List.{List, [], _∷_, map}
 use mathlib.Core.Path.{_≡_, refl, sym}
 use native.Mathlib.Omega.{arith}
 use lib.ListN.{length, getD, take}
-use Rattle.rules.specs.Bytes.{channelAt}
-use Rattle.rules.specs.Station.{theSlot}
+use Rattle.rules.specs.Rules.Bytes.{channelAt}
+use Rattle.rules.specs.Rules.Station.{theSlot}
 use Rattle.requests.specs.Views.{viewed, itself}
 use Rattle.requests.proofs.ArrayLaws.{viewed-at, viewed-past, viewed-length}
 use Rattle.slots.specs.Images.{blankSlot, blankWaiting, slotImage}

@@ -7,12 +7,12 @@ use native.Mathlib.Omega.{arith}
 use lib.ListN.{length}
 use Rattle.units.specs.declared.SlotNumber.{SlotNumber}
 use Rattle.units.specs.declared.Tenths.{Tenths}
-use Rattle.rules.specs.Words.{Config, Request}
-use Rattle.rules.specs.Places.{Each, modAt}
-use Rattle.rules.specs.Station as R
-use Rattle.rules.specs.Station.{setSlot, setQueue, setClock}
-use Rattle.rules.specs.Sound.{sound}
-use Rattle.rules.specs.Requests.{also, rungBack, freedFor, freed, coastEnd}
+use Rattle.rules.specs.Rules.Words.{Config, Request}
+use Rattle.rules.specs.Rules.Places.{Each, modAt}
+use Rattle.rules.specs.Rules.Station as R
+use Rattle.rules.specs.Rules.Station.{setSlot, setQueue, setClock}
+use Rattle.rules.specs.Rules.Sound.{sound}
+use Rattle.rules.specs.Rules.Requests.{also, rungBack, freedFor, freed, coastEnd}
 use Rattle.rules.proofs.PlaceLaws.{modAt-length}
 use Rattle.slots.specs.Images.{Short, ShortSlot, Fits}
 use Rattle.soundness.proofs.FitLaws.{sound-fits}

@@ -5,12 +5,12 @@ use mathlib.Core.Path.{_≡_, refl, sym, ap, _∙_}
 use lib.ListN.{length, getD}
 use Rattle.units.specs.declared.SlotNumber.{SlotNumber}
 use Rattle.units.specs.declared.Tenths.{Tenths}
-use Rattle.rules.specs.Words.{Request}
-use Rattle.rules.specs.Bytes.{channelAt}
-use Rattle.rules.specs.Station as R
-use Rattle.rules.specs.Station.{setClock, nextDue}
-use Rattle.rules.specs.Sound.{limit}
-use Rattle.rules.specs.Requests.{Out}
+use Rattle.rules.specs.Rules.Words.{Request}
+use Rattle.rules.specs.Rules.Bytes.{channelAt}
+use Rattle.rules.specs.Rules.Station as R
+use Rattle.rules.specs.Rules.Station.{setClock, nextDue}
+use Rattle.rules.specs.Rules.Sound.{limit}
+use Rattle.rules.specs.Rules.Requests.{Out}
 use Rattle.requests.specs.declared.Request.{Request as Asked}
 use Rattle.requests.specs.Views.{requestOf}
 use Rattle.slots.specs.declared.Slot.{Slot}

@@ -11,11 +11,11 @@ use lib.Seq.{take-all, length-take-le}
 use borrow.Author.Tests.{le-leb, lt-leb, leb-true, leb-false}
 use Rattle.units.specs.declared.Channel.{Channel}
 use Rattle.sequence.proofs.Tests.{Either, yes!, no!, which}
-use Rattle.rules.specs.Words.{Config}
-use Rattle.rules.specs.Station.{fresh}
-use Rattle.rules.specs.Sound.{identityKeeps, channelsKeep, configKeeps}
-use Rattle.rules.specs.Verdict.{setUpVerdict}
-use Rattle.rules.specs.Bytes.{padded}
+use Rattle.rules.specs.Rules.Words.{Config}
+use Rattle.rules.specs.Rules.Station.{fresh}
+use Rattle.rules.specs.Rules.Sound.{identityKeeps, channelsKeep, configKeeps}
+use Rattle.rules.specs.Rules.Verdict.{setUpVerdict}
+use Rattle.rules.specs.Rules.Bytes.{padded}
 use Rattle.requests.specs.Views.{viewed}
 use Rattle.requests.proofs.ArrayLaws.{padded-front, viewed-min}
 use Rattle.slots.specs.declared.Slot.{Slot}

@@ -11,13 +11,13 @@ use Rattle.sequence.specs.Answers.{isDone}
 use Rattle.sequence.specs.Layout.{valid}
 use Rattle.sequence.specs.Reading.{readingOf}
 use Rattle.sequence_theorems.proofs.RoundTrip.{reads-valid}
-use Rattle.rules.specs.Words.{Config, Happened, Event, onSlot}
-use Rattle.rules.specs.Actions.{Action}
-use Rattle.rules.specs.Bytes.{channelAt, slotNumber, block}
-use Rattle.rules.specs.Station as R
-use Rattle.rules.specs.Station.{theSlot, setClock, nextDue, dueAt}
-use Rattle.rules.specs.Requests.{Out}
-use Rattle.rules.specs.Calls.{happenedOn, actAt, act}
+use Rattle.rules.specs.Rules.Words.{Config, Happened, Event, onSlot}
+use Rattle.rules.specs.Rules.Actions.{Action}
+use Rattle.rules.specs.Rules.Bytes.{channelAt, slotNumber, block}
+use Rattle.rules.specs.Rules.Station as R
+use Rattle.rules.specs.Rules.Station.{theSlot, setClock, nextDue, dueAt}
+use Rattle.rules.specs.Rules.Requests.{Out}
+use Rattle.rules.specs.Rules.Calls.{happenedOn, actAt, act}
 use Rattle.rules.specs.Statement.{AtMostEight}
 use Rattle.rules.proofs.Eight.{at-most-eight}
 use Rattle.rules.proofs.Kept.{stays-sound}

@@ -1,6 +1,6 @@
 -- What an outcome makes of a slot's record, and of the queue's.
 use Prim.Native.Nat.{ℕ, _+_}
-use Rattle.rules.specs.Sound.{queueRoom}
+use Rattle.rules.specs.Rules.Sound.{queueRoom}
 use Rattle.slots.specs.declared.Slot.{Slot}
 use Rattle.outcomes.specs.declared.Turn.{Turn}
 use Rattle.outcomes.specs.declared.Turn.the-variants.{Stays, Own, Asked, Oldest}

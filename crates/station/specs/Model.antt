@@ -1,9 +1,9 @@
 -- The model that a station of the rack stands for, and the station laid out for a model.
 use mathlib.Core.List.{map}
 use lib.ListN.{length}
-use Rattle.rules.specs.Words.{Config}
-use Rattle.rules.specs.Station as R
-use Rattle.rules.specs.Bytes.{padded}
+use Rattle.rules.specs.Rules.Words.{Config}
+use Rattle.rules.specs.Rules.Station as R
+use Rattle.rules.specs.Rules.Bytes.{padded}
 use Rattle.requests.specs.Views.{viewed}
 use Rattle.slots.specs.Views.{slotView, waitingView, mastOf, configFor}
 use Rattle.slots.specs.Images.{slotImages, waitingImage, blankSlot, blankWaiting, tenths}

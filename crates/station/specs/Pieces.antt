@@ -6,15 +6,15 @@ use mathlib.Core.List.{List, map}
 use lib.ListN.{length, getD}
 use Rattle.units.specs.declared.SlotNumber.{SlotNumber}
 use Rattle.units.specs.declared.Tenths.{Tenths}
-use Rattle.rules.specs.Words as W
-use Rattle.rules.specs.Words.{Config, Happened, signal, operator}
-use Rattle.rules.specs.Waits.{earliest}
-use Rattle.rules.specs.Sound.{sound}
-use Rattle.rules.specs.Station as R
-use Rattle.rules.specs.Station.{setClock, table, nextDue}
-use Rattle.rules.specs.Requests.{Out}
-use Rattle.rules.specs.Calls.{barredHand}
-use Rattle.rules.specs.Actions.{Action}
+use Rattle.rules.specs.Rules.Words as W
+use Rattle.rules.specs.Rules.Words.{Config, Happened, signal, operator}
+use Rattle.rules.specs.Rules.Waits.{earliest}
+use Rattle.rules.specs.Rules.Sound.{sound}
+use Rattle.rules.specs.Rules.Station as R
+use Rattle.rules.specs.Rules.Station.{setClock, table, nextDue}
+use Rattle.rules.specs.Rules.Requests.{Out}
+use Rattle.rules.specs.Rules.Calls.{barredHand}
+use Rattle.rules.specs.Rules.Actions.{Action}
 use Rattle.requests.specs.declared.Mode.{Mode}
 use Rattle.requests.specs.Views.{viewed, itself, requestOf}
 use Rattle.slots.specs.declared.Slot.{Slot}

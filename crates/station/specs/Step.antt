@@ -7,13 +7,13 @@ use lib.Dec.{leb}
 use lib.ListN.{length, take, drop}
 use Rattle.units.specs.declared.Channel.{Channel}
 use Rattle.sequence.specs.Refusals.{firstRefusal}
-use Rattle.rules.specs.Places.{all}
-use Rattle.rules.specs.Words.{Config, Happened, What, onSlot, Event}
-use Rattle.rules.specs.Station.{nextDue, fresh}
-use Rattle.rules.specs.Requests.{Out}
-use Rattle.rules.specs.Calls.{act}
-use Rattle.rules.specs.Verdict.{unless, refusals, setUpVerdict}
-use Rattle.rules.specs.Bytes.{padded, blocks}
+use Rattle.rules.specs.Rules.Places.{all}
+use Rattle.rules.specs.Rules.Words.{Config, Happened, What, onSlot, Event}
+use Rattle.rules.specs.Rules.Station.{nextDue, fresh}
+use Rattle.rules.specs.Rules.Requests.{Out}
+use Rattle.rules.specs.Rules.Calls.{act}
+use Rattle.rules.specs.Rules.Verdict.{unless, refusals, setUpVerdict}
+use Rattle.rules.specs.Rules.Bytes.{padded, blocks}
 use Rattle.requests.specs.Views.{viewed, itself}
 use Rattle.slots.specs.Views.{alone, onMast}
 use Rattle.slots.specs.Images.{tenths}

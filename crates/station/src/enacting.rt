@@ -2,8 +2,8 @@
 ghost use mathlib.Core.Path.{_≡_};
 ghost use Prim.Native.Nat.{_≤_};
 ghost use lib.ListN.{length};
-ghost use Rattle.rules.specs.Sound.{limit, queueRoom};
-ghost use Rattle.rules.specs.Station.{dueAt};
+ghost use Rattle.rules.specs.Rules.Sound.{limit, queueRoom};
+ghost use Rattle.rules.specs.Rules.Station.{dueAt};
 ghost use Rattle.requests.specs.Views.{requestOf};
 ghost use Rattle.slots.specs.Views.{dueView};
 ghost use Rattle.station.specs.Model.{configOf};

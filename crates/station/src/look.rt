@@ -1,8 +1,8 @@
 // What is seen of a station before an event is judged, and when its next wait falls due.
 ghost use mathlib.Core.Path.{_≡_};
 ghost use mathlib.Core.Bool.{_&&_};
-ghost use Rattle.rules.specs.Sound.{sound};
-ghost use Rattle.rules.specs.Station.{nextDue, dueAt};
+ghost use Rattle.rules.specs.Rules.Sound.{sound};
+ghost use Rattle.rules.specs.Rules.Station.{nextDue, dueAt};
 ghost use Rattle.slots.specs.Views.{dueView};
 ghost use Rattle.station.specs.Model.{modelOf, configOf};
 ghost use Rattle.station.specs.Step.{recordsKeep, dueImage};

@@ -1,6 +1,6 @@
 // The operator's hand on a slot.
 ghost use mathlib.Core.Path.{_≡_};
-ghost use Rattle.rules.specs.Words.{takes, givesBack};
+ghost use Rattle.rules.specs.Rules.Words.{takes, givesBack};
 ghost use Rattle.station.specs.Step.{slotAt, steppedBy, roomAfter};
 use crate::Plain;
 use crate::Station;

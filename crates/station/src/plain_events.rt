@@ -1,7 +1,7 @@
 // The plain events on a slot: the signals of a call and the operator's hand have one body.
 ghost use mathlib.Core.Path.{_≡_};
 ghost use mathlib.Core.Bool.{not};
-ghost use Rattle.rules.specs.Calls.{barredHand};
+ghost use Rattle.rules.specs.Rules.Calls.{barredHand};
 ghost use Rattle.slots.specs.Views.{slotView, handView};
 ghost use Rattle.station.specs.Step.{slotAt, steppedBy, roomAfter};
 ghost use Rattle.station.specs.Pieces.{plainView, closedTo, byPlain};

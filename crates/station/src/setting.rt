@@ -1,8 +1,8 @@
 // Set-up from an identity and a channel list.
 ghost use mathlib.Core.Path.{_≡_};
 ghost use Prim.Native.Nat.{_≤_};
-ghost use Rattle.rules.specs.Sound.{mostSlots};
-ghost use Rattle.rules.specs.Bytes.{padded};
+ghost use Rattle.rules.specs.Rules.Sound.{mostSlots};
+ghost use Rattle.rules.specs.Rules.Bytes.{padded};
 ghost use Rattle.requests.specs.Views.{viewed};
 ghost use Rattle.slots.specs.Images.{freeOn, blankSlot};
 ghost use Rattle.station.specs.Step.{blankStation, chosen, setUpOf};

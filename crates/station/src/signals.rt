@@ -1,6 +1,6 @@
 // The signals of a call: off-hook and on-hook ashore, the ship's carrier up and down.
 ghost use mathlib.Core.Path.{_≡_};
-ghost use Rattle.rules.specs.Words.{offHook, onHook, carrierUp, carrierDown};
+ghost use Rattle.rules.specs.Rules.Words.{offHook, onHook, carrierUp, carrierDown};
 ghost use Rattle.station.specs.Step.{slotAt, steppedBy, roomAfter};
 use crate::Plain;
 use crate::Station;

@@ -1,6 +1,6 @@
 // A wait falls due.
 ghost use mathlib.Core.Path.{_≡_};
-ghost use Rattle.rules.specs.Words.{tick};
+ghost use Rattle.rules.specs.Rules.Words.{tick};
 ghost use Rattle.station.specs.Step.{eventAt, steppedBy, roomAfter};
 ghost use Rattle.station.specs.Pieces.{waitSlot, dueSlot, moment, byWait, byDue};
 use crate::Station;

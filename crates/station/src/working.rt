@@ -1,6 +1,6 @@
 // Heard on a working channel: the working call, the ship's end of a call.
 ghost use mathlib.Core.Path.{_≡_};
-ghost use Rattle.rules.specs.Words.{heard};
+ghost use Rattle.rules.specs.Rules.Words.{heard};
 ghost use Rattle.station.specs.Step.{slotAt, steppedBy, roomAfter};
 ghost use Rattle.station.specs.Pieces.{byKind};
 use crate::Station;

@@ -9,12 +9,12 @@ use lib.ListN.{length, take, drop}
 use borrow.Author.Tests.{le-leb}
 use Rattle.units.specs.declared.Channel.{Channel}
 use Rattle.sequence.specs.Symbols.{allAtMost}
-use Rattle.rules.specs.Words.{Request, Config, Event}
-use Rattle.rules.specs.Places.{isSome, shift, lowest, all, Each}
-use Rattle.rules.specs.Station as R
-use Rattle.rules.specs.Station.{isFree}
-use Rattle.rules.specs.Verdict.{verdict}
-use Rattle.rules.specs.Bytes.{padded, numberOf}
+use Rattle.rules.specs.Rules.Words.{Request, Config, Event}
+use Rattle.rules.specs.Rules.Places.{isSome, shift, lowest, all, Each}
+use Rattle.rules.specs.Rules.Station as R
+use Rattle.rules.specs.Rules.Station.{isFree}
+use Rattle.rules.specs.Rules.Verdict.{verdict}
+use Rattle.rules.specs.Rules.Bytes.{padded, numberOf}
 use Rattle.rules.specs.Statement.{heldSlots, heldTenths}
 use Rattle.rules.proofs.PlaceLaws.{and-true, shift-none}
 use Rattle.requests.specs.Views.{viewed, itself, requestOf}

@@ -17,11 +17,11 @@ use Rattle.sequence.specs.Reading.{readingOf}
 use Rattle.writing.proofs.Valid.{parts}
 use Rattle.writing.proofs.EvenedLaws.{fit}
 use Rattle.sequence_theorems.proofs.RoundTrip.{reads-back}
-use Rattle.rules.specs.Places.{Each}
-use Rattle.rules.specs.Words.{Party, Mode, simplex, duplex, modeNumber, Request, Config, carrierOn, carrierOff, acknowledge, ringBack, unable, dial, releaseLine}
-use Rattle.rules.specs.Actions.{Charge, Ender, theShip, theCoast, Action, does, over, charge, chargeNumbers}
-use Rattle.rules.specs.Bytes.{padded, numberOf, answerTo, ableSaid, unableSaid, toldField, endSymbol, overSaid, block, channelAt, kindNumber, slotNumber, payloadOf, blockOf, blocks, fours}
-use Rattle.rules.specs.Printed.{shown}
+use Rattle.rules.specs.Rules.Places.{Each}
+use Rattle.rules.specs.Rules.Words.{Party, Mode, simplex, duplex, modeNumber, Request, Config, carrierOn, carrierOff, acknowledge, ringBack, unable, dial, releaseLine}
+use Rattle.rules.specs.Rules.Actions.{Charge, Ender, theShip, theCoast, Action, does, over, charge, chargeNumbers}
+use Rattle.rules.specs.Rules.Bytes.{padded, numberOf, answerTo, ableSaid, unableSaid, toldField, endSymbol, overSaid, block, channelAt, kindNumber, slotNumber, payloadOf, blockOf, blocks, fours}
+use Rattle.rules.specs.Rules.Printed.{shown}
 use Rattle.rules.specs.Statement.{chargesOf, FourBytes}
 use Rattle.rules.proofs.Payloads.{block-length, Slim}
 use Rattle.requests.proofs.ArrayLaws.{padded-front}

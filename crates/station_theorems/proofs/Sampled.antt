@@ -5,10 +5,10 @@ use mathlib.Core.List.{List, [], _∷_, _++_}
 use native.Mathlib.Omega.{arith}
 use lib.ListN.{getD, drop}
 use borrow.Author.Tests.{leb-false, lt-leb}
-use Rattle.rules.specs.Bytes.{padded, block}
-use Rattle.rules.specs.Station.{fresh}
-use Rattle.rules.specs.Runs.{station}
-use Rattle.rules.specs.Cases.{sampleShows}
+use Rattle.rules.specs.Rules.Bytes.{padded, block}
+use Rattle.rules.specs.Rules.Station.{fresh}
+use Rattle.rules.specs.Tables.Runs.{station}
+use Rattle.rules.specs.Tables.Cases.{sampleShows}
 use Rattle.rules.proofs.Computed.{sample-computed}
 use Rattle.station.specs.declared.Station.{Station}
 use Rattle.station.specs.Model.{imageOf}

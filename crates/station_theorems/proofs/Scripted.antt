@@ -7,9 +7,9 @@ use lib.ListN.{length, replicate, length-replicate}
 use native.Mathlib.Omega.{arith}
 use borrow.Author.Tests.{le-leb}
 use Rattle.units.specs.declared.Channel.{Channel}
-use Rattle.rules.specs.Words.{Config, Event}
-use Rattle.rules.specs.Verdict.{setUpVerdict}
-use Rattle.rules.specs.Bytes.{padded}
+use Rattle.rules.specs.Rules.Words.{Config, Event}
+use Rattle.rules.specs.Rules.Verdict.{setUpVerdict}
+use Rattle.rules.specs.Rules.Bytes.{padded}
 use Rattle.requests.proofs.ArrayLaws.{padded-front}
 use Rattle.station.proofs.ImageLaws.{run-fits}
 use Rattle.station.specs.declared.Station.{Station}

@@ -6,12 +6,12 @@ use mathlib.Core.Option.{Option, none, some}
 use native.Mathlib.Omega.{arith}
 use lib.ListN.{length, drop}
 use borrow.Author.Tests.{leb-false}
-use Rattle.rules.specs.Words.{Config, Event, Signal, lineLifted, lineHung, carrierHeard, carrierLost, Hand, handTakes, handGives, Happened, heard, signal, operator, What, tick, onChannel70, onSlot}
-use Rattle.rules.specs.Places.{Each}
-use Rattle.rules.specs.Station as R
-use Rattle.rules.specs.Calls.{act}
-use Rattle.rules.specs.Verdict.{verdict}
-use Rattle.rules.specs.Bytes.{blocks}
+use Rattle.rules.specs.Rules.Words.{Config, Event, Signal, lineLifted, lineHung, carrierHeard, carrierLost, Hand, handTakes, handGives, Happened, heard, signal, operator, What, tick, onChannel70, onSlot}
+use Rattle.rules.specs.Rules.Places.{Each}
+use Rattle.rules.specs.Rules.Station as R
+use Rattle.rules.specs.Rules.Calls.{act}
+use Rattle.rules.specs.Rules.Verdict.{verdict}
+use Rattle.rules.specs.Rules.Bytes.{blocks}
 use Rattle.rules.specs.Statement.{ZeroOrOne, AtMostEight, ChargesFit}
 use Rattle.rules.proofs.Accepted.{accepted}
 use Rattle.rules.proofs.Eight.{at-most-eight}

@@ -6,17 +6,17 @@ use mathlib.Core.List.{List, [], _∷_, map, append-nil}
 use mathlib.Core.Option.{none}
 use native.Mathlib.Omega.{arith}
 use lib.ListN.{length, take}
-use Rattle.rules.specs.Places.{lowest}
-use Rattle.rules.specs.Words.{Config}
-use Rattle.rules.specs.Station as R
-use Rattle.rules.specs.Station.{fresh, isFree}
-use Rattle.rules.specs.Sound.{sound}
-use Rattle.rules.specs.Calls.{act}
-use Rattle.rules.specs.Book.{Note}
-use Rattle.rules.specs.Bytes.{blocks}
-use Rattle.rules.specs.Verdict.{setUpVerdict, final}
+use Rattle.rules.specs.Rules.Places.{lowest}
+use Rattle.rules.specs.Rules.Words.{Config}
+use Rattle.rules.specs.Rules.Station as R
+use Rattle.rules.specs.Rules.Station.{fresh, isFree}
+use Rattle.rules.specs.Rules.Sound.{sound}
+use Rattle.rules.specs.Rules.Calls.{act}
+use Rattle.rules.specs.ListAlone.Book.{Note}
+use Rattle.rules.specs.Rules.Bytes.{blocks}
+use Rattle.rules.specs.Rules.Verdict.{setUpVerdict, final}
 use Rattle.rules.specs.Statement.{notes, OfEveryList, ChargesAreStops, TenthsAgree, AlwaysSound, Literally, WordsAgree, EveryEntry, AnswersRepeat, SecondRingRepeats, DialsAsked, NoChannelIdle, stationAfter}
-use Rattle.rules.specs.Repeated.{Answers, RingsSame, DialsNamed, DeedByDeed}
+use Rattle.rules.specs.ListAlone.Repeated.{Answers, RingsSame, DialsNamed, DeedByDeed}
 use Rattle.rules.proofs.Run.{charges-are-stops}
 use Rattle.rules.proofs.Tenths.{tenths-agree}
 use Rattle.rules.proofs.Kept.{always-sound}

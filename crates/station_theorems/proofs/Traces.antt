@@ -7,15 +7,15 @@ use mathlib.Core.Option.{Option, none, some}
 use native.Mathlib.Omega.{arith}
 use lib.ListN.{length, drop}
 use borrow.Author.Tests.{le-leb, lt-leb}
-use Rattle.rules.specs.Places.{Each}
-use Rattle.rules.specs.Words.{Config, Event}
-use Rattle.rules.specs.Station as R
-use Rattle.rules.specs.Station.{fresh, nextDue}
-use Rattle.rules.specs.Sound.{sound, configKeeps}
-use Rattle.rules.specs.Calls.{act}
-use Rattle.rules.specs.Verdict.{verdict, setUpVerdict, step, play, final}
-use Rattle.rules.specs.Bytes.{blocks}
-use Rattle.rules.specs.Printed.{dueShown, lines, printed}
+use Rattle.rules.specs.Rules.Places.{Each}
+use Rattle.rules.specs.Rules.Words.{Config, Event}
+use Rattle.rules.specs.Rules.Station as R
+use Rattle.rules.specs.Rules.Station.{fresh, nextDue}
+use Rattle.rules.specs.Rules.Sound.{sound, configKeeps}
+use Rattle.rules.specs.Rules.Calls.{act}
+use Rattle.rules.specs.Rules.Verdict.{verdict, setUpVerdict, step, play, final}
+use Rattle.rules.specs.Rules.Bytes.{blocks}
+use Rattle.rules.specs.Rules.Printed.{dueShown, lines, printed}
 use Rattle.rules.specs.Statement.{ZeroOrOne, AtMostEight}
 use Rattle.rules.proofs.Run.{play-on, play-past, final-on, final-past}
 use Rattle.rules.proofs.Kept.{stays-sound}

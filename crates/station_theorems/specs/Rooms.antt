@@ -11,10 +11,10 @@ use Rattle.sequence.specs.declared.Field.the-variants.{Blank, Channel, Duration
 use Rattle.sequence.specs.declared.Meaning.{Meaning}
 use Rattle.sequence.specs.Figures.{firstSimplex, firstUnable, endRq, endBq}
 use Rattle.sequence.specs.Reading.{readingOf}
-use Rattle.rules.specs.Words.{Party, Mode, simplex, duplex, Request, Deed, carrierOn, carrierOff, acknowledge, ringBack, unable, dial, releaseLine}
-use Rattle.rules.specs.Heard.{digitsIn}
-use Rattle.rules.specs.Actions.{Charge, Ender, theShip, theCoast, Action, does, over, charge, chargeOf}
-use Rattle.rules.specs.Bytes.{blockSize}
+use Rattle.rules.specs.Rules.Words.{Party, Mode, simplex, duplex, Request, Deed, carrierOn, carrierOff, acknowledge, ringBack, unable, dial, releaseLine}
+use Rattle.rules.specs.Rules.Heard.{digitsIn}
+use Rattle.rules.specs.Rules.Actions.{Charge, Ender, theShip, theCoast, Action, does, over, charge, chargeOf}
+use Rattle.rules.specs.Rules.Bytes.{blockSize}
 
 -- ── what a sequence says that the station sent ───────────────────────────────
 

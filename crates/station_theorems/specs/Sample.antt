@@ -4,9 +4,9 @@ use mathlib.Core.Path.{_≡_}
 use mathlib.Core.Bool.{false}
 use mathlib.Core.List.{[], _∷_, _++_}
 use lib.ListN.{drop}
-use Rattle.rules.specs.Bytes.{block}
-use Rattle.rules.specs.Runs.{station}
-use Rattle.rules.specs.Cases.{p2, sample, sampleShows}
+use Rattle.rules.specs.Rules.Bytes.{block}
+use Rattle.rules.specs.Tables.Runs.{station}
+use Rattle.rules.specs.Tables.Cases.{p2, sample, sampleShows}
 use Rattle.station_theorems.specs.Steps.{Step, Trace, eventsIn}
 use Rattle.station_theorems.specs.Statement.{accepted, allShown}
 

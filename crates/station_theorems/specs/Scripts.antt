@@ -2,8 +2,8 @@
 use mathlib.Core.Path.{_≡_}
 use mathlib.Core.List.{List}
 use mathlib.Core.Option.{none}
-use Rattle.rules.specs.Words.{Config, Event}
-use Rattle.rules.specs.Verdict.{setUpVerdict}
+use Rattle.rules.specs.Rules.Words.{Config, Event}
+use Rattle.rules.specs.Rules.Verdict.{setUpVerdict}
 use Rattle.station_theorems.specs.Steps.{Step, Trace, eventsIn}
 
 pub record Traced (c : Config) (es : List Event) : Type 0 where

@@ -6,19 +6,19 @@ use mathlib.Core.List.{List, [], _∷_, _++_}
 use mathlib.Core.Option.{none}
 use lib.Dec.{leb}
 use lib.ListN.{length, take, drop, getD}
-use Rattle.rules.specs.Places.{Each}
-use Rattle.rules.specs.Words.{Config, Event}
-use Rattle.rules.specs.Station as R
-use Rattle.rules.specs.Sound.{sound}
-use Rattle.rules.specs.Station.{isFree}
-use Rattle.rules.specs.Calls.{act}
-use Rattle.rules.specs.Verdict.{verdict, Entry}
-use Rattle.rules.specs.Bytes.{block, blocks, blockSize}
-use Rattle.rules.specs.Book.{blankBook}
-use Rattle.rules.specs.Reading.{stops, counted}
-use Rattle.rules.specs.Printed.{printed}
+use Rattle.rules.specs.Rules.Places.{Each}
+use Rattle.rules.specs.Rules.Words.{Config, Event}
+use Rattle.rules.specs.Rules.Station as R
+use Rattle.rules.specs.Rules.Sound.{sound}
+use Rattle.rules.specs.Rules.Station.{isFree}
+use Rattle.rules.specs.Rules.Calls.{act}
+use Rattle.rules.specs.Rules.Verdict.{verdict, Entry}
+use Rattle.rules.specs.Rules.Bytes.{block, blocks, blockSize}
+use Rattle.rules.specs.ListAlone.Book.{blankBook}
+use Rattle.rules.specs.ListAlone.Reading.{stops, counted}
+use Rattle.rules.specs.Rules.Printed.{printed}
 use Rattle.rules.specs.Statement.{notes, charged, owedFor, heldFrom, tenthsIn, stationAfter, WordsAgree, EveryEntry}
-use Rattle.rules.specs.Repeated.{Answers, RingsSame, DialsNamed, DeedByDeed}
+use Rattle.rules.specs.ListAlone.Repeated.{Answers, RingsSame, DialsNamed, DeedByDeed}
 use Rattle.slots.specs.declared.Slot.{Slot}
 use Rattle.slots.specs.Phases.{answeredSince}
 use Rattle.slots.specs.Views.{slotView}

@@ -3,7 +3,7 @@ use Prim.Native.Nat.{ℕ}
 use mathlib.Core.Path.{_≡_}
 use mathlib.Core.List.{List, [], _∷_}
 use contract.Lifetimes.{Lfts}
-use Rattle.rules.specs.Words.{Config, heard, offHook, onHook, carrierUp, carrierDown, takes, givesBack, tick, onChannel70, Event}
+use Rattle.rules.specs.Rules.Words.{Config, heard, offHook, onHook, carrierUp, carrierDown, takes, givesBack, tick, onChannel70, Event}
 use Rattle.station.specs.declared.Station.{Station}
 use Rattle.station.specs.declared.Stepped.{Stepped}
 use Rattle.station.specs.Step.{eventAt, slotAt, chosen}

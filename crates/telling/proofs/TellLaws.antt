@@ -5,10 +5,10 @@ use mathlib.Core.List.{List, [], _∷_, _++_, map, map-append, append-nil}
 use native.Mathlib.Nat.{not-suc-le-zero}
 use lib.ListN.{length}
 use Rattle.units.specs.declared.Channel.{Channel}
-use Rattle.rules.specs.Words.{Config, Request, carrierOff}
-use Rattle.rules.specs.Actions.{Action, Ender, does, theShip, theCoast}
-use Rattle.rules.specs.Requests.{endActs}
-use Rattle.rules.specs.Bytes.{channelAt}
+use Rattle.rules.specs.Rules.Words.{Config, Request, carrierOff}
+use Rattle.rules.specs.Rules.Actions.{Action, Ender, does, theShip, theCoast}
+use Rattle.rules.specs.Rules.Requests.{endActs}
+use Rattle.rules.specs.Rules.Bytes.{channelAt}
 use Rattle.actions.specs.declared.Action.{Action as Made}
 use Rattle.actions.specs.Blocks.{actionBlock}
 use Rattle.actions.specs.Sent.{sentPayload, sentOn, sentBlock}

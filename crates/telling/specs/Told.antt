@@ -1,9 +1,9 @@
 -- The two parts of what an outcome tells, and actions laid as blocks.
 use Prim.Native.Nat.{ℕ, zero, suc}
 use mathlib.Core.List.{List, [], _∷_, map}
-use Rattle.rules.specs.Words.{carrierOn, carrierOff, acknowledge, ringBack, unable, dial}
-use Rattle.rules.specs.Actions.{Action, Ender, does, over, theShip}
-use Rattle.rules.specs.Requests.{bill, endActs}
+use Rattle.rules.specs.Rules.Words.{carrierOn, carrierOff, acknowledge, ringBack, unable, dial}
+use Rattle.rules.specs.Rules.Actions.{Action, Ender, does, over, theShip}
+use Rattle.rules.specs.Rules.Requests.{bill, endActs}
 use Rattle.units.specs.declared.Told.{Told}
 use Rattle.requests.specs.Views.{requestOf}
 use Rattle.actions.specs.declared.Ender.the-variants.{Ship, Coast}

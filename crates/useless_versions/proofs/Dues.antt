@@ -4,9 +4,9 @@ use mathlib.Core.Path.{_≡_, refl, sym, ap, _∙_}
 use mathlib.Core.Bool.{false}
 use mathlib.Core.List.{List, [], _∷_}
 use native.Mathlib.Omega.{arith}
-use Rattle.rules.specs.Words.{Event}
-use Rattle.rules.specs.Station.{nextDue, fresh}
-use Rattle.rules.specs.Verdict.{final}
+use Rattle.rules.specs.Rules.Words.{Event}
+use Rattle.rules.specs.Rules.Station.{nextDue, fresh}
+use Rattle.rules.specs.Rules.Verdict.{final}
 use Rattle.rules.specs.Statement.{stationAfter}
 use Rattle.soundness.proofs.FitLaws.{sound-fits}
 use Rattle.station.specs.declared.NextDue.{NextDue}

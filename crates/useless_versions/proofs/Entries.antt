@@ -5,10 +5,10 @@ use mathlib.Core.List.{List, [], _∷_, _++_, map}
 use mathlib.Core.Option.{none}
 use native.Mathlib.Omega.{arith}
 use lib.ListN.{length, replicate}
-use Rattle.rules.specs.Words.{What, Event}
-use Rattle.rules.specs.Verdict.{roomNeeded}
+use Rattle.rules.specs.Rules.Words.{What, Event}
+use Rattle.rules.specs.Rules.Verdict.{roomNeeded}
 use Rattle.rules.specs.Statement.{stationAfter}
-use Rattle.rules.specs.Runs.{at}
+use Rattle.rules.specs.Tables.Runs.{at}
 use Rattle.soundness.proofs.FitLaws.{sound-fits}
 use Rattle.station.specs.declared.Station.{Station}
 use Rattle.station.specs.Step.{refusal, steppedBy, roomAfter}

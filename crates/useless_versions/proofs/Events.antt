@@ -9,19 +9,19 @@ use lib.Dec.{eqb}
 use lib.ListN.{length, drop, replicate, length-replicate}
 use borrow.Author.Tests.{eqb-true, eqb-false, not-true}
 use Rattle.sequence.proofs.Tests.{both-true}
-use Rattle.rules.specs.Words.{Config, heard, signal, operator, What, tick, onChannel70, onSlot, Event, carrierOn, carrierOff, acknowledge, ringBack, unable, dial, releaseLine}
-use Rattle.rules.specs.Places.{isSome}
-use Rattle.rules.specs.Actions.{Action, does, over, charge}
-use Rattle.rules.specs.Station as R
-use Rattle.rules.specs.Station.{nextDue}
-use Rattle.rules.specs.Sound.{sound}
-use Rattle.rules.specs.Calls.{act}
-use Rattle.rules.specs.Verdict.{roomNeeded, verdict, setUpVerdict}
-use Rattle.rules.specs.Bytes.{blockOf, blocks}
-use Rattle.rules.specs.Printed.{runsOpen}
+use Rattle.rules.specs.Rules.Words.{Config, heard, signal, operator, What, tick, onChannel70, onSlot, Event, carrierOn, carrierOff, acknowledge, ringBack, unable, dial, releaseLine}
+use Rattle.rules.specs.Rules.Places.{isSome}
+use Rattle.rules.specs.Rules.Actions.{Action, does, over, charge}
+use Rattle.rules.specs.Rules.Station as R
+use Rattle.rules.specs.Rules.Station.{nextDue}
+use Rattle.rules.specs.Rules.Sound.{sound}
+use Rattle.rules.specs.Rules.Calls.{act}
+use Rattle.rules.specs.Rules.Verdict.{roomNeeded, verdict, setUpVerdict}
+use Rattle.rules.specs.Rules.Bytes.{blockOf, blocks}
+use Rattle.rules.specs.Rules.Printed.{runsOpen}
 use Rattle.rules.specs.Statement.{ZeroOrOne, AtMostEight, AlwaysSound, stationAfter}
-use Rattle.rules.specs.Runs.{station, at, on, ticks}
-use Rattle.rules.specs.Cases.{p1, p4, asks, works}
+use Rattle.rules.specs.Tables.Runs.{station, at, on, ticks}
+use Rattle.rules.specs.Tables.Cases.{p1, p4, asks, works}
 use Rattle.rules.proofs.Answered.{zero-or-one}
 use Rattle.rules.proofs.Kept.{always-sound}
 use Rattle.rules.proofs.Eight.{at-most-eight}

@@ -10,8 +10,8 @@ use lib.ListN.{length, getD, take, drop, replicate, length-replicate}
 use lib.Seq.{take-at}
 use borrow.Author.Tests.{le-leb, lt-ltb, leb-true, ne-eqb}
 use Rattle.sequence.proofs.Tests.{both-true, Either, yes!, no!, which}
-use Rattle.rules.specs.Places.{all}
-use Rattle.rules.specs.Words.{Event}
+use Rattle.rules.specs.Rules.Places.{all}
+use Rattle.rules.specs.Rules.Words.{Event}
 use Rattle.rules.specs.Statement.{AtMostEight}
 use Rattle.rules.proofs.Eight.{at-most-eight}
 use Rattle.station.specs.declared.NextDue.{NextDue}

@@ -5,12 +5,12 @@ use mathlib.Core.Bool.{true}
 use mathlib.Core.List.{List, [], _∷_, map}
 use mathlib.Core.Option.{Option, none, some}
 use lib.ListN.{length, replicate, length-replicate}
-use Rattle.rules.specs.Words.{Config, Event}
-use Rattle.rules.specs.Station as R
-use Rattle.rules.specs.Station.{fresh}
-use Rattle.rules.specs.Sound.{sound}
-use Rattle.rules.specs.Calls.{act}
-use Rattle.rules.specs.Verdict.{verdict, judged, step, final}
+use Rattle.rules.specs.Rules.Words.{Config, Event}
+use Rattle.rules.specs.Rules.Station as R
+use Rattle.rules.specs.Rules.Station.{fresh}
+use Rattle.rules.specs.Rules.Sound.{sound}
+use Rattle.rules.specs.Rules.Calls.{act}
+use Rattle.rules.specs.Rules.Verdict.{verdict, judged, step, final}
 use Rattle.rules.specs.Statement.{AlwaysSound, stationAfter}
 use Rattle.rules.proofs.Kept.{always-sound, stays-sound}
 use Rattle.soundness.proofs.FitLaws.{sound-fits}

@@ -27,8 +27,8 @@ use Rattle.sequence.proofs.Tests.{both-true, Either, yes!, no!, which}
 use Rattle.reading.proofs.Passed.{passed}
 use Rattle.writing.proofs.Valid.{valid-done, written}
 use Rattle.sequence_theorems.proofs.RoundTrip.{reads-back}
-use Rattle.rules.specs.Bytes.{padded, numberOf}
-use Rattle.rules.specs.Runs.{usual}
+use Rattle.rules.specs.Rules.Bytes.{padded, numberOf}
+use Rattle.rules.specs.Tables.Runs.{usual}
 use Rattle.layouts.specs.Fields.{laid}
 use Rattle.lent_layout.specs.Meanings.{meaningNumbers, meaningBytes, meaningFrom, meaningLaid, meaningSize}
 use Rattle.lent_layout.proofs.MeaningBack.{meaning-is-found-again}

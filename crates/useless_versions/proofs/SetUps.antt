@@ -8,9 +8,9 @@ use native.Mathlib.Omega.{arith}
 use lib.ListN.{replicate}
 use Rattle.sequence.specs.Identity.{isCoast}
 use Rattle.sequence.specs.Field.{channelOk}
-use Rattle.rules.specs.Station.{fresh}
-use Rattle.rules.specs.Sound.{identityKeeps, channelsKeep, configKeeps}
-use Rattle.rules.specs.Verdict.{setUpVerdict}
+use Rattle.rules.specs.Rules.Station.{fresh}
+use Rattle.rules.specs.Rules.Sound.{identityKeeps, channelsKeep, configKeeps}
+use Rattle.rules.specs.Rules.Verdict.{setUpVerdict}
 use Rattle.station.specs.declared.SetUp.{SetUp}
 use Rattle.station.specs.declared.Station.{Station}
 use Rattle.station.specs.Model.{imageOf}

@@ -3,7 +3,7 @@ use Prim.Native.Nat.{ℕ, _%_}
 use mathlib.Core.Path.{_≡_}
 use mathlib.Core.List.{List}
 use contract.Lifetimes.{Lfts}
-use Rattle.rules.specs.Words.{Config}
+use Rattle.rules.specs.Rules.Words.{Config}
 use Rattle.station.specs.declared.NextDue.{NextDue}
 use Rattle.station.specs.declared.NextDue.the-variants.{Never}
 use Rattle.station.specs.declared.Station.{Station}

@@ -3,7 +3,7 @@ use Prim.Native.Nat.{ℕ, _/_, _%_}
 use mathlib.Core.Path.{_≡_}
 use mathlib.Core.List.{List, map}
 use lib.ListN.{replicate}
-use Rattle.rules.specs.Words.{Config, What, Event}
+use Rattle.rules.specs.Rules.Words.{Config, What, Event}
 use Rattle.station.specs.Step.{eventAt}
 use Rattle.lent_layout.specs.Stations.{stationFrom}
 use Rattle.host_theorems.specs.Calls as Host

@@ -5,8 +5,8 @@ use mathlib.Core.Bool.{cond}
 use mathlib.Core.List.{List, map}
 use lib.Dec.{eqb}
 use lib.ListN.{take, drop, replicate}
-use Rattle.rules.specs.Words.{Config, Signal, Hand, Happened, heard, signal, operator, What, tick, onChannel70, onSlot, Event}
-use Rattle.rules.specs.Bytes.{blockSize}
+use Rattle.rules.specs.Rules.Words.{Config, Signal, Hand, Happened, heard, signal, operator, What, tick, onChannel70, onSlot, Event}
+use Rattle.rules.specs.Rules.Bytes.{blockSize}
 use Rattle.station.specs.declared.Station.{Station}
 use Rattle.station.specs.declared.Stepped.{Stepped}
 use Rattle.station.specs.Step.{eventAt}

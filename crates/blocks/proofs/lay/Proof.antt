@@ -6,7 +6,7 @@ use borrow.Author.Needs.{needs}
 use denote.Ref.{now}
 use lib.ListN.{length, take, length-set}
 use lib.Seq.{paste, paste-zero}
-use Rattle.rules.specs.Bytes.{padded}
+use Rattle.rules.specs.Rules.Bytes.{padded}
 use Rattle.actions.specs.Blocks.{actionBlock}
 use Rattle.blocks.proofs.BlockLaws.{payload-at, payload-past}
 use Rattle.blocks.proofs.LaidLaws.{no-number, no-room, turned, block-laid}

@@ -1,5 +1,5 @@
 use Rattle.distinct.proofs.ApartLaws.{apart-on, apart-off}
-use Rattle.rules.specs.Places.{elem, distinct}
+use Rattle.rules.specs.Rules.Places.{elem, distinct}
 use lib.Dec.{eqb}
 use lib.ListN.{length, take, drop, getD, length-drop, drop-of-length-le}
 use lib.Seq.{take-all}

@@ -1,5 +1,5 @@
 use Rattle.distinct.proofs.ApartLaws.{among-here, among-later, among-end}
-use Rattle.rules.specs.Places.{elem}
+use Rattle.rules.specs.Rules.Places.{elem}
 use lib.Dec.{eqb}
 use lib.ListN.{length, drop}
 use native.Mathlib.Omega.{arith}

@@ -1,7 +1,7 @@
 use mathlib.Core.Path.{sym, _∙_}
 use Rattle.requests.specs.Views.{requestOf}
 use Rattle.hearing.specs.Said.{askedIn}
-use Rattle.rules.specs.Heard.{kindOf}
+use Rattle.rules.specs.Rules.Heard.{kindOf}
 use Rattle.hearing.proofs.SaidLaws.{asked-is, simplex-asked, duplex-asked}
 use borrow.Author.Needs.{needs}
 use Rattle.hearing.proofs.kind_of.Statement.{statement}

@@ -1,4 +1,4 @@
-use Rattle.rules.specs.Heard.{addressed}
+use Rattle.rules.specs.Rules.Heard.{addressed}
 use borrow.Author.Needs.{needs}
 use Rattle.hearing.proofs.told_by.Statement.{statement}
 use Rattle.hearing.proofs.told_by.Tie as tie

@@ -2,7 +2,7 @@ use Prim.Native.Nat.{_≤_, _-_, min}
 use mathlib.Core.Path.{_≡_, _∙_}
 use native.Mathlib.Omega.{arith}
 use lib.ListN.{length, length-set}
-use Rattle.rules.specs.Bytes.{padded}
+use Rattle.rules.specs.Rules.Bytes.{padded}
 use Rattle.slots.specs.Images.{blankWaiting}
 use Rattle.layouts.specs.Fields.{decode}
 use Rattle.layouts.specs.Records.{recordsAt}

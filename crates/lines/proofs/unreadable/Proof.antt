@@ -1,5 +1,5 @@
 use mathlib.Core.Path.{refl}
-use Rattle.rules.specs.Bytes.{padded}
+use Rattle.rules.specs.Rules.Bytes.{padded}
 use Rattle.lines.proofs.unreadable.Statement.{statement}
 use Rattle.lines.proofs.unreadable.Tie as tie
 

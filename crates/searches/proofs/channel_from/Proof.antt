@@ -3,7 +3,7 @@ use Rattle.searches.proofs.SearchLaws.{lowest-hit, lowest-miss, lowest-
 use Rattle.searches.specs.Searches.{lowestFrom}
 use Rattle.slots.specs.Views.{channelOf, noSlot}
 use Rattle.requests.specs.Views.{left}
-use Rattle.rules.specs.Heard.{sameChannel}
+use Rattle.rules.specs.Rules.Heard.{sameChannel}
 use borrow.Author.Needs.{needs}
 use lib.ListN.{length}
 use native.Mathlib.Omega.{arith}

@@ -2,8 +2,8 @@ use Rattle.searches.proofs.SearchLaws.{lowest-all, lowest-hit, lowest-m
 use Rattle.searches.specs.Searches.{lowestFrom}
 use Rattle.slots.specs.Views.{slotView, noSlot}
 use Rattle.requests.specs.Views.{viewed, left}
-use Rattle.rules.specs.Station.{isFree}
-use Rattle.rules.specs.Places.{lowest}
+use Rattle.rules.specs.Rules.Station.{isFree}
+use Rattle.rules.specs.Rules.Places.{lowest}
 use borrow.Author.Needs.{needs}
 use lib.ListN.{length}
 use native.Mathlib.Omega.{arith}

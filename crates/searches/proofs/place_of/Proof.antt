@@ -1,7 +1,7 @@
 use Rattle.requests.specs.Views.{partyOf}
 use Rattle.searches.proofs.SearchLaws.{lowest-all}
 use Rattle.slots.specs.Views.{waitingView}
-use Rattle.rules.specs.Requests.{waitsFor}
+use Rattle.rules.specs.Rules.Requests.{waitsFor}
 use mathlib.Core.Path.{_∙_}
 use borrow.Author.Needs.{needs}
 use Rattle.searches.proofs.place_of.Statement.{statement}

@@ -2,7 +2,7 @@ use Rattle.searches.proofs.SearchLaws.{lowest-hit, lowest-miss, lowest-
 use Rattle.searches.specs.Searches.{lowestFrom}
 use Rattle.slots.specs.Views.{slotView, noSlot}
 use Rattle.requests.specs.Views.{left, partyOf}
-use Rattle.rules.specs.Requests.{owns}
+use Rattle.rules.specs.Rules.Requests.{owns}
 use borrow.Author.Needs.{needs}
 use lib.ListN.{length}
 use native.Mathlib.Omega.{arith}

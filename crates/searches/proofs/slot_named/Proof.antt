@@ -1,6 +1,6 @@
 use Rattle.searches.proofs.SearchLaws.{lowest-all}
 use Rattle.slots.specs.Views.{channelOf}
-use Rattle.rules.specs.Heard.{sameChannel}
+use Rattle.rules.specs.Rules.Heard.{sameChannel}
 use mathlib.Core.Path.{_∙_}
 use borrow.Author.Needs.{needs}
 use Rattle.searches.proofs.slot_named.Statement.{statement}

@@ -1,7 +1,7 @@
 use Rattle.requests.specs.Views.{partyOf}
 use Rattle.searches.proofs.SearchLaws.{lowest-all}
 use Rattle.slots.specs.Views.{slotView}
-use Rattle.rules.specs.Requests.{owns}
+use Rattle.rules.specs.Rules.Requests.{owns}
 use borrow.Author.Needs.{needs}
 use Rattle.searches.proofs.standing.Statement.{statement}
 use Rattle.searches.proofs.standing.Tie as tie

@@ -5,9 +5,9 @@ use Rattle.sequence.specs.Field.{channelOk}
 use Rattle.slots.specs.Views.{channelOf, noSlot}
 use Rattle.requests.proofs.ArrayLaws.{viewed-length, left-all, left-none, all-on, all-off, laid-more}
 use Rattle.requests.specs.Views.{viewed, left}
-use Rattle.rules.specs.Bytes.{padded}
-use Rattle.rules.specs.Places.{all, distinct}
-use Rattle.rules.specs.Sound.{channelsKeep}
+use Rattle.rules.specs.Rules.Bytes.{padded}
+use Rattle.rules.specs.Rules.Places.{all, distinct}
+use Rattle.rules.specs.Rules.Sound.{channelsKeep}
 use lib.Dec.{eqb}
 use lib.ListN.{length, take, length-take}
 use native.Mathlib.Omega.{arith}

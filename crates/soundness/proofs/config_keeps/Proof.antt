@@ -1,5 +1,5 @@
 use borrow.Author.Tests.{not-true, not-false}
-use Rattle.rules.specs.Sound.{configKeeps, identityKeeps}
+use Rattle.rules.specs.Rules.Sound.{configKeeps, identityKeeps}
 use mathlib.Core.Path.{sym, _∙_}
 use borrow.Author.Needs.{needs}
 use Rattle.soundness.proofs.config_keeps.Statement.{statement}

@@ -2,7 +2,7 @@ use Rattle.actions.proofs.ActionLaws.{both}
 use Rattle.actions.specs.Blocks.{actionOf, span, chargeBytes}
 use Rattle.units.specs.Units.{wholeSeconds}
 use Rattle.actions.specs.Blocks.{actionOf}
-use Rattle.rules.specs.Bytes.{padded}
+use Rattle.rules.specs.Rules.Bytes.{padded}
 use native.Mathlib.Omega.{arith}
 use mathlib.Core.Path.{_≡_}
 use borrow.Author.Needs.{needs}

@@ -5,7 +5,7 @@ use borrow.Author.Needs.{needs}
 use Rattle.actions.proofs.ActionLaws.{digits-all, digits-few}
 use Rattle.requests.proofs.ArrayLaws.{laid-more}
 use Rattle.requests.specs.Views.{viewed, itself}
-use Rattle.rules.specs.Bytes.{padded}
+use Rattle.rules.specs.Rules.Bytes.{padded}
 use native.Mathlib.Omega.{arith}
 use lib.ListN.{length}
 use mathlib.Core.Path.{_≡_, refl}

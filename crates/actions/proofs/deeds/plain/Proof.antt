@@ -1,5 +1,5 @@
 use Rattle.actions.specs.Blocks.{actionOf}
-use Rattle.rules.specs.Bytes.{padded}
+use Rattle.rules.specs.Rules.Bytes.{padded}
 use mathlib.Core.Path.{refl}
 use Rattle.actions.proofs.deeds.plain.Statement.{statement}
 use Rattle.actions.proofs.deeds.plain.Tie as tie

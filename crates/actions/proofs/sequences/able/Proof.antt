@@ -1,5 +1,5 @@
 use Rattle.requests.specs.Views.{requestOf}
-use Rattle.rules.specs.Bytes.{ableSaid, answerTo}
+use Rattle.rules.specs.Rules.Bytes.{ableSaid, answerTo}
 use borrow.Author.Needs.{needs}
 use Rattle.actions.proofs.sequences.able.Statement.{statement}
 use Rattle.actions.proofs.sequences.able.Tie as tie

@@ -1,6 +1,6 @@
 use Rattle.actions.proofs.ActionLaws.{both-sent}
 use Rattle.requests.specs.Views.{requestOf}
-use Rattle.rules.specs.Bytes.{overSaid, answerTo}
+use Rattle.rules.specs.Rules.Bytes.{overSaid, answerTo}
 use borrow.Author.Needs.{needs}
 use Rattle.actions.proofs.sequences.over.Statement.{statement}
 use Rattle.actions.proofs.sequences.over.Tie as tie

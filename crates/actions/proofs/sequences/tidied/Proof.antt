@@ -2,7 +2,7 @@ use Rattle.actions.proofs.ActionLaws.{tidy}
 use borrow.Author.Needs.{needs}
 use Rattle.requests.proofs.ArrayLaws.{laid-more}
 use Rattle.requests.specs.Views.{viewed, itself}
-use Rattle.rules.specs.Bytes.{padded}
+use Rattle.rules.specs.Rules.Bytes.{padded}
 use native.Mathlib.Omega.{arith}
 use lib.ListN.{length}
 use mathlib.Core.Path.{_≡_, refl}

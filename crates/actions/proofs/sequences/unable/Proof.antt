@@ -1,5 +1,5 @@
 use Rattle.actions.proofs.ActionLaws.{both-sent}
-use Rattle.rules.specs.Bytes.{unableSaid, answerTo}
+use Rattle.rules.specs.Rules.Bytes.{unableSaid, answerTo}
 use borrow.Author.Needs.{needs}
 use Rattle.actions.proofs.sequences.unable.Statement.{statement}
 use Rattle.actions.proofs.sequences.unable.Tie as tie

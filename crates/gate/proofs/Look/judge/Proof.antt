@@ -4,8 +4,8 @@ use mathlib.Core.List.{[], _∷_}
 use mathlib.Core.Option.{none}
 use mathlib.Core.Path.{_≡_, refl}
 use Rattle.sequence.specs.Refusals.{firstRefusal}
-use Rattle.rules.specs.Sound.{limit}
-use Rattle.rules.specs.Verdict.{unless, roomNeeded}
+use Rattle.rules.specs.Rules.Sound.{limit}
+use Rattle.rules.specs.Rules.Verdict.{unless, roomNeeded}
 use Rattle.gate.specs.Asked.{andThen}
 use borrow.Author.Needs.{needs}
 use Rattle.gate.proofs.Look.judge.Statement.{statement}

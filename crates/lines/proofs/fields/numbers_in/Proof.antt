@@ -2,7 +2,7 @@ use Prim.Native.Nat.{_-_}
 use mathlib.Core.Path.{_≡_, sym, _∙_, ap}
 use native.Mathlib.Omega.{arith}
 use lib.ListN.{length}
-use Rattle.rules.specs.Bytes.{padded}
+use Rattle.rules.specs.Rules.Bytes.{padded}
 use Rattle.lines.specs.Readable.{numbersImage}
 use Rattle.requests.proofs.ArrayLaws.{padded-length}
 use Rattle.lines.proofs.ScanLaws.{no-space, space-here}

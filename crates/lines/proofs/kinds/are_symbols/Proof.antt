@@ -2,7 +2,7 @@ use Prim.Native.Nat.{_≤_, _-_}
 use mathlib.Core.Path.{_≡_, refl, sym, _∙_}
 use native.Mathlib.Omega.{arith}
 use lib.ListN.{length, drop, drop-of-length-le}
-use Rattle.rules.specs.Places.{all}
+use Rattle.rules.specs.Rules.Places.{all}
 use Rattle.lines.specs.Lines.{isSymbol}
 use Rattle.lines.proofs.KindLaws.{symbol-here, no-symbol-here}
 use Rattle.lines.proofs.kinds.are_symbols.Statement.{statement}

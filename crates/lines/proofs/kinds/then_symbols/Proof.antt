@@ -1,6 +1,6 @@
 use borrow.Author.Tests.{le-leb, lt-leb}
 use mathlib.Core.Path.{ap, _∙_}
-use Rattle.rules.specs.Places.{all}
+use Rattle.rules.specs.Rules.Places.{all}
 use Rattle.lines.specs.Lines.{isSymbol}
 use Rattle.lines.proofs.KindLaws.{part-left}
 use borrow.Author.Needs.{needs}

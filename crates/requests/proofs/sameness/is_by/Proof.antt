@@ -1,6 +1,6 @@
 use borrow.Author.Tests.{eq-eqb, ne-eqb}
 use Rattle.requests.specs.Views.{requestOf}
-use Rattle.rules.specs.Words.{is}
+use Rattle.rules.specs.Rules.Words.{is}
 use Rattle.requests.proofs.sameness.is_by.Statement.{statement}
 use Rattle.requests.proofs.sameness.is_by.Tie as tie
 

@@ -1,7 +1,7 @@
 use Rattle.requests.proofs.NumberLaws.{lengths-differ, digit-same, digit-differs}
 use Rattle.requests.proofs.ArrayLaws.{viewed-min, viewed-length, left-all, left-none}
 use Rattle.requests.specs.Views.{viewed, left, itself, digitsOf}
-use Rattle.rules.specs.Requests.{sameNumber}
+use Rattle.rules.specs.Rules.Requests.{sameNumber}
 use borrow.Author.Needs.{needs}
 use lib.ListN.{length}
 use native.Mathlib.Omega.{arith}

@@ -1,6 +1,6 @@
 use borrow.Author.Tests.{not-true, not-false, eq-eqb, ne-eqb}
 use Rattle.requests.specs.Views.{requestOf}
-use Rattle.rules.specs.Requests.{same}
+use Rattle.rules.specs.Rules.Requests.{same}
 use mathlib.Core.Path.{sym, _∙_}
 use borrow.Author.Needs.{needs}
 use Rattle.requests.proofs.sameness.same_request.Statement.{statement}

@@ -4,7 +4,7 @@ use mathlib.Core.Path.{_≡_, refl, ap, _∙_}
 use native.Mathlib.Omega.{arith}
 use lib.ListN.{length}
 use Rattle.requests.specs.Views.{viewed, itself}
-use Rattle.rules.specs.Bytes.{padded}
+use Rattle.rules.specs.Rules.Bytes.{padded}
 use Rattle.requests.proofs.ArrayLaws.{laid-more, viewed-min, viewed-length}
 use Rattle.slots.proofs.TidyLaws.{padded-blank}
 use borrow.Author.Needs.{needs}

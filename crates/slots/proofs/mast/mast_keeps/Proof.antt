@@ -1,4 +1,4 @@
-use Rattle.rules.specs.Sound.{identityKeeps}
+use Rattle.rules.specs.Rules.Sound.{identityKeeps}
 use borrow.Author.Needs.{needs}
 use Rattle.slots.proofs.mast.mast_keeps.Statement.{statement}
 use Rattle.slots.proofs.mast.mast_keeps.Tie as tie

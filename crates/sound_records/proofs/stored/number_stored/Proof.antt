@@ -1,7 +1,7 @@
 use borrow.Author.Tests.{le-leb, lt-leb}
 use Rattle.requests.proofs.ArrayLaws.{viewed-length}
 use Rattle.requests.specs.Views.{viewed, itself, digitsOf}
-use Rattle.rules.specs.Sound.{numberKeeps}
+use Rattle.rules.specs.Rules.Sound.{numberKeeps}
 use Rattle.sound_records.specs.Kept.{numberExact, digitsFit}
 use Rattle.sound_records.proofs.KeepLaws.{viewed-take, digits-parts, digit-fits, digit-over, and-no}
 use Prim.Native.Nat.{_≤_, _-_}

@@ -1,6 +1,6 @@
 use borrow.Author.Tests.{le-leb, lt-leb, not-true, not-false}
 use Rattle.requests.specs.Views.{requestOf}
-use Rattle.rules.specs.Sound.{requestKeeps}
+use Rattle.rules.specs.Rules.Sound.{requestKeeps}
 use mathlib.Core.Path.{sym, _∙_}
 use borrow.Author.Needs.{needs}
 use Rattle.sound_records.proofs.stored.request_stored.Statement.{statement}

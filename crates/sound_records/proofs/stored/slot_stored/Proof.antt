@@ -1,6 +1,6 @@
 use borrow.Author.Tests.{not-true, not-false}
 use mathlib.Core.Path.{sym, ap, _∙_}
-use Rattle.rules.specs.Sound.{durationKeeps}
+use Rattle.rules.specs.Rules.Sound.{durationKeeps}
 use Rattle.requests.specs.Views.{requestOf}
 use Rattle.slots.specs.Views.{named}
 use Rattle.slots.proofs.PhaseLaws.{keeps-view}

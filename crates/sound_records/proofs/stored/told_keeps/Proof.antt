@@ -1,4 +1,4 @@
-use Rattle.rules.specs.Sound.{durationKeeps}
+use Rattle.rules.specs.Rules.Sound.{durationKeeps}
 use borrow.Author.Needs.{needs}
 use Rattle.sound_records.proofs.stored.told_keeps.Statement.{statement}
 use Rattle.sound_records.proofs.stored.told_keeps.Tie as tie

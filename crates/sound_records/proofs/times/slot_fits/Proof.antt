@@ -1,6 +1,6 @@
 use borrow.Author.Tests.{not-true, not-false}
 use mathlib.Core.Path.{sym, ap, _∙_}
-use Rattle.rules.specs.Sound.{lossFits}
+use Rattle.rules.specs.Rules.Sound.{lossFits}
 use Rattle.requests.specs.Views.{modeOf, requestOf}
 use Rattle.slots.specs.Phases.{carrierOf, spanFits}
 use Rattle.slots.proofs.PhaseLaws.{fits-view}

@@ -1,8 +1,8 @@
 use mathlib.Core.Path.{refl, ap, _∙_}
-use Rattle.rules.specs.Words.{is}
-use Rattle.rules.specs.Station as R
-use Rattle.rules.specs.Station.{setClock}
-use Rattle.rules.specs.Calls.{bqFor}
+use Rattle.rules.specs.Rules.Words.{is}
+use Rattle.rules.specs.Rules.Station as R
+use Rattle.rules.specs.Rules.Station.{setClock}
+use Rattle.rules.specs.Rules.Calls.{bqFor}
 use Rattle.requests.specs.Views.{requestOf}
 use Rattle.deciding.proofs.RuleLaws.{bq-is}
 use Rattle.station.specs.Model.{modelOf}

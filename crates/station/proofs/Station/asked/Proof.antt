@@ -1,7 +1,7 @@
 use mathlib.Core.Path.{ap, _∙_}
-use Rattle.rules.specs.Station as R
-use Rattle.rules.specs.Station.{setClock}
-use Rattle.rules.specs.Requests.{standing, requested}
+use Rattle.rules.specs.Rules.Station as R
+use Rattle.rules.specs.Rules.Station.{setClock}
+use Rattle.rules.specs.Rules.Requests.{standing, requested}
 use Rattle.requests.specs.Views.{requestOf}
 use Rattle.outcomes.specs.Does.{outOf, wholeOf}
 use Rattle.station.specs.Model.{modelOf}

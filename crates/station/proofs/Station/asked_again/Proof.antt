@@ -1,7 +1,7 @@
 use mathlib.Core.Path.{refl, ap, _∙_}
-use Rattle.rules.specs.Station as R
-use Rattle.rules.specs.Station.{setClock}
-use Rattle.rules.specs.Requests.{same, bOrC, requested}
+use Rattle.rules.specs.Rules.Station as R
+use Rattle.rules.specs.Rules.Station.{setClock}
+use Rattle.rules.specs.Rules.Requests.{same, bOrC, requested}
 use Rattle.requests.specs.Views.{requestOf}
 use Rattle.deciding.proofs.RuleLaws.{asked-again-is}
 use Rattle.station.specs.Model.{modelOf}

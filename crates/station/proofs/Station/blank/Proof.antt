@@ -1,6 +1,6 @@
 use mathlib.Core.Path.{refl}
-use Rattle.rules.specs.Station.{fresh}
-use Rattle.rules.specs.Bytes.{padded}
+use Rattle.rules.specs.Rules.Station.{fresh}
+use Rattle.rules.specs.Rules.Bytes.{padded}
 use Rattle.station.specs.Model.{imageOf}
 use Rattle.station.specs.Step.{blankStation}
 use borrow.Author.Needs.{needs}

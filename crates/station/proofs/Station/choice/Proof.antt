@@ -1,7 +1,7 @@
 use mathlib.Core.Path.{refl}
-use Rattle.rules.specs.Requests.{ruleA}
-use Rattle.rules.specs.Calls.{heardOn70}
-use Rattle.rules.specs.Station.{setClock}
+use Rattle.rules.specs.Rules.Requests.{ruleA}
+use Rattle.rules.specs.Rules.Calls.{heardOn70}
+use Rattle.rules.specs.Rules.Station.{setClock}
 use Rattle.outcomes.specs.Does.{outOf, wholeOf}
 use Rattle.station.specs.Pieces.{wholeAt}
 use borrow.Author.Needs.{needs}

@@ -6,10 +6,10 @@ use mathlib.Core.Path.{_≡_, refl, sym, ap, _∙_}
 use native.Mathlib.Omega.{arith}
 use lib.ListN.{length, length-set, getD, set}
 use denote.Ref.{now}
-use Rattle.rules.specs.Places.{dropAt}
-use Rattle.rules.specs.Waits.{earliest, sooner, ofQueue, loss, main}
-use Rattle.rules.specs.Station as R
-use Rattle.rules.specs.Station.{slotTable, lossDue, mainDue, setClock}
+use Rattle.rules.specs.Rules.Places.{dropAt}
+use Rattle.rules.specs.Rules.Waits.{earliest, sooner, ofQueue, loss, main}
+use Rattle.rules.specs.Rules.Station as R
+use Rattle.rules.specs.Rules.Station.{slotTable, lossDue, mainDue, setClock}
 use Rattle.requests.specs.Views.{viewed, left, requestOf}
 use Rattle.requests.proofs.ArrayLaws.{viewed-min}
 use Rattle.slots.specs.declared.Waiting.{Waiting}

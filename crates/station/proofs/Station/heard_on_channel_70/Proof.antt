@@ -1,9 +1,9 @@
 use mathlib.Core.Option.{none}
 use mathlib.Core.Path.{_≡_, refl, ap, _∙_}
 use lib.ListN.{length}
-use Rattle.rules.specs.Words.{onChannel70, Event}
-use Rattle.rules.specs.Station.{setClock}
-use Rattle.rules.specs.Calls.{heardOn70, actAt, act}
+use Rattle.rules.specs.Rules.Words.{onChannel70, Event}
+use Rattle.rules.specs.Rules.Station.{setClock}
+use Rattle.rules.specs.Rules.Calls.{heardOn70, actAt, act}
 use Rattle.requests.specs.Views.{requestOf}
 use Rattle.station.specs.Model.{modelOf, configOf}
 use Rattle.station.specs.Step.{eventAt, refusal}

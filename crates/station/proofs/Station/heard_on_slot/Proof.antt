@@ -6,11 +6,11 @@ use mathlib.Core.Path.{_≡_, refl, ap, _∙_}
 use lib.ListN.{length}
 use Rattle.units.specs.declared.SlotNumber.{SlotNumber}
 use Rattle.units.specs.declared.Tenths.{Tenths}
-use Rattle.rules.specs.Words.{Request, is, heard, onSlot, Event}
-use Rattle.rules.specs.Heard.{meaning}
-use Rattle.rules.specs.Station as R
-use Rattle.rules.specs.Station.{setClock}
-use Rattle.rules.specs.Calls.{heardOn, happenedOn, act}
+use Rattle.rules.specs.Rules.Words.{Request, is, heard, onSlot, Event}
+use Rattle.rules.specs.Rules.Heard.{meaning}
+use Rattle.rules.specs.Rules.Station as R
+use Rattle.rules.specs.Rules.Station.{setClock}
+use Rattle.rules.specs.Rules.Calls.{heardOn, happenedOn, act}
 use Rattle.requests.specs.Views.{requestOf}
 use Rattle.slots.specs.declared.Phase.{Phase}
 use Rattle.slots.specs.declared.Slot.{Slot}

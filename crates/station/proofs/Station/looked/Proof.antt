@@ -7,10 +7,10 @@ use native.Mathlib.Omega.{arith}
 use lib.Dec.{eqb}
 use lib.ListN.{length, take, getD, length-take}
 use borrow.Author.Tests.{not-true, not-false}
-use Rattle.rules.specs.Places.{all, distinct}
-use Rattle.rules.specs.Bytes.{padded}
-use Rattle.rules.specs.Waits.{earliest}
-use Rattle.rules.specs.Station.{slotTable, table}
+use Rattle.rules.specs.Rules.Places.{all, distinct}
+use Rattle.rules.specs.Rules.Bytes.{padded}
+use Rattle.rules.specs.Rules.Waits.{earliest}
+use Rattle.rules.specs.Rules.Station.{slotTable, table}
 use Rattle.requests.specs.Views.{viewed, left, itself}
 use Rattle.requests.proofs.ArrayLaws.{left-all, left-none, laid-more, viewed-length}
 use Rattle.slots.specs.Views.{slotView, waitingView, dueView, dueOf, noSlot, noWaiting}

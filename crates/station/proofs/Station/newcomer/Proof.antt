@@ -1,7 +1,7 @@
 use mathlib.Core.Bool.{false}
 use mathlib.Core.Path.{refl}
 use lib.ListN.{length}
-use Rattle.rules.specs.Station.{setClock}
+use Rattle.rules.specs.Rules.Station.{setClock}
 use Rattle.deciding.proofs.RuleLaws.{offers-is, joins-is}
 use Rattle.station.specs.Model.{modelOf}
 use Rattle.station.proofs.AskLaws.{newcomer-ends}

@@ -1,4 +1,4 @@
-use Rattle.rules.specs.Station.{nextDue}
+use Rattle.rules.specs.Rules.Station.{nextDue}
 use borrow.Author.Needs.{needs}
 use Rattle.station.proofs.Station.next_due.Statement.{statement}
 use Rattle.station.proofs.Station.next_due.Tie as tie

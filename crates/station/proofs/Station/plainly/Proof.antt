@@ -1,8 +1,8 @@
 use mathlib.Core.Option.{none}
 use mathlib.Core.Path.{_≡_, refl, _∙_}
 use lib.ListN.{length}
-use Rattle.rules.specs.Words.{Event}
-use Rattle.rules.specs.Calls.{act}
+use Rattle.rules.specs.Rules.Words.{Event}
+use Rattle.rules.specs.Rules.Calls.{act}
 use Rattle.requests.specs.Views.{requestOf}
 use Rattle.station.specs.Model.{modelOf, configOf}
 use Rattle.station.specs.Step.{slotAt, refusal}

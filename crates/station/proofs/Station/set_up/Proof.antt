@@ -1,7 +1,7 @@
 use mathlib.Core.Path.{_≡_, sym, _∙_}
 use lib.ListN.{length}
 use borrow.Author.Tests.{not-true, not-false}
-use Rattle.rules.specs.Bytes.{padded}
+use Rattle.rules.specs.Rules.Bytes.{padded}
 use Rattle.slots.specs.Views.{alone}
 use Rattle.station.proofs.SetLaws.{set-up-refused, none-chosen, keeps-chosen, set-up-done}
 use borrow.Author.Needs.{needs}

@@ -8,12 +8,12 @@ use lib.ListN.{length, getD}
 use borrow.Author.Tests.{leb-true}
 use Rattle.units.specs.declared.SlotNumber.{SlotNumber}
 use Rattle.units.specs.declared.Tenths.{Tenths}
-use Rattle.rules.specs.Words.{Request, tick, Event}
-use Rattle.rules.specs.Waits as T
-use Rattle.rules.specs.Waits.{earliest, ifDue}
-use Rattle.rules.specs.Station as R
-use Rattle.rules.specs.Station.{theSlot, setClock, table, fires}
-use Rattle.rules.specs.Calls.{fire, ticked, actAt, act}
+use Rattle.rules.specs.Rules.Words.{Request, tick, Event}
+use Rattle.rules.specs.Rules.Waits as T
+use Rattle.rules.specs.Rules.Waits.{earliest, ifDue}
+use Rattle.rules.specs.Rules.Station as R
+use Rattle.rules.specs.Rules.Station.{theSlot, setClock, table, fires}
+use Rattle.rules.specs.Rules.Calls.{fire, ticked, actAt, act}
 use Rattle.requests.specs.Views.{requestOf}
 use Rattle.slots.specs.declared.Phase.{Phase}
 use Rattle.slots.specs.declared.Slot.{Slot}

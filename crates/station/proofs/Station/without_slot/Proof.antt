@@ -1,5 +1,5 @@
 use mathlib.Core.Path.{_∙_}
-use Rattle.rules.specs.Station.{setClock}
+use Rattle.rules.specs.Rules.Station.{setClock}
 use Rattle.requests.specs.Views.{requestOf}
 use Rattle.deciding.proofs.RuleLaws.{replaces-is, newcomer-is}
 use Rattle.station.specs.Model.{modelOf}

@@ -2,7 +2,7 @@ use Prim.Native.Nat.{_≤_, _-_}
 use mathlib.Core.Path.{_≡_, refl}
 use native.Mathlib.Omega.{arith}
 use lib.ListN.{length}
-use Rattle.rules.specs.Bytes.{padded}
+use Rattle.rules.specs.Rules.Bytes.{padded}
 use Rattle.requests.specs.Views.{viewed}
 use Rattle.requests.proofs.ArrayLaws.{laid-more}
 use Rattle.slots.specs.Images.{freeOn, blankSlot}

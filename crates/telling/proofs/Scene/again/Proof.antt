@@ -1,6 +1,6 @@
 use denote.Ref.{now}
-use Rattle.rules.specs.Words.{carrierOn}
-use Rattle.rules.specs.Actions.{does}
+use Rattle.rules.specs.Rules.Words.{carrierOn}
+use Rattle.rules.specs.Rules.Actions.{does}
 use Rattle.actions.specs.Sent.{sentPayload, sentOn}
 use borrow.Author.Needs.{needs}
 use Rattle.telling.specs.Told.{sceneView}

@@ -1,5 +1,5 @@
 use denote.Ref.{now}
-use Rattle.rules.specs.Actions.{charge}
+use Rattle.rules.specs.Rules.Actions.{charge}
 use Rattle.requests.specs.Views.{requestOf}
 use Rattle.actions.specs.Sent.{sentPayload, sentOn}
 use borrow.Author.Needs.{needs}

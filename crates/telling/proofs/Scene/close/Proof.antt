@@ -1,6 +1,6 @@
 use denote.Ref.{now}
-use Rattle.rules.specs.Words.{carrierOff}
-use Rattle.rules.specs.Actions.{does}
+use Rattle.rules.specs.Rules.Words.{carrierOff}
+use Rattle.rules.specs.Rules.Actions.{does}
 use Rattle.requests.specs.Views.{requestOf}
 use Rattle.actions.specs.Sent.{sentPayload, sentOn}
 use borrow.Author.Needs.{needs}

@@ -1,7 +1,7 @@
 use denote.Ref.{now}
 use mathlib.Core.List.{_∷_}
-use Rattle.rules.specs.Words.{releaseLine}
-use Rattle.rules.specs.Actions.{does}
+use Rattle.rules.specs.Rules.Words.{releaseLine}
+use Rattle.rules.specs.Rules.Actions.{does}
 use Rattle.actions.specs.Sent.{enderOf, sentPayload, sentOn}
 use Rattle.outcomes.specs.Does.{toldOf}
 use borrow.Author.Needs.{needs}

@@ -1,6 +1,6 @@
 use denote.Ref.{now}
-use Rattle.rules.specs.Words.{carrierOff}
-use Rattle.rules.specs.Actions.{does, over}
+use Rattle.rules.specs.Rules.Words.{carrierOff}
+use Rattle.rules.specs.Rules.Actions.{does, over}
 use Rattle.requests.specs.Views.{requestOf}
 use Rattle.actions.specs.Sent.{enderOf, sentPayload, sentOn}
 use borrow.Author.Needs.{needs}

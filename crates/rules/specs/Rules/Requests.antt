@@ -8,11 +8,11 @@ use lib.ListN.{length}
 use Rattle.units.specs.Units.{wholeSeconds, durationOf}
 use Rattle.units.specs.declared.Told.{Told}
 use Rattle.units.specs.declared.Told.the-variants.{Nothing}
-use Rattle.rules.specs.Places.{modAt, lowest}
-use Rattle.rules.specs.Words.{Party, is, Mode, simplex, duplex, Request, Deed, carrierOn, carrierOff, acknowledge, ringBack, unable, releaseLine}
-use Rattle.rules.specs.Actions.{Action, does, over, charge, Ender, theCoast, chargeOf}
-use Rattle.rules.specs.Station.{Kind, isOffer, answeredAt, Slot, bySlot, shipOf, isFree, Waiting, Station, theSlot, setSlot, emptied, setQueue, dueAfter, offerOf, ringOf, queueWait}
-use Rattle.rules.specs.Sound.{queueRoom}
+use Rattle.rules.specs.Rules.Places.{modAt, lowest}
+use Rattle.rules.specs.Rules.Words.{Party, is, Mode, simplex, duplex, Request, Deed, carrierOn, carrierOff, acknowledge, ringBack, unable, releaseLine}
+use Rattle.rules.specs.Rules.Actions.{Action, does, over, charge, Ender, theCoast, chargeOf}
+use Rattle.rules.specs.Rules.Station.{Kind, isOffer, answeredAt, Slot, bySlot, shipOf, isFree, Waiting, Station, theSlot, setSlot, emptied, setQueue, dueAfter, offerOf, ringOf, queueWait}
+use Rattle.rules.specs.Rules.Sound.{queueRoom}
 
 -- what an accepted event gives: its answer, the next station, the actions in order
 pub record Out : Type 0 where

@@ -2,8 +2,8 @@
 use mathlib.Core.Option.{Option}
 use Prim.Native.Nat.{ℕ}
 use Rattle.units.specs.declared.Told.{Told}
-use Rattle.rules.specs.Words.{Request}
-use Rattle.rules.specs.Station.{Kind, Stage, dealing, Slot, pending as pendingOf, busy as busyOf, held as heldOf}
+use Rattle.rules.specs.Rules.Words.{Request}
+use Rattle.rules.specs.Rules.Station.{Kind, Stage, dealing, Slot, pending as pendingOf, busy as busyOf, held as heldOf}
 
 abbrev pub pending : Kind → Request → ℕ → Slot
 pending k r d = pendingOf k (dealing r) d

@@ -5,11 +5,11 @@ use mathlib.Core.Bool.{Bool, false, cond, _&&_, _||_}
 use mathlib.Core.Option.{Option, none, some}
 use Prim.Native.Nat.{ℕ}
 use lib.Dec.{eqb}
-use Rattle.rules.specs.Places.{Each}
-use Rattle.rules.specs.Words.{Party, is, Request, Config, Deed, carrierOn, carrierOff, acknowledge, ringBack, unable, dial, releaseLine}
-use Rattle.rules.specs.Heard.{Heard, callRequest, dataRequest, bq, workingCall, endOfCall, nothing}
-use Rattle.rules.specs.Book.{Note, Said, silent, toldBQ, toldRQ, settled, Book, blankBook, line}
-use Rattle.rules.specs.Reading.{moment, heardAt, read, readAll}
+use Rattle.rules.specs.Rules.Places.{Each}
+use Rattle.rules.specs.Rules.Words.{Party, is, Request, Config, Deed, carrierOn, carrierOff, acknowledge, ringBack, unable, dial, releaseLine}
+use Rattle.rules.specs.Rules.Heard.{Heard, callRequest, dataRequest, bq, workingCall, endOfCall, nothing}
+use Rattle.rules.specs.ListAlone.Book.{Note, Said, silent, toldBQ, toldRQ, settled, Book, blankBook, line}
+use Rattle.rules.specs.ListAlone.Reading.{moment, heardAt, read, readAll}
 
 -- what channel 70 says in the entry itself
 abbrev pub heardIn : Config → Note → Heard

@@ -4,7 +4,7 @@ use mathlib.Core.List.{List, [], _∷_}
 use Rattle.units.specs.declared.Tenths.{Tenths}
 use Rattle.units.specs.declared.Seconds.{Seconds}
 use Rattle.units.specs.declared.Told.{Told}
-use Rattle.rules.specs.Words.{Party, Deed}
+use Rattle.rules.specs.Rules.Words.{Party, Deed}
 
 -- tenths and charged seconds are records of their own
 pub record Charge : Type 0 where

@@ -1,11 +1,11 @@
 -- A case for each rule of a request, of the working call and of ring-back: what the last event of a short script prints.
 use mathlib.Core.List.{List, [], _∷_}
 use Rattle.sequence.specs.declared.Field.the-variants.{Blank}
-use Rattle.rules.specs.Words.{simplex, duplex}
-use Rattle.rules.specs.Runs.{seven, eight, nine, sends, usual, callsFor, calls, dataCalls, accepts, works, ticks, asksAnew, fades, says, saysOn, picksUp, loses, reserves, restores}
-use Rattle.rules.specs.Cases.{Row}
-use Rattle.rules.specs.Phases.{waitingWith}
-use Rattle.rules.specs.Scripts.{gives, elsewhere, waitingShips, charges, unable109Seven, ackSeven26, ackSeven26Again, ackSeven26Simplex, ackEight26, overSevenByCoast15, overSevenByCoast55, ringEight26, unable103Seven, ringSeven26, ringSeven26Again, ringSeven26Simplex, ackSeven27, unable103Eight, unable102Nine, ringNine26}
+use Rattle.rules.specs.Rules.Words.{simplex, duplex}
+use Rattle.rules.specs.Tables.Runs.{seven, eight, nine, sends, usual, callsFor, calls, dataCalls, accepts, works, ticks, asksAnew, fades, says, saysOn, picksUp, loses, reserves, restores}
+use Rattle.rules.specs.Tables.Cases.{Row}
+use Rattle.rules.specs.Tables.Phases.{waitingWith}
+use Rattle.rules.specs.Tables.Scripts.{gives, elsewhere, waitingShips, charges, unable109Seven, ackSeven26, ackSeven26Again, ackSeven26Simplex, ackEight26, overSevenByCoast15, overSevenByCoast55, ringEight26, unable103Seven, ringSeven26, ringSeven26Again, ringSeven26Simplex, ackSeven27, unable103Eight, unable102Nine, ringNine26}
 
 -- ── what is ignored ───────────────────────────────────────────────────────────
 

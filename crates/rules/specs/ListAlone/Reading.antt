@@ -4,12 +4,12 @@ use mathlib.Core.Bool.{Bool, true, false, cond, _&&_}
 use mathlib.Core.Option.{Option, none, some}
 use Prim.Native.Nat.{ℕ, suc, _+_, _-_, _*_}
 use lib.Dec.{eqb}
-use Rattle.rules.specs.Places.{dropAt}
-use Rattle.rules.specs.Words.{Party, is, Mode, simplex, duplex, Request, Config, Signal, lineLifted, lineHung, carrierHeard, carrierLost, Happened, heard, signal, operator, What, tick, onChannel70, onSlot, Event, Deed, carrierOn, carrierOff, acknowledge, ringBack, unable, dial, releaseLine}
-use Rattle.rules.specs.Waits.{ofQueue, loss, main, Due}
-use Rattle.rules.specs.Heard.{Heard, callRequest, dataRequest, bq, workingCall, endOfCall, nothing, meaning}
-use Rattle.rules.specs.Book.{Note, Stop, after, silence, offerTime, ringTime, replyTime, holdTime, queueTime, Said, silent, toldBQ, toldRQ, settled, Call, quiet, dialled, talking, Line, Place, Book, atLine, atPlaces, line, falls}
-unfoldable use Rattle.rules.specs.Book.{alike}
+use Rattle.rules.specs.Rules.Places.{dropAt}
+use Rattle.rules.specs.Rules.Words.{Party, is, Mode, simplex, duplex, Request, Config, Signal, lineLifted, lineHung, carrierHeard, carrierLost, Happened, heard, signal, operator, What, tick, onChannel70, onSlot, Event, Deed, carrierOn, carrierOff, acknowledge, ringBack, unable, dial, releaseLine}
+use Rattle.rules.specs.Rules.Waits.{ofQueue, loss, main, Due}
+use Rattle.rules.specs.Rules.Heard.{Heard, callRequest, dataRequest, bq, workingCall, endOfCall, nothing, meaning}
+use Rattle.rules.specs.ListAlone.Book.{Note, Stop, after, silence, offerTime, ringTime, replyTime, holdTime, queueTime, Said, silent, toldBQ, toldRQ, settled, Call, quiet, dialled, talking, Line, Place, Book, atLine, atPlaces, line, falls}
+unfoldable use Rattle.rules.specs.ListAlone.Book.{alike}
 
 -- ── the moment of an entry ───────────────────────────────────────────────────
 

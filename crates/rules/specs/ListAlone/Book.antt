@@ -6,9 +6,9 @@ use Prim.Native.Nat.{ℕ, suc, _+_, _*_}
 use lib.Dec.{eqb}
 use lib.ListN.{getD, length, replicate}
 use Rattle.units.specs.declared.Tenths.{Tenths}
-use Rattle.rules.specs.Places.{modAt}
-use Rattle.rules.specs.Words.{Party, is, Mode, simplex, duplex, Request, Config, Event, Deed}
-use Rattle.rules.specs.Waits.{loss, main, Due, running, earliest, ifDue, queueTable}
+use Rattle.rules.specs.Rules.Places.{modAt}
+use Rattle.rules.specs.Rules.Words.{Party, is, Mode, simplex, duplex, Request, Config, Event, Deed}
+use Rattle.rules.specs.Rules.Waits.{loss, main, Due, running, earliest, ifDue, queueTable}
 
 -- an entry of the list: an event with the deeds given; no deed is a charge or tells a length of time
 pub record Note : Type 0 where

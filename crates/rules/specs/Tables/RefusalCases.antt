@@ -1,11 +1,11 @@
 -- A case for each refusal, and for their order.
 use mathlib.Core.List.{List, [], _∷_}
 use lib.ListN.{take}
-use Rattle.rules.specs.Places.{modAt}
-use Rattle.rules.specs.Words.{duplex}
-use Rattle.rules.specs.Runs.{seven, calls, ticks, says, saysOn, reserves, restores, ticksIn}
-use Rattle.rules.specs.Cases.{Row}
-use Rattle.rules.specs.Scripts.{gives, call7, rechecked}
+use Rattle.rules.specs.Rules.Places.{modAt}
+use Rattle.rules.specs.Rules.Words.{duplex}
+use Rattle.rules.specs.Tables.Runs.{seven, calls, ticks, says, saysOn, reserves, restores, ticksIn}
+use Rattle.rules.specs.Tables.Cases.{Row}
+use Rattle.rules.specs.Tables.Scripts.{gives, call7, rechecked}
 
 -- ── refusals, each exactly then ───────────────────────────────────────────────
 

@@ -5,9 +5,9 @@ use Prim.Native.Nat.{ℕ}
 use Rattle.units.specs.declared.Channel.{Channel as ChannelNumber}
 use Rattle.sequence.specs.declared.Field.the-variants.{Blank, Channel}
 use Rattle.sequence.specs.declared.Meaning.{Meaning}
-use Rattle.rules.specs.Places.{lowest}
-use Rattle.rules.specs.Words.{Mode, Config, modeNumber, Ours}
-use Rattle.rules.specs.Heard.{Heard, callRequest, dataRequest, bq, workingCall, endOfCall, nothing, digitsIn, sentBy, requestIn, sameChannel, addressed}
+use Rattle.rules.specs.Rules.Places.{lowest}
+use Rattle.rules.specs.Rules.Words.{Mode, Config, modeNumber, Ours}
+use Rattle.rules.specs.Rules.Heard.{Heard, callRequest, dataRequest, bq, workingCall, endOfCall, nothing, digitsIn, sentBy, requestIn, sameChannel, addressed}
 
 -- to this station, with an end of sequence and a first telecommand, the field 126s
 pub record Plain (c : Config) (end first : ℕ) (m : Meaning) : Type 0 where

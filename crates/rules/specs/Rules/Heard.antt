@@ -12,8 +12,8 @@ use Rattle.sequence.specs.declared.Number.{Number}
 use Rattle.sequence.specs.declared.Meaning.{Meaning}
 use Rattle.sequence.specs.Figures.{firstSimplex, firstDuplex, firstData, firstOver, endRq, endBq, endLast}
 use Rattle.sequence.specs.Reading.{readingOf}
-use Rattle.rules.specs.Places.{lowest}
-use Rattle.rules.specs.Words.{Party, Mode, simplex, duplex, Request, Config, ours}
+use Rattle.rules.specs.Rules.Places.{lowest}
+use Rattle.rules.specs.Rules.Words.{Party, Mode, simplex, duplex, Request, Config, ours}
 
 pub data Heard : Type 0 where
   callRequest : Request → Heard  -- simplex or duplex

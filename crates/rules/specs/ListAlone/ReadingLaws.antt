@@ -5,11 +5,11 @@ use mathlib.Core.List.{List, [], _∷_, _++_}
 use mathlib.Core.Option.{none, some}
 use Prim.Native.Nat.{ℕ, _≤_, _<_}
 use lib.ListN.{getD, length}
-use Rattle.rules.specs.Places.{Each}
-use Rattle.rules.specs.Words.{Party, Mode, Config, answeringOn, Deed}
-use Rattle.rules.specs.Waits.{ofQueue, Due, queueTable}
-use Rattle.rules.specs.Book.{Note, Stop, dialled, talking, Book, line, waitsIn, falls}
-use Rattle.rules.specs.Reading.{turn, stopsIn, moment}
+use Rattle.rules.specs.Rules.Places.{Each}
+use Rattle.rules.specs.Rules.Words.{Party, Mode, Config, answeringOn, Deed}
+use Rattle.rules.specs.Rules.Waits.{ofQueue, Due, queueTable}
+use Rattle.rules.specs.ListAlone.Book.{Note, Stop, dialled, talking, Book, line, waitsIn, falls}
+use Rattle.rules.specs.ListAlone.Reading.{turn, stopsIn, moment}
 
 -- ── 01's order of waits, without the function that finds the earliest ─────────
 

@@ -1,13 +1,13 @@
 -- A case for each other event, and for ticks: what the last event of a short script prints.
 use mathlib.Core.List.{List, [], _∷_}
 use Rattle.sequence.specs.Reading.{readingOf}
-use Rattle.rules.specs.Words.{simplex, duplex, carrierOn, dial}
-use Rattle.rules.specs.Actions.{does, charge, chargeOf}
-use Rattle.rules.specs.Bytes.{payloadOf, blockOf}
-use Rattle.rules.specs.Runs.{station, seven, eight, usual, calls, works, ends, ticks, saysOn, picksUp, hangs, regains, loses, reserves, restores}
-use Rattle.rules.specs.Cases.{Row}
-use Rattle.rules.specs.Phases.{waitingWith}
-use Rattle.rules.specs.Scripts.{gives, ninety, fieldTold, charges, waits, overSevenByCoast15, ringEight26, unable103Seven, unable103Eight, overSeven411, overSeven, overSevenByCoast411, overSevenByCoast, overSevenByCoast0, ringSeven26}
+use Rattle.rules.specs.Rules.Words.{simplex, duplex, carrierOn, dial}
+use Rattle.rules.specs.Rules.Actions.{does, charge, chargeOf}
+use Rattle.rules.specs.Rules.Bytes.{payloadOf, blockOf}
+use Rattle.rules.specs.Tables.Runs.{station, seven, eight, usual, calls, works, ends, ticks, saysOn, picksUp, hangs, regains, loses, reserves, restores}
+use Rattle.rules.specs.Tables.Cases.{Row}
+use Rattle.rules.specs.Tables.Phases.{waitingWith}
+use Rattle.rules.specs.Tables.Scripts.{gives, ninety, fieldTold, charges, waits, overSevenByCoast15, ringEight26, unable103Seven, unable103Eight, overSeven411, overSeven, overSevenByCoast411, overSevenByCoast, overSevenByCoast0, ringSeven26}
 
 -- ── off-hook and carrier ──────────────────────────────────────────────────────
 

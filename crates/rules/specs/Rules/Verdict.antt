@@ -10,14 +10,14 @@ use Rattle.sequence.specs.declared.Answer.the-variants.{Done}
 use Rattle.sequence.specs.Refusals.{Row, row, firstRefusal}
 use Rattle.sequence.specs.Answers.{answerNumber, isDone}
 use Rattle.sequence.specs.Reading.{readingOf}
-use Rattle.rules.specs.Places.{isSome}
-use Rattle.rules.specs.Words.{Config, Hand, Happened, What, happens, slotIn, symbolsOn, symbolsIn, handIn, Event}
-use Rattle.rules.specs.Actions.{Action}
-use Rattle.rules.specs.Bytes.{mostActions, blockSize}
-use Rattle.rules.specs.Station.{Station, fires, theSlot}
-use Rattle.rules.specs.Sound.{configKeeps, limit, sound}
-use Rattle.rules.specs.Requests.{Out}
-use Rattle.rules.specs.Calls.{barredHand, act}
+use Rattle.rules.specs.Rules.Places.{isSome}
+use Rattle.rules.specs.Rules.Words.{Config, Hand, Happened, What, happens, slotIn, symbolsOn, symbolsIn, handIn, Event}
+use Rattle.rules.specs.Rules.Actions.{Action}
+use Rattle.rules.specs.Rules.Bytes.{mostActions, blockSize}
+use Rattle.rules.specs.Rules.Station.{Station, fires, theSlot}
+use Rattle.rules.specs.Rules.Sound.{configKeeps, limit, sound}
+use Rattle.rules.specs.Rules.Requests.{Out}
+use Rattle.rules.specs.Rules.Calls.{barredHand, act}
 
 -- a test, and the number given where it fails
 abbrev pub unless : Bool → ℕ → Row (Option ℕ)

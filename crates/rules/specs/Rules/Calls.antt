@@ -4,13 +4,13 @@ use mathlib.Core.Bool.{Bool, cond, not}
 use mathlib.Core.Option.{Option, none, some}
 use Prim.Native.Nat.{ℕ}
 use Rattle.units.specs.declared.Told.{Told}
-use Rattle.rules.specs.Places.{dropAt}
-use Rattle.rules.specs.Words.{Party, is, Mode, Request, Config, Signal, lineLifted, lineHung, carrierHeard, carrierLost, Hand, handTakes, handGives, Happened, heard, signal, operator, What, tick, onChannel70, onSlot, Event, carrierOn, carrierOff, ringBack, dial}
-use Rattle.rules.specs.Waits.{Wait, ofQueue, loss, main, Due}
-use Rattle.rules.specs.Heard.{Heard, callRequest, dataRequest, bq, workingCall, endOfCall, nothing, kindOf, addressed, meaning}
-use Rattle.rules.specs.Actions.{does, over, theShip}
-use Rattle.rules.specs.Station.{isFree, isTaken, Kind, offered, firstRing, secondRing, acknowledged, Stage, dialling, answered, answeredAt, Dealing, Slot, free, taken, pending, busy, held, Station, theSlot, fresh, setSlot, setClock, setQueue, dueAfter, rungAgain, agreedAt, carrierWait, replyWait, holdWait, table, fires, nextDue}
-use Rattle.rules.specs.Requests.{Out, done, ignored, also, rungBack, freedFor, freed, lasted, endActs, coastEnd, standing, ruleA, repeated, afresh, same, ruleB, ruleD, offer, ruleF, ruleG, eToG, newcomer, dToG, redial, ruleC, bOrC, requested}
+use Rattle.rules.specs.Rules.Places.{dropAt}
+use Rattle.rules.specs.Rules.Words.{Party, is, Mode, Request, Config, Signal, lineLifted, lineHung, carrierHeard, carrierLost, Hand, handTakes, handGives, Happened, heard, signal, operator, What, tick, onChannel70, onSlot, Event, carrierOn, carrierOff, ringBack, dial}
+use Rattle.rules.specs.Rules.Waits.{Wait, ofQueue, loss, main, Due}
+use Rattle.rules.specs.Rules.Heard.{Heard, callRequest, dataRequest, bq, workingCall, endOfCall, nothing, kindOf, addressed, meaning}
+use Rattle.rules.specs.Rules.Actions.{does, over, theShip}
+use Rattle.rules.specs.Rules.Station.{isFree, isTaken, Kind, offered, firstRing, secondRing, acknowledged, Stage, dialling, answered, answeredAt, Dealing, Slot, free, taken, pending, busy, held, Station, theSlot, fresh, setSlot, setClock, setQueue, dueAfter, rungAgain, agreedAt, carrierWait, replyWait, holdWait, table, fires, nextDue}
+use Rattle.rules.specs.Rules.Requests.{Out, done, ignored, also, rungBack, freedFor, freed, lasted, endActs, coastEnd, standing, ruleA, repeated, afresh, same, ruleB, ruleD, offer, ruleF, ruleG, eToG, newcomer, dToG, redial, ruleC, bOrC, requested}
 
 -- ── working call ─────────────────────────────────────────────────────────────
 

@@ -6,13 +6,13 @@ use Rattle.sequence.specs.declared.Field.{Field}
 use Rattle.sequence.specs.declared.Field.the-variants.{Blank, Channel, Duration}
 use Rattle.sequence.specs.Symbols.{exclusiveOr}
 use Rattle.sequence.specs.Layout.{layout}
-use Rattle.rules.specs.Places.{modAt}
-use Rattle.rules.specs.Words.{duplex, Event}
-use Rattle.rules.specs.Station.{Waiting, fresh}
-use Rattle.rules.specs.Bytes.{numberOf, fours}
-use Rattle.rules.specs.Printed.{lastPrinted}
-use Rattle.rules.specs.Runs.{station, seven, sends, usual}
-use Rattle.rules.specs.Actions.{chargeOf, chargeNumbers}
+use Rattle.rules.specs.Rules.Places.{modAt}
+use Rattle.rules.specs.Rules.Words.{duplex, Event}
+use Rattle.rules.specs.Rules.Station.{Waiting, fresh}
+use Rattle.rules.specs.Rules.Bytes.{numberOf, fours}
+use Rattle.rules.specs.Rules.Printed.{lastPrinted}
+use Rattle.rules.specs.Tables.Runs.{station, seven, sends, usual}
+use Rattle.rules.specs.Rules.Actions.{chargeOf, chargeNumbers}
 
 -- ── how a case is written ────────────────────────────────────────────────────
 

@@ -4,15 +4,15 @@ use mathlib.Core.Option.{none, some}
 use Prim.Native.Nat.{ℕ}
 use Rattle.units.specs.declared.Told.the-variants.{Nothing}
 use Rattle.sequence.specs.declared.Field.the-variants.{Blank, Channel}
-use Rattle.rules.specs.Words.{simplex, duplex, Request, heard, offHook, onHook, carrierUp, carrierDown, takes, givesBack, What, tick, onChannel70, onSlot, Event}
-use Rattle.rules.specs.Station.{offered, firstRing, secondRing, acknowledged, dialling, answered, Slot, free, taken, Waiting, Station}
-use Rattle.rules.specs.Slots.{pending, busy, held}
-use Rattle.rules.specs.Requests.{Out}
-use Rattle.rules.specs.Verdict.{step}
-use Rattle.rules.specs.Bytes.{kindNumber}
-use Rattle.rules.specs.Printed.{lines}
-use Rattle.rules.specs.Runs.{channel, station, seven, eight, sends, at, usual}
-use Rattle.rules.specs.SoundCases.{from}
+use Rattle.rules.specs.Rules.Words.{simplex, duplex, Request, heard, offHook, onHook, carrierUp, carrierDown, takes, givesBack, What, tick, onChannel70, onSlot, Event}
+use Rattle.rules.specs.Rules.Station.{offered, firstRing, secondRing, acknowledged, dialling, answered, Slot, free, taken, Waiting, Station}
+use Rattle.rules.specs.Rules.Slots.{pending, busy, held}
+use Rattle.rules.specs.Rules.Requests.{Out}
+use Rattle.rules.specs.Rules.Verdict.{step}
+use Rattle.rules.specs.Rules.Bytes.{kindNumber}
+use Rattle.rules.specs.Rules.Printed.{lines}
+use Rattle.rules.specs.Tables.Runs.{channel, station, seven, eight, sends, at, usual}
+use Rattle.rules.specs.Tables.SoundCases.{from}
 
 -- the answer, and the kinds of the actions
 abbrev pub told : Out → List ℕ

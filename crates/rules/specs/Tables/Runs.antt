@@ -6,11 +6,11 @@ use Rattle.units.specs.declared.Channel.{Channel as ChannelNumber}
 use Rattle.sequence.specs.declared.Field.{Field}
 use Rattle.sequence.specs.declared.Field.the-variants.{Blank, Channel}
 use Rattle.sequence.specs.Layout.{layout}
-use Rattle.rules.specs.Words.{Mode, simplex, duplex, modeNumber, Config, Happened, heard, offHook, onHook, carrierUp, carrierDown, takes, givesBack, tick, onChannel70, onSlot, What, Event}
-use Rattle.rules.specs.Actions.{Charge, chargeOf}
-use Rattle.rules.specs.Bytes.{numberOf}
-use Rattle.rules.specs.Verdict.{roomNeeded}
-use Rattle.rules.specs.Reading.{Numbered}
+use Rattle.rules.specs.Rules.Words.{Mode, simplex, duplex, modeNumber, Config, Happened, heard, offHook, onHook, carrierUp, carrierDown, takes, givesBack, tick, onChannel70, onSlot, What, Event}
+use Rattle.rules.specs.Rules.Actions.{Charge, chargeOf}
+use Rattle.rules.specs.Rules.Bytes.{numberOf}
+use Rattle.rules.specs.Rules.Verdict.{roomNeeded}
+use Rattle.rules.specs.ListAlone.Reading.{Numbered}
 
 -- ── how a run is written ─────────────────────────────────────────────────────
 

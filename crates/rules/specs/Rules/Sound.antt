@@ -12,10 +12,10 @@ use Rattle.sequence.specs.Figures.{leastSecond, lastSecond, mostDigits}
 use Rattle.sequence.specs.Identity.{isShip, isCoast}
 use Rattle.sequence.specs.Symbols.{within, allAtMost}
 use Rattle.sequence.specs.Field.{channelOk, durationOk}
-use Rattle.rules.specs.Places.{all, distinct}
-use Rattle.rules.specs.Words.{Party, is, Mode, Request, Config, ours}
-use Rattle.rules.specs.Heard.{sameChannel}
-use Rattle.rules.specs.Station.{Stage, dialling, answered, Slot, free, taken, pending, busy, held, shipOf, Waiting, Station, dueAfter, kindWait, carrierWait, replyWait, holdWait, queueWait}
+use Rattle.rules.specs.Rules.Places.{all, distinct}
+use Rattle.rules.specs.Rules.Words.{Party, is, Mode, Request, Config, ours}
+use Rattle.rules.specs.Rules.Heard.{sameChannel}
+use Rattle.rules.specs.Rules.Station.{Stage, dialling, answered, Slot, free, taken, pending, busy, held, shipOf, Waiting, Station, dueAfter, kindWait, carrierWait, replyWait, holdWait, queueWait}
 
 -- "its identity": a coast station's
 unfoldable pub identityKeeps : Config → Bool

@@ -5,12 +5,12 @@ use Prim.Native.Nat.{ℕ}
 use lib.ListN.{replicate}
 use Rattle.units.specs.declared.Told.{Told}
 use Rattle.units.specs.declared.Told.the-variants.{Nothing, Lasting}
-use Rattle.rules.specs.Words.{Mode, simplex, duplex, Request, Config}
-use Rattle.rules.specs.Station.{Kind, offered, firstRing, secondRing, acknowledged, dialling, answered, Slot, free, Waiting, Station}
-use Rattle.rules.specs.Slots.{pending, busy, held}
-use Rattle.rules.specs.Verdict.{verdict, setUpVerdict}
-use Rattle.rules.specs.Runs.{station, seven, usual, ticks, stationOf}
-use Rattle.rules.specs.Scripts.{waits, waitingShips}
+use Rattle.rules.specs.Rules.Words.{Mode, simplex, duplex, Request, Config}
+use Rattle.rules.specs.Rules.Station.{Kind, offered, firstRing, secondRing, acknowledged, dialling, answered, Slot, free, Waiting, Station}
+use Rattle.rules.specs.Rules.Slots.{pending, busy, held}
+use Rattle.rules.specs.Rules.Verdict.{verdict, setUpVerdict}
+use Rattle.rules.specs.Tables.Runs.{station, seven, usual, ticks, stationOf}
+use Rattle.rules.specs.Tables.Scripts.{waits, waitingShips}
 
 -- ── how a case is written ────────────────────────────────────────────────────
 

@@ -8,14 +8,14 @@ use Rattle.sequence.specs.Field.{isCall, unableSecond, telecommandsOk, channelO
 use Rattle.sequence.specs.Number.{numberOk, parity, evened}
 use Rattle.sequence.specs.Layout.{endOk, valid, front, body, layout}
 use Rattle.sequence.specs.Reading as Reader
-use Rattle.rules.specs.Words.{Config, Event}
-use Rattle.rules.specs.Actions.{Action}
-use Rattle.rules.specs.Station.{Station, nextDue}
-use Rattle.rules.specs.Sound.{identityKeeps, channelsKeep, configKeeps, oneSlotEach, numberKeeps, requestKeeps, durationKeeps, noShipTwice, storedKeeps, timesFit, sound}
-use Rattle.rules.specs.Requests.{Out}
-use Rattle.rules.specs.Calls.{rulesOpen}
-use Rattle.rules.specs.Verdict.{refusals, verdict, setUpVerdict, step, play, final}
-use Rattle.rules.specs.Bytes.{kindNumber, slotNumber, block, blockOf, padded, answerTo, ableSaid, unableSaid, overSaid, payloadOf}
+use Rattle.rules.specs.Rules.Words.{Config, Event}
+use Rattle.rules.specs.Rules.Actions.{Action}
+use Rattle.rules.specs.Rules.Station.{Station, nextDue}
+use Rattle.rules.specs.Rules.Sound.{identityKeeps, channelsKeep, configKeeps, oneSlotEach, numberKeeps, requestKeeps, durationKeeps, noShipTwice, storedKeeps, timesFit, sound}
+use Rattle.rules.specs.Rules.Requests.{Out}
+use Rattle.rules.specs.Rules.Calls.{rulesOpen}
+use Rattle.rules.specs.Rules.Verdict.{refusals, verdict, setUpVerdict, step, play, final}
+use Rattle.rules.specs.Rules.Bytes.{kindNumber, slotNumber, block, blockOf, padded, answerTo, ableSaid, unableSaid, overSaid, payloadOf}
 
 -- "`-` if none": here nothing
 abbrev pub dueShown : Option ℕ → List ℕ

@@ -3,11 +3,11 @@ use mathlib.Core.List.{List, [], _∷_}
 use Prim.Native.Nat.{ℕ}
 use Rattle.sequence.specs.declared.Field.the-variants.{Blank}
 use Rattle.sequence.specs.Layout.{layout}
-use Rattle.rules.specs.Words.{Event}
-use Rattle.rules.specs.Station.{fresh}
-use Rattle.rules.specs.Bytes.{numberOf}
-use Rattle.rules.specs.Printed.{lastPrinted}
-use Rattle.rules.specs.Runs.{ticks, station, usual, says, saysOn, picksUp, hangs, regains, loses, reserves}
+use Rattle.rules.specs.Rules.Words.{Event}
+use Rattle.rules.specs.Rules.Station.{fresh}
+use Rattle.rules.specs.Rules.Bytes.{numberOf}
+use Rattle.rules.specs.Rules.Printed.{lastPrinted}
+use Rattle.rules.specs.Tables.Runs.{ticks, station, usual, says, saysOn, picksUp, hangs, regains, loses, reserves}
 
 -- ── the sequences ────────────────────────────────────────────────────────────
 

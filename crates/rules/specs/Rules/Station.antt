@@ -5,9 +5,9 @@ use mathlib.Core.Bool.{Bool, true, false}
 use Prim.Native.Nat.{ℕ, suc, _+_}
 use lib.ListN.{length, getD, replicate}
 use Rattle.units.specs.declared.Told.{Told}
-use Rattle.rules.specs.Places.{modAt}
-use Rattle.rules.specs.Words.{Party, Mode, simplex, duplex, Request, Config}
-use Rattle.rules.specs.Waits.{loss, main, Due, running, earliest, ifDue, queueTable}
+use Rattle.rules.specs.Rules.Places.{modAt}
+use Rattle.rules.specs.Rules.Words.{Party, Mode, simplex, duplex, Request, Config}
+use Rattle.rules.specs.Rules.Waits.{loss, main, Due, running, earliest, ifDue, queueTable}
 
 -- ── what a station holds ─────────────────────────────────────────────────────
 

@@ -1,0 +1,9 @@
+-- Runs and cases, computed.
+pub mod Runs
+pub mod Cases
+pub mod Scripts
+pub mod RequestCases
+pub mod CallCases
+pub mod RefusalCases
+pub mod SoundCases
+pub mod Phases
