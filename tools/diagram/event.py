@@ -34,10 +34,7 @@ SAID = {
     'crates/deciding/proofs/RuleLaws.antt': ('pub working-is : ', ['outOf', 'workingBy', 'workingOn']),
     'crates/station/specs/Step.antt': ('steppedBy s e = ', ['act', 'refusal']),
 }
-NOTES = [
-    'In brackets the crate. Behind ≡ the definitions that', 'the contracts name: what is handed back, and what', 'is left in lent bytes, is theirs. steppedBy is the',
-    "rules' own act, or their refusal.",
-]
+NOTES = ['In brackets the crate, below it the definitions that', "the contract names. steppedBy is the rules' own act,", 'or their refusal.']
 
 
 # ── held to the code ──────────────────────────────────────────────────────────
@@ -81,7 +78,7 @@ def height(row):
 
 def draw_step(drawing, step):
     crate, left, row, width, does, definitions = STEPS[step]
-    drawing.box((left, height(row), width, 74), [f'{step} ({crate})', does, f'≡ {", ".join(definitions)}'])
+    drawing.box((left, height(row), width, 74), [f'{step} ({crate})', does, f'contract: {", ".join(definitions)}'])
 
 
 def draw_hosts(drawing):
@@ -104,7 +101,7 @@ def draw_arrows(drawing):
 
 
 def draw_rule(drawing):
-    rule = ['workingOn (rules)', 'the rule itself: a definition, and no code', '≡ outOf of that outcome, by the law working-is']
+    rule = ['workingOn (rules)', 'the rule itself: a definition, and no code', 'law working-is: what the outcome means (outOf)']
     drawing.box((LEFT, height(10), FULL, 74), rule, 'freed')
     drawing.arrow('an arrow', [(LEFT + FULL / 2, height(9) + 74), (LEFT + FULL / 2, height(10))])
     drawing.text(RIGHT, height(10) + 19, NOTES, 'start')
