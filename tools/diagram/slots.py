@@ -51,7 +51,7 @@ class Rules:
     """Of each phase: its waits, and for each event the cases, what becomes of the slot and of the queue."""
 
     def __init__(self, root):
-        paths = [f'{root}/crates/rules/specs/{module}.antt' for module in RULES]
+        paths = [f'{root}/crates/rules/specs/Rules/{module}.antt' for module in RULES]
         self.definitions = Definitions([*paths, f'{root}/crates/sequence/specs/Refusals.antt'])
         blank = Way(self.definitions, UNOPENED, [])
         self.slots = {self.phase_of(blank, slot): slot for slot in self.built('Slot')}
