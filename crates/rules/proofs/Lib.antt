@@ -1,6 +1,10 @@
+-- The laws of document 01's definitions, from what they rest on to what they claim; each file begins with what it says.
+
+-- places, kinds of sequences, what is heard
 pub mod PlaceLaws
 pub mod KindLaws
 pub mod Readable
+-- what an event does, said once: to a slot (Outcome), by rules b and c (Ruling), at all (Effect)
 pub mod Base
 pub mod Outcome
 pub mod Ruling
@@ -10,23 +14,28 @@ pub mod Asked
 pub mod Accepted
 pub mod Spoken
 pub mod Effect
+-- time: the order of waits, the moment of an event
 pub mod Order
 pub mod Moments
+-- the run and the list: who talks, the tenths
 pub mod Run
 pub mod Hears
 pub mod Talked
 pub mod Tenths
+-- what every event keeps: soundness
 pub mod Once
 pub mod Walk
 pub mod Whole
 pub mod WholeLater
 pub mod Stored
 pub mod Kept
+-- the claims: stops and charges, order, the reading, the three words, no channel idle
 pub mod Stopped
 pub mod Orderly
 pub mod Laws
 pub mod Literal
 pub mod Idle
+-- the claims on what is sent: what is repeated, payloads, eight actions, answers, charges
 pub mod Calm
 pub mod Repeats
 pub mod Payloads
@@ -34,5 +43,6 @@ pub mod SentLaws
 pub mod Eight
 pub mod Answered
 pub mod Charged
+-- the tables, computed
 pub mod Tested
 pub mod Computed
