@@ -1,6 +1,6 @@
 // Records with nothing left in their unused places.
 ghost use mathlib.Core.Path.{_≡_};
-ghost use Prim.Native.Nat.{_<_};
+ghost use Prim.Native.Nat.{_≤_, min};
 ghost use Rattle.sequence.specs.Figures.{mostDigits};
 ghost use Rattle.rules.specs.Rules.Bytes.{padded};
 ghost use Rattle.requests.specs.Views.{viewed, itself};
@@ -19,7 +19,15 @@ use sequence::Number;
 use units::Channel;
 use units::Tenths;
 
-// The first n digits, and 0 behind them.
+// A digit, or less where no more may stand; that it is a byte is told here, since of an array's elements nobody knows it.
+fn at_most(digit: u8, most: u8) -> u8
+    ensures { λ r. ⌜ r ≡ min digit most ⌝ }
+    ensures { λ _. ⌜ digit ≤ 255 ⌝ }
+{
+    least(digit, most)
+}
+
+// The first n digits, and 0 behind them: by the smaller of two, which the compiler works out for all sixteen at once.
 fn cleared(d: [u8; DIGITS], n: u8) -> [u8; DIGITS]
     ensures { λ r. ⌜ r ≡ padded 0 mostDigits (viewed itself n d) ⌝ }
 {
@@ -27,7 +35,8 @@ fn cleared(d: [u8; DIGITS], n: u8) -> [u8; DIGITS]
     let mut i: u8 = 0;
     while i < MOST_DIGITS {
         let x = d[i as usize];
-        a[i as usize] = if i < n { x } else { 0 };
+        let most: u8 = if i < n { 255 } else { 0 };
+        a[i as usize] = at_most(x, most);
         i += 1;
     }
     a

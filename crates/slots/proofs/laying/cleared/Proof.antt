@@ -2,7 +2,7 @@ use Prim.Native.Nat.{_+_, _-_, _<_, _≤_, min}
 use mathlib.Core.Logic.{⊎-elim}
 use mathlib.Core.Path.{_≡_, refl, ap, _∙_}
 use native.Mathlib.Omega.{arith}
-use lib.ListN.{length}
+use lib.ListN.{length, getD}
 use Rattle.requests.specs.Views.{viewed, itself}
 use Rattle.rules.specs.Rules.Bytes.{padded}
 use Rattle.requests.proofs.ArrayLaws.{laid-more, viewed-min, viewed-length}
@@ -26,8 +26,8 @@ loop-less c = omega arith
 
 loop-again : tie.Need-loop-again Inv-loop μ-loop
 loop-again c =
-    let l = c .before .before .loop in
-    let x = c .before .before .before .args in (
+    let l = c .before .before .before .loop in
+    let x = c .before .before .before .before .args in (
       search needs,
       omega arith,
       search needs,
@@ -36,13 +36,15 @@ loop-again c =
           let h : l .i < x .n = w .0 .taken in
           let e : min (l .i) (x .n) ≡ l .i = omega arith in
           let f : min (l .i + 1) (x .n) ≡ l .i + 1 = omega arith in
-          rw (w .1, l .inv .3, e, f) (laid-more itself 0 16 (l .i) (x .t1) 0 (omega arith) (omega arith)))
+          let g : min (getD (x .t1) (l .i) 0) 255 ≡ getD (x .t1) (l .i) 0 = omega (arith, c .at-most .ensures .1) in
+          rw (c .at-most .ensures .0, w .1, l .inv .3, e, f, g) (laid-more itself 0 16 (l .i) (x .t1) 0 (omega arith) (omega arith)))
           (λ w.
           let h : x .n ≤ l .i = w .0 .left in
           let e : min (l .i) (x .n) ≡ x .n = omega arith in
           let f : min (l .i + 1) (x .n) ≡ x .n = omega arith in
-          rw (w .1, l .inv .3, e, f) (padded-blank 0 16 (viewed itself (x .n) (x .t1)) (l .i) (omega (arith, viewed-length itself (x .n) (x .t1)))))
-          (c .if1 .came),
+          let g : min (getD (x .t1) (l .i) 0) 0 ≡ 0 = omega arith in
+          rw (c .at-most .ensures .0, w .1, l .inv .3, e, f, g) (padded-blank 0 16 (viewed itself (x .n) (x .t1)) (l .i) (omega (arith, viewed-length itself (x .n) (x .t1)))))
+          (c .before .if1 .came),
     )
 
 returns : tie.Need-returns Inv-loop μ-loop
@@ -57,6 +59,7 @@ cleared-spec =
     loop-holds
     (λ c. search needs)
     (λ c. search needs)
+    (λ c κs. search needs)
     (λ c. search needs)
     (λ c. search needs)
     (λ c. search needs)
