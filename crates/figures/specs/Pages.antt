@@ -6,15 +6,18 @@ use Prim.Native.Nat.{ℕ, _+_}
 use lib.ListN.{length, getD, take}
 use Rattle.units.specs.declared.Told.the-variants.{Nothing}
 use Rattle.sequence.specs.declared.Field.the-variants.{Blank}
-use Rattle.rules.specs.Rules.Words.{Party, simplex, duplex, modeNumber, Request, Config, Event, Deed, carrierOn, carrierOff, acknowledge, ringBack, unable, dial, releaseLine}
+use Rattle.rules.specs.Rules.Words.{Party, simplex, duplex, modeNumber, Request, Config, Event}
+use Rattle.rules.specs.Rules.Words.{Deed, carrierOn, carrierOff, acknowledge, ringBack, unable, dial, releaseLine}
 use Rattle.rules.specs.Rules.Heard.{Heard, callRequest, dataRequest, bq, workingCall, endOfCall, nothing}
 use Rattle.rules.specs.Rules.Actions.{theShip, Action, does, over, charge}
-use Rattle.rules.specs.ListAlone.Book.{Note, Said, silent, toldBQ, toldRQ, settled, Call, quiet, dialled, talking, Line, Place, Book, blankBook, alike}
+use Rattle.rules.specs.ListAlone.Book.{Note, Said, silent, toldBQ, toldRQ, settled}
+use Rattle.rules.specs.ListAlone.Book.{Call, quiet, dialled, talking, Line, Place, Book, blankBook, alike}
 use Rattle.rules.specs.ListAlone.Reading.{turn, numbered, counted, countedByCalls}
 use Rattle.rules.specs.ListAlone.ThreeWords.{Word, idle, ringing, since, wordHeard, wordsDone, wordAfter, wordOf}
 use Rattle.rules.specs.Statement.{deedsOf, chargesOf, charged, runOf, stationAfter, listOf, stopsOf, tenthsIn, heldTenths, eventsOf}
 use Rattle.rules.specs.ListAlone.Repeated.{toldToWait, lastAsked, switchedOn}
-use Rattle.rules.specs.Tables.Runs.{station, seven, eight, nine, sends, usual, callsFor, calls, accepts, works, ends, ticks, paid, Run, says, picksUp, hangs, regains, loses, reserves, restores}
+use Rattle.rules.specs.Tables.Runs.{station, seven, eight, nine, sends, usual, callsFor, calls, accepts, works, ends, ticks, paid}
+use Rattle.rules.specs.Tables.Runs.{Run, says, picksUp, hangs, regains, loses, reserves, restores}
 use Rattle.rules.specs.Tables.Cases.{Row}
 use Rattle.rules.specs.Rules.Requests.{same}
 use Rattle.rules.specs.Tables.SoundCases.{asking, from}

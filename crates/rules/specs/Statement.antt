@@ -104,7 +104,8 @@ heldTenths st = heldSlots (st .clock) (st .slots)
 
 -- charged tenths and held tenths are the answered tenths counted from the list
 unfoldable pub TenthsAgree : Type 0
-TenthsAgree = OfEveryRun (λ c es. tenthsIn (charged 0 (runOf c es)) + heldTenths (stationAfter c es) ≡ counted c (listOf c es) (blankBook c))
+TenthsAgree = OfEveryRun (λ c es.
+    tenthsIn (charged 0 (runOf c es)) + heldTenths (stationAfter c es) ≡ counted c (listOf c es) (blankBook c))
 
 -- ── beside it ────────────────────────────────────────────────────────────────
 
@@ -168,7 +169,8 @@ DialsAsked = OfEveryEntry (DeedByDeed DialsNamed)
 
 -- while a ship waits no slot is free
 unfoldable pub NoChannelIdle : Type 0
-NoChannelIdle = OfEveryRun (λ c es. (w : Waiting) (q : List Waiting) → stationAfter c es .queue ≡ w ∷ q → lowest isFree (stationAfter c es .slots) ≡ none)
+NoChannelIdle = OfEveryRun (λ c es.
+    (w : Waiting) (q : List Waiting) → stationAfter c es .queue ≡ w ∷ q → lowest isFree (stationAfter c es .slots) ≡ none)
 
 -- of every sound station: at most 8 actions a step, and every payload within 36 bytes
 unfoldable pub AtMostEight : Type 0
