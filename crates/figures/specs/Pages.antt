@@ -14,7 +14,7 @@ use Rattle.rules.specs.ListAlone.Book.{Note, Said, silent, toldBQ, toldRQ, sett
 use Rattle.rules.specs.ListAlone.Book.{Call, quiet, dialled, talking, Line, Place, Book, blankBook, alike}
 use Rattle.rules.specs.ListAlone.Reading.{turn, numbered, counted, countedByCalls}
 use Rattle.rules.specs.ListAlone.ThreeWords.{Word, idle, ringing, since, wordHeard, wordsDone, wordAfter, wordOf}
-use Rattle.rules.specs.Statement.{deedsOf, chargesOf, charged, runOf, stationAfter, listOf, stopsOf, tenthsIn, heldTenths, eventsOf}
+use Rattle.rules.specs.Statement.{deedsOf, chargesOf, charged, runOf, stationAfter, listOf, stopsOf, tenthsIn, unchargedTenths, eventsOf}
 use Rattle.rules.specs.ListAlone.Repeated.{toldToWait, lastAsked, switchedOn}
 use Rattle.rules.specs.Tables.Runs.{station, seven, eight, nine, sends, usual, callsFor, calls, accepts, works, ends, ticks, paid}
 use Rattle.rules.specs.Tables.Runs.{Run, says, picksUp, hangs, regains, loses, reserves, restores}
@@ -86,7 +86,7 @@ words n i es = wordsFrom i (listOf (station n) es) idle
 -- the answered tenths: charged and held, counted by time, counted by calls
 abbrev pub tenths : ℕ → List Event → List ℕ
 tenths n es =
-    (tenthsIn (charged 0 (runOf (station n) es)) + heldTenths (stationAfter (station n) es))
+    (tenthsIn (charged 0 (runOf (station n) es)) + unchargedTenths (stationAfter (station n) es))
     ∷ counted (station n) (listOf (station n) es) (blankBook (station n))
     ∷ countedByCalls (station n) (listOf (station n) es) (blankBook (station n))
     ∷ []
@@ -457,10 +457,10 @@ dialledOnly = record {
   expected = (0 ∷ 0 ∷ 0 ∷ []) ∷ [];
 }
 
--- of a station with two slots in every phase the answered calls alone are held: six, since 900
-abbrev pub heldShown : Row
-heldShown = record {
-  computed = (heldTenths (record { clock = 1010; slots = map (λ p. p .slot) (phases ++ phases); queue = [] }) ∷ []) ∷ [];
+-- of a station with two slots in every phase the answered calls alone are still to be charged: six, since 900
+abbrev pub unchargedShown : Row
+unchargedShown = record {
+  computed = (unchargedTenths (record { clock = 1010; slots = map (λ p. p .slot) (phases ++ phases); queue = [] }) ∷ []) ∷ [];
   expected = (660 ∷ []) ∷ [];
 }
 
@@ -689,7 +689,7 @@ abbrev pub pageCases : List Row
 pageCases =
     onSecondPages ∷ onSecondWords ∷ onSecondTenths ∷ againPages ∷ againWords ∷ againTenths ∷ inQueuePages ∷ inQueueWords ∷
     inQueueTenths ∷ twoCallsPages ∷ twoCallsWords ∷ twoCallsWordsOfFirst ∷ twoCallsTenths ∷ onThirdPages ∷ onThirdWords ∷
-    onThirdTenths ∷ dialledOnly ∷ heldShown ∷ stopsNumbered ∷ eventsShown ∷ wordsByDeeds ∷ wordsPickedUp ∷ wordsAtOnce ∷
+    onThirdTenths ∷ dialledOnly ∷ unchargedShown ∷ stopsNumbered ∷ eventsShown ∷ wordsByDeeds ∷ wordsPickedUp ∷ wordsAtOnce ∷
     eventsAlone ∷ deedsAlone ∷ wordsAlone ∷ toldToWaitShown ∷ switchedOnShown ∷ lastAskedShown ∷ lastAskedNever ∷ chargesFound ∷ talkingOn ∷
     wordsOf ∷ blankPage ∷ told102 ∷ sameShown ∷ alikeShown ∷ []
 
