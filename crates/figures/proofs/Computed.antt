@@ -13,7 +13,7 @@ use Rattle.rules.specs.Rules.Printed.{runsOpen}
 use Rattle.rules.specs.ListAlone.Book.{alike, blankBook, falls}
 use Rattle.rules.specs.ListAlone.Reading.{reads, turn, stopsIn, stops, readAll, counted, countedByCalls}
 use Rattle.rules.specs.ListAlone.Repeated.{lastAsked}
-use Rattle.rules.specs.Statement.{charged, notes, owedFor, heldTenths}
+use Rattle.rules.specs.Statement.{charged, notes, owedFor, unchargedTenths}
 use Rattle.rules.specs.Tables.Runs.{station}
 use Rattle.rules.proofs.Tested.{as-expected}
 use Rattle.figures.specs.BoundCases.{boundCases, boundSounds}
@@ -38,7 +38,7 @@ bound-sounds-computed = refl
 
 -- what the list of each run tells after each entry, and what it counts
 pub pages-computed : map (λ r. r .computed) pageCases ≡ map (λ r. r .expected) pageCases
-unfolding runsOpen charged notes alike blankBook falls reads turn stopsIn stops counted countedByCalls readAll heldTenths wordAfter wordsDone lastAsked
+unfolding runsOpen charged notes alike blankBook falls reads turn stopsIn stops counted countedByCalls readAll unchargedTenths wordAfter wordsDone lastAsked
 pages-computed = as-expected pageCases refl
 
 -- what is charged in each run

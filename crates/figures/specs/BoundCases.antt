@@ -14,11 +14,15 @@ use Rattle.rules.specs.Rules.Slots.{pending, held}
 use Rattle.rules.specs.Rules.Verdict.{step}
 use Rattle.rules.specs.Rules.Bytes.{numberOf, ableSaid, unableSaid, overSaid, blocks}
 use Rattle.rules.specs.Rules.Printed.{lines}
-use Rattle.rules.specs.Tables.Runs.{channel, station, seven, eight, nine, sends, usual, callsFor, calls, accepts, works, ends, ticks, paid, says, saysOn, picksUp, hangs, regains, loses, reserves, restores, ticksIn, stationOf}
+use Rattle.rules.specs.Tables.Runs.{channel, station, seven, eight, nine, sends, usual, callsFor, calls, accepts, works, ends, ticks}
+use Rattle.rules.specs.Tables.Runs.{paid, says, saysOn, picksUp, hangs, regains, loses, reserves, restores, ticksIn, stationOf}
 use Rattle.rules.specs.Tables.Cases.{Row}
-use Rattle.rules.specs.Tables.Scripts.{gives, waits, waitingShips, charges, ackEight26, ackSeven26, ackSeven26Again, ackSeven26Simplex, ackSeven27, overSeven, overSevenByCoast, ringEight26, ringNine26, ringSeven26, unable102Nine, unable103Eight, unable103Seven}
+use Rattle.rules.specs.Tables.Scripts.{gives, waits, waitingShips, charges, ackEight26, ackSeven26, ackSeven26Again}
+use Rattle.rules.specs.Tables.Scripts.{ackSeven26Simplex, ackSeven27, overSeven, overSevenByCoast, ringEight26}
+use Rattle.rules.specs.Tables.Scripts.{ringNine26, ringSeven26, unable102Nine, unable103Eight, unable103Seven}
 use Rattle.rules.specs.Tables.Phases.{waitingWith, phases}
-use Rattle.rules.specs.Tables.SoundCases.{kinds, asking, from, lasting, holding, asked, with, queued, setUp, Judged, sounds, unsound, refused36}
+use Rattle.rules.specs.Tables.SoundCases.{kinds, asking, from, lasting, holding, asked, with, queued, setUp}
+use Rattle.rules.specs.Tables.SoundCases.{Judged, sounds, unsound, refused36}
 
 -- ── how a row is written ─────────────────────────────────────────────────────
 

@@ -23,20 +23,20 @@ use Rattle.sequence.specs.Layout.{endOk, valid, layout}
 use Rattle.sequence.specs.Reading.{lengthIn, checkIn, blankSymbols, channelSymbols, fieldSymbols, parityOk, pairsOk, readingOf}
 use Rattle.sequence.specs.Writing.{writingAnswer, writtenOf, roomAfter}
 
--- ── how a line is written ────────────────────────────────────────────────────
+-- ── how a bound is written ───────────────────────────────────────────────────
 
-pub record Line : Type 0 where
+pub record Bound : Type 0 where
   pub computed : List ℕ
   pub expected : List ℕ
 
-abbrev pub gives : List ℕ → List ℕ → Line
+abbrev pub gives : List ℕ → List ℕ → Bound
 gives c e = record { computed = c; expected = e }
 
 -- 1 where a test holds, 0 where it fails
 abbrev pub told : Bool → ℕ
 told b = cond b 1 0
 
-abbrev pub holds : List Bool → List ℕ → Line
+abbrev pub holds : List Bool → List ℕ → Bound
 holds c e = gives (map told c) e
 
 abbrev pub channel : ℕ → ChannelNumber
@@ -82,7 +82,7 @@ lasts n = durationTold (durationOf (record { 0 = n }))
 
 -- ── the parts ────────────────────────────────────────────────────────────────
 
-abbrev pub parts : List Line
+abbrev pub parts : List Bound
 parts =
     -- "Ships: 200000000 to 799999999."
     holds (map isShip (199999999 ∷ 200000000 ∷ 799999999 ∷ 800000000 ∷ [])) (0 ∷ 1 ∷ 1 ∷ 0 ∷ [])
@@ -176,7 +176,7 @@ shortest = meaning 200000000 2000000 105 126 (Duration (lasting 1 2 3)) two 127
 abbrev pub shortestSymbols : List ℕ
 shortestSymbols = 123 ∷ 20 ∷ 0 ∷ 0 ∷ 0 ∷ 0 ∷ 100 ∷ 0 ∷ 20 ∷ 0 ∷ 0 ∷ 0 ∷ 105 ∷ 126 ∷ 1 ∷ 2 ∷ 3 ∷ 106 ∷ 42 ∷ 127 ∷ 55 ∷ []
 
-abbrev pub layouts : List Line
+abbrev pub layouts : List Bound
 layouts =
     gives (layout request) p1
     ∷ gives (layout longest) longestSymbols
@@ -206,10 +206,10 @@ with k x s = checked (take k s ++ x ∷ take (length s - suc (suc k)) (drop (suc
 abbrev pub pairs : ℕ → List ℕ
 pairs n = checked (take 17 p1 ++ 106 ∷ (replicate n 42 ++ 117 ∷ []))
 
-abbrev pub answers : List (List ℕ) → List ℕ → Line
+abbrev pub answers : List (List ℕ) → List ℕ → Bound
 answers c e = gives (map (λ s. answerNumber (readingOf s .answer)) c) e
 
-abbrev pub readings : List Line
+abbrev pub readings : List Bound
 readings =
     -- 11: "length outside 21 to 28"
     answers ([] ∷ pairs 0 ∷ pairs 1 ∷ pairs 8 ∷ pairs 9 ∷ []) (11 ∷ 11 ∷ 0 ∷ 0 ∷ 11 ∷ [])
@@ -268,10 +268,10 @@ readings =
 
 -- ── the writer ───────────────────────────────────────────────────────────────
 
-abbrev pub writes : List Meaning → List ℕ → Line
+abbrev pub writes : List Meaning → List ℕ → Bound
 writes c e = gives (map (λ m. answerNumber (writingAnswer m 28)) c) e
 
-abbrev pub writings : List Line
+abbrev pub writings : List Bound
 writings =
     -- 21: "writer's room under 28 bytes (tested first)"
     gives (map (λ n. answerNumber (writingAnswer request n)) (0 ∷ 27 ∷ 28 ∷ [])) (21 ∷ 21 ∷ 0 ∷ [])
@@ -295,5 +295,5 @@ writings =
 
 -- ── all of them ──────────────────────────────────────────────────────────────
 
-abbrev pub bounds : List Line
+abbrev pub bounds : List Bound
 bounds = parts ++ layouts ++ readings ++ writings

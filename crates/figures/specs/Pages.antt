@@ -6,15 +6,18 @@ use Prim.Native.Nat.{ℕ, _+_}
 use lib.ListN.{length, getD, take}
 use Rattle.units.specs.declared.Told.the-variants.{Nothing}
 use Rattle.sequence.specs.declared.Field.the-variants.{Blank}
-use Rattle.rules.specs.Rules.Words.{Party, simplex, duplex, modeNumber, Request, Config, Event, Deed, carrierOn, carrierOff, acknowledge, ringBack, unable, dial, releaseLine}
+use Rattle.rules.specs.Rules.Words.{Party, simplex, duplex, modeNumber, Request, Config, Event}
+use Rattle.rules.specs.Rules.Words.{Deed, carrierOn, carrierOff, acknowledge, ringBack, unable, dial, releaseLine}
 use Rattle.rules.specs.Rules.Heard.{Heard, callRequest, dataRequest, bq, workingCall, endOfCall, nothing}
 use Rattle.rules.specs.Rules.Actions.{theShip, Action, does, over, charge}
-use Rattle.rules.specs.ListAlone.Book.{Note, Said, silent, toldBQ, toldRQ, settled, Call, quiet, dialled, talking, Line, Place, Book, blankBook, alike}
+use Rattle.rules.specs.ListAlone.Book.{Note, Said, silent, toldBQ, toldRQ, settled}
+use Rattle.rules.specs.ListAlone.Book.{Call, quiet, dialled, talking, Line, Place, Book, blankBook, alike}
 use Rattle.rules.specs.ListAlone.Reading.{turn, numbered, counted, countedByCalls}
 use Rattle.rules.specs.ListAlone.ThreeWords.{Word, idle, ringing, since, wordHeard, wordsDone, wordAfter, wordOf}
-use Rattle.rules.specs.Statement.{deedsOf, chargesOf, charged, runOf, stationAfter, listOf, stopsOf, tenthsIn, heldTenths, eventsOf}
+use Rattle.rules.specs.Statement.{deedsOf, chargesOf, charged, runOf, stationAfter, listOf, stopsOf, tenthsIn, unchargedTenths, eventsOf}
 use Rattle.rules.specs.ListAlone.Repeated.{toldToWait, lastAsked, switchedOn}
-use Rattle.rules.specs.Tables.Runs.{station, seven, eight, nine, sends, usual, callsFor, calls, accepts, works, ends, ticks, paid, Run, says, picksUp, hangs, regains, loses, reserves, restores}
+use Rattle.rules.specs.Tables.Runs.{station, seven, eight, nine, sends, usual, callsFor, calls, accepts, works, ends, ticks, paid}
+use Rattle.rules.specs.Tables.Runs.{Run, says, picksUp, hangs, regains, loses, reserves, restores}
 use Rattle.rules.specs.Tables.Cases.{Row}
 use Rattle.rules.specs.Rules.Requests.{same}
 use Rattle.rules.specs.Tables.SoundCases.{asking, from}
@@ -83,7 +86,7 @@ words n i es = wordsFrom i (listOf (station n) es) idle
 -- the answered tenths: charged and held, counted by time, counted by calls
 abbrev pub tenths : ℕ → List Event → List ℕ
 tenths n es =
-    (tenthsIn (charged 0 (runOf (station n) es)) + heldTenths (stationAfter (station n) es))
+    (tenthsIn (charged 0 (runOf (station n) es)) + unchargedTenths (stationAfter (station n) es))
     ∷ counted (station n) (listOf (station n) es) (blankBook (station n))
     ∷ countedByCalls (station n) (listOf (station n) es) (blankBook (station n))
     ∷ []
@@ -454,10 +457,10 @@ dialledOnly = record {
   expected = (0 ∷ 0 ∷ 0 ∷ []) ∷ [];
 }
 
--- of a station with two slots in every phase the answered calls alone are held: six, since 900
-abbrev pub heldShown : Row
-heldShown = record {
-  computed = (heldTenths (record { clock = 1010; slots = map (λ p. p .slot) (phases ++ phases); queue = [] }) ∷ []) ∷ [];
+-- of a station with two slots in every phase the answered calls alone are still to be charged: six, since 900
+abbrev pub unchargedShown : Row
+unchargedShown = record {
+  computed = (unchargedTenths (record { clock = 1010; slots = map (λ p. p .slot) (phases ++ phases); queue = [] }) ∷ []) ∷ [];
   expected = (660 ∷ []) ∷ [];
 }
 
@@ -686,7 +689,7 @@ abbrev pub pageCases : List Row
 pageCases =
     onSecondPages ∷ onSecondWords ∷ onSecondTenths ∷ againPages ∷ againWords ∷ againTenths ∷ inQueuePages ∷ inQueueWords ∷
     inQueueTenths ∷ twoCallsPages ∷ twoCallsWords ∷ twoCallsWordsOfFirst ∷ twoCallsTenths ∷ onThirdPages ∷ onThirdWords ∷
-    onThirdTenths ∷ dialledOnly ∷ heldShown ∷ stopsNumbered ∷ eventsShown ∷ wordsByDeeds ∷ wordsPickedUp ∷ wordsAtOnce ∷
+    onThirdTenths ∷ dialledOnly ∷ unchargedShown ∷ stopsNumbered ∷ eventsShown ∷ wordsByDeeds ∷ wordsPickedUp ∷ wordsAtOnce ∷
     eventsAlone ∷ deedsAlone ∷ wordsAlone ∷ toldToWaitShown ∷ switchedOnShown ∷ lastAskedShown ∷ lastAskedNever ∷ chargesFound ∷ talkingOn ∷
     wordsOf ∷ blankPage ∷ told102 ∷ sameShown ∷ alikeShown ∷ []
 

@@ -3,7 +3,8 @@ use Prim.Native.Nat.{ℕ, _<_}
 use mathlib.Core.Path.{_≡_}
 use mathlib.Core.List.{List, [], _∷_}
 use contract.Lifetimes.{Lfts}
-use Rattle.rules.specs.Rules.Words.{Config, Happened, heard, signal, offHook, onHook, carrierUp, carrierDown, operator, takes, givesBack, What, tick, onChannel70, onSlot, Event}
+use Rattle.rules.specs.Rules.Words.{Config, Happened, heard, signal, offHook, onHook, carrierUp, carrierDown, operator, takes, givesBack}
+use Rattle.rules.specs.Rules.Words.{What, tick, onChannel70, onSlot, Event}
 use Rattle.station.specs.Step.{eventAt, slotAt, given}
 use Rattle.coast.proofs.setting.coast_set_up.Reads as set-up
 use Rattle.coast.proofs.events.coast_tick.Reads as on-tick
@@ -27,28 +28,38 @@ pub record Call : Type 0 where
   pub left : List ℕ  -- what the room then holds
 
 abbrev pub callOf : Event → List ℕ → List ℕ → ℕ → List ℕ → List ℕ → Call
-callOf event station lent number kept left = record { event = event; station = station; lent = lent; number = number; kept = kept; left = left }
+callOf event station lent number kept left =
+    record { event = event; station = station; lent = lent; number = number; kept = kept; left = left }
 
 -- an entry's contract allows it: `a` are the arguments, `r` is the result, `s` the parameters at exit
 pub data Entered : Call → Type 0 where
-  by-tick : (κs : Lfts 2) (a : _) (r : _) (s : _) → on-tick.Post κs a r s
-      → Entered (callOf (eventAt (a .1 .0) tick (a .1 .1 .0 .now)) (a .0 .now) (a .1 .1 .0 .now) r (s .0 .now) (s .1 .1 .0 .now))
-  by-heard-on-channel-70 : (κs : Lfts 3) (a : _) (r : _) (s : _) → heard-on-channel-70.Post κs a r s
-      → Entered (callOf (eventAt (a .1 .0) (onChannel70 (a .1 .1 .0 .now)) (a .1 .1 .1 .0 .now)) (a .0 .now) (a .1 .1 .1 .0 .now) r (s .0 .now) (s .1 .1 .1 .0 .now))
-  by-heard-on-slot : (κs : Lfts 3) (a : _) (r : _) (s : _) → heard-on-slot.Post κs a r s
-      → Entered (callOf (slotAt (a .1 .0) (a .1 .1 .0) (heard (a .1 .1 .1 .0 .now)) (a .1 .1 .1 .1 .0 .now)) (a .0 .now) (a .1 .1 .1 .1 .0 .now) r (s .0 .now) (s .1 .1 .1 .1 .0 .now))
-  by-carrier-up : (κs : Lfts 2) (a : _) (r : _) (s : _) → carrier-up.Post κs a r s
-      → Entered (callOf (slotAt (a .1 .0) (a .1 .1 .0) carrierUp (a .1 .1 .1 .0 .now)) (a .0 .now) (a .1 .1 .1 .0 .now) r (s .0 .now) (s .1 .1 .1 .0 .now))
-  by-carrier-down : (κs : Lfts 2) (a : _) (r : _) (s : _) → carrier-down.Post κs a r s
-      → Entered (callOf (slotAt (a .1 .0) (a .1 .1 .0) carrierDown (a .1 .1 .1 .0 .now)) (a .0 .now) (a .1 .1 .1 .0 .now) r (s .0 .now) (s .1 .1 .1 .0 .now))
-  by-off-hook : (κs : Lfts 2) (a : _) (r : _) (s : _) → off-hook.Post κs a r s
-      → Entered (callOf (slotAt (a .1 .0) (a .1 .1 .0) offHook (a .1 .1 .1 .0 .now)) (a .0 .now) (a .1 .1 .1 .0 .now) r (s .0 .now) (s .1 .1 .1 .0 .now))
-  by-on-hook : (κs : Lfts 2) (a : _) (r : _) (s : _) → on-hook.Post κs a r s
-      → Entered (callOf (slotAt (a .1 .0) (a .1 .1 .0) onHook (a .1 .1 .1 .0 .now)) (a .0 .now) (a .1 .1 .1 .0 .now) r (s .0 .now) (s .1 .1 .1 .0 .now))
-  by-take-slot : (κs : Lfts 2) (a : _) (r : _) (s : _) → take-slot.Post κs a r s
-      → Entered (callOf (slotAt (a .1 .0) (a .1 .1 .0) takes (a .1 .1 .1 .0 .now)) (a .0 .now) (a .1 .1 .1 .0 .now) r (s .0 .now) (s .1 .1 .1 .0 .now))
-  by-give-back : (κs : Lfts 2) (a : _) (r : _) (s : _) → give-back.Post κs a r s
-      → Entered (callOf (slotAt (a .1 .0) (a .1 .1 .0) givesBack (a .1 .1 .1 .0 .now)) (a .0 .now) (a .1 .1 .1 .0 .now) r (s .0 .now) (s .1 .1 .1 .0 .now))
+  by-tick : (κs : Lfts 2) (a : _) (r : _) (s : _) → on-tick.Post κs a r s → Entered (callOf
+      (eventAt (a .1 .0) tick (a .1 .1 .0 .now))
+      (a .0 .now) (a .1 .1 .0 .now) r (s .0 .now) (s .1 .1 .0 .now))
+  by-heard-on-channel-70 : (κs : Lfts 3) (a : _) (r : _) (s : _) → heard-on-channel-70.Post κs a r s → Entered (callOf
+      (eventAt (a .1 .0) (onChannel70 (a .1 .1 .0 .now)) (a .1 .1 .1 .0 .now))
+      (a .0 .now) (a .1 .1 .1 .0 .now) r (s .0 .now) (s .1 .1 .1 .0 .now))
+  by-heard-on-slot : (κs : Lfts 3) (a : _) (r : _) (s : _) → heard-on-slot.Post κs a r s → Entered (callOf
+      (slotAt (a .1 .0) (a .1 .1 .0) (heard (a .1 .1 .1 .0 .now)) (a .1 .1 .1 .1 .0 .now))
+      (a .0 .now) (a .1 .1 .1 .1 .0 .now) r (s .0 .now) (s .1 .1 .1 .1 .0 .now))
+  by-carrier-up : (κs : Lfts 2) (a : _) (r : _) (s : _) → carrier-up.Post κs a r s → Entered (callOf
+      (slotAt (a .1 .0) (a .1 .1 .0) carrierUp (a .1 .1 .1 .0 .now))
+      (a .0 .now) (a .1 .1 .1 .0 .now) r (s .0 .now) (s .1 .1 .1 .0 .now))
+  by-carrier-down : (κs : Lfts 2) (a : _) (r : _) (s : _) → carrier-down.Post κs a r s → Entered (callOf
+      (slotAt (a .1 .0) (a .1 .1 .0) carrierDown (a .1 .1 .1 .0 .now))
+      (a .0 .now) (a .1 .1 .1 .0 .now) r (s .0 .now) (s .1 .1 .1 .0 .now))
+  by-off-hook : (κs : Lfts 2) (a : _) (r : _) (s : _) → off-hook.Post κs a r s → Entered (callOf
+      (slotAt (a .1 .0) (a .1 .1 .0) offHook (a .1 .1 .1 .0 .now))
+      (a .0 .now) (a .1 .1 .1 .0 .now) r (s .0 .now) (s .1 .1 .1 .0 .now))
+  by-on-hook : (κs : Lfts 2) (a : _) (r : _) (s : _) → on-hook.Post κs a r s → Entered (callOf
+      (slotAt (a .1 .0) (a .1 .1 .0) onHook (a .1 .1 .1 .0 .now))
+      (a .0 .now) (a .1 .1 .1 .0 .now) r (s .0 .now) (s .1 .1 .1 .0 .now))
+  by-take-slot : (κs : Lfts 2) (a : _) (r : _) (s : _) → take-slot.Post κs a r s → Entered (callOf
+      (slotAt (a .1 .0) (a .1 .1 .0) takes (a .1 .1 .1 .0 .now))
+      (a .0 .now) (a .1 .1 .1 .0 .now) r (s .0 .now) (s .1 .1 .1 .0 .now))
+  by-give-back : (κs : Lfts 2) (a : _) (r : _) (s : _) → give-back.Post κs a r s → Entered (callOf
+      (slotAt (a .1 .0) (a .1 .1 .0) givesBack (a .1 .1 .1 .0 .now))
+      (a .0 .now) (a .1 .1 .1 .0 .now) r (s .0 .now) (s .1 .1 .1 .0 .now))
 
 -- what C's types hold of an event: a slot of 32 bits, symbols in bytes
 abbrev pub HappenedInC : Happened → Type 0

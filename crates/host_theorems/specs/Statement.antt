@@ -1,4 +1,5 @@
--- What is claimed of every host that hands on the bytes it was left, from the bytes alone: the theorem on charges and what stands beside it.
+-- What is claimed of every host that hands on the bytes it was left, from the bytes alone:
+-- the theorem on charges and what stands beside it.
 use Prim.Native.Nat.{ℕ, _*_, _/_, _%_, _<_}
 use mathlib.Core.Path.{_≡_}
 use mathlib.Core.Bool.{true, cond}

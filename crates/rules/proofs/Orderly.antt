@@ -14,13 +14,13 @@ use Rattle.rules.specs.Rules.Calls.{act}
 use Rattle.rules.specs.Rules.Verdict.{verdict, play, final}
 use Rattle.rules.specs.ListAlone.Book.{Stop, Call, quiet, dialled, talking, Book, blankBook}
 use Rattle.rules.specs.ListAlone.Reading.{stopsIn, Numbered, stops, readAll, talkedBy, lengths, countedByCalls, falling, moment, stopOf, stopsAt}
-use Rattle.rules.specs.Statement.{notes, owed, owedFor, ChargesAreStops, tenthsIn, heldTenths, TenthsAgree, CountsAgree, InOrder, ClockIsNow, EndsAt}
+use Rattle.rules.specs.Statement.{notes, owed, owedFor, ChargesAreStops, tenthsIn, unchargedTenths, TenthsAgree, CountsAgree, InOrder, ClockIsNow, EndsAt}
 use Rattle.rules.proofs.PlaceLaws.{and-true}
 use Rattle.rules.proofs.Base.{view, seen, begunBy}
 use Rattle.rules.proofs.Accepted.{accepted, sounds, begun-all}
 use Rattle.rules.proofs.Run.{noteOf, turn-is, stops-are, play-on, play-past, final-on, final-past, fresh-seen, charges-are-stops}
 use Rattle.rules.proofs.Stopped.{each-stop}
-use Rattle.rules.proofs.Tenths.{since, since-slot, held-seen, clock-is, tenths-agree}
+use Rattle.rules.proofs.Tenths.{since, since-slot, uncharged-seen, clock-is, tenths-agree}
 use Rattle.rules.proofs.Moments.{moment-on}
 
 -- ── the order of times ───────────────────────────────────────────────────────
@@ -66,13 +66,13 @@ owed-lengths : (ss : List (Numbered Stop)) → tenthsIn (owedFor ss) ≡ lengths
 owed-lengths [] = refl
 owed-lengths (s ∷ ss) = rw (owed-lengths ss) refl
 
-held-read : (cfg : Config) (es : List Event) → talkedBy (readAll cfg (notes (play cfg es (fresh cfg))) (blankBook cfg) .now) (readAll cfg (notes (play cfg es (fresh cfg))) (blankBook cfg) .lines) ≡ heldTenths (final cfg es (fresh cfg))
+uncharged-read : (cfg : Config) (es : List Event) → talkedBy (readAll cfg (notes (play cfg es (fresh cfg))) (blankBook cfg) .now) (readAll cfg (notes (play cfg es (fresh cfg))) (blankBook cfg) .lines) ≡ unchargedTenths (final cfg es (fresh cfg))
 unfolding seen
-held-read cfg es = ap (λ (b : Book). talkedBy (b .now) (b .lines)) (ap (readAll cfg (notes (play cfg es (fresh cfg)))) (sym (fresh-seen cfg)) ∙ read-final cfg es (fresh cfg)) ∙ sym (held-seen (final cfg es (fresh cfg)))
+uncharged-read cfg es = ap (λ (b : Book). talkedBy (b .now) (b .lines)) (ap (readAll cfg (notes (play cfg es (fresh cfg)))) (sym (fresh-seen cfg)) ∙ read-final cfg es (fresh cfg)) ∙ sym (uncharged-seen (final cfg es (fresh cfg)))
 
 pub counts-agree : CountsAgree
 unfolding CountsAgree countedByCalls ChargesAreStops TenthsAgree
-counts-agree cfg set es = ap (λ m. lengths (stops cfg 0 (notes (play cfg es (fresh cfg))) (blankBook cfg)) + m) (held-read cfg es) ∙ ap (λ m. m + heldTenths (final cfg es (fresh cfg))) (sym (ap tenthsIn (charges-are-stops cfg set es) ∙ owed-lengths (stops cfg 0 (notes (play cfg es (fresh cfg))) (blankBook cfg)))) ∙ tenths-agree cfg set es
+counts-agree cfg set es = ap (λ m. lengths (stops cfg 0 (notes (play cfg es (fresh cfg))) (blankBook cfg)) + m) (uncharged-read cfg es) ∙ ap (λ m. m + unchargedTenths (final cfg es (fresh cfg))) (sym (ap tenthsIn (charges-are-stops cfg set es) ∙ owed-lengths (stops cfg 0 (notes (play cfg es (fresh cfg))) (blankBook cfg)))) ∙ tenths-agree cfg set es
 
 -- the station's clock is the time of the last entry
 pub clock-is-now : ClockIsNow

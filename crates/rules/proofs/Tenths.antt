@@ -16,7 +16,7 @@ use Rattle.rules.specs.Rules.Calls.{act}
 use Rattle.rules.specs.Rules.Verdict.{verdict, play, final}
 use Rattle.rules.specs.ListAlone.Book.{Note, Stop, after, Call, quiet, dialled, talking, Book, atPlaces, blank}
 use Rattle.rules.specs.ListAlone.Reading.{join, read, reads, turn, stopsIn, Numbered, numbered, isTalking, talkers, counted, talked, talkedBy, falling, moment}
-use Rattle.rules.specs.Statement.{notes, charged, owed, tenthsIn, heldFrom, heldSlot, heldSlots, heldTenths, TenthsAgree}
+use Rattle.rules.specs.Statement.{notes, charged, owed, tenthsIn, unchargedFrom, unchargedSlot, unchargedSlots, unchargedTenths, TenthsAgree}
 use Rattle.rules.proofs.PlaceLaws.{and-true}
 use Rattle.rules.proofs.Base.{callIn, view, seen, Calling, no-call, a-call, calling, fresh-mapped, begun, begunBy}
 use Rattle.rules.proofs.Accepted.{accepted, sounds, begun-all}
@@ -50,17 +50,17 @@ slot-answered s = go s (view s .call) (calling s)
 pub since-slot : (t : ℕ) (s : Slot) → since t (view s .call) ≡ begunBy t s
 since-slot t s = ap (begun t) (slot-answered s)
 
-talked-from : (t : ℕ) (k : Call) → talked t k ≡ heldFrom t (answeredOf k)
+talked-from : (t : ℕ) (k : Call) → talked t k ≡ unchargedFrom t (answeredOf k)
 talked-from t quiet = refl
 talked-from t (dialled x m) = refl
 talked-from t (talking x m b) = refl
 
-held-slot : (t : ℕ) (s : Slot) → talked t (view s .call) ≡ heldSlot t s
-held-slot t s = talked-from t (view s .call) ∙ ap (heldFrom t) (slot-answered s)
+uncharged-slot : (t : ℕ) (s : Slot) → talked t (view s .call) ≡ unchargedSlot t s
+uncharged-slot t s = talked-from t (view s .call) ∙ ap (unchargedFrom t) (slot-answered s)
 
-held-slots : (t : ℕ) (ss : List Slot) → talkedBy t (map view ss) ≡ heldSlots t ss
-held-slots t [] = refl
-held-slots t (s ∷ ss) = rw (held-slot t s, held-slots t ss) refl
+uncharged-slots : (t : ℕ) (ss : List Slot) → talkedBy t (map view ss) ≡ unchargedSlots t ss
+uncharged-slots t [] = refl
+uncharged-slots t (s ∷ ss) = rw (uncharged-slot t s, uncharged-slots t ss) refl
 
 advance-one : (c t : ℕ) → c ≤ t → (k : Call) → since c k ≡ true → talked t k ≡ talked c k + (t - c) * isTalking k
 advance-one c t h quiet e = omega arith
@@ -84,9 +84,9 @@ tenths-numbered : (k : ℕ) (cs : List Stop) (r : List (Numbered Charge)) → te
 tenths-numbered k [] r = omega arith
 tenths-numbered k (c ∷ cs) r = omega (arith, tenths-numbered k cs r)
 
-pub held-seen : (st : Station) → heldTenths st ≡ talkedBy (st .clock) (seen st .lines)
-unfolding heldTenths seen
-held-seen st = sym (held-slots (st .clock) (st .slots))
+pub uncharged-seen : (st : Station) → unchargedTenths st ≡ talkedBy (st .clock) (seen st .lines)
+unfolding unchargedTenths seen
+uncharged-seen st = sym (uncharged-slots (st .clock) (st .slots))
 
 reads-now : (u : ℕ) (ds : List Deed) (b : Book) → reads u ds b .now ≡ b .now
 unfolding reads
@@ -125,42 +125,42 @@ settle-up h x s a n w p q r = omega arith
 
 -- one entry: what ran before, and the tenths that passed, are what it charges and what runs after
 entry-tenths : (cfg : Config) (st : Station) (e : Event) → verdict cfg st e ≡ none
-    → heldTenths st + (moment (seen st) e - st .clock) * talkers (seen st .lines) ≡ sum (stopsIn cfg (seen st) (noteOf e (act cfg st e .acts))) + heldTenths (act cfg st e .next)
+    → unchargedTenths st + (moment (seen st) e - st .clock) * talkers (seen st .lines) ≡ sum (stopsIn cfg (seen st) (noteOf e (act cfg st e .acts))) + unchargedTenths (act cfg st e .next)
 unfolding seen
 entry-tenths cfg st e v =
     let t = moment (seen st) e in
     let o = act cfg st e in
     let after : ℕ = talkedBy t (turn cfg (seen st) (noteOf e (o .acts)) .lines) in
-    let p1 : talkedBy t (seen st .lines) ≡ heldTenths st + (t - st .clock) * talkers (seen st .lines) = rw (held-seen st) (advance (st .clock) t (moment-on cfg st e v) (st .slots) (begun-all cfg st (sounds cfg st (accepted cfg st e v .is-sound)))) in
+    let p1 : talkedBy t (seen st .lines) ≡ unchargedTenths st + (t - st .clock) * talkers (seen st .lines) = rw (uncharged-seen st) (advance (st .clock) t (moment-on cfg st e v) (st .slots) (begun-all cfg st (sounds cfg st (accepted cfg st e v .is-sound)))) in
     let p2 : sum (stopsIn cfg (seen st) (noteOf e (o .acts))) + after ≡ talkedBy t (seen st .lines) = turn-takes cfg (seen st) (noteOf e (o .acts)) in
-    let p3 : heldTenths (o .next) ≡ after = held-seen (o .next) ∙ ap (λ (c : ℕ). talkedBy c (seen (o .next) .lines)) (clock-is cfg st e v) ∙ ap (λ (b : Book). talkedBy t (b .lines)) (sym (turn-is cfg st e v)) in
-    settle-up (heldTenths st) ((t - st .clock) * talkers (seen st .lines)) (sum (stopsIn cfg (seen st) (noteOf e (o .acts)))) after (heldTenths (o .next)) (talkedBy t (seen st .lines)) p1 p2 p3
+    let p3 : unchargedTenths (o .next) ≡ after = uncharged-seen (o .next) ∙ ap (λ (c : ℕ). talkedBy c (seen (o .next) .lines)) (clock-is cfg st e v) ∙ ap (λ (b : Book). talkedBy t (b .lines)) (sym (turn-is cfg st e v)) in
+    settle-up (unchargedTenths st) ((t - st .clock) * talkers (seen st .lines)) (sum (stopsIn cfg (seen st) (noteOf e (o .acts)))) after (unchargedTenths (o .next)) (talkedBy t (seen st .lines)) p1 p2 p3
 
 carry : (s r f h x n c : ℕ) → h + x ≡ s + n → r + f ≡ n + c → s + r + f ≡ h + (x + c)
 carry s r f h x n c p q = omega arith
 
-run-tenths : (cfg : Config) (es : List Event) (k : ℕ) (st : Station) → tenthsIn (charged k (play cfg es st)) + heldTenths (final cfg es st) ≡ heldTenths st + counted cfg (notes (play cfg es st)) (seen st)
+run-tenths : (cfg : Config) (es : List Event) (k : ℕ) (st : Station) → tenthsIn (charged k (play cfg es st)) + unchargedTenths (final cfg es st) ≡ unchargedTenths st + counted cfg (notes (play cfg es st)) (seen st)
 unfolding play final charged counted notes seen
 run-tenths cfg [] k st = omega arith
 run-tenths cfg (e ∷ es) k st = go (verdict cfg st e) refl (λ k s. run-tenths cfg es k s)
   where
-    go : (o : Option ℕ) → verdict cfg st e ≡ o → ((k : ℕ) (s : Station) → tenthsIn (charged k (play cfg es s)) + heldTenths (final cfg es s) ≡ heldTenths s + counted cfg (notes (play cfg es s)) (seen s))
-        → tenthsIn (charged k (play cfg (e ∷ es) st)) + heldTenths (final cfg (e ∷ es) st) ≡ heldTenths st + counted cfg (notes (play cfg (e ∷ es) st)) (seen st)
-    go none h ih = rw (play-on cfg e es st h, final-on cfg e es st h, turn-is cfg st e h, stops-are cfg st e h, tenths-numbered k (stopsIn cfg (seen st) (noteOf e (act cfg st e .acts))) (charged (suc k) (play cfg es (act cfg st e .next)))) (carry (sum (stopsIn cfg (seen st) (noteOf e (act cfg st e .acts)))) (tenthsIn (charged (suc k) (play cfg es (act cfg st e .next)))) (heldTenths (final cfg es (act cfg st e .next))) (heldTenths st) ((moment (seen st) e - st .clock) * talkers (seen st .lines)) (heldTenths (act cfg st e .next)) (counted cfg (notes (play cfg es (act cfg st e .next))) (seen (act cfg st e .next))) (entry-tenths cfg st e h) (ih (suc k) (act cfg st e .next)))
+    go : (o : Option ℕ) → verdict cfg st e ≡ o → ((k : ℕ) (s : Station) → tenthsIn (charged k (play cfg es s)) + unchargedTenths (final cfg es s) ≡ unchargedTenths s + counted cfg (notes (play cfg es s)) (seen s))
+        → tenthsIn (charged k (play cfg (e ∷ es) st)) + unchargedTenths (final cfg (e ∷ es) st) ≡ unchargedTenths st + counted cfg (notes (play cfg (e ∷ es) st)) (seen st)
+    go none h ih = rw (play-on cfg e es st h, final-on cfg e es st h, turn-is cfg st e h, stops-are cfg st e h, tenths-numbered k (stopsIn cfg (seen st) (noteOf e (act cfg st e .acts))) (charged (suc k) (play cfg es (act cfg st e .next)))) (carry (sum (stopsIn cfg (seen st) (noteOf e (act cfg st e .acts)))) (tenthsIn (charged (suc k) (play cfg es (act cfg st e .next)))) (unchargedTenths (final cfg es (act cfg st e .next))) (unchargedTenths st) ((moment (seen st) e - st .clock) * talkers (seen st .lines)) (unchargedTenths (act cfg st e .next)) (counted cfg (notes (play cfg es (act cfg st e .next))) (seen (act cfg st e .next))) (entry-tenths cfg st e h) (ih (suc k) (act cfg st e .next)))
     go (some n) h ih = rw (play-past cfg e es st n h, final-past cfg e es st n h) (ih k st)
 
-none-held : (n : ℕ) → talkedBy 0 (replicate n blank) ≡ 0
-none-held zero = refl
-none-held (suc n) = omega (arith, none-held n)
+none-uncharged : (n : ℕ) → talkedBy 0 (replicate n blank) ≡ 0
+none-uncharged zero = refl
+none-uncharged (suc n) = omega (arith, none-uncharged n)
 
-fresh-held : (cfg : Config) → heldTenths (fresh cfg) ≡ 0
-unfolding heldTenths fresh
-fresh-held cfg = sym (held-slots 0 (fresh cfg .slots)) ∙ ap (talkedBy 0) (fresh-mapped cfg view) ∙ none-held (length (cfg .channels))
+fresh-uncharged : (cfg : Config) → unchargedTenths (fresh cfg) ≡ 0
+unfolding unchargedTenths fresh
+fresh-uncharged cfg = sym (uncharged-slots 0 (fresh cfg .slots)) ∙ ap (talkedBy 0) (fresh-mapped cfg view) ∙ none-uncharged (length (cfg .channels))
 
 zero-left : (a b c : ℕ) → a ≡ 0 → b ≡ a + c → b ≡ c
 zero-left a b c p q = omega arith
 
--- after every event: the charged tenths and those of the calls held as answered are the answered tenths counted from the list
+-- after every event: the charged tenths and those of the answered calls not charged yet are the answered tenths counted from the list
 pub tenths-agree : TenthsAgree
 unfolding TenthsAgree
-tenths-agree cfg set es = rw (← (fresh-seen cfg)) (zero-left (heldTenths (fresh cfg)) _ _ (fresh-held cfg) (run-tenths cfg es 0 (fresh cfg)))
+tenths-agree cfg set es = rw (← (fresh-seen cfg)) (zero-left (unchargedTenths (fresh cfg)) _ _ (fresh-uncharged cfg) (run-tenths cfg es 0 (fresh cfg)))

@@ -87,24 +87,25 @@ abbrev pub tenthsIn : List (Numbered Charge) → ℕ
 tenthsIn [] = 0
 tenthsIn (h ∷ hs) = (h .it .stop .0 - h .it .start .0) + tenthsIn hs
 
--- the calls that the station holds as answered, up to its clock
-abbrev pub heldFrom : ℕ → Option ℕ → ℕ
-heldFrom t none = 0
-heldFrom t (some b) = t - b
+-- the answered calls that the station has not charged yet, up to its clock
+abbrev pub unchargedFrom : ℕ → Option ℕ → ℕ
+unchargedFrom t none = 0
+unchargedFrom t (some b) = t - b
 
-abbrev pub heldSlot : ℕ → Slot → ℕ
-heldSlot t s = heldFrom t (answeredIn s)
+abbrev pub unchargedSlot : ℕ → Slot → ℕ
+unchargedSlot t s = unchargedFrom t (answeredIn s)
 
-abbrev pub heldSlots : ℕ → List Slot → ℕ
-heldSlots t [] = 0
-heldSlots t (s ∷ ss) = heldSlot t s + heldSlots t ss
+abbrev pub unchargedSlots : ℕ → List Slot → ℕ
+unchargedSlots t [] = 0
+unchargedSlots t (s ∷ ss) = unchargedSlot t s + unchargedSlots t ss
 
-unfoldable pub heldTenths : Station → ℕ
-heldTenths st = heldSlots (st .clock) (st .slots)
+unfoldable pub unchargedTenths : Station → ℕ
+unchargedTenths st = unchargedSlots (st .clock) (st .slots)
 
--- charged tenths and held tenths are the answered tenths counted from the list
+-- charged and uncharged tenths are the answered tenths counted from the list
 unfoldable pub TenthsAgree : Type 0
-TenthsAgree = OfEveryRun (λ c es. tenthsIn (charged 0 (runOf c es)) + heldTenths (stationAfter c es) ≡ counted c (listOf c es) (blankBook c))
+TenthsAgree = OfEveryRun (λ c es.
+    tenthsIn (charged 0 (runOf c es)) + unchargedTenths (stationAfter c es) ≡ counted c (listOf c es) (blankBook c))
 
 -- ── beside it ────────────────────────────────────────────────────────────────
 
@@ -168,7 +169,8 @@ DialsAsked = OfEveryEntry (DeedByDeed DialsNamed)
 
 -- while a ship waits no slot is free
 unfoldable pub NoChannelIdle : Type 0
-NoChannelIdle = OfEveryRun (λ c es. (w : Waiting) (q : List Waiting) → stationAfter c es .queue ≡ w ∷ q → lowest isFree (stationAfter c es .slots) ≡ none)
+NoChannelIdle = OfEveryRun (λ c es.
+    (w : Waiting) (q : List Waiting) → stationAfter c es .queue ≡ w ∷ q → lowest isFree (stationAfter c es .slots) ≡ none)
 
 -- of every sound station: at most 8 actions a step, and every payload within 36 bytes
 unfoldable pub AtMostEight : Type 0

@@ -3,7 +3,8 @@ use Prim.Native.Nat.{ℕ}
 use mathlib.Core.Bool.{Bool}
 use lib.Dec.{eqb}
 use Rattle.sequence.specs.declared.Answer.{Answer}
-use Rattle.sequence.specs.declared.Answer.the-variants.{Done, BadLength, BadSymbol, BadCheck, BadFormat, BadIdentities, BadCategory, BadTelecommands, BadField, BadNumber, BadEnd, ShortRoom}
+use Rattle.sequence.specs.declared.Answer.the-variants.{Done, BadLength, BadSymbol, BadCheck, BadFormat, BadIdentities}
+use Rattle.sequence.specs.declared.Answer.the-variants.{BadCategory, BadTelecommands, BadField, BadNumber, BadEnd, ShortRoom}
 
 abbrev pub answerNumber : Answer → ℕ
 answerNumber Done = 0

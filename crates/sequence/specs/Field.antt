@@ -6,7 +6,8 @@ use Rattle.units.specs.declared.Channel.{Channel as ChannelNumber}
 use Rattle.units.specs.declared.Duration.{Duration as Lasting}
 use Rattle.sequence.specs.declared.Field.{Field}
 use Rattle.sequence.specs.declared.Field.the-variants.{Blank, Channel, Duration}
-use Rattle.sequence.specs.Figures.{firstSimplex, firstDuplex, firstData, firstUnable, firstOver, leastSecond, lastSecond, lastReason, untold, channelTold}
+use Rattle.sequence.specs.Figures.{firstSimplex, firstDuplex, firstData, firstUnable, firstOver}
+use Rattle.sequence.specs.Figures.{leastSecond, lastSecond, lastReason, untold, channelTold}
 use Rattle.sequence.specs.Symbols.{within}
 
 -- "100 simplex, 101 duplex or 106 data"

@@ -5,7 +5,8 @@ use mathlib.Core.List.{List, [], _∷_, _++_}
 use lib.Dec.{leb, eqb}
 use lib.ListN.{length, getD, take, drop, replicate}
 use Rattle.sequence.specs.declared.Answer.{Answer}
-use Rattle.sequence.specs.declared.Answer.the-variants.{Done, BadLength, BadSymbol, BadCheck, BadFormat, BadIdentities, BadCategory, BadTelecommands, BadField, BadNumber, BadEnd}
+use Rattle.sequence.specs.declared.Answer.the-variants.{Done, BadLength, BadSymbol, BadCheck, BadFormat, BadIdentities}
+use Rattle.sequence.specs.declared.Answer.the-variants.{BadCategory, BadTelecommands, BadField, BadNumber, BadEnd}
 use Rattle.sequence.specs.declared.Field.{Field}
 use Rattle.sequence.specs.declared.Field.the-variants.{Blank, Channel, Duration}
 use Rattle.sequence.specs.declared.Number.{Number}
@@ -13,7 +14,8 @@ use Rattle.sequence.specs.declared.Meaning.{Meaning}
 use Rattle.sequence.specs.declared.Reading.{Reading}
 use Rattle.sequence.specs.Refusals.{Row, row, firstRefusal}
 use Rattle.sequence.specs.Answers.{isDone}
-use Rattle.sequence.specs.Figures.{shortest, longest, lastSymbol, format, category, firstOver, untold, channelTold, oddCount, evenCount, lastPair, mostDigits}
+use Rattle.sequence.specs.Figures.{shortest, longest, lastSymbol, format, category, firstOver}
+use Rattle.sequence.specs.Figures.{untold, channelTold, oddCount, evenCount, lastPair, mostDigits}
 use Rattle.sequence.specs.Symbols.{within, allAtMost, exclusiveOr}
 use Rattle.sequence.specs.Identity.{identityPairs, identityOf, identitiesOk}
 use Rattle.sequence.specs.Field.{isCall, telecommandsOk, channelOk, durationOk}

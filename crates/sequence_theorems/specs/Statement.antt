@@ -1,4 +1,5 @@
--- "Each valid sequence has one meaning, each valid meaning one sequence", over the definitions that the reader's and the writer's contracts cite.
+-- "Each valid sequence has one meaning, each valid meaning one sequence",
+-- over the definitions that the reader's and the writer's contracts cite.
 use Prim.Native.Nat.{ℕ, _≤_}
 use mathlib.Core.Path.{_≡_}
 use mathlib.Core.Logic.{_↔_}

@@ -1,4 +1,4 @@
--- A station that was laid out keeps its records; what it holds as answered, and which slots are free, as its model says.
+-- A station that was laid out keeps its records; what it has not charged yet, and which slots are free, as its model says.
 use Prim.Native.Nat.{ℕ, zero, suc, _≤_}
 use mathlib.Core.Path.{_≡_, refl, ap}
 use mathlib.Core.Bool.{Bool, true, false, cond, _&&_}
@@ -15,7 +15,7 @@ use Rattle.rules.specs.Rules.Station as R
 use Rattle.rules.specs.Rules.Station.{isFree}
 use Rattle.rules.specs.Rules.Verdict.{verdict}
 use Rattle.rules.specs.Rules.Bytes.{padded, numberOf}
-use Rattle.rules.specs.Statement.{heldSlots, heldTenths}
+use Rattle.rules.specs.Statement.{unchargedSlots, unchargedTenths}
 use Rattle.rules.proofs.PlaceLaws.{and-true, shift-none}
 use Rattle.requests.specs.Views.{viewed, itself, requestOf}
 use Rattle.requests.specs.Images.{requestImage, blankRequest}
@@ -29,7 +29,7 @@ use Rattle.station.specs.declared.Station.{Station}
 use Rattle.station.specs.Model.{modelOf, imageOf}
 use Rattle.station.specs.Step.{recordsKeep, refusal}
 use Rattle.station.proofs.ImageLaws.{model-back, config-back}
-use Rattle.station_theorems.specs.Statement.{heldOn, heldBy}
+use Rattle.station_theorems.specs.Statement.{unchargedOn, unchargedBy}
 
 -- ── the records ──────────────────────────────────────────────────────────────
 
@@ -107,13 +107,13 @@ module _ (c : Config) (m : R.Station) (f : Fits c m) where
 
 -- ── the tenths held ──────────────────────────────────────────────────────────
 
-slots-held : (t : ℕ) (l : List Slot) → heldOn t l ≡ heldSlots t (map slotView l)
-slots-held t [] = refl
-slots-held t (s ∷ l) = rw (since-view (s .phase) (requestOf (s .request)), slots-held t l)
+slots-uncharged : (t : ℕ) (l : List Slot) → unchargedOn t l ≡ unchargedSlots t (map slotView l)
+slots-uncharged t [] = refl
+slots-uncharged t (s ∷ l) = rw (since-view (s .phase) (requestOf (s .request)), slots-uncharged t l)
 
-pub held-is : (s : Station) → heldBy s ≡ heldTenths (modelOf s)
-unfolding heldBy heldTenths modelOf viewed
-held-is s = slots-held (s .clock .0) (take (s .count) (s .slots))
+pub uncharged-is : (s : Station) → unchargedBy s ≡ unchargedTenths (modelOf s)
+unfolding unchargedBy unchargedTenths modelOf viewed
+uncharged-is s = slots-uncharged (s .clock .0) (take (s .count) (s .slots))
 
 -- ── the slots that are free ──────────────────────────────────────────────────
 

@@ -31,7 +31,7 @@ use Rattle.station.specs.Model.{modelOf, imageOf}
 use Rattle.station.proofs.ImageLaws.{model-back, config-back, run-fits}
 use Rattle.station_theorems.specs.Steps.{Step, Trace, lastOf, eventsIn}
 use Rattle.station_theorems.specs.Statement.{BlocksTell, OfEveryTrace, RackObeys, RackStands, RackShows, RackLiterally, RackAnswersRepeat, RackSecondRingRepeats, RackDialsAsked, NoneIdle, RackNoChannelIdle, RackAlwaysSound}
-use Rattle.station_theorems.proofs.Laid.{records-keep, held-is, none-free}
+use Rattle.station_theorems.proofs.Laid.{records-keep, uncharged-is, none-free}
 use Rattle.station_theorems.proofs.Steps as S
 use Rattle.station_theorems.proofs.Traces.{started, IsRun, is-run}
 
@@ -74,7 +74,7 @@ carried P h c xs t = rw (runs c xs t .entries) (h c (set-up c xs t) (eventsIn xs
 pub rack-obeys : RackObeys
 unfolding RackObeys ChargesAreStops TenthsAgree
 rack-obeys c xs t =
-    rw (runs c xs t .entries, held-is (lastOf (t .first) xs), model-is c xs t)
+    rw (runs c xs t .entries, uncharged-is (lastOf (t .first) xs), model-is c xs t)
     (charges-are-stops c (set-up c xs t) (eventsIn xs), tenths-agree c (set-up c xs t) (eventsIn xs))
 
 pub rack-literally : RackLiterally

@@ -11,7 +11,8 @@ use Rattle.sequence.specs.declared.Field.the-variants.{Blank, Channel, Duration
 use Rattle.sequence.specs.declared.Meaning.{Meaning}
 use Rattle.sequence.specs.Figures.{firstSimplex, firstUnable, endRq, endBq}
 use Rattle.sequence.specs.Reading.{readingOf}
-use Rattle.rules.specs.Rules.Words.{Party, Mode, simplex, duplex, Request, Deed, carrierOn, carrierOff, acknowledge, ringBack, unable, dial, releaseLine}
+use Rattle.rules.specs.Rules.Words.{Party, Mode, simplex, duplex, Request}
+use Rattle.rules.specs.Rules.Words.{Deed, carrierOn, carrierOff, acknowledge, ringBack, unable, dial, releaseLine}
 use Rattle.rules.specs.Rules.Heard.{digitsIn}
 use Rattle.rules.specs.Rules.Actions.{Charge, Ender, theShip, theCoast, Action, does, over, charge, chargeOf}
 use Rattle.rules.specs.Rules.Bytes.{blockSize}
@@ -67,7 +68,8 @@ slotIn b = getD b 1 0
 abbrev pub payloadIn : List ℕ → List ℕ
 payloadIn b = take (getD b 2 0) (drop 4 b)
 
--- "1 carrier on, 2 carrier off, 3 send on channel 70, 4 send on the working channel, 5 dial, 6 release line, 7 charge"; no other kind tells an action
+-- "1 carrier on, 2 carrier off, 3 send on channel 70, 4 send on the working channel, 5 dial, 6 release line, 7 charge";
+-- no other kind tells an action
 unfoldable pub actionAs : ℕ → ℕ → List ℕ → List Action
 actionAs kind slot p =
     cond (eqb kind 1) (does (carrierOn slot) ∷ [])
@@ -89,4 +91,5 @@ actionsIn (suc n) room = actionIn (take blockSize room) ++ actionsIn n (drop blo
 -- what a script prints of them: kind, slot, payload bytes
 unfoldable pub shownIn : ℕ → List ℕ → List (List ℕ)
 shownIn zero room = []
-shownIn (suc n) room = (kindIn (take blockSize room) ∷ slotIn (take blockSize room) ∷ payloadIn (take blockSize room)) ∷ shownIn n (drop blockSize room)
+shownIn (suc n) room = (kindIn (take blockSize room) ∷ slotIn (take blockSize room) ∷ payloadIn (take blockSize room))
+    ∷ shownIn n (drop blockSize room)

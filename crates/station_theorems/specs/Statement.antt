@@ -17,7 +17,7 @@ use Rattle.rules.specs.Rules.Bytes.{block, blocks, blockSize}
 use Rattle.rules.specs.ListAlone.Book.{blankBook}
 use Rattle.rules.specs.ListAlone.Reading.{stops, counted}
 use Rattle.rules.specs.Rules.Printed.{printed}
-use Rattle.rules.specs.Statement.{notes, charged, owedFor, heldFrom, tenthsIn, stationAfter, WordsAgree, EveryEntry}
+use Rattle.rules.specs.Statement.{notes, charged, owedFor, unchargedFrom, tenthsIn, stationAfter, WordsAgree, EveryEntry}
 use Rattle.rules.specs.ListAlone.Repeated.{Answers, RingsSame, DialsNamed, DeedByDeed}
 use Rattle.slots.specs.declared.Slot.{Slot}
 use Rattle.slots.specs.Phases.{answeredSince}
@@ -51,19 +51,20 @@ BlocksTell = (c : Config) (m : R.Station) (e : Event) → verdict c m e ≡ none
 
 -- ── the theorem on charges ───────────────────────────────────────────────────
 
--- the calls that a station of the rack holds as answered, up to its clock
-abbrev pub heldOn : ℕ → List Slot → ℕ
-heldOn t [] = 0
-heldOn t (s ∷ ss) = heldFrom t (answeredSince (s .phase)) + heldOn t ss
+-- the answered calls that a station of the rack has not charged yet, up to its clock
+abbrev pub unchargedOn : ℕ → List Slot → ℕ
+unchargedOn t [] = 0
+unchargedOn t (s ∷ ss) = unchargedFrom t (answeredSince (s .phase)) + unchargedOn t ss
 
-unfoldable pub heldBy : Station → ℕ
-heldBy s = heldOn (s .clock .0) (take (s .count) (s .slots))
+unfoldable pub unchargedBy : Station → ℕ
+unchargedBy s = unchargedOn (s .clock .0) (take (s .count) (s .slots))
 
--- every stopped call has one charge, given at its stop, and no other charge exists; charged and held tenths are those counted from the list
+-- every stopped call has one charge, given at its stop, and no other charge exists;
+-- charged and uncharged tenths are those counted from the list
 abbrev pub Obeys : Config → List Entry → Station → Type 0
 Obeys c es s =
     (charged 0 es ≡ owedFor (stops c 0 (notes es) (blankBook c)))
-    × (tenthsIn (charged 0 es) + heldBy s ≡ counted c (notes es) (blankBook c))
+    × (tenthsIn (charged 0 es) + unchargedBy s ≡ counted c (notes es) (blankBook c))
 
 -- what holds of every trace: of the list that it shows, and of the station that was handed back last
 abbrev pub OfEveryTrace : (Config → List Entry → Station → Type 0) → Type 0

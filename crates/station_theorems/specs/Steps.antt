@@ -31,24 +31,33 @@ stepOf event before lent back left = record { event = event; before = before; le
 
 -- a method's contract allows it: `a` are the arguments, `r` is the result, `s` the parameters at exit
 pub data Allowed : Step → Type 0 where
-  by-heard-on-channel-70 : (κs : Lfts 2) (a : _) (r : _) (s : _) → heard-on-channel-70.Post κs a r s
-      → Allowed (stepOf (eventAt (a .1 .0 .0) (onChannel70 (a .1 .1 .0 .now)) (a .1 .1 .1 .0 .now)) (a .0) (a .1 .1 .1 .0 .now) r (s .1 .1 .1 .0 .now))
-  by-heard-on-slot : (κs : Lfts 2) (a : _) (r : _) (s : _) → heard-on-slot.Post κs a r s
-      → Allowed (stepOf (slotAt (a .1 .0 .0) (a .1 .1 .0 .0) (heard (a .1 .1 .1 .0 .now)) (a .1 .1 .1 .1 .0 .now)) (a .0) (a .1 .1 .1 .1 .0 .now) r (s .1 .1 .1 .1 .0 .now))
-  by-off-hook : (κs : Lfts 1) (a : _) (r : _) (s : _) → off-hook.Post κs a r s
-      → Allowed (stepOf (slotAt (a .1 .0 .0) (a .1 .1 .0 .0) offHook (a .1 .1 .1 .0 .now)) (a .0) (a .1 .1 .1 .0 .now) r (s .1 .1 .1 .0 .now))
-  by-on-hook : (κs : Lfts 1) (a : _) (r : _) (s : _) → on-hook.Post κs a r s
-      → Allowed (stepOf (slotAt (a .1 .0 .0) (a .1 .1 .0 .0) onHook (a .1 .1 .1 .0 .now)) (a .0) (a .1 .1 .1 .0 .now) r (s .1 .1 .1 .0 .now))
-  by-carrier-up : (κs : Lfts 1) (a : _) (r : _) (s : _) → carrier-up.Post κs a r s
-      → Allowed (stepOf (slotAt (a .1 .0 .0) (a .1 .1 .0 .0) carrierUp (a .1 .1 .1 .0 .now)) (a .0) (a .1 .1 .1 .0 .now) r (s .1 .1 .1 .0 .now))
-  by-carrier-down : (κs : Lfts 1) (a : _) (r : _) (s : _) → carrier-down.Post κs a r s
-      → Allowed (stepOf (slotAt (a .1 .0 .0) (a .1 .1 .0 .0) carrierDown (a .1 .1 .1 .0 .now)) (a .0) (a .1 .1 .1 .0 .now) r (s .1 .1 .1 .0 .now))
-  by-take-slot : (κs : Lfts 1) (a : _) (r : _) (s : _) → take-slot.Post κs a r s
-      → Allowed (stepOf (slotAt (a .1 .0 .0) (a .1 .1 .0 .0) takes (a .1 .1 .1 .0 .now)) (a .0) (a .1 .1 .1 .0 .now) r (s .1 .1 .1 .0 .now))
-  by-give-back : (κs : Lfts 1) (a : _) (r : _) (s : _) → give-back.Post κs a r s
-      → Allowed (stepOf (slotAt (a .1 .0 .0) (a .1 .1 .0 .0) givesBack (a .1 .1 .1 .0 .now)) (a .0) (a .1 .1 .1 .0 .now) r (s .1 .1 .1 .0 .now))
-  by-tick : (κs : Lfts 1) (a : _) (r : _) (s : _) → on-tick.Post κs a r s
-      → Allowed (stepOf (eventAt (a .1 .0 .0) tick (a .1 .1 .0 .now)) (a .0) (a .1 .1 .0 .now) r (s .1 .1 .0 .now))
+  by-heard-on-channel-70 : (κs : Lfts 2) (a : _) (r : _) (s : _) → heard-on-channel-70.Post κs a r s → Allowed (stepOf
+      (eventAt (a .1 .0 .0) (onChannel70 (a .1 .1 .0 .now)) (a .1 .1 .1 .0 .now))
+      (a .0) (a .1 .1 .1 .0 .now) r (s .1 .1 .1 .0 .now))
+  by-heard-on-slot : (κs : Lfts 2) (a : _) (r : _) (s : _) → heard-on-slot.Post κs a r s → Allowed (stepOf
+      (slotAt (a .1 .0 .0) (a .1 .1 .0 .0) (heard (a .1 .1 .1 .0 .now)) (a .1 .1 .1 .1 .0 .now))
+      (a .0) (a .1 .1 .1 .1 .0 .now) r (s .1 .1 .1 .1 .0 .now))
+  by-off-hook : (κs : Lfts 1) (a : _) (r : _) (s : _) → off-hook.Post κs a r s → Allowed (stepOf
+      (slotAt (a .1 .0 .0) (a .1 .1 .0 .0) offHook (a .1 .1 .1 .0 .now))
+      (a .0) (a .1 .1 .1 .0 .now) r (s .1 .1 .1 .0 .now))
+  by-on-hook : (κs : Lfts 1) (a : _) (r : _) (s : _) → on-hook.Post κs a r s → Allowed (stepOf
+      (slotAt (a .1 .0 .0) (a .1 .1 .0 .0) onHook (a .1 .1 .1 .0 .now))
+      (a .0) (a .1 .1 .1 .0 .now) r (s .1 .1 .1 .0 .now))
+  by-carrier-up : (κs : Lfts 1) (a : _) (r : _) (s : _) → carrier-up.Post κs a r s → Allowed (stepOf
+      (slotAt (a .1 .0 .0) (a .1 .1 .0 .0) carrierUp (a .1 .1 .1 .0 .now))
+      (a .0) (a .1 .1 .1 .0 .now) r (s .1 .1 .1 .0 .now))
+  by-carrier-down : (κs : Lfts 1) (a : _) (r : _) (s : _) → carrier-down.Post κs a r s → Allowed (stepOf
+      (slotAt (a .1 .0 .0) (a .1 .1 .0 .0) carrierDown (a .1 .1 .1 .0 .now))
+      (a .0) (a .1 .1 .1 .0 .now) r (s .1 .1 .1 .0 .now))
+  by-take-slot : (κs : Lfts 1) (a : _) (r : _) (s : _) → take-slot.Post κs a r s → Allowed (stepOf
+      (slotAt (a .1 .0 .0) (a .1 .1 .0 .0) takes (a .1 .1 .1 .0 .now))
+      (a .0) (a .1 .1 .1 .0 .now) r (s .1 .1 .1 .0 .now))
+  by-give-back : (κs : Lfts 1) (a : _) (r : _) (s : _) → give-back.Post κs a r s → Allowed (stepOf
+      (slotAt (a .1 .0 .0) (a .1 .1 .0 .0) givesBack (a .1 .1 .1 .0 .now))
+      (a .0) (a .1 .1 .1 .0 .now) r (s .1 .1 .1 .0 .now))
+  by-tick : (κs : Lfts 1) (a : _) (r : _) (s : _) → on-tick.Post κs a r s → Allowed (stepOf
+      (eventAt (a .1 .0 .0) tick (a .1 .1 .0 .now))
+      (a .0) (a .1 .1 .0 .now) r (s .1 .1 .0 .now))
 
 -- what set-up handed back with the answer 0, for an identity and a channel list
 pub data SetUpAs : Config → Station → Type 0 where

@@ -1,4 +1,5 @@
--- The list alone, first part: what a reader of the list keeps, and which of its waits is due. Nothing of the rules is used here; the figures and the comparison of requests are written from 01's sentences.
+-- The list alone, first part: what a reader of the list keeps, and which of its waits is due.
+-- Nothing of the rules is used here; the figures and the comparison of requests are written from 01's sentences.
 use mathlib.Core.List.{List, [], _∷_, map}
 use mathlib.Core.Bool.{Bool, true, false, _&&_}
 use mathlib.Core.Option.{Option, none}

@@ -1,14 +1,20 @@
--- The list alone, second part: the moment of an entry, the four stops, what an event says, what a deed says, the list read, and the answered tenths counted. Nothing of the rules is used here.
+-- The list alone, second part: the moment of an entry, the four stops, what an event says, what a deed says, the list read,
+-- and the answered tenths counted. Nothing of the rules is used here.
 use mathlib.Core.List.{List, [], _∷_, _++_, map}
 use mathlib.Core.Bool.{Bool, true, false, cond, _&&_}
 use mathlib.Core.Option.{Option, none, some}
 use Prim.Native.Nat.{ℕ, suc, _+_, _-_, _*_}
 use lib.Dec.{eqb}
 use Rattle.rules.specs.Rules.Places.{dropAt}
-use Rattle.rules.specs.Rules.Words.{Party, is, Mode, simplex, duplex, Request, Config, Signal, lineLifted, lineHung, carrierHeard, carrierLost, Happened, heard, signal, operator, What, tick, onChannel70, onSlot, Event, Deed, carrierOn, carrierOff, acknowledge, ringBack, unable, dial, releaseLine}
+use Rattle.rules.specs.Rules.Words.{Party, is, Mode, simplex, duplex, Request, Config}
+use Rattle.rules.specs.Rules.Words.{Signal, lineLifted, lineHung, carrierHeard, carrierLost, Happened, heard, signal, operator}
+use Rattle.rules.specs.Rules.Words.{What, tick, onChannel70, onSlot, Event}
+use Rattle.rules.specs.Rules.Words.{Deed, carrierOn, carrierOff, acknowledge, ringBack, unable, dial, releaseLine}
 use Rattle.rules.specs.Rules.Waits.{ofQueue, loss, main, Due}
 use Rattle.rules.specs.Rules.Heard.{Heard, callRequest, dataRequest, bq, workingCall, endOfCall, nothing, meaning}
-use Rattle.rules.specs.ListAlone.Book.{Note, Stop, after, silence, offerTime, ringTime, replyTime, holdTime, queueTime, Said, silent, toldBQ, toldRQ, settled, Call, quiet, dialled, talking, Line, Place, Book, atLine, atPlaces, line, falls}
+use Rattle.rules.specs.ListAlone.Book.{Note, Stop, after, silence, offerTime, ringTime, replyTime, holdTime, queueTime}
+use Rattle.rules.specs.ListAlone.Book.{Said, silent, toldBQ, toldRQ, settled, Call, quiet, dialled, talking}
+use Rattle.rules.specs.ListAlone.Book.{Line, Place, Book, atLine, atPlaces, line, falls}
 unfoldable use Rattle.rules.specs.ListAlone.Book.{alike}
 
 -- ── the moment of an entry ───────────────────────────────────────────────────
@@ -168,7 +174,9 @@ hearLine c t (operator h) l = l
 abbrev pub settleSaid : ℕ → Party → Said → Line → Line
 settleSaid t x silent l = l
 settleSaid t x (toldBQ r) l = l
-settleSaid t x (toldRQ r) l = cond (is x (r .who)) (record { said = settled r; wait = some (after t offerTime); call = l .call; gone = l .gone }) l
+settleSaid t x (toldRQ r) l = cond (is x (r .who))
+    (record { said = settled r; wait = some (after t offerTime); call = l .call; gone = l .gone })
+    l
 settleSaid t x (settled r) l = l
 
 abbrev pub settle : ℕ → Party → Line → Line

@@ -31,7 +31,8 @@ NoneFired = (t : ℕ) (b : Book) → falls t b ≡ none → Each (λ p. t < p .a
 
 -- a queue entry is named by its place
 unfoldable pub QueueNamed : Type 0
-QueueNamed = (ds : List ℕ) (slots : List Due) (k : ℕ) (none : Due) → k < length ds → getD (queueTable 0 ds slots) k none ≡ record { what = ofQueue k; at = getD ds k 0 }
+QueueNamed = (ds : List ℕ) (slots : List Due) (k : ℕ) (none : Due) → k < length ds
+    → getD (queueTable 0 ds slots) k none ≡ record { what = ofQueue k; at = getD ds k 0 }
 
 -- ── a call's beginning and its end ───────────────────────────────────────────
 

@@ -6,7 +6,8 @@ use mathlib.Core.Option.{Option, none, some}
 use Prim.Native.Nat.{ℕ}
 use lib.Dec.{eqb}
 use Rattle.rules.specs.Rules.Places.{Each}
-use Rattle.rules.specs.Rules.Words.{Party, is, Request, Config, Deed, carrierOn, carrierOff, acknowledge, ringBack, unable, dial, releaseLine}
+use Rattle.rules.specs.Rules.Words.{Party, is, Request, Config}
+use Rattle.rules.specs.Rules.Words.{Deed, carrierOn, carrierOff, acknowledge, ringBack, unable, dial, releaseLine}
 use Rattle.rules.specs.Rules.Heard.{Heard, callRequest, dataRequest, bq, workingCall, endOfCall, nothing}
 use Rattle.rules.specs.ListAlone.Book.{Note, Said, silent, toldBQ, toldRQ, settled, Book, blankBook, line}
 use Rattle.rules.specs.ListAlone.Reading.{moment, heardAt, read, readAll}

@@ -3,7 +3,8 @@ use mathlib.Core.List.{List, [], _∷_}
 use mathlib.Core.Bool.{cond}
 use Prim.Native.Nat.{ℕ}
 use lib.Dec.{eqb}
-use Rattle.rules.specs.Rules.Words.{What, Deed, carrierOn, carrierOff, acknowledge, ringBack, unable, dial, releaseLine, isAnsweringOn}
+use Rattle.rules.specs.Rules.Words.{What, isAnsweringOn}
+use Rattle.rules.specs.Rules.Words.{Deed, carrierOn, carrierOff, acknowledge, ringBack, unable, dial, releaseLine}
 use Rattle.rules.specs.ListAlone.Book.{Note, Call, quiet, dialled, talking}
 
 pub data Word : Type 0 where

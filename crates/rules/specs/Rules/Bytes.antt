@@ -11,7 +11,8 @@ use Rattle.sequence.specs.declared.Number.{Number}
 use Rattle.sequence.specs.declared.Meaning.{Meaning}
 use Rattle.sequence.specs.Figures.{firstUnable, firstOver, untold, mostDigits, endRq, endBq, endLast}
 use Rattle.sequence.specs.Layout.{layout}
-use Rattle.rules.specs.Rules.Words.{Party, Request, modeNumber, Config, carrierOn, carrierOff, acknowledge, ringBack, unable, dial, releaseLine}
+use Rattle.rules.specs.Rules.Words.{Party, Request, modeNumber, Config}
+use Rattle.rules.specs.Rules.Words.{carrierOn, carrierOff, acknowledge, ringBack, unable, dial, releaseLine}
 use Rattle.rules.specs.Rules.Actions.{Ender, theShip, theCoast, Action, does, over, charge, chargeNumbers}
 
 -- ── the sequences ────────────────────────────────────────────────────────────

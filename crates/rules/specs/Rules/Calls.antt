@@ -1,20 +1,29 @@
--- What each other event does: working call, ring-back acknowledged, off-hook, carrier, both ends, operator, and a wait that falls due. One function for an event, a clause for each phase of the slot.
+-- What each other event does: working call, ring-back acknowledged, off-hook, carrier, both ends, operator, and a wait that falls due.
+-- One function for an event, a clause for each phase of the slot.
 use mathlib.Core.List.{[], _∷_}
 use mathlib.Core.Bool.{Bool, cond, not}
 use mathlib.Core.Option.{Option, none, some}
 use Prim.Native.Nat.{ℕ}
 use Rattle.units.specs.declared.Told.{Told}
 use Rattle.rules.specs.Rules.Places.{dropAt}
-use Rattle.rules.specs.Rules.Words.{Party, is, Mode, Request, Config, Signal, lineLifted, lineHung, carrierHeard, carrierLost, Hand, handTakes, handGives, Happened, heard, signal, operator, What, tick, onChannel70, onSlot, Event, carrierOn, carrierOff, ringBack, dial}
+use Rattle.rules.specs.Rules.Words.{Party, is, Mode, Request, Config, Signal, lineLifted, lineHung, carrierHeard, carrierLost}
+use Rattle.rules.specs.Rules.Words.{Hand, handTakes, handGives, Happened, heard, signal, operator}
+use Rattle.rules.specs.Rules.Words.{What, tick, onChannel70, onSlot, Event, carrierOn, carrierOff, ringBack, dial}
 use Rattle.rules.specs.Rules.Waits.{Wait, ofQueue, loss, main, Due}
 use Rattle.rules.specs.Rules.Heard.{Heard, callRequest, dataRequest, bq, workingCall, endOfCall, nothing, kindOf, addressed, meaning}
 use Rattle.rules.specs.Rules.Actions.{does, over, theShip}
-use Rattle.rules.specs.Rules.Station.{isFree, isTaken, Kind, offered, firstRing, secondRing, acknowledged, Stage, dialling, answered, answeredAt, Dealing, Slot, free, taken, pending, busy, held, Station, theSlot, fresh, setSlot, setClock, setQueue, dueAfter, rungAgain, agreedAt, carrierWait, replyWait, holdWait, table, fires, nextDue}
-use Rattle.rules.specs.Rules.Requests.{Out, done, ignored, also, rungBack, freedFor, freed, lasted, endActs, coastEnd, standing, ruleA, repeated, afresh, same, ruleB, ruleD, offer, ruleF, ruleG, eToG, newcomer, dToG, redial, ruleC, bOrC, requested}
+use Rattle.rules.specs.Rules.Station.{isFree, isTaken, Kind, offered, firstRing, secondRing, acknowledged}
+use Rattle.rules.specs.Rules.Station.{Stage, dialling, answered, answeredAt, Dealing, Slot, free, taken, pending, busy, held}
+use Rattle.rules.specs.Rules.Station.{Station, theSlot, fresh, setSlot, setClock, setQueue, dueAfter, rungAgain}
+use Rattle.rules.specs.Rules.Station.{agreedAt, carrierWait, replyWait, holdWait, table, fires, nextDue}
+use Rattle.rules.specs.Rules.Requests.{Out, done, ignored, also, rungBack, freedFor, freed, lasted, endActs}
+use Rattle.rules.specs.Rules.Requests.{coastEnd, standing, ruleA, repeated, afresh, same, ruleB, ruleD, offer}
+use Rattle.rules.specs.Rules.Requests.{ruleF, ruleG, eToG, newcomer, dToG, redial, ruleC, bOrC, requested}
 
 -- ── working call ─────────────────────────────────────────────────────────────
 
--- "dial the stored request's number .. Carrier counts as present; wait 600 for a reply" (house: from the start of dialling, and in the stored mode)
+-- "dial the stored request's number .. Carrier counts as present; wait 600 for a reply"
+-- (house: from the start of dialling, and in the stored mode)
 unfoldable pub dialNow : ℕ → Dealing → Station → Out
 dialNow i r st =
     record {
@@ -106,7 +115,12 @@ shipEnd i r b st =
 
 -- "in the hold: carrier on, the same answer sent, carrier off; the wait unchanged"
 unfoldable pub sayAgain : ℕ → Request → Told → Station → Out
-sayAgain i r n st = record { answer = 0; next = st; acts = does (carrierOn i) ∷ over i theShip (r .who) (r .number) n ∷ does (carrierOff i) ∷ [] }
+sayAgain i r n st =
+    record {
+      answer = 0;
+      next = st;
+      acts = does (carrierOn i) ∷ over i theShip (r .who) (r .number) n ∷ does (carrierOff i) ∷ [];
+    }
 
 -- "while dialling or answered, same ship"
 unfoldable pub shipEndOn : ℕ → Party → Station → Slot → Out
@@ -240,5 +254,8 @@ act c st e = actAt c st (e .time) (e .what)
 
 -- every rule open, for what computes a run
 unfoldable pub rulesOpen : Unit {0}
-unfolding is kindOf addressed meaning fresh setSlot setClock setQueue table fires nextDue rungBack freedFor freed coastEnd standing ruleA repeated afresh same ruleB ruleD offer ruleF ruleG eToG newcomer dToG redial ruleC bOrC requested dialNow workingKind workingOn agreed bqKind bqFor offHookStage offHookOn downOn upOn shipEnd sayAgain shipEndOn endOn takeOn giveOn offerDue ringAgain pendingDue replyDue mainOn fire ticked heardOn70 heardOn happenedOn actAt
+unfolding is kindOf addressed meaning fresh setSlot setClock setQueue table fires nextDue rungBack freedFor freed coastEnd standing
+    ruleA repeated afresh same ruleB ruleD offer ruleF ruleG eToG newcomer dToG redial ruleC bOrC requested dialNow workingKind
+    workingOn agreed bqKind bqFor offHookStage offHookOn downOn upOn shipEnd sayAgain shipEndOn endOn takeOn giveOn offerDue
+    ringAgain pendingDue replyDue mainOn fire ticked heardOn70 heardOn happenedOn actAt
 rulesOpen = tt

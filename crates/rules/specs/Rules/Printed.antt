@@ -11,11 +11,13 @@ use Rattle.sequence.specs.Reading as Reader
 use Rattle.rules.specs.Rules.Words.{Config, Event}
 use Rattle.rules.specs.Rules.Actions.{Action}
 use Rattle.rules.specs.Rules.Station.{Station, nextDue}
-use Rattle.rules.specs.Rules.Sound.{identityKeeps, channelsKeep, configKeeps, oneSlotEach, numberKeeps, requestKeeps, durationKeeps, noShipTwice, storedKeeps, timesFit, sound}
+use Rattle.rules.specs.Rules.Sound.{identityKeeps, channelsKeep, configKeeps, oneSlotEach, numberKeeps}
+use Rattle.rules.specs.Rules.Sound.{requestKeeps, durationKeeps, noShipTwice, storedKeeps, timesFit, sound}
 use Rattle.rules.specs.Rules.Requests.{Out}
 use Rattle.rules.specs.Rules.Calls.{rulesOpen}
 use Rattle.rules.specs.Rules.Verdict.{refusals, verdict, setUpVerdict, step, play, final}
-use Rattle.rules.specs.Rules.Bytes.{kindNumber, slotNumber, block, blockOf, padded, answerTo, ableSaid, unableSaid, overSaid, payloadOf}
+use Rattle.rules.specs.Rules.Bytes.{kindNumber, slotNumber, block, blockOf, padded}
+use Rattle.rules.specs.Rules.Bytes.{answerTo, ableSaid, unableSaid, overSaid, payloadOf}
 
 -- "`-` if none": here nothing
 abbrev pub dueShown : Option ℕ → List ℕ
@@ -43,5 +45,12 @@ lastPrinted c es st = lastOf [] (printed c es st)
 
 -- all that a run rests on, open, for the tables that compute one
 unfoldable pub runsOpen : Unit {0}
-unfolding rulesOpen isShip isCoast identitiesOk identityPairs identityOf isCall unableSecond telecommandsOk channelOk durationOk fieldOk numberOk parity evened endOk valid front body layout Reader.lengthIn Reader.checkIn Reader.formatIn Reader.identityAt Reader.identityPairsAt Reader.identitiesIn Reader.categoryIn Reader.telecommandsIn Reader.blankSymbols Reader.channelSymbols Reader.durationSymbols Reader.fieldSymbols Reader.fieldOf Reader.fieldIn Reader.pairsIn Reader.parityOk Reader.pairsOk Reader.numberIn Reader.zeroBefore Reader.sixteen Reader.numberOf Reader.endIn Reader.refusals Reader.answerOf Reader.meaningOf Reader.blankMeaning Reader.readingOf identityKeeps channelsKeep configKeeps oneSlotEach numberKeeps requestKeeps durationKeeps noShipTwice storedKeeps timesFit sound refusals verdict setUpVerdict step play final block blockOf padded answerTo ableSaid unableSaid overSaid payloadOf printed lastPrinted
+unfolding rulesOpen isShip isCoast identitiesOk identityPairs identityOf isCall unableSecond telecommandsOk channelOk durationOk
+    fieldOk numberOk parity evened endOk valid front body layout Reader.lengthIn Reader.checkIn Reader.formatIn Reader.identityAt
+    Reader.identityPairsAt Reader.identitiesIn Reader.categoryIn Reader.telecommandsIn Reader.blankSymbols Reader.channelSymbols
+    Reader.durationSymbols Reader.fieldSymbols Reader.fieldOf Reader.fieldIn Reader.pairsIn Reader.parityOk Reader.pairsOk
+    Reader.numberIn Reader.zeroBefore Reader.sixteen Reader.numberOf Reader.endIn Reader.refusals Reader.answerOf Reader.meaningOf
+    Reader.blankMeaning Reader.readingOf identityKeeps channelsKeep configKeeps oneSlotEach numberKeeps requestKeeps durationKeeps
+    noShipTwice storedKeeps timesFit sound refusals verdict setUpVerdict step play final block blockOf padded answerTo ableSaid
+    unableSaid overSaid payloadOf printed lastPrinted
 runsOpen = tt

@@ -1,4 +1,5 @@
--- A call request, rules a to g; before them what they rest on: a slot freed with its ring-back, the coast's end of a call, where a ship stands.
+-- A call request, rules a to g; before them what they rest on:
+-- a slot freed with its ring-back, the coast's end of a call, where a ship stands.
 use mathlib.Core.List.{List, [], _∷_, _++_}
 use mathlib.Core.Bool.{Bool, true, false, cond, _&&_}
 use mathlib.Core.Option.{Option, none, some}
@@ -9,9 +10,11 @@ use Rattle.units.specs.Units.{wholeSeconds, durationOf}
 use Rattle.units.specs.declared.Told.{Told}
 use Rattle.units.specs.declared.Told.the-variants.{Nothing}
 use Rattle.rules.specs.Rules.Places.{modAt, lowest}
-use Rattle.rules.specs.Rules.Words.{Party, is, Mode, simplex, duplex, Request, Deed, carrierOn, carrierOff, acknowledge, ringBack, unable, releaseLine}
+use Rattle.rules.specs.Rules.Words.{Party, is, Mode, simplex, duplex, Request}
+use Rattle.rules.specs.Rules.Words.{Deed, carrierOn, carrierOff, acknowledge, ringBack, unable, releaseLine}
 use Rattle.rules.specs.Rules.Actions.{Action, does, over, charge, Ender, theCoast, chargeOf}
-use Rattle.rules.specs.Rules.Station.{Kind, isOffer, answeredAt, Slot, bySlot, shipOf, isFree, Waiting, Station, theSlot, setSlot, emptied, setQueue, dueAfter, offerOf, ringOf, queueWait}
+use Rattle.rules.specs.Rules.Station.{Kind, isOffer, answeredAt, Slot, bySlot, shipOf, isFree, Waiting}
+use Rattle.rules.specs.Rules.Station.{Station, theSlot, setSlot, emptied, setQueue, dueAfter, offerOf, ringOf, queueWait}
 use Rattle.rules.specs.Rules.Sound.{queueRoom}
 
 -- what an accepted event gives: its answer, the next station, the actions in order

@@ -15,7 +15,8 @@ use Rattle.sequence.specs.Field.{channelOk, durationOk}
 use Rattle.rules.specs.Rules.Places.{all, distinct}
 use Rattle.rules.specs.Rules.Words.{Party, is, Mode, Request, Config, ours}
 use Rattle.rules.specs.Rules.Heard.{sameChannel}
-use Rattle.rules.specs.Rules.Station.{Stage, dialling, answered, Slot, free, taken, pending, busy, held, shipOf, Waiting, Station, dueAfter, kindWait, carrierWait, replyWait, holdWait, queueWait}
+use Rattle.rules.specs.Rules.Station.{Stage, dialling, answered, Slot, free, taken, pending, busy, held, shipOf}
+use Rattle.rules.specs.Rules.Station.{Waiting, Station, dueAfter, kindWait, carrierWait, replyWait, holdWait, queueWait}
 
 -- "its identity": a coast station's
 unfoldable pub identityKeeps : Config → Bool
@@ -42,7 +43,10 @@ numberKeeps l = within 1 mostDigits (length l) && allAtMost 9 l
 
 -- "stored requests (simplex or duplex, to this station)": from a ship, the second telecommand 100 to 126
 unfoldable pub requestKeeps : Config → Request → Bool
-requestKeeps c r = isShip (r .who .ship) && (ours c (r .who .station) && (within leastSecond lastSecond (r .second) && numberKeeps (r .number)))
+requestKeeps c r = isShip (r .who .ship)
+    && (ours c (r .who .station)
+    && (within leastSecond lastSecond (r .second)
+    && numberKeeps (r .number)))
 
 -- "hold durations": none, or "hours 0 to 99, minutes and seconds 0 to 59"
 unfoldable pub durationKeeps : Told → Bool

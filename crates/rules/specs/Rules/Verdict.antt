@@ -102,7 +102,8 @@ pub record Entry : Type 0 where
 -- a refused event changes nothing and leaves no entry
 unfoldable pub play : Config → List Event → Station → List Entry
 play c [] st = []
-play c (e ∷ es) st = elim (verdict c st e) [ none ↦ record { event = e; given = act c st e .acts } ∷ play c es (act c st e .next) | some n ↦ play c es st ]
+play c (e ∷ es) st =
+    elim (verdict c st e) [ none ↦ record { event = e; given = act c st e .acts } ∷ play c es (act c st e .next) | some n ↦ play c es st ]
 
 -- the station after them
 unfoldable pub final : Config → List Event → Station → Station

@@ -4,10 +4,13 @@ use Rattle.sequence.specs.Reading.{readingOf}
 use Rattle.rules.specs.Rules.Words.{simplex, duplex, carrierOn, dial}
 use Rattle.rules.specs.Rules.Actions.{does, charge, chargeOf}
 use Rattle.rules.specs.Rules.Bytes.{payloadOf, blockOf}
-use Rattle.rules.specs.Tables.Runs.{station, seven, eight, usual, calls, works, ends, ticks, saysOn, picksUp, hangs, regains, loses, reserves, restores}
+use Rattle.rules.specs.Tables.Runs.{station, seven, eight, usual, calls, works, ends, ticks}
+use Rattle.rules.specs.Tables.Runs.{saysOn, picksUp, hangs, regains, loses, reserves, restores}
 use Rattle.rules.specs.Tables.Cases.{Row}
 use Rattle.rules.specs.Tables.Phases.{waitingWith}
-use Rattle.rules.specs.Tables.Scripts.{gives, ninety, fieldTold, charges, waits, overSevenByCoast15, ringEight26, unable103Seven, unable103Eight, overSeven411, overSeven, overSevenByCoast411, overSevenByCoast, overSevenByCoast0, ringSeven26}
+use Rattle.rules.specs.Tables.Scripts.{gives, ninety, fieldTold, charges, waits, overSevenByCoast15}
+use Rattle.rules.specs.Tables.Scripts.{ringEight26, unable103Seven, unable103Eight, overSeven411, overSeven}
+use Rattle.rules.specs.Tables.Scripts.{overSevenByCoast411, overSevenByCoast, overSevenByCoast0, ringSeven26}
 
 -- ── off-hook and carrier ──────────────────────────────────────────────────────
 
@@ -183,7 +186,8 @@ idleTicks = record {
 -- one wait a tick: of two due, the queue entry before the slot
 abbrev pub oneWaitDue : Row
 oneWaitDue = record {
-  computed = gives 2 (calls 100 seven duplex ∷ reserves 110 1 ∷ calls 150 eight duplex ∷ works 200 0 seven ∷ picksUp 300 0 ∷ loses 9100 0 ∷ ticks 9999 ∷ []);
+  computed = gives 2 (calls 100 seven duplex ∷ reserves 110 1 ∷ calls 150 eight duplex
+      ∷ works 200 0 seven ∷ picksUp 300 0 ∷ loses 9100 0 ∷ ticks 9999 ∷ []);
   expected = (0 ∷ 9151 ∷ 0 ∷ 9151 ∷ []) ∷ [];
 }
 
@@ -207,7 +211,12 @@ lossBeforeReply = record {
 abbrev pub blockShown : Row
 blockShown = record {
   computed = blockOf (station 1) (does (carrierOn 2)) ∷ blockOf (station 1) (does (dial 3 usual)) ∷ [];
-  expected = (1 ∷ 2 ∷ 0 ∷ 0 ∷ 0 ∷ 0 ∷ 0 ∷ 0 ∷ 0 ∷ 0 ∷ 0 ∷ 0 ∷ 0 ∷ 0 ∷ 0 ∷ 0 ∷ 0 ∷ 0 ∷ 0 ∷ 0 ∷ 0 ∷ 0 ∷ 0 ∷ 0 ∷ 0 ∷ 0 ∷ 0 ∷ 0 ∷ 0 ∷ 0 ∷ 0 ∷ 0 ∷ 0 ∷ 0 ∷ 0 ∷ 0 ∷ 0 ∷ 0 ∷ 0 ∷ 0 ∷ []) ∷ (5 ∷ 3 ∷ 7 ∷ 0 ∷ 5 ∷ 5 ∷ 5 ∷ 1 ∷ 2 ∷ 3 ∷ 4 ∷ 0 ∷ 0 ∷ 0 ∷ 0 ∷ 0 ∷ 0 ∷ 0 ∷ 0 ∷ 0 ∷ 0 ∷ 0 ∷ 0 ∷ 0 ∷ 0 ∷ 0 ∷ 0 ∷ 0 ∷ 0 ∷ 0 ∷ 0 ∷ 0 ∷ 0 ∷ 0 ∷ 0 ∷ 0 ∷ 0 ∷ 0 ∷ 0 ∷ 0 ∷ []) ∷ [];
+  expected = (1 ∷ 2 ∷ 0 ∷ 0
+      ∷ 0 ∷ 0 ∷ 0 ∷ 0 ∷ 0 ∷ 0 ∷ 0 ∷ 0 ∷ 0 ∷ 0 ∷ 0 ∷ 0 ∷ 0 ∷ 0 ∷ 0 ∷ 0 ∷ 0 ∷ 0 ∷ 0 ∷ 0 ∷ 0 ∷ 0 ∷ 0 ∷ 0 ∷ 0 ∷ 0 ∷ 0 ∷ 0
+      ∷ 0 ∷ 0 ∷ 0 ∷ 0 ∷ 0 ∷ 0 ∷ 0 ∷ 0 ∷ [])
+      ∷ (5 ∷ 3 ∷ 7 ∷ 0 ∷ 5 ∷ 5 ∷ 5 ∷ 1 ∷ 2 ∷ 3 ∷ 4
+      ∷ 0 ∷ 0 ∷ 0 ∷ 0 ∷ 0 ∷ 0 ∷ 0 ∷ 0 ∷ 0 ∷ 0 ∷ 0 ∷ 0 ∷ 0 ∷ 0 ∷ 0 ∷ 0 ∷ 0 ∷ 0 ∷ 0 ∷ 0 ∷ 0 ∷ 0 ∷ 0 ∷ 0 ∷ 0 ∷ 0 ∷ 0 ∷ 0
+      ∷ 0 ∷ []) ∷ [];
 }
 
 -- four bytes each, low first
@@ -220,4 +229,8 @@ fourShown = record {
 -- ── all of them ──────────────────────────────────────────────────────────────
 
 abbrev pub callCases : List Row
-callCases = picksUpAnswers ∷ picksUpSecond ∷ downSecond ∷ upEnds ∷ upUnneeded ∷ carrierElsewhere ∷ shipEndAnswered ∷ shipEndUnanswered ∷ shipEndStranger ∷ ninetyHours ∷ holdRepeats ∷ holdStranger ∷ holdNotGiven ∷ holdThenFreed ∷ hangsAnswered ∷ hangsDialling ∷ noReplyDue ∷ carrierLossDue ∷ secondUnderOne ∷ operatorTook ∷ operatorReserves ∷ operatorRestores ∷ idleTicks ∷ oneWaitDue ∷ youngerDue ∷ lossBeforeReply ∷ blockShown ∷ fourShown ∷ []
+callCases =
+    picksUpAnswers ∷ picksUpSecond ∷ downSecond ∷ upEnds ∷ upUnneeded ∷ carrierElsewhere ∷ shipEndAnswered
+    ∷ shipEndUnanswered ∷ shipEndStranger ∷ ninetyHours ∷ holdRepeats ∷ holdStranger ∷ holdNotGiven ∷ holdThenFreed
+    ∷ hangsAnswered ∷ hangsDialling ∷ noReplyDue ∷ carrierLossDue ∷ secondUnderOne ∷ operatorTook ∷ operatorReserves
+    ∷ operatorRestores ∷ idleTicks ∷ oneWaitDue ∷ youngerDue ∷ lossBeforeReply ∷ blockShown ∷ fourShown ∷ []

@@ -4,8 +4,10 @@ use mathlib.Core.Option.{none, some}
 use Prim.Native.Nat.{ℕ}
 use Rattle.units.specs.declared.Told.the-variants.{Nothing}
 use Rattle.sequence.specs.declared.Field.the-variants.{Blank, Channel}
-use Rattle.rules.specs.Rules.Words.{simplex, duplex, Request, heard, offHook, onHook, carrierUp, carrierDown, takes, givesBack, What, tick, onChannel70, onSlot, Event}
-use Rattle.rules.specs.Rules.Station.{offered, firstRing, secondRing, acknowledged, dialling, answered, Slot, free, taken, Waiting, Station}
+use Rattle.rules.specs.Rules.Words.{simplex, duplex, Request, heard, offHook, onHook, carrierUp, carrierDown, takes, givesBack}
+use Rattle.rules.specs.Rules.Words.{What, tick, onChannel70, onSlot, Event}
+use Rattle.rules.specs.Rules.Station.{offered, firstRing, secondRing, acknowledged, dialling, answered}
+use Rattle.rules.specs.Rules.Station.{Slot, free, taken, Waiting, Station}
 use Rattle.rules.specs.Rules.Slots.{pending, busy, held}
 use Rattle.rules.specs.Rules.Requests.{Out}
 use Rattle.rules.specs.Rules.Verdict.{step}
@@ -76,67 +78,117 @@ pub record Phase : Type 0 where
   pub slot : Slot
   pub gives : List (List ℕ)
 
+-- on five lines: the tick, the ship's working call and end; the four signals; the operator's hand; its request, BQ and data;
+-- another ship's three, and none of these.
 -- 0 done, 1 ignored, 35 refused; then 1 carrier on, 2 carrier off, 3 channel 70, 4 working channel, 5 dial, 6 release, 7 charge
 abbrev pub phases : List Phase
 phases =
     -- free
     record {
       slot = free;
-      gives = (0 ∷ []) ∷ (1 ∷ []) ∷ (1 ∷ []) ∷ (1 ∷ []) ∷ (1 ∷ []) ∷ (1 ∷ []) ∷ (1 ∷ []) ∷ (0 ∷ []) ∷ (35 ∷ []) ∷ (0 ∷ 1 ∷ 3 ∷ []) ∷ (1 ∷ []) ∷ (0 ∷ 3 ∷ []) ∷ (1 ∷ []) ∷ (1 ∷ []) ∷ (1 ∷ []) ∷ (1 ∷ []) ∷ [];
+      gives = (0 ∷ []) ∷ (1 ∷ []) ∷ (1 ∷ [])
+          ∷ (1 ∷ []) ∷ (1 ∷ []) ∷ (1 ∷ []) ∷ (1 ∷ [])
+          ∷ (0 ∷ []) ∷ (35 ∷ [])
+          ∷ (0 ∷ 1 ∷ 3 ∷ []) ∷ (1 ∷ []) ∷ (0 ∷ 3 ∷ [])
+          ∷ (1 ∷ []) ∷ (1 ∷ []) ∷ (1 ∷ []) ∷ (1 ∷ []) ∷ [];
     }
     -- taken
     ∷ record {
       slot = taken;
-      gives = (0 ∷ []) ∷ (1 ∷ []) ∷ (1 ∷ []) ∷ (1 ∷ []) ∷ (1 ∷ []) ∷ (1 ∷ []) ∷ (1 ∷ []) ∷ (35 ∷ []) ∷ (0 ∷ []) ∷ (0 ∷ 3 ∷ []) ∷ (1 ∷ []) ∷ (0 ∷ 3 ∷ []) ∷ (1 ∷ []) ∷ (1 ∷ []) ∷ (1 ∷ []) ∷ (1 ∷ []) ∷ [];
+      gives = (0 ∷ []) ∷ (1 ∷ []) ∷ (1 ∷ [])
+          ∷ (1 ∷ []) ∷ (1 ∷ []) ∷ (1 ∷ []) ∷ (1 ∷ [])
+          ∷ (35 ∷ []) ∷ (0 ∷ [])
+          ∷ (0 ∷ 3 ∷ []) ∷ (1 ∷ []) ∷ (0 ∷ 3 ∷ [])
+          ∷ (1 ∷ []) ∷ (1 ∷ []) ∷ (1 ∷ []) ∷ (1 ∷ []) ∷ [];
     }
     -- offered
     ∷ record {
       slot = pending offered asked 1020;
-      gives = (0 ∷ 2 ∷ []) ∷ (0 ∷ 5 ∷ []) ∷ (1 ∷ []) ∷ (1 ∷ []) ∷ (1 ∷ []) ∷ (1 ∷ []) ∷ (1 ∷ []) ∷ (35 ∷ []) ∷ (35 ∷ []) ∷ (0 ∷ 3 ∷ []) ∷ (1 ∷ []) ∷ (0 ∷ 3 ∷ []) ∷ (1 ∷ []) ∷ (1 ∷ []) ∷ (1 ∷ []) ∷ (1 ∷ []) ∷ [];
+      gives = (0 ∷ 2 ∷ []) ∷ (0 ∷ 5 ∷ []) ∷ (1 ∷ [])
+          ∷ (1 ∷ []) ∷ (1 ∷ []) ∷ (1 ∷ []) ∷ (1 ∷ [])
+          ∷ (35 ∷ []) ∷ (35 ∷ [])
+          ∷ (0 ∷ 3 ∷ []) ∷ (1 ∷ []) ∷ (0 ∷ 3 ∷ [])
+          ∷ (1 ∷ []) ∷ (1 ∷ []) ∷ (1 ∷ []) ∷ (1 ∷ []) ∷ [];
     }
     -- in ring-back
     ∷ record {
       slot = pending firstRing asked 1020;
-      gives = (0 ∷ 3 ∷ []) ∷ (1 ∷ []) ∷ (1 ∷ []) ∷ (1 ∷ []) ∷ (1 ∷ []) ∷ (1 ∷ []) ∷ (1 ∷ []) ∷ (35 ∷ []) ∷ (35 ∷ []) ∷ (0 ∷ 3 ∷ []) ∷ (0 ∷ []) ∷ (0 ∷ 3 ∷ []) ∷ (1 ∷ []) ∷ (1 ∷ []) ∷ (1 ∷ []) ∷ (1 ∷ []) ∷ [];
+      gives = (0 ∷ 3 ∷ []) ∷ (1 ∷ []) ∷ (1 ∷ [])
+          ∷ (1 ∷ []) ∷ (1 ∷ []) ∷ (1 ∷ []) ∷ (1 ∷ [])
+          ∷ (35 ∷ []) ∷ (35 ∷ [])
+          ∷ (0 ∷ 3 ∷ []) ∷ (0 ∷ []) ∷ (0 ∷ 3 ∷ [])
+          ∷ (1 ∷ []) ∷ (1 ∷ []) ∷ (1 ∷ []) ∷ (1 ∷ []) ∷ [];
     }
     -- in ring-back, sent again
     ∷ record {
       slot = pending secondRing asked 1020;
-      gives = (0 ∷ 2 ∷ []) ∷ (1 ∷ []) ∷ (1 ∷ []) ∷ (1 ∷ []) ∷ (1 ∷ []) ∷ (1 ∷ []) ∷ (1 ∷ []) ∷ (35 ∷ []) ∷ (35 ∷ []) ∷ (0 ∷ 3 ∷ []) ∷ (0 ∷ []) ∷ (0 ∷ 3 ∷ []) ∷ (1 ∷ []) ∷ (1 ∷ []) ∷ (1 ∷ []) ∷ (1 ∷ []) ∷ [];
+      gives = (0 ∷ 2 ∷ []) ∷ (1 ∷ []) ∷ (1 ∷ [])
+          ∷ (1 ∷ []) ∷ (1 ∷ []) ∷ (1 ∷ []) ∷ (1 ∷ [])
+          ∷ (35 ∷ []) ∷ (35 ∷ [])
+          ∷ (0 ∷ 3 ∷ []) ∷ (0 ∷ []) ∷ (0 ∷ 3 ∷ [])
+          ∷ (1 ∷ []) ∷ (1 ∷ []) ∷ (1 ∷ []) ∷ (1 ∷ []) ∷ [];
     }
     -- acknowledged
     ∷ record {
       slot = pending acknowledged asked 1020;
-      gives = (0 ∷ 2 ∷ []) ∷ (0 ∷ 5 ∷ []) ∷ (1 ∷ []) ∷ (1 ∷ []) ∷ (1 ∷ []) ∷ (1 ∷ []) ∷ (1 ∷ []) ∷ (35 ∷ []) ∷ (35 ∷ []) ∷ (0 ∷ 3 ∷ []) ∷ (1 ∷ []) ∷ (0 ∷ 3 ∷ []) ∷ (1 ∷ []) ∷ (1 ∷ []) ∷ (1 ∷ []) ∷ (1 ∷ []) ∷ [];
+      gives = (0 ∷ 2 ∷ []) ∷ (0 ∷ 5 ∷ []) ∷ (1 ∷ [])
+          ∷ (1 ∷ []) ∷ (1 ∷ []) ∷ (1 ∷ []) ∷ (1 ∷ [])
+          ∷ (35 ∷ []) ∷ (35 ∷ [])
+          ∷ (0 ∷ 3 ∷ []) ∷ (1 ∷ []) ∷ (0 ∷ 3 ∷ [])
+          ∷ (1 ∷ []) ∷ (1 ∷ []) ∷ (1 ∷ []) ∷ (1 ∷ []) ∷ [];
     }
     -- dialling
     ∷ record {
       slot = busy asked (dialling 1020) none;
-      gives = (0 ∷ 6 ∷ 4 ∷ 2 ∷ []) ∷ (1 ∷ []) ∷ (0 ∷ 6 ∷ 4 ∷ 2 ∷ []) ∷ (0 ∷ []) ∷ (0 ∷ 6 ∷ 4 ∷ 2 ∷ []) ∷ (0 ∷ []) ∷ (0 ∷ []) ∷ (35 ∷ []) ∷ (35 ∷ []) ∷ (1 ∷ []) ∷ (1 ∷ []) ∷ (0 ∷ 3 ∷ []) ∷ (1 ∷ []) ∷ (1 ∷ []) ∷ (1 ∷ []) ∷ (1 ∷ []) ∷ [];
+      gives = (0 ∷ 6 ∷ 4 ∷ 2 ∷ []) ∷ (1 ∷ []) ∷ (0 ∷ 6 ∷ 4 ∷ 2 ∷ [])
+          ∷ (0 ∷ []) ∷ (0 ∷ 6 ∷ 4 ∷ 2 ∷ []) ∷ (0 ∷ []) ∷ (0 ∷ [])
+          ∷ (35 ∷ []) ∷ (35 ∷ [])
+          ∷ (1 ∷ []) ∷ (1 ∷ []) ∷ (0 ∷ 3 ∷ [])
+          ∷ (1 ∷ []) ∷ (1 ∷ []) ∷ (1 ∷ []) ∷ (1 ∷ []) ∷ [];
     }
     -- dialling, carrier absent
     ∷ record {
       slot = busy asked (dialling 1030) (some 1020);
-      gives = (0 ∷ 6 ∷ 4 ∷ 2 ∷ []) ∷ (1 ∷ []) ∷ (0 ∷ 6 ∷ 4 ∷ 2 ∷ []) ∷ (0 ∷ []) ∷ (0 ∷ 6 ∷ 4 ∷ 2 ∷ []) ∷ (0 ∷ []) ∷ (0 ∷ []) ∷ (35 ∷ []) ∷ (35 ∷ []) ∷ (1 ∷ []) ∷ (1 ∷ []) ∷ (0 ∷ 3 ∷ []) ∷ (1 ∷ []) ∷ (1 ∷ []) ∷ (1 ∷ []) ∷ (1 ∷ []) ∷ [];
+      gives = (0 ∷ 6 ∷ 4 ∷ 2 ∷ []) ∷ (1 ∷ []) ∷ (0 ∷ 6 ∷ 4 ∷ 2 ∷ [])
+          ∷ (0 ∷ []) ∷ (0 ∷ 6 ∷ 4 ∷ 2 ∷ []) ∷ (0 ∷ []) ∷ (0 ∷ [])
+          ∷ (35 ∷ []) ∷ (35 ∷ [])
+          ∷ (1 ∷ []) ∷ (1 ∷ []) ∷ (0 ∷ 3 ∷ [])
+          ∷ (1 ∷ []) ∷ (1 ∷ []) ∷ (1 ∷ []) ∷ (1 ∷ []) ∷ [];
     }
     -- answered
     ∷ record {
       slot = busy asked (answered 900) none;
-      gives = (0 ∷ []) ∷ (1 ∷ []) ∷ (0 ∷ 7 ∷ 6 ∷ 4 ∷ 2 ∷ []) ∷ (1 ∷ []) ∷ (0 ∷ 7 ∷ 6 ∷ 4 ∷ 2 ∷ []) ∷ (0 ∷ []) ∷ (0 ∷ []) ∷ (35 ∷ []) ∷ (35 ∷ []) ∷ (1 ∷ []) ∷ (1 ∷ []) ∷ (0 ∷ 3 ∷ []) ∷ (1 ∷ []) ∷ (1 ∷ []) ∷ (1 ∷ []) ∷ (1 ∷ []) ∷ [];
+      gives = (0 ∷ []) ∷ (1 ∷ []) ∷ (0 ∷ 7 ∷ 6 ∷ 4 ∷ 2 ∷ [])
+          ∷ (1 ∷ []) ∷ (0 ∷ 7 ∷ 6 ∷ 4 ∷ 2 ∷ []) ∷ (0 ∷ []) ∷ (0 ∷ [])
+          ∷ (35 ∷ []) ∷ (35 ∷ [])
+          ∷ (1 ∷ []) ∷ (1 ∷ []) ∷ (0 ∷ 3 ∷ [])
+          ∷ (1 ∷ []) ∷ (1 ∷ []) ∷ (1 ∷ []) ∷ (1 ∷ []) ∷ [];
     }
     -- answered, carrier absent
     ∷ record {
       slot = busy asked (answered 900) (some 1020);
-      gives = (0 ∷ 7 ∷ 6 ∷ 4 ∷ 2 ∷ []) ∷ (1 ∷ []) ∷ (0 ∷ 7 ∷ 6 ∷ 4 ∷ 2 ∷ []) ∷ (1 ∷ []) ∷ (0 ∷ 7 ∷ 6 ∷ 4 ∷ 2 ∷ []) ∷ (0 ∷ []) ∷ (0 ∷ []) ∷ (35 ∷ []) ∷ (35 ∷ []) ∷ (1 ∷ []) ∷ (1 ∷ []) ∷ (0 ∷ 3 ∷ []) ∷ (1 ∷ []) ∷ (1 ∷ []) ∷ (1 ∷ []) ∷ (1 ∷ []) ∷ [];
+      gives = (0 ∷ 7 ∷ 6 ∷ 4 ∷ 2 ∷ []) ∷ (1 ∷ []) ∷ (0 ∷ 7 ∷ 6 ∷ 4 ∷ 2 ∷ [])
+          ∷ (1 ∷ []) ∷ (0 ∷ 7 ∷ 6 ∷ 4 ∷ 2 ∷ []) ∷ (0 ∷ []) ∷ (0 ∷ [])
+          ∷ (35 ∷ []) ∷ (35 ∷ [])
+          ∷ (1 ∷ []) ∷ (1 ∷ []) ∷ (0 ∷ 3 ∷ [])
+          ∷ (1 ∷ []) ∷ (1 ∷ []) ∷ (1 ∷ []) ∷ (1 ∷ []) ∷ [];
     }
     -- answered in simplex, carrier absent
     ∷ record {
       slot = busy simply (answered 900) (some 1020);
-      gives = (0 ∷ 7 ∷ 6 ∷ 4 ∷ 2 ∷ []) ∷ (1 ∷ []) ∷ (0 ∷ 7 ∷ 6 ∷ 4 ∷ 2 ∷ []) ∷ (1 ∷ []) ∷ (0 ∷ 7 ∷ 6 ∷ 4 ∷ 2 ∷ []) ∷ (0 ∷ []) ∷ (0 ∷ []) ∷ (35 ∷ []) ∷ (35 ∷ []) ∷ (0 ∷ 7 ∷ 6 ∷ 4 ∷ 2 ∷ 1 ∷ 3 ∷ []) ∷ (1 ∷ []) ∷ (0 ∷ 3 ∷ []) ∷ (1 ∷ []) ∷ (1 ∷ []) ∷ (1 ∷ []) ∷ (1 ∷ []) ∷ [];
+      gives = (0 ∷ 7 ∷ 6 ∷ 4 ∷ 2 ∷ []) ∷ (1 ∷ []) ∷ (0 ∷ 7 ∷ 6 ∷ 4 ∷ 2 ∷ [])
+          ∷ (1 ∷ []) ∷ (0 ∷ 7 ∷ 6 ∷ 4 ∷ 2 ∷ []) ∷ (0 ∷ []) ∷ (0 ∷ [])
+          ∷ (35 ∷ []) ∷ (35 ∷ [])
+          ∷ (0 ∷ 7 ∷ 6 ∷ 4 ∷ 2 ∷ 1 ∷ 3 ∷ []) ∷ (1 ∷ []) ∷ (0 ∷ 3 ∷ [])
+          ∷ (1 ∷ []) ∷ (1 ∷ []) ∷ (1 ∷ []) ∷ (1 ∷ []) ∷ [];
     }
     -- in its hold
     ∷ record {
       slot = held asked Nothing 1020;
-      gives = (0 ∷ []) ∷ (1 ∷ []) ∷ (0 ∷ 1 ∷ 4 ∷ 2 ∷ []) ∷ (1 ∷ []) ∷ (1 ∷ []) ∷ (1 ∷ []) ∷ (1 ∷ []) ∷ (35 ∷ []) ∷ (35 ∷ []) ∷ (0 ∷ 3 ∷ []) ∷ (1 ∷ []) ∷ (0 ∷ 3 ∷ []) ∷ (1 ∷ []) ∷ (1 ∷ []) ∷ (1 ∷ []) ∷ (1 ∷ []) ∷ [];
+      gives = (0 ∷ []) ∷ (1 ∷ []) ∷ (0 ∷ 1 ∷ 4 ∷ 2 ∷ [])
+          ∷ (1 ∷ []) ∷ (1 ∷ []) ∷ (1 ∷ []) ∷ (1 ∷ [])
+          ∷ (35 ∷ []) ∷ (35 ∷ [])
+          ∷ (0 ∷ 3 ∷ []) ∷ (1 ∷ []) ∷ (0 ∷ 3 ∷ [])
+          ∷ (1 ∷ []) ∷ (1 ∷ []) ∷ (1 ∷ []) ∷ (1 ∷ []) ∷ [];
     }
     ∷ []

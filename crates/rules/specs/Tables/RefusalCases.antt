@@ -175,4 +175,7 @@ order11 = record {
 -- ── all of them ──────────────────────────────────────────────────────────────
 
 abbrev pub refusalCases : List Row
-refusalCases = refused11 ∷ refused12 ∷ refused13 ∷ refused14 ∷ refused15 ∷ refused16 ∷ refused17 ∷ refused18 ∷ refused19 ∷ refused20 ∷ refused30 ∷ accepted320 ∷ refused31 ∷ acceptedLimit ∷ refused32 ∷ refused33 ∷ refused34 ∷ refused35 ∷ refused35Back ∷ order30 ∷ order33 ∷ order34 ∷ order11 ∷ []
+refusalCases =
+    refused11 ∷ refused12 ∷ refused13 ∷ refused14 ∷ refused15 ∷ refused16 ∷ refused17 ∷ refused18 ∷ refused19
+    ∷ refused20 ∷ refused30 ∷ accepted320 ∷ refused31 ∷ acceptedLimit ∷ refused32 ∷ refused33 ∷ refused34
+    ∷ refused35 ∷ refused35Back ∷ order30 ∷ order33 ∷ order34 ∷ order11 ∷ []

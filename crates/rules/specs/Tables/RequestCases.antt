@@ -2,10 +2,14 @@
 use mathlib.Core.List.{List, [], _∷_}
 use Rattle.sequence.specs.declared.Field.the-variants.{Blank}
 use Rattle.rules.specs.Rules.Words.{simplex, duplex}
-use Rattle.rules.specs.Tables.Runs.{seven, eight, nine, sends, usual, callsFor, calls, dataCalls, accepts, works, ticks, asksAnew, fades, says, saysOn, picksUp, loses, reserves, restores}
+use Rattle.rules.specs.Tables.Runs.{seven, eight, nine, sends, usual, callsFor, calls, dataCalls, accepts, works}
+use Rattle.rules.specs.Tables.Runs.{ticks, asksAnew, fades, says, saysOn, picksUp, loses, reserves, restores}
 use Rattle.rules.specs.Tables.Cases.{Row}
 use Rattle.rules.specs.Tables.Phases.{waitingWith}
-use Rattle.rules.specs.Tables.Scripts.{gives, elsewhere, waitingShips, charges, unable109Seven, ackSeven26, ackSeven26Again, ackSeven26Simplex, ackEight26, overSevenByCoast15, overSevenByCoast55, ringEight26, unable103Seven, ringSeven26, ringSeven26Again, ringSeven26Simplex, ackSeven27, unable103Eight, unable102Nine, ringNine26}
+use Rattle.rules.specs.Tables.Scripts.{gives, elsewhere, waitingShips, charges, unable109Seven, ackSeven26}
+use Rattle.rules.specs.Tables.Scripts.{ackSeven26Again, ackSeven26Simplex, ackEight26, overSevenByCoast15}
+use Rattle.rules.specs.Tables.Scripts.{overSevenByCoast55, ringEight26, unable103Seven, ringSeven26, ringSeven26Again}
+use Rattle.rules.specs.Tables.Scripts.{ringSeven26Simplex, ackSeven27, unable103Eight, unable102Nine, ringNine26}
 
 -- ── what is ignored ───────────────────────────────────────────────────────────
 
@@ -26,7 +30,9 @@ ignoredAddress = record {
 -- a working call on channel 70, and a call request on a working channel
 abbrev pub ignoredChannel : Row
 ignoredChannel = record {
-  computed = gives 1 (calls 100 seven duplex ∷ says 110 (sends seven 101 127 Blank usual) ∷ saysOn 120 0 (sends eight 101 117 Blank usual) ∷ []);
+  computed = gives 1 (calls 100 seven duplex
+      ∷ says 110 (sends seven 101 127 Blank usual)
+      ∷ saysOn 120 0 (sends eight 101 117 Blank usual) ∷ []);
   expected = (1 ∷ 120 ∷ 0 ∷ 261 ∷ []) ∷ [];
 }
 
@@ -92,14 +98,19 @@ ruleCPresent = record {
 abbrev pub ruleCAbsent : Row
 ruleCAbsent = record {
   computed = gives 1 (calls 100 seven simplex ∷ works 200 0 seven ∷ picksUp 300 0 ∷ loses 400 0 ∷ calls 450 seven simplex ∷ []);
-  expected = (0 ∷ 450 ∷ 6 ∷ 611 ∷ []) ∷ (charges 0 seven 300 450 15) ∷ (6 ∷ 0 ∷ []) ∷ (4 ∷ 0 ∷ overSevenByCoast15) ∷ (2 ∷ 0 ∷ []) ∷ (1 ∷ 0 ∷ []) ∷ (3 ∷ 0 ∷ ackSeven26Simplex) ∷ [];
+  expected = (0 ∷ 450 ∷ 6 ∷ 611 ∷ [])
+      ∷ (charges 0 seven 300 450 15) ∷ (6 ∷ 0 ∷ []) ∷ (4 ∷ 0 ∷ overSevenByCoast15) ∷ (2 ∷ 0 ∷ [])
+      ∷ (1 ∷ 0 ∷ []) ∷ (3 ∷ 0 ∷ ackSeven26Simplex) ∷ [];
 }
 
 -- c. with a ship waiting: it is rung back first, and the asker joins the queue
 abbrev pub ruleCRingsBack : Row
 ruleCRingsBack = record {
-  computed = gives 1 (calls 100 seven simplex ∷ works 200 0 seven ∷ calls 210 eight duplex ∷ picksUp 300 0 ∷ loses 400 0 ∷ calls 450 seven simplex ∷ []);
-  expected = (0 ∷ 450 ∷ 7 ∷ 501 ∷ []) ∷ (charges 0 seven 300 450 15) ∷ (6 ∷ 0 ∷ []) ∷ (4 ∷ 0 ∷ overSevenByCoast15) ∷ (2 ∷ 0 ∷ []) ∷ (1 ∷ 0 ∷ []) ∷ (3 ∷ 0 ∷ ringEight26) ∷ (3 ∷ 255 ∷ unable103Seven) ∷ [];
+  computed = gives 1 (calls 100 seven simplex ∷ works 200 0 seven ∷ calls 210 eight duplex
+      ∷ picksUp 300 0 ∷ loses 400 0 ∷ calls 450 seven simplex ∷ []);
+  expected = (0 ∷ 450 ∷ 7 ∷ 501 ∷ [])
+      ∷ (charges 0 seven 300 450 15) ∷ (6 ∷ 0 ∷ []) ∷ (4 ∷ 0 ∷ overSevenByCoast15) ∷ (2 ∷ 0 ∷ [])
+      ∷ (1 ∷ 0 ∷ []) ∷ (3 ∷ 0 ∷ ringEight26) ∷ (3 ∷ 255 ∷ unable103Seven) ∷ [];
 }
 
 -- d. a waiting ship asks again: its place and due time stay
@@ -281,4 +292,10 @@ queueEntryDue = record {
 -- ── all of them ──────────────────────────────────────────────────────────────
 
 abbrev pub requestCases : List Row
-requestCases = ignoredPhase ∷ ignoredAddress ∷ ignoredChannel ∷ ruleAShown ∷ ruleBRepeated ∷ ruleBDiffers ∷ ruleBOtherMode ∷ ruleBInRingBack ∷ ruleBAcknowledged ∷ ruleCDuplex ∷ ruleCPresent ∷ ruleCAbsent ∷ ruleCRingsBack ∷ ruleDShown ∷ ruleDReplaced ∷ ruleDOtherMode ∷ ruleDSimplexFades ∷ ruleDSimplexLost ∷ ruleDOtherModeBack ∷ ruleDDuplexFades ∷ ruleDDuplexLost ∷ ruleELowest ∷ ruleFShown ∷ ruleGShown ∷ workingDials ∷ workingMode ∷ workingStranger ∷ workingInRingBack ∷ workingAcknowledged ∷ offerFallsDue ∷ ringBackOldest ∷ ringBackAgain ∷ ringBackDropped ∷ bqAcknowledged ∷ bqOtherChannel ∷ bqSecond ∷ acknowledgedDue ∷ queueEntryDue ∷ []
+requestCases =
+    ignoredPhase ∷ ignoredAddress ∷ ignoredChannel ∷ ruleAShown ∷ ruleBRepeated ∷ ruleBDiffers ∷ ruleBOtherMode
+    ∷ ruleBInRingBack ∷ ruleBAcknowledged ∷ ruleCDuplex ∷ ruleCPresent ∷ ruleCAbsent ∷ ruleCRingsBack ∷ ruleDShown
+    ∷ ruleDReplaced ∷ ruleDOtherMode ∷ ruleDSimplexFades ∷ ruleDSimplexLost ∷ ruleDOtherModeBack ∷ ruleDDuplexFades
+    ∷ ruleDDuplexLost ∷ ruleELowest ∷ ruleFShown ∷ ruleGShown ∷ workingDials ∷ workingMode ∷ workingStranger
+    ∷ workingInRingBack ∷ workingAcknowledged ∷ offerFallsDue ∷ ringBackOldest ∷ ringBackAgain ∷ ringBackDropped
+    ∷ bqAcknowledged ∷ bqOtherChannel ∷ bqSecond ∷ acknowledgedDue ∷ queueEntryDue ∷ []

@@ -6,7 +6,8 @@ use Rattle.units.specs.declared.Channel.{Channel as ChannelNumber}
 use Rattle.sequence.specs.declared.Field.{Field}
 use Rattle.sequence.specs.declared.Field.the-variants.{Blank, Channel}
 use Rattle.sequence.specs.Layout.{layout}
-use Rattle.rules.specs.Rules.Words.{Mode, simplex, duplex, modeNumber, Config, Happened, heard, offHook, onHook, carrierUp, carrierDown, takes, givesBack, tick, onChannel70, onSlot, What, Event}
+use Rattle.rules.specs.Rules.Words.{Mode, simplex, duplex, modeNumber, Config, Happened, heard, offHook, onHook}
+use Rattle.rules.specs.Rules.Words.{carrierUp, carrierDown, takes, givesBack, tick, onChannel70, onSlot, What, Event}
 use Rattle.rules.specs.Rules.Actions.{Charge, chargeOf}
 use Rattle.rules.specs.Rules.Bytes.{numberOf}
 use Rattle.rules.specs.Rules.Verdict.{roomNeeded}
@@ -128,7 +129,8 @@ pub record Run : Type 0 where
 abbrev pub shipEnded : Run
 shipEnded = record {
   slots = 1;
-  events = calls 100 seven simplex ∷ works 200 0 seven ∷ picksUp 300 0 ∷ picksUp 310 0 ∷ ends 325 0 eight ∷ ends 330 0 seven ∷ ends 340 0 seven ∷ ticks 371 ∷ [];
+  events = calls 100 seven simplex ∷ works 200 0 seven ∷ picksUp 300 0 ∷ picksUp 310 0 ∷ ends 325 0 eight
+      ∷ ends 330 0 seven ∷ ends 340 0 seven ∷ ticks 371 ∷ [];
   owing = paid 5 0 seven 300 330 3 ∷ [];
 }
 
@@ -136,7 +138,8 @@ shipEnded = record {
 abbrev pub hungUp : Run
 hungUp = record {
   slots = 1;
-  events = calls 100 seven duplex ∷ works 200 0 seven ∷ picksUp 300 0 ∷ loses 400 0 ∷ calls 410 seven duplex ∷ regains 420 0 ∷ hangs 500 0 ∷ [];
+  events = calls 100 seven duplex ∷ works 200 0 seven ∷ picksUp 300 0 ∷ loses 400 0 ∷ calls 410 seven duplex
+      ∷ regains 420 0 ∷ hangs 500 0 ∷ [];
   owing = paid 6 0 seven 300 500 20 ∷ [];
 }
 
@@ -152,7 +155,8 @@ silent = record {
 abbrev pub redialled : Run
 redialled = record {
   slots = 1;
-  events = calls 100 seven simplex ∷ works 200 0 seven ∷ calls 210 eight duplex ∷ picksUp 300 0 ∷ loses 400 0 ∷ calls 450 seven simplex ∷ accepts 460 26 eight ∷ works 470 0 eight ∷ picksUp 480 0 ∷ hangs 600 0 ∷ [];
+  events = calls 100 seven simplex ∷ works 200 0 seven ∷ calls 210 eight duplex ∷ picksUp 300 0 ∷ loses 400 0
+      ∷ calls 450 seven simplex ∷ accepts 460 26 eight ∷ works 470 0 eight ∷ picksUp 480 0 ∷ hangs 600 0 ∷ [];
   owing = paid 5 0 seven 300 450 15 ∷ paid 9 0 eight 480 600 12 ∷ [];
 }
 
@@ -185,7 +189,8 @@ anewDuplex = record {
 abbrev pub together : Run
 together = record {
   slots = 2;
-  events = calls 100 seven duplex ∷ calls 101 eight duplex ∷ works 200 0 seven ∷ works 200 1 eight ∷ picksUp 300 1 ∷ picksUp 310 0 ∷ loses 400 1 ∷ loses 400 0 ∷ ticks 500 ∷ ticks 500 ∷ [];
+  events = calls 100 seven duplex ∷ calls 101 eight duplex ∷ works 200 0 seven ∷ works 200 1 eight ∷ picksUp 300 1
+      ∷ picksUp 310 0 ∷ loses 400 1 ∷ loses 400 0 ∷ ticks 500 ∷ ticks 500 ∷ [];
   owing = paid 8 0 seven 310 451 14 ∷ paid 9 1 eight 300 451 15 ∷ [];
 }
 
@@ -214,7 +219,8 @@ unanswered = record {
 abbrev pub repeated : Run
 repeated = record {
   slots = 3;
-  events = calls 100 seven duplex ∷ calls 110 eight duplex ∷ works 115 1 eight ∷ picksUp 120 1 ∷ calls 150 seven duplex ∷ loses 210 1 ∷ ticks 300 ∷ ticks 300 ∷ [];
+  events = calls 100 seven duplex ∷ calls 110 eight duplex ∷ works 115 1 eight ∷ picksUp 120 1
+      ∷ calls 150 seven duplex ∷ loses 210 1 ∷ ticks 300 ∷ ticks 300 ∷ [];
   owing = paid 7 1 eight 120 261 14 ∷ [];
 }
 
@@ -222,7 +228,8 @@ repeated = record {
 abbrev pub renumbered : Run
 renumbered = record {
   slots = 3;
-  events = calls 100 seven duplex ∷ calls 110 eight duplex ∷ works 115 1 eight ∷ picksUp 120 1 ∷ callsFor (4 ∷ 2 ∷ []) 150 seven duplex ∷ loses 210 1 ∷ ticks 300 ∷ ticks 300 ∷ [];
+  events = calls 100 seven duplex ∷ calls 110 eight duplex ∷ works 115 1 eight ∷ picksUp 120 1
+      ∷ callsFor (4 ∷ 2 ∷ []) 150 seven duplex ∷ loses 210 1 ∷ ticks 300 ∷ ticks 300 ∷ [];
   owing = paid 6 1 eight 120 261 14 ∷ [];
 }
 
@@ -230,7 +237,8 @@ renumbered = record {
 abbrev pub holding : Run
 holding = record {
   slots = 2;
-  events = calls 100 seven duplex ∷ calls 101 eight duplex ∷ works 110 0 seven ∷ works 111 1 eight ∷ picksUp 120 1 ∷ picksUp 121 0 ∷ loses 195 1 ∷ ends 200 0 seven ∷ ticks 300 ∷ ticks 300 ∷ [];
+  events = calls 100 seven duplex ∷ calls 101 eight duplex ∷ works 110 0 seven ∷ works 111 1 eight ∷ picksUp 120 1
+      ∷ picksUp 121 0 ∷ loses 195 1 ∷ ends 200 0 seven ∷ ticks 300 ∷ ticks 300 ∷ [];
   owing = paid 7 0 seven 121 200 7 ∷ paid 9 1 eight 120 246 12 ∷ [];
 }
 
@@ -238,7 +246,8 @@ holding = record {
 abbrev pub replying : Run
 replying = record {
   slots = 2;
-  events = calls 100 seven duplex ∷ calls 101 eight duplex ∷ works 200 0 seven ∷ works 201 1 eight ∷ picksUp 210 1 ∷ loses 755 1 ∷ ticks 900 ∷ ticks 900 ∷ [];
+  events = calls 100 seven duplex ∷ calls 101 eight duplex ∷ works 200 0 seven ∷ works 201 1 eight ∷ picksUp 210 1
+      ∷ loses 755 1 ∷ ticks 900 ∷ ticks 900 ∷ [];
   owing = paid 7 1 eight 210 806 59 ∷ [];
 }
 
@@ -246,7 +255,8 @@ replying = record {
 abbrev pub queueing : Run
 queueing = record {
   slots = 1;
-  events = calls 100 seven duplex ∷ works 110 0 seven ∷ picksUp 120 0 ∷ calls 200 eight duplex ∷ loses 9155 0 ∷ ticks 9300 ∷ ticks 9300 ∷ [];
+  events = calls 100 seven duplex ∷ works 110 0 seven ∷ picksUp 120 0 ∷ calls 200 eight duplex ∷ loses 9155 0
+      ∷ ticks 9300 ∷ ticks 9300 ∷ [];
   owing = paid 6 0 seven 120 9206 908 ∷ [];
 }
 
@@ -254,7 +264,8 @@ queueing = record {
 abbrev pub ringing : Run
 ringing = record {
   slots = 2;
-  events = calls 100 seven duplex ∷ calls 101 eight duplex ∷ works 110 0 seven ∷ works 111 1 eight ∷ picksUp 120 0 ∷ picksUp 121 1 ∷ calls 130 nine duplex ∷ hangs 300 0 ∷ loses 305 1 ∷ ticks 400 ∷ ticks 400 ∷ [];
+  events = calls 100 seven duplex ∷ calls 101 eight duplex ∷ works 110 0 seven ∷ works 111 1 eight ∷ picksUp 120 0
+      ∷ picksUp 121 1 ∷ calls 130 nine duplex ∷ hangs 300 0 ∷ loses 305 1 ∷ ticks 400 ∷ ticks 400 ∷ [];
   owing = paid 7 0 seven 120 300 18 ∷ paid 10 1 eight 121 356 23 ∷ [];
 }
 
@@ -269,4 +280,6 @@ hundredHours = record {
 }
 
 abbrev pub runs : List Run
-runs = shipEnded ∷ hungUp ∷ silent ∷ redialled ∷ late ∷ anewSimplex ∷ anewDuplex ∷ together ∷ hurried ∷ unanswered ∷ repeated ∷ renumbered ∷ holding ∷ replying ∷ queueing ∷ ringing ∷ hundredHours ∷ []
+runs =
+    shipEnded ∷ hungUp ∷ silent ∷ redialled ∷ late ∷ anewSimplex ∷ anewDuplex ∷ together ∷ hurried ∷ unanswered
+    ∷ repeated ∷ renumbered ∷ holding ∷ replying ∷ queueing ∷ ringing ∷ hundredHours ∷ []

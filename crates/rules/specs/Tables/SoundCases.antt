@@ -6,7 +6,8 @@ use lib.ListN.{replicate}
 use Rattle.units.specs.declared.Told.{Told}
 use Rattle.units.specs.declared.Told.the-variants.{Nothing, Lasting}
 use Rattle.rules.specs.Rules.Words.{Mode, simplex, duplex, Request, Config}
-use Rattle.rules.specs.Rules.Station.{Kind, offered, firstRing, secondRing, acknowledged, dialling, answered, Slot, free, Waiting, Station}
+use Rattle.rules.specs.Rules.Station.{Kind, offered, firstRing, secondRing, acknowledged, dialling, answered}
+use Rattle.rules.specs.Rules.Station.{Slot, free, Waiting, Station}
 use Rattle.rules.specs.Rules.Slots.{pending, busy, held}
 use Rattle.rules.specs.Rules.Verdict.{verdict, setUpVerdict}
 use Rattle.rules.specs.Tables.Runs.{station, seven, usual, ticks, stationOf}
@@ -143,7 +144,8 @@ countCases =
     -- a ship waits and is offered a slot
     ∷ unsound (asked (station 2) (holding (pending offered (from seven duplex) 1161 ∷ free ∷ []) (waits seven 2000 ∷ [])))
     -- a ship has two slots
-    ∷ unsound (asked (station 2) (holding (pending firstRing (from seven duplex) 1051 ∷ busy (from seven duplex) (answered 900) none ∷ []) []))
+    ∷ unsound (asked (station 2)
+    (holding (pending firstRing (from seven duplex) 1051 ∷ busy (from seven duplex) (answered 900) none ∷ []) []))
     -- a ship in its hold may wait, and may have a slot
     ∷ sounds (asked (station 2) (holding (held (from seven duplex) Nothing 1041 ∷ pending offered (from seven duplex) 1161 ∷ []) []))
     ∷ []
