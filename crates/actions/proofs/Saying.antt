@@ -15,7 +15,7 @@ use Rattle.rules.specs.Rules.Actions.{Action, Ender, theShip, theCoast, does}
 use Rattle.rules.specs.Rules.Station.{Slot, pending, busy, Waiting, Station, theSlot, answeredAt, isFree}
 use Rattle.rules.specs.Rules.Sound.{configKeeps, requestKeeps, durationKeeps, slotKeeps, waitingKeeps, queueRoom}
 use Rattle.rules.specs.Rules.Requests.{Out, rungBack, freedFor, freed, lasted, endActs, coastEnd, Standing, nowhere, holds, waits, placeOf, repeated, afresh, ruleD, offer, ruleF, ruleG, eToG, newcomer, dToG, redial, requested}
-use Rattle.rules.specs.ListAlone.Book.{Stop, Line}
+use Rattle.rules.specs.ListAlone.Book.{Stop, Column}
 use Rattle.rules.specs.ListAlone.ThreeWords.{Word}
 use Rattle.rules.proofs.PlaceLaws.{each-append, lowest-there}
 use Rattle.rules.proofs.Outcome.{Next, stays, becomes, frees, Move, to-dial, to-agree, to-ring, to-drop, to-answer, to-lose, to-regain, to-hold, to-end, to-repeat, to-run-out, to-take, to-give, Outcome, passed, moved}
@@ -140,7 +140,7 @@ module _ (c : Config) (good : configKeeps c ≡ true) where
     move-placed : (p : Slot) (n : Next) (acts : List Action) → theSlot st i ≡ p → Move i (st .clock) p n acts → Each (Speaks c) acts
     move-placed p n acts e u = move-says i (st .clock) p n acts u (placed st s i p e) (slot-keeps st s i p e)
 
-    pub outcome-says : {f : Line → Line} {w : Word → Word} {cs : List Stop} {o : Out} (p : Slot) → Outcome i st f w cs p o → theSlot st i ≡ p → Says c o
+    pub outcome-says : {f : Column → Column} {w : Word → Word} {cs : List Stop} {o : Out} (p : Slot) → Outcome i st f w cs p o → theSlot st i ≡ p → Says c o
     outcome-says p (passed x y z) e = tt
     outcome-says p (moved {n = stays} u x y z) e = move-placed p _ _ e u
     outcome-says p (moved {n = becomes q} u x y z) e = move-placed p _ _ e u

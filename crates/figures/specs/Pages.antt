@@ -11,7 +11,7 @@ use Rattle.rules.specs.Rules.Words.{Deed, carrierOn, carrierOff, acknowledge, r
 use Rattle.rules.specs.Rules.Heard.{Heard, callRequest, dataRequest, bq, workingCall, endOfCall, nothing}
 use Rattle.rules.specs.Rules.Actions.{theShip, Action, does, over, charge}
 use Rattle.rules.specs.ListAlone.Book.{Note, Said, silent, toldBQ, toldRQ, settled}
-use Rattle.rules.specs.ListAlone.Book.{Call, quiet, dialled, talking, Line, Place, Book, blankBook, alike}
+use Rattle.rules.specs.ListAlone.Book.{Call, quiet, dialled, talking, Column, Place, Book, blankBook, alike}
 use Rattle.rules.specs.ListAlone.Reading.{turn, numbered, counted, countedByCalls}
 use Rattle.rules.specs.ListAlone.ThreeWords.{Word, idle, ringing, since, wordHeard, wordsDone, wordAfter, wordOf}
 use Rattle.rules.specs.Statement.{deedsOf, chargesOf, charged, runOf, stationAfter, listOf, stopsOf, tenthsIn, unchargedTenths, eventsOf}
@@ -45,8 +45,8 @@ call quiet = 0 ∷ []
 call (dialled x m) = 1 ∷ x .ship ∷ modeNumber m ∷ []
 call (talking x m b) = 2 ∷ x .ship ∷ modeNumber m ∷ b ∷ []
 
-abbrev pub line : Line → List ℕ
-line l = said (l .said) ++ due (l .wait) ++ call (l .call) ++ due (l .gone)
+abbrev pub column : Column → List ℕ
+column l = said (l .said) ++ due (l .wait) ++ call (l .call) ++ due (l .gone)
 
 -- a slot of which the list says nothing
 abbrev pub still : List ℕ
@@ -56,9 +56,9 @@ abbrev pub places : List Place → List ℕ
 places [] = []
 places (p ∷ ps) = p .who .ship ∷ p .due ∷ places ps
 
--- the time, a line for each slot, the queue
+-- the time, a column for each slot, the queue
 abbrev pub page : Book → List (List ℕ)
-page b = (b .now ∷ []) ∷ (map line (b .lines) ++ places (b .places) ∷ [])
+page b = (b .now ∷ []) ∷ (map column (b .columns) ++ places (b .places) ∷ [])
 
 abbrev pub pagesFrom : Config → List Note → Book → List (List ℕ)
 pagesFrom c [] b = []
@@ -507,19 +507,19 @@ wordsAtOnce = record {
   expected = (2 ∷ 130 ∷ []) ∷ (2 ∷ 140 ∷ []) ∷ [];
 }
 
--- a book of one line on which everything is set, and that line after an event or a deed alone
+-- a book of one column on which everything is set, and that column after an event or a deed alone
 abbrev pub filled : Said → Call → Book
-filled s k = record { now = 100; lines = record { said = s; wait = some 5000; call = k; gone = some 6000 } ∷ []; places = [] }
+filled s k = record { now = 100; columns = record { said = s; wait = some 5000; call = k; gone = some 6000 } ∷ []; places = [] }
 
 -- the same with its carrier present
 abbrev pub heardWell : Said → Call → Book
-heardWell s k = record { now = 100; lines = record { said = s; wait = some 5000; call = k; gone = none } ∷ []; places = [] }
+heardWell s k = record { now = 100; columns = record { said = s; wait = some 5000; call = k; gone = none } ∷ []; places = [] }
 
 abbrev pub afterEvent : Event → Book → List ℕ
-afterEvent e b = getD (map line (turn (station 1) b (record { event = e; deeds = [] }) .lines)) 0 []
+afterEvent e b = getD (map column (turn (station 1) b (record { event = e; deeds = [] }) .columns)) 0 []
 
 abbrev pub afterDeed : Deed → Book → List ℕ
-afterDeed d b = getD (map line (turn (station 1) b (record { event = ticks 200; deeds = d ∷ [] }) .lines)) 0 []
+afterDeed d b = getD (map column (turn (station 1) b (record { event = ticks 200; deeds = d ∷ [] }) .columns)) 0 []
 
 abbrev pub ringsEight : Call
 ringsEight = dialled (from eight simplex .who) simplex
@@ -527,7 +527,7 @@ ringsEight = dialled (from eight simplex .who) simplex
 abbrev pub talksEight : Call
 talksEight = talking (from eight duplex .who) duplex 150
 
--- an event changes what it tells, and nothing else of the line
+-- an event changes what it tells, and nothing else of the column
 abbrev pub eventsAlone : Row
 eventsAlone = record {
   computed =

@@ -13,7 +13,7 @@ use Rattle.rules.specs.Rules.Words.{Party, is, Request}
 use Rattle.rules.specs.Rules.Station.{Dealing, Stage, answeredAt, Slot, pending, busy, shipOf, Waiting, Station, theSlot, setSlot, setQueue, lossDue, offerOf}
 use Rattle.rules.specs.Rules.Sound.{listed, owner, owners}
 use Rattle.rules.specs.Rules.Requests.{Out, rungBack, freedFor, freed, coastEnd, isOf, owns, slotOf, placeOf, standsAt, repeated, afresh, dToG, redial, requested}
-use Rattle.rules.specs.ListAlone.Book.{Stop, Line, Book, blank, atLine, Call}
+use Rattle.rules.specs.ListAlone.Book.{Stop, Column, Book, blank, atColumn, Call}
 use Rattle.rules.specs.ListAlone.Reading.{again, tell, letGo, hush, reads, stopOf, askedAgain, stopsAgain}
 use Rattle.rules.proofs.PlaceLaws.{or-false, and-true, shift-none}
 use Rattle.rules.proofs.Base.{callIn, view, seen, is-true, atLine², stay, moves, Calling, no-call, a-call, calling, slot-mapped, slot-lowest}
@@ -42,20 +42,20 @@ elem-none x (s ∷ ss) q h = go (shipOf s) h (elem-none x ss q)
     go none h ih = rw (ih h) refl
     go (some y) h ih = let w = or-false (is x y) (elem is x (owners ss q)) h in rw (w .0, ih (w .1)) refl
 
-record Untouched (t : ℕ) (x : Party) (k : ℕ) (ls : List Line) : Type 0 where
-  lines-same : map (again x) ls ≡ ls
+record Untouched (t : ℕ) (x : Party) (k : ℕ) (ls : List Column) : Type 0 where
+  columns-same : map (again x) ls ≡ ls
   no-stop : stopsAgain t x k ls ≡ []
 
 untouched : (t : ℕ) (x : Party) (k : ℕ) (ss : List Slot) → lowest (owns x) ss ≡ none → Untouched t x k (map view ss)
-untouched t x k [] h = record { lines-same = refl; no-stop = refl }
+untouched t x k [] h = record { columns-same = refl; no-stop = refl }
 untouched t x k (s ∷ ss) h = go (owns x s) refl (λ e. untouched t x (suc k) ss e)
   where
     go : (b : Bool) → owns x s ≡ b → (lowest (owns x) ss ≡ none → Untouched t x (suc k) (map view ss)) → Untouched t x k (map view (s ∷ ss))
-    go true e ih = let z : _≡_ {A = Option ℕ} (some zero) none = rw e at h in record { lines-same = cc; no-stop = cc }
-    go false e ih = let u = ih (shift-none _ (rw e at h)) in record { lines-same = rw (others x s e, u .lines-same) refl; no-stop = rw (others x s e, u .no-stop) refl }
+    go true e ih = let z : _≡_ {A = Option ℕ} (some zero) none = rw e at h in record { columns-same = cc; no-stop = cc }
+    go false e ih = let u = ih (shift-none _ (rw e at h)) in record { columns-same = rw (others x s e, u .columns-same) refl; no-stop = rw (others x s e, u .no-stop) refl }
 
 record Touched (t : ℕ) (x : Party) (k i : ℕ) (ss : List Slot) : Type 0 where
-  one-line : map (again x) (map view ss) ≡ modAt (again x) i (map view ss)
+  one-column : map (again x) (map view ss) ≡ modAt (again x) i (map view ss)
   one-stop : stopsAgain t x k (map view ss) ≡ againOf t x (k + i) (getD (map view ss) i blank)
 
 -- the first slot is the ship's, and the others' ships are others
@@ -74,17 +74,17 @@ rest-distinct s r d = go (shipOf s) d
     go (some y) d = and-true (not (elem is y r)) (distinct is r) d .1
 
 touched : (t : ℕ) (x : Party) (k i : ℕ) (ss : List Slot) (q : List Party) → distinct is (owners ss q) ≡ true → lowest (owns x) ss ≡ some i → Touched t x k i ss
-touched t x k i [] q d h = record { one-line = cc; one-stop = cc }
+touched t x k i [] q d h = record { one-column = cc; one-stop = cc }
 touched t x k i (s ∷ ss) q d h = go (owns x s) refl (lowest (owns x) ss) refl i h (λ j e. touched t x (suc k) j ss q (rest-distinct s (owners ss q) d) e)
   where
     next : {j : ℕ} → owns x s ≡ false → Touched t x (suc k) j ss → Touched t x k (suc j) (s ∷ ss)
-    next {j} e u = record { one-line = rw (others x s e) (ap (λ y. view s ∷ y) (u .one-line)); one-stop = rw (others x s e, add-suc k j, ← (suc-add k j)) (u .one-stop) }
+    next {j} e u = record { one-column = rw (others x s e) (ap (λ y. view s ∷ y) (u .one-column)); one-stop = rw (others x s e, add-suc k j, ← (suc-add k j)) (u .one-stop) }
 
     go : (b : Bool) → owns x s ≡ b → (o : Option ℕ) → lowest (owns x) ss ≡ o → (j : ℕ) → cond b (some zero) (shift o) ≡ some j
         → ((m : ℕ) → lowest (owns x) ss ≡ some m → Touched t x (suc k) m ss) → Touched t x k j (s ∷ ss)
-    go true e o eo zero z ih = let u = untouched t x (suc k) ss (elem-none x ss q (owned x s (owners ss q) e d)) in record { one-line = ap (λ y. again x (view s) ∷ y) (u .lines-same); one-stop = rw (u .no-stop, add-zero k) (append-nil _) }
+    go true e o eo zero z ih = let u = untouched t x (suc k) ss (elem-none x ss q (owned x s (owners ss q) e d)) in record { one-column = ap (λ y. again x (view s) ∷ y) (u .columns-same); one-stop = rw (u .no-stop, add-zero k) (append-nil _) }
     go true e o eo (suc j) z ih = let y : zero ≡ suc j = cc in absurd (omega arith)
-    go false e none eo j z ih = record { one-line = cc; one-stop = cc }
+    go false e none eo j z ih = record { one-column = cc; one-stop = cc }
     go false e (some m) eo zero z ih = let y : suc m ≡ zero = cc in absurd (omega arith)
     go false e (some m) eo (suc j) z ih = let y : suc m ≡ suc j = cc in next e (ih j (eo ∙ ap some (omega arith)))
 
@@ -97,7 +97,7 @@ dToG-good st r (some k) h = ruleD-good k st r h
 
 module _ (i : ℕ) (st : Station) (r : Request) where
   B : Book
-  B = atLine i (again (r .who)) (seen st)
+  B = atColumn i (again (r .who)) (seen st)
 
   freedFor-clock : (q : List Waiting) → freedFor i st q .next .clock ≡ st .clock
   unfolding freedFor rungBack setSlot setQueue
@@ -116,7 +116,7 @@ module _ (i : ℕ) (st : Station) (r : Request) where
       let n = coastEnd i (o .request) (answeredAt g) st .next in
       let y = placeOf (r .who) n in
       let a : Good (st .clock) (seen n) [] (dToG n r y) = rw (coastEnd-clock (o .request) (answeredAt g)) at (dToG-good n r y refl) in
-      rw (← (append-nil (stopOf (st .clock) i (callIn (o .request) (answeredAt g))))) (good-also (st .clock) (atLine i (again (r .who)) (seen st)) (seen n) (stopOf (st .clock) i (callIn (o .request) (answeredAt g))) [] (coastEnd i (o .request) (answeredAt g) st .acts) (dToG n r y) (w .reading) (w .charging) a)
+      rw (← (append-nil (stopOf (st .clock) i (callIn (o .request) (answeredAt g))))) (good-also (st .clock) (atColumn i (again (r .who)) (seen st)) (seen n) (stopOf (st .clock) i (callIn (o .request) (answeredAt g))) [] (coastEnd i (o .request) (answeredAt g) st .acts) (dToG n r y) (w .reading) (w .charging) a)
 
   ruling-good : (cs : List Stop) (p : Slot) (x : Out) → Ruling i st r cs p x → theSlot st i ≡ p → owns (r .who) p ≡ true → Good (st .clock) B cs x
   unfolding B repeated afresh reads
@@ -127,8 +127,8 @@ module _ (i : ℕ) (st : Station) (r : Request) where
 
 -- the whole request
 pub request-good : (st : Station) (r : Request) (q : List Party) → distinct is (owners (st .slots) q) ≡ true → (o k : Option ℕ) → slotOf (r .who) st ≡ o → placeOf (r .who) st ≡ k
-    → Good (st .clock) (record { now = st .clock; lines = map (again (r .who)) (seen st .lines); places = seen st .places }) (stopsAgain (st .clock) (r .who) 0 (seen st .lines)) (requested st r (standsAt o k))
+    → Good (st .clock) (record { now = st .clock; columns = map (again (r .who)) (seen st .columns); places = seen st .places }) (stopsAgain (st .clock) (r .who) 0 (seen st .columns)) (requested st r (standsAt o k))
 unfolding requested seen B
-request-good st r q d none none h w = let u = untouched (st .clock) (r .who) 0 (st .slots) h in rw (u .lines-same, u .no-stop) (newcomer-good st r w)
-request-good st r q d none (some k) h w = let u = untouched (st .clock) (r .who) 0 (st .slots) h in rw (u .lines-same, u .no-stop) (ruleD-good k st r w)
-request-good st r q d (some i) k h w = let u = touched (st .clock) (r .who) 0 i (st .slots) q d h in rw (u .one-line, u .one-stop, zero-add i, slot-mapped st view i) (ruling-good i st r _ (theSlot st i) _ (bOrC-ruling i st r (theSlot st i)) refl (slot-lowest st (owns (r .who)) i h))
+request-good st r q d none none h w = let u = untouched (st .clock) (r .who) 0 (st .slots) h in rw (u .columns-same, u .no-stop) (newcomer-good st r w)
+request-good st r q d none (some k) h w = let u = untouched (st .clock) (r .who) 0 (st .slots) h in rw (u .columns-same, u .no-stop) (ruleD-good k st r w)
+request-good st r q d (some i) k h w = let u = touched (st .clock) (r .who) 0 i (st .slots) q d h in rw (u .one-column, u .one-stop, zero-add i, slot-mapped st view i) (ruling-good i st r _ (theSlot st i) _ (bOrC-ruling i st r (theSlot st i)) refl (slot-lowest st (owns (r .who)) i h))

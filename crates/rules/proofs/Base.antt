@@ -12,7 +12,7 @@ use Rattle.rules.specs.Rules.Words.{Party, is, Mode, simplex, duplex, Re
 use Rattle.rules.specs.Rules.Actions.{Action, does, over, charge}
 use Rattle.rules.specs.Rules.Station.{bySlot, shipOf, Kind, offered, firstRing, secondRing, acknowledged, Slot, free, taken, pending, busy, held, Waiting, Station, theSlot, setSlot, carrierWait, lossDue, mainDue, slotTable, table, fires, answeredAt, answeredIn, Dealing, Stage, dialling, answered, fresh, dueAfter, kindWait, replyWait, holdWait, isFree, offerOf, ringOf, rungAgain, agreedAt}
 use Rattle.rules.specs.Rules.Requests.{sameMode, sameNumber, same}
-use Rattle.rules.specs.ListAlone.Book.{silence, alikeMode, alikeDigits, alike, Said, silent, toldBQ, toldRQ, settled, Call, quiet, dialled, talking, Line, Place, Book, atLine, line, lineTable, falls}
+use Rattle.rules.specs.ListAlone.Book.{silence, alikeMode, alikeDigits, alike, Said, silent, toldBQ, toldRQ, settled, Call, quiet, dialled, talking, Column, Place, Book, atColumn, column, columnTable, falls}
 use Rattle.rules.specs.ListAlone.Reading.{read, reads}
 use Rattle.rules.specs.Statement.{deedsOf, chargesOf}
 use Rattle.rules.specs.Rules.Places.{lowest, all, Each, modAt}
@@ -52,7 +52,7 @@ abbrev pub callIn : Request → Option ℕ → Call
 callIn r none = dialled (r .who) (r .mode)
 callIn r (some b) = talking (r .who) (r .mode) b
 
-abbrev pub view : Slot → Line
+abbrev pub view : Slot → Column
 view s = record {
   said = bySlot silent (λ k r. saidOf k (r .request)) (λ r g c. silent) s;
   wait = mainDue s;
@@ -85,7 +85,7 @@ abbrev pub place : Waiting → Place
 place w = record { who = w .request .who; due = w .due }
 
 unfoldable pub seen : Station → Book
-seen st = record { now = st .clock; lines = map view (st .slots); places = map place (st .queue) }
+seen st = record { now = st .clock; columns = map view (st .slots); places = map place (st .queue) }
 
 -- ── the same ship: the two laws ──────────────────────────────────────────────
 
@@ -147,26 +147,26 @@ reads-append t (d ∷ a) b k = reads-append t a b (read t d k)
 -- ── one slot of the book ─────────────────────────────────────────────────────
 
 module _ (i : ℕ) (st : Station) (p : Slot) (e : theSlot st i ≡ p) where
-  pub stay : (f : Line → Line) → f (view p) ≡ view p → atLine i f (seen st) ≡ seen st
+  pub stay : (f : Column → Column) → f (view p) ≡ view p → atColumn i f (seen st) ≡ seen st
   unfolding seen
-  stay f h = ap (λ (x : List Line). record { now = st .clock; lines = x; places = map place (st .queue) }) (modAt-same view f free i (st .slots) (rw e h))
+  stay f h = ap (λ (x : List Column). record { now = st .clock; columns = x; places = map place (st .queue) }) (modAt-same view f free i (st .slots) (rw e h))
 
-  pub moves : (f : Line → Line) (q : Slot) → f (view p) ≡ view q → atLine i f (seen st) ≡ seen (setSlot i q st)
+  pub moves : (f : Column → Column) (q : Slot) → f (view p) ≡ view q → atColumn i f (seen st) ≡ seen (setSlot i q st)
   unfolding seen setSlot
-  moves f q h = ap (λ (x : List Line). record { now = st .clock; lines = x; places = map place (st .queue) }) (modAt-map view f q free i (st .slots) (rw e h))
+  moves f q h = ap (λ (x : List Column). record { now = st .clock; columns = x; places = map place (st .queue) }) (modAt-map view f q free i (st .slots) (rw e h))
 
-  pub line-is : line (seen st) i ≡ view p
+  pub column-is : column (seen st) i ≡ view p
   unfolding seen
-  line-is = List·getD-map view (st .slots) i free ∙ ap view e
+  column-is = List·getD-map view (st .slots) i free ∙ ap view e
 
-pub atLine² : (i : ℕ) (f g : Line → Line) (b : Book) → atLine i g (atLine i f b) ≡ atLine i (λ l. g (f l)) b
-atLine² i f g b = ap (λ (x : List Line). record { now = b .now; lines = x; places = b .places }) (modAt-modAt f g i (b .lines))
+pub atLine² : (i : ℕ) (f g : Column → Column) (b : Book) → atColumn i g (atColumn i f b) ≡ atColumn i (λ l. g (f l)) b
+atLine² i f g b = ap (λ (x : List Column). record { now = b .now; columns = x; places = b .places }) (modAt-modAt f g i (b .columns))
 
 -- ── the waits ────────────────────────────────────────────────────────────────
 
-lines-table : (i : ℕ) (ss : List Slot) → lineTable i (map view ss) ≡ slotTable i ss
-lines-table i [] = refl
-lines-table i (s ∷ ss) = rw (lines-table (suc i) ss) refl
+columns-table : (i : ℕ) (ss : List Slot) → columnTable i (map view ss) ≡ slotTable i ss
+columns-table i [] = refl
+columns-table i (s ∷ ss) = rw (columns-table (suc i) ss) refl
 
 places-due : (q : List Waiting) → map (λ p. p .due) (map place q) ≡ map (λ w. w .due) q
 places-due [] = refl
@@ -174,7 +174,7 @@ places-due (w ∷ q) = ap (λ r. w .due ∷ r) (places-due q)
 
 pub falls-fires : (t : ℕ) (st : Station) → falls t (seen st) ≡ fires t st
 unfolding falls fires table seen
-falls-fires t st = simp (lines-table, places-due)
+falls-fires t st = simp (columns-table, places-due)
 
 -- ── a slot of a station, and the slots of a fresh one ────────────────────────
 

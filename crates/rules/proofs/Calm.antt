@@ -10,7 +10,7 @@ use Rattle.rules.specs.Rules.Heard.{Heard, callRequest}
 use Rattle.rules.specs.Rules.Actions.{Ender, theShip, theCoast, Action}
 use Rattle.rules.specs.Rules.Station.{Dealing, dealing, Slot, Waiting, Station, theSlot, setSlot, setClock, setQueue, answeredAt, ringOf}
 use Rattle.rules.specs.Rules.Requests.{Out, also, rungBack, freedFor, freed, endActs, coastEnd, done}
-use Rattle.rules.specs.ListAlone.Book.{silent, Stop, Line, Book, atLine, line}
+use Rattle.rules.specs.ListAlone.Book.{silent, Stop, Column, Book, atColumn, column}
 use Rattle.rules.specs.ListAlone.Reading.{letGo, hush, read, reads}
 use Rattle.rules.specs.ListAlone.Repeated.{putsOff, toldToWait, Repeats, switchedOn, RingsSame, DialsNamed, EachRead}
 use Rattle.rules.specs.ListAlone.ThreeWords.{Word}
@@ -77,8 +77,8 @@ fits-append t on b [] es p q = q on
 fits-append t on b (d ∷ ds) es p q = (p .0, fits-append t (switchedOn d) (read t d b) ds es (p .1) q)
 
 -- the carrier is off: channel 70 has said nothing
-hushed : (i : ℕ) (b : Book) → line (atLine i hush b) i .said ≡ silent
-hushed i b = ap (λ (l : Line). l .said) (there hush refl i (b .lines))
+hushed : (i : ℕ) (b : Book) → column (atColumn i hush b) i .said ≡ silent
+hushed i b = ap (λ (l : Column). l .said) (there hush refl i (b .columns))
 
 module _ (h : Heard) (a : Party → Heard) where
   also-calm : (b : Book) (acts : List Action) (o : Out) → Mild h a b (deedsOf acts) → ((t : ℕ) → Calm h a (reads t (deedsOf acts) b) o) → Calm h a b (also acts o)
@@ -92,7 +92,7 @@ module _ (h : Heard) (a : Party → Heard) where
   }
 
   -- the oldest is rung back with its request
-  freedFor-calm : (b : Book) (i : ℕ) (st : Station) → line b i .said ≡ silent → Known a st → (q : List Waiting) → st .queue ≡ q → Calm h a b (freedFor i st q)
+  freedFor-calm : (b : Book) (i : ℕ) (st : Station) → column b i .said ≡ silent → Known a st → (q : List Waiting) → st .queue ≡ q → Calm h a b (freedFor i st q)
   unfolding freedFor rungBack
   freedFor-calm b i st quiet k [] e = record { mild = record { repeats = tt; fits = λ t on. tt; untold = λ x. refl }; known = set-known a i _ st (λ r h. cc) k }
   freedFor-calm b i st quiet k (w ∷ q) e =
@@ -102,7 +102,7 @@ module _ (h : Heard) (a : Party → Heard) where
         known = set-known a i (ringOf (w .request) st) (setQueue q st) (λ r h. let y : dealing (w .request) ≡ r = cc in rw (← y) (p .0)) (queue-known a q st (p .1) k);
       }
 
-  freed-calm : (b : Book) (i : ℕ) (st : Station) → line b i .said ≡ silent → Known a st → Calm h a b (freed i st)
+  freed-calm : (b : Book) (i : ℕ) (st : Station) → column b i .said ≡ silent → Known a st → Calm h a b (freed i st)
   unfolding freed
   freed-calm b i st quiet k = freedFor-calm b i st quiet k (st .queue) refl
 
@@ -119,10 +119,10 @@ module _ (h : Heard) (a : Party → Heard) where
     end-mild i e r none t = record { repeats = (tt, (tt, tt)); fits = λ t on. ((tt, tt), ((tt, tt), tt)); untold = λ x. refl }
     end-mild i e r (some s) t = record { repeats = (tt, (tt, tt)); fits = λ t on. ((tt, tt), ((tt, tt), tt)); untold = λ x. refl }
 
-    end-quiet : (i : ℕ) (e : Ender) (r : Request) (g : Option ℕ) (t u : ℕ) → line (reads u (deedsOf (endActs i e r g t)) b) i .said ≡ silent
+    end-quiet : (i : ℕ) (e : Ender) (r : Request) (g : Option ℕ) (t u : ℕ) → column (reads u (deedsOf (endActs i e r g t)) b) i .said ≡ silent
     unfolding reads
-    end-quiet i e r none t u = hushed i (atLine i letGo b)
-    end-quiet i e r (some s) t u = hushed i (atLine i letGo b)
+    end-quiet i e r none t u = hushed i (atColumn i letGo b)
+    end-quiet i e r (some s) t u = hushed i (atColumn i letGo b)
 
     pub coastEnd-calm : (i : ℕ) (st : Station) → Known a st → (r : Request) (g : Option ℕ) → Calm h a b (coastEnd i r g st)
     unfolding coastEnd
@@ -134,9 +134,9 @@ module _ (h : Heard) (a : Party → Heard) where
     abbrev Leaves : ℕ → Next → Book → Type 0
     Leaves i stays c = Unit {0}
     Leaves i (becomes q) c = Rung a q
-    Leaves i frees c = line c i .said ≡ silent
+    Leaves i frees c = column c i .said ≡ silent
 
-    move-calm : (i t : ℕ) (p : Slot) (n : Next) (acts : List Action) → Move i t p n acts → Rung a p → line b i .said ≡ view p .said → Mild h a b (deedsOf acts) × ((u : ℕ) → Leaves i n (reads u (deedsOf acts) b))
+    move-calm : (i t : ℕ) (p : Slot) (n : Next) (acts : List Action) → Move i t p n acts → Rung a p → column b i .said ≡ view p .said → Mild h a b (deedsOf acts) × ((u : ℕ) → Leaves i n (reads u (deedsOf acts) b))
     unfolding reads
     move-calm i t _ _ _ (to-dial k r d z) g s = (record { repeats = (tt, tt); fits = λ u on. ((tt, rw s z), tt); untold = λ x. refl }, λ u o x. cc)
     move-calm i t _ _ _ (to-agree k r d) g s = (no-deed, λ u o x. cc)
@@ -158,9 +158,9 @@ module _ (h : Heard) (a : Party → Heard) where
       played-calm (becomes q) acts m = record { mild = m .0; known = set-known a i q st (m .1 0) k }
       played-calm frees acts m = also-calm b acts (freed i st) (m .0) (λ t. freed-calm _ i st (m .1 t) k)
 
-      pub outcome-calm : b .lines ≡ map view (st .slots) → {f : Line → Line} {w : Word → Word} {cs : List Stop} {o : Out} → Outcome i st f w cs (theSlot st i) o → Calm h a b o
+      pub outcome-calm : b .columns ≡ map view (st .slots) → {f : Column → Column} {w : Word → Word} {cs : List Stop} {o : Out} → Outcome i st f w cs (theSlot st i) o → Calm h a b o
       outcome-calm v (passed x y z) = still 1 st k
-      outcome-calm v (moved {n} {acts} u x y z) = played-calm n acts (move-calm i (st .clock) _ n acts u (slot-each st (Rung a) (λ r x. cc) i (k .ringing)) (rw v (ap (λ (l : Line). l .said) (slot-mapped st view i))))
+      outcome-calm v (moved {n} {acts} u x y z) = played-calm n acts (move-calm i (st .clock) _ n acts u (slot-each st (Rung a) (λ r x. cc) i (k .ringing)) (rw v (ap (λ (l : Column). l .said) (slot-mapped st view i))))
 
     -- the time of a waiting ship is over
     pub drop-calm : (st : Station) → Known a st → (j : ℕ) → Calm h a b (done (setQueue (dropAt j (st .queue)) st))

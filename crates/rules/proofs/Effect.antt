@@ -17,11 +17,11 @@ use Rattle.rules.specs.Rules.Station.{Station, theSlot, setClock, setQue
 use Rattle.rules.specs.Rules.Requests.{Out, done, standing, ruleA, requested}
 use Rattle.rules.specs.Rules.Calls.{fire, ticked, heardOn70, actAt}
 use Rattle.rules.specs.Rules.Verdict.{overtaken, readIn, verdict}
-use Rattle.rules.specs.ListAlone.Book.{Stop, Line, Book, atLine, atPlaces}
+use Rattle.rules.specs.ListAlone.Book.{Stop, Column, Book, atColumn, atPlaces}
 use Rattle.rules.specs.ListAlone.Reading.{hearHeard, hearDue, hear, setNow, fallsAt, momentOf, moment, stopsDue, stopsAgain, stopsHeard, stopsAt, heardAt}
 use Rattle.rules.specs.ListAlone.ThreeWords.{Word, idle, wordHeard, answer}
 use Rattle.rules.proofs.PlaceLaws.{modAt-length, modAt-none}
-use Rattle.rules.proofs.Base.{seen, falls-fires, line-is}
+use Rattle.rules.proofs.Base.{seen, falls-fires, column-is}
 use Rattle.rules.proofs.Outcome.{lifted, Outcome, end-outcome, bq-outcome, main-outcome, happened-outcome}
 use Rattle.rules.proofs.Spoken.{words, one-of}
 use Rattle.rules.proofs.Accepted.{accepted}
@@ -36,14 +36,14 @@ pub data Effect (st : Station) : Book → List Word → List Stop → Heard → 
   drops : (k : ℕ) → Effect st (atPlaces (dropAt k) (seen st)) (words st) [] nothing (done (setQueue (dropAt k (st .queue)) st))
   -- a request on channel 70
   data-asked : (x : Party) (n : List ℕ) → Effect st (seen st) (words st) [] (dataRequest x n) (ruleA st x n)
-  call-asked : (r : Request) → Effect st (hearHeard (st .clock) (callRequest r) (seen st)) (words st) (stopsAgain (st .clock) (r .who) 0 (seen st .lines)) (callRequest r) (requested st r (standing st (r .who)))
+  call-asked : (r : Request) → Effect st (hearHeard (st .clock) (callRequest r) (seen st)) (words st) (stopsAgain (st .clock) (r .who) 0 (seen st .columns)) (callRequest r) (requested st r (standing st (r .who)))
   -- whatever happens to a slot
-  to-slot : (m : Heard) (i : ℕ) {f : Line → Line} {w : Word → Word} {ws : List Word} {cs : List Stop} {o : Out} → Outcome i st f w cs (theSlot st i) o → ws ≡ modAt w i (words st)
-      → Effect st (atLine i f (seen st)) ws cs m o
+  to-slot : (m : Heard) (i : ℕ) {f : Column → Column} {w : Word → Word} {ws : List Word} {cs : List Stop} {o : Out} → Outcome i st f w cs (theSlot st i) o → ws ≡ modAt w i (words st)
+      → Effect st (atColumn i f (seen st)) ws cs m o
 
 -- ── an event of each kind ────────────────────────────────────────────────────
 
-heard-effect : (st : Station) (m : Heard) → Effect st (hearHeard (st .clock) m (seen st)) (words st) (stopsHeard (st .clock) (seen st .lines) m) m (heardOn70 st m)
+heard-effect : (st : Station) (m : Heard) → Effect st (hearHeard (st .clock) m (seen st)) (words st) (stopsHeard (st .clock) (seen st .columns) m) m (heardOn70 st m)
 unfolding heardOn70
 heard-effect st (callRequest r) = call-asked r
 heard-effect st (dataRequest x n) = data-asked x n
@@ -56,7 +56,7 @@ fire-effect : (st : Station) (w : Wait) (d : ℕ)
     → Effect (setClock d st) (hearDue (setNow d (seen st)) (some record { what = w; at = d })) (words st) (stopsDue d (seen st) (some record { what = w; at = d })) nothing (fire (setClock d st) w)
 unfolding fire setClock seen
 fire-effect st (ofQueue k) d = drops k
-fire-effect st (loss i) d = rw (line-is i st (theSlot st i) refl) (to-slot nothing i (end-outcome i (setClock d st) (theSlot st i)) (modAt-none i (words st)))
+fire-effect st (loss i) d = rw (column-is i st (theSlot st i) refl) (to-slot nothing i (end-outcome i (setClock d st) (theSlot st i)) (modAt-none i (words st)))
 fire-effect st (main i) d = to-slot nothing i (main-outcome i (setClock d st) (theSlot st i)) (modAt-none i (words st))
 
 tick-effect : (st : Station) (t : ℕ) (o : Option Due)
@@ -78,7 +78,7 @@ pub act-effect : (cfg : Config) (st : Station) (t : ℕ) (w : What) → EffectOf
 unfolding actAt seen setClock
 act-effect cfg st t tick = rw (falls-fires t st) (tick-effect st t (fires t st))
 act-effect cfg st t (onChannel70 m) = heard-effect (setClock t st) (meaning cfg m)
-act-effect cfg st t (onSlot i h) = rw (line-is i st (theSlot st i) refl) (to-slot nothing i (happened-outcome i (setClock t st) cfg (theSlot st i) h) refl)
+act-effect cfg st t (onSlot i h) = rw (column-is i st (theSlot st i) refl) (to-slot nothing i (happened-outcome i (setClock t st) cfg (theSlot st i) h) refl)
 
 -- ── what else is told of an event by its kind ────────────────────────────────
 

@@ -15,7 +15,7 @@ use Rattle.rules.specs.Rules.Station.{Slot, Waiting, Station, theSlot, s
 use Rattle.rules.specs.Rules.Sound.{slotKeeps, sound}
 use Rattle.rules.specs.Rules.Requests.{Out, also, rungBack, freedFor, freed, bill, lasted, endActs, coastEnd, Standing, nowhere, holds, waits, placeOf, standing, ruleA, repeated, afresh, ruleD, offer, ruleF, ruleG, eToG, newcomer, dToG, redial, requested}
 use Rattle.rules.specs.Rules.Calls.{actAt, act}
-use Rattle.rules.specs.ListAlone.Book.{Stop, Line, Book}
+use Rattle.rules.specs.ListAlone.Book.{Stop, Column, Book}
 use Rattle.rules.specs.ListAlone.ThreeWords.{Word}
 use Rattle.rules.specs.Statement.{AtMostEight}
 use Rattle.rules.proofs.PlaceLaws.{each-append}
@@ -139,7 +139,7 @@ module _ (cfg : Config) where
   played-few i st (becomes q) acts h = let k = h .0 in record { many = omega arith; slim = h .1; told = omega arith }
   played-few i st frees acts h = up-to 6 8 (omega arith) (also acts (freed i st)) (also-few 4 2 acts (freed i st) (h .0) (h .1) (freed-few i st))
 
-  outcome-few : (i : ℕ) (st : Station) {f : Line → Line} {w : Word → Word} {cs : List Stop} (p : Slot) {o : Out} → Outcome i st f w cs p o → slotKeeps cfg p ≡ true → Few cfg 8 o
+  outcome-few : (i : ℕ) (st : Station) {f : Column → Column} {w : Word → Word} {cs : List Stop} (p : Slot) {o : Out} → Outcome i st f w cs p o → slotKeeps cfg p ≡ true → Few cfg 8 o
   outcome-few i st p (passed a b c) h = none-few 8 st
   outcome-few i st p (moved {n} {acts} u a b c) h = played-few i st n acts (move-slim i (st .clock) p n acts u h)
 

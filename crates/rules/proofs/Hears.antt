@@ -1,4 +1,4 @@
--- What a deed and an event say on a line, as to who talks on it: nothing, or a call begins, or one stops. It speaks of the list alone.
+-- What a deed and an event say on a column, as to who talks on it: nothing, or a call begins, or one stops. It speaks of the list alone.
 use mathlib.Core.Path.{_≡_, refl}
 use mathlib.Core.List.{List, [], map}
 use mathlib.Core.Bool.{Bool, true, false, cond}
@@ -8,12 +8,12 @@ use lib.Dec.{eqb}
 use Rattle.rules.specs.Rules.Places.{modAt, dropAt}
 use Rattle.rules.specs.Rules.Words.{Party, is, Mode, Request, Config, lineLifted, lineHung, carrierHeard, carrierLost, Happened, heard, signal, operator, answeringOn, What, onSlot, Deed, carrierOn, carrierOff, acknowledge, ringBack, unable, dial, releaseLine, tick, onChannel70}
 use Rattle.rules.specs.Rules.Heard.{Heard, callRequest, dataRequest, bq, workingCall, endOfCall, nothing, meaning}
-use Rattle.rules.specs.ListAlone.Book.{Stop, after, offerTime, alike, Said, silent, toldBQ, toldRQ, settled, Call, quiet, dialled, talking, Line, Book, atPlaces, Place, line}
-use Rattle.rules.specs.ListAlone.Reading.{close, withGone, pickUp, lose, signOff, hearSaid, hearLine, settle, told, tell, rungUp, beginCall, dialUp, letGo, hush, join, queued, read, withWait, again, hearHeard, hearDue, hear, setNow, stopOf, callOf, stopsSaid, stopsOn, stopsDue, stopsAgain, stopsHeard, stopsAt}
+use Rattle.rules.specs.ListAlone.Book.{Stop, after, offerTime, alike, Said, silent, toldBQ, toldRQ, settled, Call, quiet, dialled, talking, Column, Book, atPlaces, Place, column}
+use Rattle.rules.specs.ListAlone.Reading.{close, withGone, pickUp, lose, signOff, hearSaid, hearColumn, settle, told, tell, rungUp, beginCall, dialUp, letGo, hush, join, queued, read, withWait, again, hearHeard, hearDue, hear, setNow, stopOf, callOf, stopsSaid, stopsOn, stopsDue, stopsAgain, stopsHeard, stopsAt}
 use Rattle.rules.specs.Rules.Waits.{Wait, ofQueue, loss, main, Due}
 
-abbrev pub line-of : Said → Option ℕ → Call → Option ℕ → Line
-line-of s w c g = record { said = s; wait = w; call = c; gone = g }
+abbrev pub column-of : Said → Option ℕ → Call → Option ℕ → Column
+column-of s w c g = record { said = s; wait = w; call = c; gone = g }
 
 -- the answered part of a call
 abbrev pub talk : Call → Call
@@ -28,19 +28,19 @@ talk-is (talking y k b) x m t h = h
 
 -- ── what leaves the answered part alone ──────────────────────────────────────
 
-abbrev pub Same : (Line → Line) → Type 0
-Same f = (l : Line) → talk (f l .call) ≡ talk (l .call)
+abbrev pub Same : (Column → Column) → Type 0
+Same f = (l : Column) → talk (f l .call) ≡ talk (l .call)
 
-cond-same : (c : Call) (b : Bool) (x y : Line) → talk (x .call) ≡ c → talk (y .call) ≡ c → talk (cond b x y .call) ≡ c
+cond-same : (c : Call) (b : Bool) (x y : Column) → talk (x .call) ≡ c → talk (y .call) ≡ c → talk (cond b x y .call) ≡ c
 cond-same c true x y p q = p
 cond-same c false x y p q = q
 
 tell-same : (u : ℕ) (r : Request) → Same (tell u r)
 tell-same u r l = go (l .said)
   where
-    go : (s : Said) → talk (tell u r (line-of s (l .wait) (l .call) (l .gone)) .call) ≡ talk (l .call)
+    go : (s : Said) → talk (tell u r (column-of s (l .wait) (l .call) (l .gone)) .call) ≡ talk (l .call)
     go silent = refl
-    go (toldBQ o) = cond-same _ (alike r o) (line-of (toldBQ o) (l .wait) (l .call) (l .gone)) (told u r (line-of (toldBQ o) (l .wait) (l .call) (l .gone))) refl refl
+    go (toldBQ o) = cond-same _ (alike r o) (column-of (toldBQ o) (l .wait) (l .call) (l .gone)) (told u r (column-of (toldBQ o) (l .wait) (l .call) (l .gone))) refl refl
     go (toldRQ o) = refl
     go (settled o) = refl
 
@@ -52,7 +52,7 @@ begin-same r (talking x m b) = refl
 dial-same : (u : ℕ) → Same (dialUp u)
 dial-same u l = go (l .said)
   where
-    go : (s : Said) → talk (dialUp u (line-of s (l .wait) (l .call) (l .gone)) .call) ≡ talk (l .call)
+    go : (s : Said) → talk (dialUp u (column-of s (l .wait) (l .call) (l .gone)) .call) ≡ talk (l .call)
     go silent = refl
     go (toldBQ r) = begin-same r (l .call)
     go (toldRQ r) = begin-same r (l .call)
@@ -61,7 +61,7 @@ dial-same u l = go (l .said)
 release-same : Same letGo
 release-same l = go (l .call)
   where
-    go : (c : Call) → talk (letGo (line-of (l .said) (l .wait) c (l .gone)) .call) ≡ talk c
+    go : (c : Call) → talk (letGo (column-of (l .said) (l .wait) c (l .gone)) .call) ≡ talk c
     go quiet = refl
     go (dialled x m) = refl
     go (talking x m b) = refl
@@ -69,7 +69,7 @@ release-same l = go (l .call)
 lose-same : (u : ℕ) → Same (lose u)
 lose-same u l = go (l .call)
   where
-    go : (c : Call) → talk (lose u (line-of (l .said) (l .wait) c (l .gone)) .call) ≡ talk c
+    go : (c : Call) → talk (lose u (column-of (l .said) (l .wait) c (l .gone)) .call) ≡ talk c
     go quiet = refl
     go (dialled x m) = refl
     go (talking x m b) = refl
@@ -77,40 +77,40 @@ lose-same u l = go (l .call)
 settle-same : (u : ℕ) (x : Party) → Same (settle u x)
 settle-same u x l = go (l .said)
   where
-    go : (s : Said) → talk (settle u x (line-of s (l .wait) (l .call) (l .gone)) .call) ≡ talk (l .call)
+    go : (s : Said) → talk (settle u x (column-of s (l .wait) (l .call) (l .gone)) .call) ≡ talk (l .call)
     go silent = refl
     go (toldBQ r) = refl
-    go (toldRQ r) = cond-same _ (is x (r .who)) (line-of (settled r) (some (after u offerTime)) (l .call) (l .gone)) (line-of (toldRQ r) (l .wait) (l .call) (l .gone)) refl refl
+    go (toldRQ r) = cond-same _ (is x (r .who)) (column-of (settled r) (some (after u offerTime)) (l .call) (l .gone)) (column-of (toldRQ r) (l .wait) (l .call) (l .gone)) refl refl
     go (settled r) = refl
 
 -- ── what a deed says ─────────────────────────────────────────────────────────
 
-pub queued-lines : (u n : ℕ) (x : Party) (b : Book) → queued u n x b .lines ≡ b .lines
-queued-lines u n x b = go (eqb n 103)
+pub queued-columns : (u n : ℕ) (x : Party) (b : Book) → queued u n x b .columns ≡ b .columns
+queued-columns u n x b = go (eqb n 103)
   where
-    go : (c : Bool) → cond c (atPlaces (join u x) b) b .lines ≡ b .lines
+    go : (c : Bool) → cond c (atPlaces (join u x) b) b .columns ≡ b .columns
     go true = refl
     go false = refl
 
 -- no deed begins or stops an answered call
-pub data Leaves (ls : List Line) : List Line → Type 0 where
+pub data Leaves (ls : List Column) : List Column → Type 0 where
   elsewhere : Leaves ls ls
-  at-line : (i : ℕ) (f : Line → Line) → Same f → Leaves ls (modAt f i ls)
+  at-column : (i : ℕ) (f : Column → Column) → Same f → Leaves ls (modAt f i ls)
 
-pub read-leaves : (u : ℕ) (d : Deed) (b : Book) → Leaves (b .lines) (read u d b .lines)
+pub read-leaves : (u : ℕ) (d : Deed) (b : Book) → Leaves (b .columns) (read u d b .columns)
 read-leaves u (carrierOn i) b = elsewhere
-read-leaves u (carrierOff i) b = at-line i hush (λ l. refl)
-read-leaves u (acknowledge i r) b = at-line i (tell u r) (tell-same u r)
-read-leaves u (ringBack i r) b = at-line i (rungUp u r) (λ l. refl)
-read-leaves u (unable n x digits) b = rw (queued-lines u n x b) elsewhere
-read-leaves u (dial i n) b = at-line i (dialUp u) (dial-same u)
-read-leaves u (releaseLine i) b = at-line i letGo release-same
+read-leaves u (carrierOff i) b = at-column i hush (λ l. refl)
+read-leaves u (acknowledge i r) b = at-column i (tell u r) (tell-same u r)
+read-leaves u (ringBack i r) b = at-column i (rungUp u r) (λ l. refl)
+read-leaves u (unable n x digits) b = rw (queued-columns u n x b) elsewhere
+read-leaves u (dial i n) b = at-column i (dialUp u) (dial-same u)
+read-leaves u (releaseLine i) b = at-column i letGo release-same
 
--- ── what an event says, on the line i at the time u ──────────────────────────
+-- ── what an event says, on the column i at the time u ──────────────────────────
 
--- it is read by f, and a call k on the line gives the stops s k
-pub data Hears (u i : ℕ) (e : What) : (Line → Line) → (Call → List Stop) → Type 0 where
-  says-nothing : (f : Line → Line) → Same f → Hears u i e f (λ k. [])
+-- it is read by f, and a call k on the column gives the stops s k
+pub data Hears (u i : ℕ) (e : What) : (Column → Column) → (Call → List Stop) → Type 0 where
+  says-nothing : (f : Column → Column) → Same f → Hears u i e f (λ k. [])
   says-begun : e ≡ answeringOn i → Hears u i e (pickUp u) (λ k. [])
   says-over : Hears u i e close (stopOf u i)
   says-end : (x : Party) → Hears u i e (signOff u x) (λ k. cond (callOf x k) (stopOf u i k) [])
@@ -123,41 +123,41 @@ said-hears u i e (workingCall x) = says-nothing (λ l. l) (λ l. refl)
 said-hears u i e (endOfCall x) = says-end x
 said-hears u i e nothing = says-nothing (λ l. l) (λ l. refl)
 
-line-hears : (cfg : Config) (u i : ℕ) (h : Happened) → Hears u i (onSlot i h) (hearLine cfg u h) (λ k. stopsOn cfg u i k h)
-line-hears cfg u i (heard m) = said-hears u i (onSlot i (heard m)) (meaning cfg m)
-line-hears cfg u i (signal lineLifted) = says-begun refl
-line-hears cfg u i (signal lineHung) = says-over
-line-hears cfg u i (signal carrierHeard) = says-nothing (withGone none) (λ l. refl)
-line-hears cfg u i (signal carrierLost) = says-nothing (lose u) (lose-same u)
-line-hears cfg u i (operator h) = says-nothing (λ l. l) (λ l. refl)
+column-hears : (cfg : Config) (u i : ℕ) (h : Happened) → Hears u i (onSlot i h) (hearColumn cfg u h) (λ k. stopsOn cfg u i k h)
+column-hears cfg u i (heard m) = said-hears u i (onSlot i (heard m)) (meaning cfg m)
+column-hears cfg u i (signal lineLifted) = says-begun refl
+column-hears cfg u i (signal lineHung) = says-over
+column-hears cfg u i (signal carrierHeard) = says-nothing (withGone none) (λ l. refl)
+column-hears cfg u i (signal carrierLost) = says-nothing (lose u) (lose-same u)
+column-hears cfg u i (operator h) = says-nothing (λ l. l) (λ l. refl)
 
 -- ── what an event says of the whole book b, at its moment u ──────────────────
 
--- the book that it is read into, and the calls that it stops: no line is concerned, or one, or all are asked whether a call of x is over
+-- the book that it is read into, and the calls that it stops: no column is concerned, or one, or all are asked whether a call of x is over
 pub data Hearing (u : ℕ) (e : What) (b : Book) : Book → List Stop → Type 0 where
-  no-line : (ps : List Place) → Hearing u e b (record { now = u; lines = b .lines; places = ps }) []
-  one-line : (i : ℕ) (f : Line → Line) (s : Call → List Stop) → Hears u i e f s → Hearing u e b (record { now = u; lines = modAt f i (b .lines); places = b .places }) (s (line b i .call))
-  all-lines : (x : Party) → Hearing u e b (record { now = u; lines = map (again x) (b .lines); places = b .places }) (stopsAgain u x 0 (b .lines))
+  no-column : (ps : List Place) → Hearing u e b (record { now = u; columns = b .columns; places = ps }) []
+  one-column : (i : ℕ) (f : Column → Column) (s : Call → List Stop) → Hears u i e f s → Hearing u e b (record { now = u; columns = modAt f i (b .columns); places = b .places }) (s (column b i .call))
+  all-columns : (x : Party) → Hearing u e b (record { now = u; columns = map (again x) (b .columns); places = b .places }) (stopsAgain u x 0 (b .columns))
 
 module _ (u : ℕ) (e : What) (b : Book) where
   wait-hearing : (w : Wait) (d : ℕ) → Hearing u e b (hearDue (setNow u b) (some record { what = w; at = d })) (stopsDue u b (some record { what = w; at = d }))
-  wait-hearing (ofQueue k) d = no-line (dropAt k (b .places))
-  wait-hearing (loss i) d = one-line i close (stopOf u i) says-over
-  wait-hearing (main i) d = one-line i (withWait none) (λ k. []) (says-nothing (withWait none) (λ l. refl))
+  wait-hearing (ofQueue k) d = no-column (dropAt k (b .places))
+  wait-hearing (loss i) d = one-column i close (stopOf u i) says-over
+  wait-hearing (main i) d = one-column i (withWait none) (λ k. []) (says-nothing (withWait none) (λ l. refl))
 
   due-hearing : (o : Option Due) → Hearing u e b (hearDue (setNow u b) o) (stopsDue u b o)
-  due-hearing none = no-line (b .places)
+  due-hearing none = no-column (b .places)
   due-hearing (some p) = wait-hearing (p .what) (p .at)
 
-  heard-hearing : (m : Heard) → Hearing u e b (hearHeard u m (setNow u b)) (stopsHeard u (b .lines) m)
-  heard-hearing (callRequest r) = all-lines (r .who)
-  heard-hearing (dataRequest x n) = no-line (b .places)
-  heard-hearing (bq i x) = one-line i (settle u x) (λ k. []) (says-nothing (settle u x) (settle-same u x))
-  heard-hearing (workingCall x) = no-line (b .places)
-  heard-hearing (endOfCall x) = no-line (b .places)
-  heard-hearing nothing = no-line (b .places)
+  heard-hearing : (m : Heard) → Hearing u e b (hearHeard u m (setNow u b)) (stopsHeard u (b .columns) m)
+  heard-hearing (callRequest r) = all-columns (r .who)
+  heard-hearing (dataRequest x n) = no-column (b .places)
+  heard-hearing (bq i x) = one-column i (settle u x) (λ k. []) (says-nothing (settle u x) (settle-same u x))
+  heard-hearing (workingCall x) = no-column (b .places)
+  heard-hearing (endOfCall x) = no-column (b .places)
+  heard-hearing nothing = no-column (b .places)
 
 pub event-hearing : (cfg : Config) (u : ℕ) (b : Book) (o : Option Due) (w : What) → Hearing u w b (hear cfg u o w (setNow u b)) (stopsAt cfg u b o w)
 event-hearing cfg u b o tick = due-hearing u tick b o
 event-hearing cfg u b o (onChannel70 m) = heard-hearing u (onChannel70 m) b (meaning cfg m)
-event-hearing cfg u b o (onSlot i h) = one-line i (hearLine cfg u h) (λ k. stopsOn cfg u i k h) (line-hears cfg u i h)
+event-hearing cfg u b o (onSlot i h) = one-column i (hearColumn cfg u h) (λ k. stopsOn cfg u i k h) (column-hears cfg u i h)

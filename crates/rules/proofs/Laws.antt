@@ -1,6 +1,6 @@
--- What the reading means, said of one entry and one line, with no station in sight.
---     begins   a line talks after an entry only if it talked before, or the entry answers it and it was dialled
---     ends     a line that talked talks on, or the entry holds its stop
+-- What the reading means, said of one entry and one column, with no station in sight.
+--     begins   a column talks after an entry only if it talked before, or the entry answers it and it was dialled
+--     ends     a column that talked talks on, or the entry holds its stop
 use mathlib.Core.Path.{_≡_, refl, sym, ap, _∙_}
 use mathlib.Core.Logic.{_⊎_, inl, inr}
 use mathlib.Core.List.{List, [], _∷_, _++_, map}
@@ -13,41 +13,41 @@ use lib.ListN.{getD}
 use Rattle.rules.specs.Rules.Places.{modAt}
 use Rattle.rules.specs.Rules.Words.{Party, is, Mode, Config, answeringOn, What, Deed}
 use Rattle.rules.specs.Rules.Waits.{Due}
-use Rattle.rules.specs.ListAlone.Book.{Note, Stop, after, holdTime, Said, Call, quiet, dialled, talking, Line, Book, blank, line}
+use Rattle.rules.specs.ListAlone.Book.{Note, Stop, after, holdTime, Said, Call, quiet, dialled, talking, Column, Book, blank, column}
 use Rattle.rules.specs.ListAlone.Reading.{closed, close, pickUp, signOff, again, hear, read, reads, setNow, turn, stopsIn, falling, moment, stopOf, callOf, lost, askedAgain, stopsAgain, stopsAt}
 use Rattle.rules.specs.ListAlone.ReadingLaws.{In, stopAt, Begins, Lifts, Ends}
-use Rattle.rules.proofs.Hears.{line-of, talk, talk-is, Same, Leaves, elsewhere, at-line, read-leaves, Hears, says-nothing, says-begun, says-over, says-end, Hearing, no-line, one-line, all-lines, event-hearing}
+use Rattle.rules.proofs.Hears.{column-of, talk, talk-is, Same, Leaves, elsewhere, at-column, read-leaves, Hears, says-nothing, says-begun, says-over, says-end, Hearing, no-column, one-column, all-columns, event-hearing}
 
 -- ── no deed begins or stops an answered call ─────────────────────────────────
 
-same-at : (f : Line → Line) → Same f → (i j : ℕ) (ls : List Line) → talk (getD (modAt f i ls) j blank .call) ≡ talk (getD ls j blank .call)
+same-at : (f : Column → Column) → Same f → (i j : ℕ) (ls : List Column) → talk (getD (modAt f i ls) j blank .call) ≡ talk (getD ls j blank .call)
 same-at f h i j [] = refl
 same-at f h zero zero (l ∷ ls) = h l
 same-at f h zero (suc j) (l ∷ ls) = refl
 same-at f h (suc i) zero (l ∷ ls) = refl
 same-at f h (suc i) (suc j) (l ∷ ls) = same-at f h i j ls
 
-read-same : (u j : ℕ) (d : Deed) (b : Book) → talk (line (read u d b) j .call) ≡ talk (line b j .call)
-read-same u j d b = go (read u d b .lines) (read-leaves u d b)
+read-same : (u j : ℕ) (d : Deed) (b : Book) → talk (column (read u d b) j .call) ≡ talk (column b j .call)
+read-same u j d b = go (read u d b .columns) (read-leaves u d b)
   where
-    go : (ls : List Line) → Leaves (b .lines) ls → talk (getD ls j blank .call) ≡ talk (getD (b .lines) j blank .call)
+    go : (ls : List Column) → Leaves (b .columns) ls → talk (getD ls j blank .call) ≡ talk (getD (b .columns) j blank .call)
     go _ elsewhere = refl
-    go _ (at-line i f h) = same-at f h i j (b .lines)
+    go _ (at-column i f h) = same-at f h i j (b .columns)
 
-reads-same : (u j : ℕ) (ds : List Deed) (b : Book) → talk (line (reads u ds b) j .call) ≡ talk (line b j .call)
+reads-same : (u j : ℕ) (ds : List Deed) (b : Book) → talk (column (reads u ds b) j .call) ≡ talk (column b j .call)
 unfolding reads
 reads-same u j [] b = refl
 reads-same u j (d ∷ ds) b = reads-same u j ds (read u d b) ∙ read-same u j d b
 
--- ── what an event does to one line ───────────────────────────────────────────
+-- ── what an event does to one column ───────────────────────────────────────────
 
--- the call c of line j is, after the entry, the call k
+-- the call c of column j is, after the entry, the call k
 data After (e : What) (u j : ℕ) (cs : List Stop) (c k : Call) : Type 0 where
   goes-on : talk k ≡ talk c → After e u j cs c k
   starts : (x : Party) (m : Mode) → e ≡ answeringOn j → c ≡ dialled x m → k ≡ talking x m u → After e u j cs c k
   stopped : (x : Party) (m : Mode) (t : ℕ) → c ≡ talking x m t → talk k ≡ quiet → In (stopAt j x t u) cs → After e u j cs c k
 
-aside : (f : Line → Line) (i j : ℕ) (ls : List Line) → (j ≡ i) ⊎ (getD (modAt f i ls) j blank ≡ getD ls j blank)
+aside : (f : Column → Column) (i j : ℕ) (ls : List Column) → (j ≡ i) ⊎ (getD (modAt f i ls) j blank ≡ getD ls j blank)
 aside f i j [] = inr refl
 aside f zero zero (l ∷ ls) = inl refl
 aside f zero (suc j) (l ∷ ls) = inr refl
@@ -58,13 +58,13 @@ aside f (suc i) (suc j) (l ∷ ls) = go (aside f i j ls)
     go (inl p) = inl (ap suc p)
     go (inr q) = inr q
 
-pub there : (f : Line → Line) → f blank ≡ blank → (i : ℕ) (ls : List Line) → getD (modAt f i ls) i blank ≡ f (getD ls i blank)
+pub there : (f : Column → Column) → f blank ≡ blank → (i : ℕ) (ls : List Column) → getD (modAt f i ls) i blank ≡ f (getD ls i blank)
 there f h i [] = sym h
 there f h zero (l ∷ ls) = refl
 there f h (suc i) (l ∷ ls) = there f h i ls
 
--- a reading of line i alone, seen from line j
-module _ (e : What) (u i j : ℕ) (cs : List Stop) (f : Line → Line) (fb : f blank ≡ blank) (ls : List Line)
+-- a reading of column i alone, seen from column j
+module _ (e : What) (u i j : ℕ) (cs : List Stop) (f : Column → Column) (fb : f blank ≡ blank) (ls : List Column)
     (at-i : After e u i cs (getD ls i blank .call) (f (getD ls i blank) .call)) where
   seen-from : After e u j cs (getD ls j blank .call) (getD (modAt f i ls) j blank .call)
   seen-from = go (aside f i j ls)
@@ -78,20 +78,20 @@ close-after e u i quiet = goes-on refl
 close-after e u i (dialled x m) = goes-on refl
 close-after e u i (talking x m t) = stopped x m t refl refl (inl refl)
 
-signOff-after : (e : What) (u : ℕ) (x : Party) (i : ℕ) (s : Said) (w : Option ℕ) (c : Call) (g : Option ℕ) → After e u i (cond (callOf x c) (stopOf u i c) []) c (signOff u x (line-of s w c g) .call)
+signOff-after : (e : What) (u : ℕ) (x : Party) (i : ℕ) (s : Said) (w : Option ℕ) (c : Call) (g : Option ℕ) → After e u i (cond (callOf x c) (stopOf u i c) []) c (signOff u x (column-of s w c g) .call)
 signOff-after e u x i s w quiet g = goes-on refl
 signOff-after e u x i s w (dialled y m) g = go (is x y)
   where
-    go : (b : Bool) → After e u i (cond b [] []) (dialled y m) (cond b (line-of s (some (after u holdTime)) quiet none) (line-of s w (dialled y m) g) .call)
+    go : (b : Bool) → After e u i (cond b [] []) (dialled y m) (cond b (column-of s (some (after u holdTime)) quiet none) (column-of s w (dialled y m) g) .call)
     go true = goes-on refl
     go false = goes-on refl
 signOff-after e u x i s w (talking y m t) g = go (is x y)
   where
-    go : (b : Bool) → After e u i (cond b (stopAt i y t u ∷ []) []) (talking y m t) (cond b (line-of s (some (after u holdTime)) quiet none) (line-of s w (talking y m t) g) .call)
+    go : (b : Bool) → After e u i (cond b (stopAt i y t u ∷ []) []) (talking y m t) (cond b (column-of s (some (after u holdTime)) quiet none) (column-of s w (talking y m t) g) .call)
     go true = stopped y m t refl refl (inl refl)
     go false = goes-on refl
 
-pickUp-after : (e : What) (u i : ℕ) (cs : List Stop) → e ≡ answeringOn i → (s : Said) (w : Option ℕ) (c : Call) (g : Option ℕ) → After e u i cs c (pickUp u (line-of s w c g) .call)
+pickUp-after : (e : What) (u i : ℕ) (cs : List Stop) → e ≡ answeringOn i → (s : Said) (w : Option ℕ) (c : Call) (g : Option ℕ) → After e u i cs c (pickUp u (column-of s w c g) .call)
 pickUp-after e u i cs h s w quiet g = goes-on refl
 pickUp-after e u i cs h s w (dialled x m) g = starts x m h refl refl
 pickUp-after e u i cs h s w (talking x m b) g = goes-on refl
@@ -105,15 +105,15 @@ in-left c [] b h = absurd h
 in-left c (d ∷ a) b (inl p) = inl p
 in-left c (d ∷ a) b (inr q) = inr (in-left c a b q)
 
-again-after : (e : What) (u : ℕ) (x : Party) (k j : ℕ) (ls : List Line) → After e u (k + j) (stopsAgain u x k ls) (getD ls j blank .call) (getD (map (again x) ls) j blank .call)
+again-after : (e : What) (u : ℕ) (x : Party) (k j : ℕ) (ls : List Column) → After e u (k + j) (stopsAgain u x k ls) (getD ls j blank .call) (getD (map (again x) ls) j blank .call)
 again-after e u x k j [] = goes-on refl
 again-after e u x k zero (l ∷ ls) = rw (add-zero k) (go (l .call) (l .gone))
   where
-    pick : (b : Bool) (y : Party) (m : Mode) (t : ℕ) (g : Option ℕ) → After e u k (cond b (stopAt k y t u ∷ []) [] ++ stopsAgain u x (suc k) ls) (talking y m t) (cond b (close (line-of (l .said) (l .wait) (talking y m t) g)) (line-of (l .said) (l .wait) (talking y m t) g) .call)
+    pick : (b : Bool) (y : Party) (m : Mode) (t : ℕ) (g : Option ℕ) → After e u k (cond b (stopAt k y t u ∷ []) [] ++ stopsAgain u x (suc k) ls) (talking y m t) (cond b (close (column-of (l .said) (l .wait) (talking y m t) g)) (column-of (l .said) (l .wait) (talking y m t) g) .call)
     pick true y m t g = stopped y m t refl refl (inl refl)
     pick false y m t g = goes-on refl
 
-    go : (c : Call) (g : Option ℕ) → After e u k (cond (askedAgain x c g) (stopOf u k c) [] ++ stopsAgain u x (suc k) ls) c (again x (line-of (l .said) (l .wait) c g) .call)
+    go : (c : Call) (g : Option ℕ) → After e u k (cond (askedAgain x c g) (stopOf u k c) [] ++ stopsAgain u x (suc k) ls) c (again x (column-of (l .said) (l .wait) c g) .call)
     go quiet g = goes-on refl
     go (dialled y m) g = goes-on refl
     go (talking y m t) g = pick ((is x y) && (lost m g)) y m t g
@@ -124,27 +124,27 @@ again-after e u x k (suc j) (l ∷ ls) = rw (add-suc k j, ← (suc-add k j)) (mo
     more (starts y m p q r) = starts y m p q r
     more (stopped y m t p q r) = stopped y m t p q (in-append _ (cond (askedAgain x (l .call) (l .gone)) (stopOf u k (l .call)) []) _ r)
 
-hears-after : (u i j : ℕ) (e : What) (f : Line → Line) (s : Call → List Stop) → Hears u i e f s → (ls : List Line) → After e u j (s (getD ls i blank .call)) (getD ls j blank .call) (getD (modAt f i ls) j blank .call)
+hears-after : (u i j : ℕ) (e : What) (f : Column → Column) (s : Call → List Stop) → Hears u i e f s → (ls : List Column) → After e u j (s (getD ls i blank .call)) (getD ls j blank .call) (getD (modAt f i ls) j blank .call)
 hears-after u i j e _ _ (says-nothing f h) ls = goes-on (same-at f h i j ls)
 hears-after u i j e _ _ (says-begun h) ls = let l = getD ls i blank in seen-from e u i j [] (pickUp u) refl ls (pickUp-after e u i [] h (l .said) (l .wait) (l .call) (l .gone))
 hears-after u i j e _ _ says-over ls = seen-from e u i j (stopOf u i (getD ls i blank .call)) close refl ls (close-after e u i (getD ls i blank .call))
 hears-after u i j e _ _ (says-end x) ls = let l = getD ls i blank in seen-from e u i j (cond (callOf x (l .call)) (stopOf u i (l .call)) []) (signOff u x) refl ls (signOff-after e u x i (l .said) (l .wait) (l .call) (l .gone))
 
-hearing-after : (u j : ℕ) (e : What) (b k : Book) (cs : List Stop) → Hearing u e b k cs → After e u j cs (line b j .call) (line k j .call)
-hearing-after u j e b _ _ (no-line ps) = goes-on refl
-hearing-after u j e b _ _ (one-line i f s h) = hears-after u i j e f s h (b .lines)
-hearing-after u j e b _ _ (all-lines x) = rw (zero-add j) at (again-after e u x 0 j (b .lines))
+hearing-after : (u j : ℕ) (e : What) (b k : Book) (cs : List Stop) → Hearing u e b k cs → After e u j cs (column b j .call) (column k j .call)
+hearing-after u j e b _ _ (no-column ps) = goes-on refl
+hearing-after u j e b _ _ (one-column i f s h) = hears-after u i j e f s h (b .columns)
+hearing-after u j e b _ _ (all-columns x) = rw (zero-add j) at (again-after e u x 0 j (b .columns))
 
-hear-after : (cfg : Config) (b : Book) (u : ℕ) (o : Option Due) (w : What) (j : ℕ) → After w u j (stopsAt cfg u b o w) (line b j .call) (line (hear cfg u o w (setNow u b)) j .call)
+hear-after : (cfg : Config) (b : Book) (u : ℕ) (o : Option Due) (w : What) (j : ℕ) → After w u j (stopsAt cfg u b o w) (column b j .call) (column (hear cfg u o w (setNow u b)) j .call)
 hear-after cfg b u o w j = hearing-after u j w b _ _ (event-hearing cfg u b o w)
 
 -- ── the two laws ─────────────────────────────────────────────────────────────
 
--- the line just after the event, before the deeds are read
+-- the column just after the event, before the deeds are read
 mid : Config → Book → Note → ℕ → Call
-mid cfg b n j = line (hear cfg (moment b (n .event)) (falling b (n .event)) (n .event .what) (setNow (moment b (n .event)) b)) j .call
+mid cfg b n j = column (hear cfg (moment b (n .event)) (falling b (n .event)) (n .event .what) (setNow (moment b (n .event)) b)) j .call
 
-turn-mid : (cfg : Config) (b : Book) (n : Note) (j : ℕ) → talk (line (turn cfg b n) j .call) ≡ talk (mid cfg b n j)
+turn-mid : (cfg : Config) (b : Book) (n : Note) (j : ℕ) → talk (column (turn cfg b n) j .call) ≡ talk (mid cfg b n j)
 unfolding turn mid
 turn-mid cfg b n j = reads-same (moment b (n .event)) j (n .deeds) (hear cfg (moment b (n .event)) (falling b (n .event)) (n .event .what) (setNow (moment b (n .event)) b))
 
@@ -155,8 +155,8 @@ begins cfg b n j x m t h = go (hear-after cfg b (moment b (n .event)) (falling b
     now-talks : mid cfg b n j ≡ talking x m t
     now-talks = talk-is (mid cfg b n j) x m t (sym (turn-mid cfg b n j) ∙ ap talk h)
 
-    go : After (n .event .what) (moment b (n .event)) j (stopsAt cfg (moment b (n .event)) b (falling b (n .event)) (n .event .what)) (line b j .call) (mid cfg b n j) → (line b j .call ≡ talking x m t) ⊎ ((n .event .what ≡ answeringOn j) × ((moment b (n .event) ≡ t) × (line b j .call ≡ dialled x m)))
-    go (goes-on p) = inl (talk-is (line b j .call) x m t (sym p ∙ ap talk now-talks))
+    go : After (n .event .what) (moment b (n .event)) j (stopsAt cfg (moment b (n .event)) b (falling b (n .event)) (n .event .what)) (column b j .call) (mid cfg b n j) → (column b j .call ≡ talking x m t) ⊎ ((n .event .what ≡ answeringOn j) × ((moment b (n .event) ≡ t) × (column b j .call ≡ dialled x m)))
+    go (goes-on p) = inl (talk-is (column b j .call) x m t (sym p ∙ ap talk now-talks))
     go (starts y k p q r) =
         let s : talking y k (moment b (n .event)) ≡ talking x m t = sym r ∙ now-talks in
         let sx : y ≡ x = cc in
@@ -169,8 +169,8 @@ pub ends : Ends
 unfolding Ends mid stopsIn
 ends cfg b n j x m t h = go (hear-after cfg b (moment b (n .event)) (falling b (n .event)) (n .event .what) j)
   where
-    go : After (n .event .what) (moment b (n .event)) j (stopsAt cfg (moment b (n .event)) b (falling b (n .event)) (n .event .what)) (line b j .call) (mid cfg b n j) → (line (turn cfg b n) j .call ≡ talking x m t) ⊎ In (stopAt j x t (moment b (n .event))) (stopsIn cfg b n)
-    go (goes-on p) = inl (talk-is (line (turn cfg b n) j .call) x m t (turn-mid cfg b n j ∙ p ∙ ap talk h))
+    go : After (n .event .what) (moment b (n .event)) j (stopsAt cfg (moment b (n .event)) b (falling b (n .event)) (n .event .what)) (column b j .call) (mid cfg b n j) → (column (turn cfg b n) j .call ≡ talking x m t) ⊎ In (stopAt j x t (moment b (n .event))) (stopsIn cfg b n)
+    go (goes-on p) = inl (talk-is (column (turn cfg b n) j .call) x m t (turn-mid cfg b n j ∙ p ∙ ap talk h))
     go (starts y k p q r) = let z : dialled y k ≡ talking x m t = sym q ∙ h in let w : _≡_ {A = ℕ} 0 1 = cc in absurd (omega arith)
     go (stopped y k v p q r) =
         let s : talking y k v ≡ talking x m t = sym p ∙ h in
@@ -178,10 +178,10 @@ ends cfg b n j x m t h = go (hear-after cfg b (moment b (n .event)) (falling b (
         let sv : v ≡ t = cc in
         inr (rw (sx, sv) at r)
 
--- the other half of `begins`: a dialled line that is answered talks from then on
+-- the other half of `begins`: a dialled column that is answered talks from then on
 pub lifts : Lifts
 unfolding Lifts mid
-lifts cfg t n ds b j x m h = talk-is _ x m t (turn-mid cfg b (record { event = record { time = t; room = n; what = answeringOn j }; deeds = ds }) j ∙ ap (λ (l : Line). talk (l .call)) (there (pickUp t) refl j (b .lines)) ∙ go (line b j) h)
+lifts cfg t n ds b j x m h = talk-is _ x m t (turn-mid cfg b (record { event = record { time = t; room = n; what = answeringOn j }; deeds = ds }) j ∙ ap (λ (l : Column). talk (l .call)) (there (pickUp t) refl j (b .columns)) ∙ go (column b j) h)
   where
-    go : (l : Line) → l .call ≡ dialled x m → talk (pickUp t l .call) ≡ talking x m t
+    go : (l : Column) → l .call ≡ dialled x m → talk (pickUp t l .call) ≡ talking x m t
     go l e = rw e refl

@@ -1,4 +1,4 @@
--- `Literally`: the three words say of every slot what the book says of its line.
+-- `Literally`: the three words say of every slot what the book says of its column.
 use mathlib.Core.Path.{_≡_, refl, sym, ap, _∙_}
 use mathlib.Core.List.{List, [], _∷_}
 use mathlib.Core.Option.{Option, none, some}
@@ -12,7 +12,7 @@ use Rattle.rules.specs.Rules.Station.{Slot, Station, theSlot, fresh, set
 use Rattle.rules.specs.Rules.Requests.{Out, coastEnd, slotOf, placeOf, standsAt, standing, ruleA, repeated, afresh, ruleD, offer, ruleF, ruleG, eToG, newcomer, dToG, redial, requested}
 use Rattle.rules.specs.Rules.Calls.{actAt, act}
 use Rattle.rules.specs.Rules.Verdict.{verdict, play}
-use Rattle.rules.specs.ListAlone.Book.{Stop, Line, Book, line}
+use Rattle.rules.specs.ListAlone.Book.{Stop, Column, Book, column}
 use Rattle.rules.specs.ListAlone.Reading.{readAll}
 use Rattle.rules.specs.ListAlone.ThreeWords.{Word, idle, ringing, wordHeard, wordDone, wordsDone, wordAfter, wordOf}
 use Rattle.rules.specs.Statement.{deedsOf, notes, Literally}
@@ -121,18 +121,18 @@ next-length cfg st e = ap length (sym (act-told cfg st (e .time) (e .what) .tell
 next-word : (cfg : Config) (i : ℕ) (st : Station) (e : Event) → i < length (words st) → wordsDone i (deedsOf (act cfg st e .acts)) (wordHeard i (e .time) (e .what) (getD (words st) i idle)) ≡ getD (words (act cfg st e .next)) i idle
 next-word cfg i st e h = ap (wordsDone i (deedsOf (act cfg st e .acts))) (lifted-one i (e .time) (e .what) (words st) h) ∙ spoken-one i (deedsOf (act cfg st e .acts)) (heardBy (e .time) (e .what) (words st)) (rw (lifted-length (e .time) (e .what) (words st)) h) ∙ ap (λ (ws : List Word). getD ws i idle) (act-told cfg st (e .time) (e .what) .telling)
 
-word-seen : (i : ℕ) (st : Station) → getD (words st) i idle ≡ wordOf (line (seen st) i .call)
+word-seen : (i : ℕ) (st : Station) → getD (words st) i idle ≡ wordOf (column (seen st) i .call)
 unfolding seen
-word-seen i st = slot-mapped st word i ∙ ap (λ (l : Line). wordOf (l .call)) (sym (slot-mapped st view i))
+word-seen i st = slot-mapped st word i ∙ ap (λ (l : Column). wordOf (l .call)) (sym (slot-mapped st view i))
 
-run-words : (cfg : Config) (i : ℕ) (es : List Event) (st : Station) → i < length (words st) → wordAfter i (notes (play cfg es st)) (getD (words st) i idle) ≡ wordOf (line (readAll cfg (notes (play cfg es st)) (seen st)) i .call)
+run-words : (cfg : Config) (i : ℕ) (es : List Event) (st : Station) → i < length (words st) → wordAfter i (notes (play cfg es st)) (getD (words st) i idle) ≡ wordOf (column (readAll cfg (notes (play cfg es st)) (seen st)) i .call)
 unfolding play wordAfter readAll notes
 run-words cfg i [] st h = word-seen i st
 run-words cfg i (e ∷ es) st h = go (verdict cfg st e) refl (λ s k. run-words cfg i es s k)
   where
-    go : (o : Option ℕ) → verdict cfg st e ≡ o → ((s : Station) → i < length (words s) → wordAfter i (notes (play cfg es s)) (getD (words s) i idle) ≡ wordOf (line (readAll cfg (notes (play cfg es s)) (seen s)) i .call))
-        → wordAfter i (notes (play cfg (e ∷ es) st)) (getD (words st) i idle) ≡ wordOf (line (readAll cfg (notes (play cfg (e ∷ es) st)) (seen st)) i .call)
-    go none v ih = rw (play-on cfg e es st v) (ap (wordAfter i (notes (play cfg es (act cfg st e .next)))) (next-word cfg i st e h) ∙ ih (act cfg st e .next) (rw (next-length cfg st e) h) ∙ ap (λ (b : Book). wordOf (line (readAll cfg (notes (play cfg es (act cfg st e .next))) b) i .call)) (sym (turn-is cfg st e v)))
+    go : (o : Option ℕ) → verdict cfg st e ≡ o → ((s : Station) → i < length (words s) → wordAfter i (notes (play cfg es s)) (getD (words s) i idle) ≡ wordOf (column (readAll cfg (notes (play cfg es s)) (seen s)) i .call))
+        → wordAfter i (notes (play cfg (e ∷ es) st)) (getD (words st) i idle) ≡ wordOf (column (readAll cfg (notes (play cfg (e ∷ es) st)) (seen st)) i .call)
+    go none v ih = rw (play-on cfg e es st v) (ap (wordAfter i (notes (play cfg es (act cfg st e .next)))) (next-word cfg i st e h) ∙ ih (act cfg st e .next) (rw (next-length cfg st e) h) ∙ ap (λ (b : Book). wordOf (column (readAll cfg (notes (play cfg es (act cfg st e .next))) b) i .call)) (sym (turn-is cfg st e v)))
     go (some n) v ih = rw (play-past cfg e es st n v) (ih st h)
 
 blank-word : (n i : ℕ) → getD (replicate n idle) i idle ≡ idle

@@ -31,7 +31,7 @@ module _ (cfg : Config) (c t : ℕ) (h : c ≤ t) where
   one-good i (dialled x m) e = tt
   one-good i (talking x m b) e = let a = leb-true b c e in ((omega arith, refl), tt)
 
-  all-good : (b : Book) → all (λ l. since c (l .call)) (b .lines) ≡ true → (o : Option Due) (w : What)
+  all-good : (b : Book) → all (λ l. since c (l .call)) (b .columns) ≡ true → (o : Option Due) (w : What)
       → Each (λ s. EndsAt t (owed s)) (stopsAt cfg t b o w)
   all-good b e o w = each-stop cfg t (λ s. EndsAt t (owed s)) (since c) refl one-good b e o w
 
@@ -66,9 +66,9 @@ owed-lengths : (ss : List (Numbered Stop)) → tenthsIn (owedFor ss) ≡ lengths
 owed-lengths [] = refl
 owed-lengths (s ∷ ss) = rw (owed-lengths ss) refl
 
-uncharged-read : (cfg : Config) (es : List Event) → talkedBy (readAll cfg (notes (play cfg es (fresh cfg))) (blankBook cfg) .now) (readAll cfg (notes (play cfg es (fresh cfg))) (blankBook cfg) .lines) ≡ unchargedTenths (final cfg es (fresh cfg))
+uncharged-read : (cfg : Config) (es : List Event) → talkedBy (readAll cfg (notes (play cfg es (fresh cfg))) (blankBook cfg) .now) (readAll cfg (notes (play cfg es (fresh cfg))) (blankBook cfg) .columns) ≡ unchargedTenths (final cfg es (fresh cfg))
 unfolding seen
-uncharged-read cfg es = ap (λ (b : Book). talkedBy (b .now) (b .lines)) (ap (readAll cfg (notes (play cfg es (fresh cfg)))) (sym (fresh-seen cfg)) ∙ read-final cfg es (fresh cfg)) ∙ sym (uncharged-seen (final cfg es (fresh cfg)))
+uncharged-read cfg es = ap (λ (b : Book). talkedBy (b .now) (b .columns)) (ap (readAll cfg (notes (play cfg es (fresh cfg)))) (sym (fresh-seen cfg)) ∙ read-final cfg es (fresh cfg)) ∙ sym (uncharged-seen (final cfg es (fresh cfg)))
 
 pub counts-agree : CountsAgree
 unfolding CountsAgree countedByCalls ChargesAreStops TenthsAgree

@@ -12,8 +12,8 @@ use Rattle.rules.specs.Rules.Actions.{Action, does, over, Ender, theShip
 use Rattle.rules.specs.Rules.Station.{Kind, firstRing, rungAgain, agreedAt, Stage, answeredAt, dialling, answered, Dealing, Slot, free, taken, pending, busy, held, Station, setSlot, dueAfter, replyWait, holdWait, carrierWait}
 use Rattle.rules.specs.Rules.Requests.{Out, ignored, also, freed, lasted, endActs, coastEnd}
 use Rattle.rules.specs.Rules.Calls.{dialNow, workingKind, workingOn, agreed, bqKind, bqFor, offHookStage, offHookOn, startLoss, downOn, upOn, shipEnd, sayAgain, shipEndOn, endOn, takeOn, giveOn, offerDue, ringAgain, pendingDue, replyDue, mainOn, heardOn, happenedOn}
-use Rattle.rules.specs.ListAlone.Book.{Stop, Line, Place}
-use Rattle.rules.specs.ListAlone.Reading.{close, withWait, withGone, pickUp, lose, signOff, hearSaid, hearLine, settle, tell, rungUp, dialUp, letGo, hush, leave, stopOf, callOf, stopsSaid, stopsOn}
+use Rattle.rules.specs.ListAlone.Book.{Stop, Column, Place}
+use Rattle.rules.specs.ListAlone.Reading.{close, withWait, withGone, pickUp, lose, signOff, hearSaid, hearColumn, settle, tell, rungUp, dialUp, letGo, hush, leave, stopOf, callOf, stopsSaid, stopsOn}
 use Rattle.rules.specs.ListAlone.Repeated.{Dials}
 use Rattle.rules.specs.ListAlone.ThreeWords.{Word, idle, ringing, answer, wordOf}
 use Rattle.rules.specs.Statement.{deedsOf, chargesOf, owed}
@@ -55,7 +55,7 @@ pub data Move (i t : ℕ) : Slot → Next → List Action → Type 0 where
   to-take : Move i t free (becomes taken) []
   to-give : Move i t taken frees []
 
--- the word of a line that an event is heard on
+-- the word of a column that an event is heard on
 abbrev pub lifted : ℕ → Happened → Word → Word
 lifted t h w = cond (isAnswering h) (answer t w) w
 
@@ -71,13 +71,13 @@ leaves p stays = p
 leaves p (becomes q) = q
 leaves p frees = free
 
--- ── what is read of it: the book's line of the slot, and its three words ─────
+-- ── what is read of it: the book's column of the slot, and its three words ─────
 
 abbrev pub word : Slot → Word
 word s = wordOf (view s .call)
 
 -- a deed about the slot itself
-abbrev pub lineDone : ℕ → Deed → Line → Line
+abbrev pub lineDone : ℕ → Deed → Column → Column
 lineDone t (carrierOn i) l = l
 lineDone t (carrierOff i) l = hush l
 lineDone t (acknowledge i r) l = tell t r l
@@ -86,7 +86,7 @@ lineDone t (unable n x digits) l = l
 lineDone t (dial i digits) l = dialUp t l
 lineDone t (releaseLine i) l = letGo l
 
-abbrev pub linesDone : ℕ → List Deed → Line → Line
+abbrev pub linesDone : ℕ → List Deed → Column → Column
 linesDone t [] l = l
 linesDone t (d ∷ ds) l = linesDone t ds (lineDone t d l)
 
@@ -154,8 +154,8 @@ turned-fits i t _ _ _ to-take h = refl
 
 -- ── the outcome ──────────────────────────────────────────────────────────────
 
--- the slot i of st holds p; the event is read on its line by f and on its word by w, and stops cs
-pub data Outcome (i : ℕ) (st : Station) (f : Line → Line) (w : Word → Word) (cs : List Stop) (p : Slot) : Out → Type 0 where
+-- the slot i of st holds p; the event is read on its column by f and on its word by w, and stops cs
+pub data Outcome (i : ℕ) (st : Station) (f : Column → Column) (w : Word → Word) (cs : List Stop) (p : Slot) : Out → Type 0 where
   passed : f (view p) ≡ view p → w (word p) ≡ word p → [] ≡ map owed cs → Outcome i st f w cs p (ignored st)
   moved : {n : Next} {acts : List Action} → Move i (st .clock) p n acts
       → linesDone (st .clock) (deedsOf acts) (f (view p)) ≡ view (leaves p n)
@@ -163,7 +163,7 @@ pub data Outcome (i : ℕ) (st : Station) (f : Line → Line) (w : Word → Word
       → Outcome i st f w cs p (played i st n acts)
 
 module _ (i : ℕ) (st : Station) where
-  outcome-if : {f : Line → Line} {w : Word → Word} {cs : List Stop} {p : Slot} (b : Bool) (x y : Out) → (b ≡ true → Outcome i st f w cs p x) → (b ≡ false → Outcome i st f w cs p y) → Outcome i st f w cs p (cond b x y)
+  outcome-if : {f : Column → Column} {w : Word → Word} {cs : List Stop} {p : Slot} (b : Bool) (x y : Out) → (b ≡ true → Outcome i st f w cs p x) → (b ≡ false → Outcome i st f w cs p y) → Outcome i st f w cs p (cond b x y)
   outcome-if true x y g h = g refl
   outcome-if false x y g h = h refl
 
@@ -275,7 +275,7 @@ module _ (i : ℕ) (st : Station) where
   said-outcome p (endOfCall x) = shipEnd-outcome x p
   said-outcome p nothing = passed refl refl refl
 
-  pub happened-outcome : (cfg : Config) (p : Slot) (h : Happened) → Outcome i st (hearLine cfg (st .clock) h) (lifted (st .clock) h) (stopsOn cfg (st .clock) i (view p .call) h) p (happenedOn cfg i st p h)
+  pub happened-outcome : (cfg : Config) (p : Slot) (h : Happened) → Outcome i st (hearColumn cfg (st .clock) h) (lifted (st .clock) h) (stopsOn cfg (st .clock) i (view p .call) h) p (happenedOn cfg i st p h)
   unfolding happenedOn
   happened-outcome cfg p (heard m) = said-outcome p (meaning cfg m)
   happened-outcome cfg p (signal lineLifted) = offHook-outcome p

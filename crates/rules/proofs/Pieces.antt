@@ -12,7 +12,7 @@ use Rattle.rules.specs.Rules.Words.{Party, is, Request}
 use Rattle.rules.specs.Rules.Actions.{theCoast, Action}
 use Rattle.rules.specs.Rules.Station.{Slot, Waiting, Station, theSlot, setSlot, setQueue, dueAfter, queueWait, isFree, ringOf, offerOf}
 use Rattle.rules.specs.Rules.Requests.{Out, done, also, rungBack, freedFor, freed, endActs, coastEnd, waitsFor, afresh, ruleD, offer, ruleF, ruleG, eToG, newcomer}
-use Rattle.rules.specs.ListAlone.Book.{Stop, Line, Place, Book, blank, atLine}
+use Rattle.rules.specs.ListAlone.Book.{Stop, Column, Place, Book, blank, atColumn}
 use Rattle.rules.specs.ListAlone.Reading.{tell, rungUp, letGo, hush, leave, join, reads, stopOf}
 use Rattle.rules.specs.Statement.{deedsOf, chargesOf, owed}
 use Rattle.rules.proofs.PlaceLaws.{modAt-modAt, shift-some, shift-none}
@@ -44,16 +44,16 @@ pub good-done : (st : Station) (b : Book) → b ≡ seen st → Good (st .clock)
 unfolding reads
 good-done st b h = record { reading = h; charging = refl }
 
-pub book-is : {a b : Book} → a .now ≡ b .now → a .lines ≡ b .lines → a .places ≡ b .places → a ≡ b
-book-is p q r = λ k. record { now = p k; lines = q k; places = r k }
+pub book-is : {a b : Book} → a .now ≡ b .now → a .columns ≡ b .columns → a .places ≡ b .places → a ≡ b
+book-is p q r = λ k. record { now = p k; columns = q k; places = r k }
 
 -- two readings of one slot, one after the other
-pub lines² : (i : ℕ) (st : Station) (p : Slot) → theSlot st i ≡ p → (f g : Line → Line) (q : Slot) → g (f (view p)) ≡ view q
+pub lines² : (i : ℕ) (st : Station) (p : Slot) → theSlot st i ≡ p → (f g : Column → Column) (q : Slot) → g (f (view p)) ≡ view q
     → modAt g i (modAt f i (map view (st .slots))) ≡ map view (modAt (λ x. q) i (st .slots))
 lines² i st p e f g q h = modAt-modAt f g i (map view (st .slots)) ∙ slot-set st view (λ l. g (f l)) q i (rw e h)
 
-pub atLine³ : (i : ℕ) (f g h : Line → Line) (b : Book) → atLine i h (atLine i g (atLine i f b)) ≡ atLine i (λ l. h (g (f l))) b
-atLine³ i f g h b = ap (atLine i h) (atLine² i f g b) ∙ atLine² i (λ l. g (f l)) h b
+pub atLine³ : (i : ℕ) (f g h : Column → Column) (b : Book) → atColumn i h (atColumn i g (atColumn i f b)) ≡ atColumn i (λ l. h (g (f l))) b
+atLine³ i f g h b = ap (atColumn i h) (atLine² i f g b) ∙ atLine² i (λ l. g (f l)) h b
 
 -- ── a slot is freed ──────────────────────────────────────────────────────────
 
@@ -61,7 +61,7 @@ leave-first : (x : Party) (p : Place) (ps : List Place) → p .who ≡ x → lea
 leave-first x p ps h = rw (is-same x (p .who) (sym h))
 
 freedFor-good : (i : ℕ) (st : Station) (p : Slot) → theSlot st i ≡ p → (q : List Waiting) → st .queue ≡ q
-    → (f : Line → Line) → f (view p) ≡ blank → Good (st .clock) (atLine i f (seen st)) [] (freedFor i st q)
+    → (f : Column → Column) → f (view p) ≡ blank → Good (st .clock) (atColumn i f (seen st)) [] (freedFor i st q)
 unfolding freedFor rungBack reads seen setSlot setQueue
 freedFor-good i st p e [] eq f h = record { reading = moves i st p e f _ h; charging = refl }
 freedFor-good i st p e (w ∷ q) eq f h = record {
@@ -69,17 +69,17 @@ freedFor-good i st p e (w ∷ q) eq f h = record {
   charging = refl;
 }
 
-pub freed-good : (i : ℕ) (st : Station) (p : Slot) → theSlot st i ≡ p → (f : Line → Line) → f (view p) ≡ blank → Good (st .clock) (atLine i f (seen st)) [] (freed i st)
+pub freed-good : (i : ℕ) (st : Station) (p : Slot) → theSlot st i ≡ p → (f : Column → Column) → f (view p) ≡ blank → Good (st .clock) (atColumn i f (seen st)) [] (freed i st)
 unfolding freed
 freed-good i st p e f h = freedFor-good i st p e (st .queue) refl f h
 
 -- ── the coast's end ──────────────────────────────────────────────────────────
 
-pub coastEnd-good : (i : ℕ) (r : Request) (g : Option ℕ) (st : Station) (p : Slot) → theSlot st i ≡ p → (f : Line → Line) → hush (letGo (f (view p))) ≡ blank
-    → Good (st .clock) (atLine i f (seen st)) (stopOf (st .clock) i (callIn r g)) (coastEnd i r g st)
+pub coastEnd-good : (i : ℕ) (r : Request) (g : Option ℕ) (st : Station) (p : Slot) → theSlot st i ≡ p → (f : Column → Column) → hush (letGo (f (view p))) ≡ blank
+    → Good (st .clock) (atColumn i f (seen st)) (stopOf (st .clock) i (callIn r g)) (coastEnd i r g st)
 unfolding coastEnd reads
-coastEnd-good i r none st p e f h = good-also (st .clock) (atLine i f (seen st)) (atLine i (λ l. hush (letGo (f l))) (seen st)) [] [] (endActs i theCoast r none (st .clock)) (freed i st) (atLine³ i f letGo hush (seen st)) refl (freed-good i st p e (λ l. hush (letGo (f l))) h)
-coastEnd-good i r (some b) st p e f h = good-also (st .clock) (atLine i f (seen st)) (atLine i (λ l. hush (letGo (f l))) (seen st)) (stopOf (st .clock) i (callIn r (some b))) [] (endActs i theCoast r (some b) (st .clock)) (freed i st) (atLine³ i f letGo hush (seen st)) refl (freed-good i st p e (λ l. hush (letGo (f l))) h)
+coastEnd-good i r none st p e f h = good-also (st .clock) (atColumn i f (seen st)) (atColumn i (λ l. hush (letGo (f l))) (seen st)) [] [] (endActs i theCoast r none (st .clock)) (freed i st) (atLine³ i f letGo hush (seen st)) refl (freed-good i st p e (λ l. hush (letGo (f l))) h)
+coastEnd-good i r (some b) st p e f h = good-also (st .clock) (atColumn i f (seen st)) (atColumn i (λ l. hush (letGo (f l))) (seen st)) (stopOf (st .clock) i (callIn r (some b))) [] (endActs i theCoast r (some b) (st .clock)) (freed i st) (atLine³ i f letGo hush (seen st)) refl (freed-good i st p e (λ l. hush (letGo (f l))) h)
 
 -- ── rules d to g ─────────────────────────────────────────────────────────────
 

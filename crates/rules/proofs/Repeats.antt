@@ -169,7 +169,7 @@ module _ (r : Request) (a : Party → Heard) (b : Book) (st : Station) (k : Know
 -- ── any event ────────────────────────────────────────────────────────────────
 
 module _ (a : Party → Heard) where
-  effect-said : (k : Book) (st : Station) → k .lines ≡ map view (st .slots) → Known a st → Once st → (b : Book) (ws : List Word) (cs : List Stop) (m : Heard) (o : Out) → Effect st b ws cs m o → Said m a k o
+  effect-said : (k : Book) (st : Station) → k .columns ≡ map view (st .slots) → Known a st → Once st → (b : Book) (ws : List Word) (cs : List Stop) (m : Heard) (o : Out) → Effect st b ws cs m o → Said m a k o
   unfolding ruleA standing
   effect-said k st v n once _ _ _ _ _ (rests m j h) = calm-said _ a k _ (still m a k j st n)
   effect-said k st v n once _ _ _ _ _ (drops j) = calm-said _ a k _ (drop-calm nothing a k st n j)

@@ -7,16 +7,16 @@ use Prim.Native.Nat.{ℕ}
 use Rattle.rules.specs.Rules.Words.{Party, Mode, simplex, duplex, Request}
 use Rattle.rules.specs.Rules.Station.{Kind, Stage, answeredAt, Dealing, Slot, pending, busy, Station, offerOf}
 use Rattle.rules.specs.Rules.Requests.{Out, ignored, owns, repeated, afresh, same, ruleB, redial, ruleC, bOrC}
-use Rattle.rules.specs.ListAlone.Book.{Stop, Line, blank}
+use Rattle.rules.specs.ListAlone.Book.{Stop, Column, blank}
 use Rattle.rules.specs.ListAlone.Reading.{again, tell, letGo, hush, stopOf, askedAgain}
 use Rattle.rules.specs.Statement.{owed}
 use Rattle.rules.proofs.Base.{by-slot, by-kind, by-stage, callIn, view, alike-same}
 
--- what the request stops on the slot's line
-abbrev pub againOf : ℕ → Party → ℕ → Line → List Stop
+-- what the request stops on the slot's column
+abbrev pub againOf : ℕ → Party → ℕ → Column → List Stop
 againOf t x i l = cond (askedAgain x (l .call) (l .gone)) (stopOf t i (l .call)) []
 
--- the slot i of st holds p; where it is the ship's, the request is read on its line by `again`, and stops cs
+-- the slot i of st holds p; where it is the ship's, the request is read on its column by `again`, and stops cs
 pub data Ruling (i : ℕ) (st : Station) (r : Request) (cs : List Stop) : Slot → Out → Type 0 where
   passes : (p : Slot) → (owns (r .who) p ≡ true → (again (r .who) (view p) ≡ view p) × ([] ≡ map owed cs))
       → Ruling i st r cs p (ignored st)

@@ -13,7 +13,7 @@ use Rattle.rules.specs.Rules.Sound.{owners}
 use Rattle.rules.specs.Rules.Requests.{Out, slotOf, placeOf, standing, ruleA, owns}
 use Rattle.rules.specs.Rules.Calls.{actAt, act}
 use Rattle.rules.specs.Rules.Verdict.{verdict, step, play, final}
-use Rattle.rules.specs.ListAlone.Book.{Note, Stop, Line, Place, atLine, blankBook, Book}
+use Rattle.rules.specs.ListAlone.Book.{Note, Stop, Column, Place, atColumn, blankBook, Book}
 use Rattle.rules.specs.ListAlone.Reading.{hear, reads, setNow, turn, stopsIn, Numbered, numbered, stops, fallsAt, momentOf, stopsAt}
 use Rattle.rules.specs.ListAlone.ThreeWords.{Word}
 use Rattle.rules.specs.Statement.{deedsOf, chargesOf, notes, charged, owed, owedFor, ChargesAreStops, RefusedLeavesAll, Accepts, eventsOf, AllPlayed}
@@ -34,7 +34,7 @@ module _ (st : Station) (once : distinct is (owners (st .slots) (map (λ w. w .r
       let h : owns x (theSlot st i) ≡ true = rw e (is-same x x refl) in
       leave-none x (st .queue) (elem-waiting x (st .queue) (owner-apart x _ (st .slots) (map (λ w. w .request .who) (st .queue)) i once h refl))
 
-  slot-good : {f : Line → Line} {w : Word → Word} {cs : List Stop} {o : Out} → Outcome i st f w cs (theSlot st i) o → Good (st .clock) (atLine i f (seen st)) cs o
+  slot-good : {f : Column → Column} {w : Word → Word} {cs : List Stop} {o : Out} → Outcome i st f w cs (theSlot st i) o → Good (st .clock) (atColumn i f (seen st)) cs o
   slot-good u = outcome-good i st (theSlot st i) refl u apart
 
 dropAt-map : (k : ℕ) (q : List Waiting) → dropAt k (map place q) ≡ map place (dropAt k q)
@@ -47,7 +47,7 @@ dropAt-map (suc k) (w ∷ q) = ap (λ z. place w ∷ z) (dropAt-map k q)
 effect-good : (st : Station) → distinct is (owners (st .slots) (map (λ w. w .request .who) (st .queue))) ≡ true → (b : Book) (ws : List Word) (cs : List Stop) (m : Heard) (o : Out) → Effect st b ws cs m o → Good (st .clock) b cs o
 unfolding ruleA standing seen setQueue reads
 effect-good st s _ _ _ _ _ (rests m n h) = record { reading = refl; charging = refl }
-effect-good st s _ _ _ _ _ (drops k) = good-done (setQueue (dropAt k (st .queue)) st) _ (ap (λ (z : List Place). record { now = st .clock; lines = map view (st .slots); places = z }) (dropAt-map k (st .queue)))
+effect-good st s _ _ _ _ _ (drops k) = good-done (setQueue (dropAt k (st .queue)) st) _ (ap (λ (z : List Place). record { now = st .clock; columns = map view (st .slots); places = z }) (dropAt-map k (st .queue)))
 effect-good st s _ _ _ _ _ (data-asked x n) = record { reading = refl; charging = refl }
 effect-good st s _ _ _ _ _ (call-asked r) = request-good st r (map (λ w. w .request .who) (st .queue)) s (slotOf (r .who) st) (placeOf (r .who) st) refl refl
 effect-good st s _ _ _ _ _ (to-slot m i u e) = slot-good st s i u
@@ -101,7 +101,7 @@ run-charges cfg (e ∷ es) k st = go (verdict cfg st e) refl (λ k s. run-charge
 
 pub fresh-seen : (cfg : Config) → seen (fresh cfg) ≡ blankBook cfg
 unfolding seen fresh blankBook
-fresh-seen cfg = ap (λ (z : List Line). record { now = 0; lines = z; places = [] }) (fresh-mapped cfg view)
+fresh-seen cfg = ap (λ (z : List Column). record { now = 0; columns = z; places = [] }) (fresh-mapped cfg view)
 
 -- the charges given are the stops that the list shows, in order, each in its entry
 pub charges-are-stops : ChargesAreStops

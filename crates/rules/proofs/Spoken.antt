@@ -11,7 +11,7 @@ use Rattle.rules.specs.Rules.Words.{Request, Deed, carrierOn, carrierOff
 use Rattle.rules.specs.Rules.Actions.{theCoast, Action}
 use Rattle.rules.specs.Rules.Station.{Slot, Waiting, Station, theSlot, setSlot, setQueue, ringOf}
 use Rattle.rules.specs.Rules.Requests.{Out, ignored, also, rungBack, freedFor, freed, endActs, coastEnd}
-use Rattle.rules.specs.ListAlone.Book.{Stop, Line}
+use Rattle.rules.specs.ListAlone.Book.{Stop, Column}
 use Rattle.rules.specs.ListAlone.ThreeWords.{Word, idle, ringing}
 use Rattle.rules.specs.Statement.{deedsOf}
 use Rattle.rules.proofs.PlaceLaws.{modAt-modAt, modAt-none}
@@ -130,6 +130,6 @@ module _ (i : ℕ) (st : Station) where
   played-told f p (becomes q) acts e a h = record { telling = spoken-here (deedsOf acts) f (words st) a ∙ turns-to (λ w. allDone (deedsOf acts) (f w)) q (rw e h) }
   played-told f p frees acts e a h = told-also (modAt f i (words st)) (modAt (λ w. allDone (deedsOf acts) (f w)) i (words st)) acts (freed i st) (spoken-here (deedsOf acts) f (words st) a) (freed-told _ (turns-to (λ w. allDone (deedsOf acts) (f w)) _ (rw e h)))
 
-  pub outcome-told : {f : Line → Line} {w : Word → Word} {cs : List Stop} {o : Out} (p : Slot) → Outcome i st f w cs p o → theSlot st i ≡ p → Spoken (modAt w i (words st)) o
+  pub outcome-told : {f : Column → Column} {w : Word → Word} {cs : List Stop} {o : Out} (p : Slot) → Outcome i st f w cs p o → theSlot st i ≡ p → Spoken (modAt w i (words st)) o
   outcome-told {w = w} p (passed a b c) e = told-ignored (modAt w i (words st)) st (rests w (rw e b))
   outcome-told {w = w} p (moved {n} {acts} u a b c) e = played-told w p n acts e (move-about [] i (st .clock) p n acts u (λ k r d h. refl)) b

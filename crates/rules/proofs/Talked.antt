@@ -8,11 +8,11 @@ use native.Mathlib.Omega.{arith}
 use lib.ListN.{getD}
 use Rattle.rules.specs.Rules.Places.{modAt}
 use Rattle.rules.specs.Rules.Words.{Party, is, Mode, Config, What, Deed}
-use Rattle.rules.specs.ListAlone.Book.{Note, Stop, after, holdTime, Call, quiet, dialled, talking, Line, Book, blank}
+use Rattle.rules.specs.ListAlone.Book.{Note, Stop, after, holdTime, Call, quiet, dialled, talking, Column, Book, blank}
 use Rattle.rules.specs.ListAlone.Reading.{closed, close, pickUp, signOff, again, hear, read, reads, setNow, turn, stopsIn, talked, talkedBy, falling, moment, stopOf, callOf, askedAgain, stopsAgain}
-use Rattle.rules.proofs.Hears.{line-of, talk, Same, Leaves, elsewhere, at-line, read-leaves, Hears, says-nothing, says-begun, says-over, says-end, Hearing, no-line, one-line, all-lines, event-hearing}
+use Rattle.rules.proofs.Hears.{column-of, talk, Same, Leaves, elsewhere, at-column, read-leaves, Hears, says-nothing, says-begun, says-over, says-end, Hearing, no-column, one-column, all-columns, event-hearing}
 
--- ── the answered calls of a list of lines, up to a time ──────────────────────
+-- ── the answered calls of a list of columns, up to a time ──────────────────────
 
 abbrev pub sum : List Stop → ℕ
 sum [] = 0
@@ -24,28 +24,28 @@ talked-talk t (dialled x m) = refl
 talked-talk t (talking x m b) = refl
 
 -- what leaves every answered call alone leaves what they have talked
-keeps-at : (t : ℕ) (f : Line → Line) → Same f → (i : ℕ) (ls : List Line) → talkedBy t (modAt f i ls) ≡ talkedBy t ls
+keeps-at : (t : ℕ) (f : Column → Column) → Same f → (i : ℕ) (ls : List Column) → talkedBy t (modAt f i ls) ≡ talkedBy t ls
 keeps-at t f h i [] = refl
 keeps-at t f h zero (l ∷ ls) = ap (λ n. n + talkedBy t ls) (sym (talked-talk t (f l .call)) ∙ ap (talked t) (h l) ∙ talked-talk t (l .call))
 keeps-at t f h (suc i) (l ∷ ls) = ap (λ n. talked t (l .call) + n) (keeps-at t f h i ls)
 
 -- ── what a deed says keeps every talked ──────────────────────────────────────
 
-read-keeps : (t u : ℕ) (d : Deed) (b : Book) → talkedBy t (read u d b .lines) ≡ talkedBy t (b .lines)
-read-keeps t u d b = go (read u d b .lines) (read-leaves u d b)
+read-keeps : (t u : ℕ) (d : Deed) (b : Book) → talkedBy t (read u d b .columns) ≡ talkedBy t (b .columns)
+read-keeps t u d b = go (read u d b .columns) (read-leaves u d b)
   where
-    go : (ls : List Line) → Leaves (b .lines) ls → talkedBy t ls ≡ talkedBy t (b .lines)
+    go : (ls : List Column) → Leaves (b .columns) ls → talkedBy t ls ≡ talkedBy t (b .columns)
     go _ elsewhere = refl
-    go _ (at-line i f h) = keeps-at t f h i (b .lines)
+    go _ (at-column i f h) = keeps-at t f h i (b .columns)
 
-reads-keeps : (t u : ℕ) (ds : List Deed) (b : Book) → talkedBy t (reads u ds b .lines) ≡ talkedBy t (b .lines)
+reads-keeps : (t u : ℕ) (ds : List Deed) (b : Book) → talkedBy t (reads u ds b .columns) ≡ talkedBy t (b .columns)
 unfolding reads
 reads-keeps t u [] b = refl
 reads-keeps t u (d ∷ ds) b = reads-keeps t u ds (read u d b) ∙ read-keeps t u d b
 
 -- ── what an event says takes away what stops ─────────────────────────────────
 
-close-takes : (t i k : ℕ) (ls : List Line) → sum (stopOf t k (getD ls i blank .call)) + talkedBy t (modAt close i ls) ≡ talkedBy t ls
+close-takes : (t i k : ℕ) (ls : List Column) → sum (stopOf t k (getD ls i blank .call)) + talkedBy t (modAt close i ls) ≡ talkedBy t ls
 close-takes t i k [] = refl
 close-takes t zero k (l ∷ ls) = go (l .call)
   where
@@ -55,25 +55,25 @@ close-takes t zero k (l ∷ ls) = go (l .call)
     go (talking x m b) = omega arith
 close-takes t (suc i) k (l ∷ ls) = omega (arith, close-takes t i k ls)
 
-signOff-takes : (t u : ℕ) (x : Party) (i k : ℕ) (ls : List Line) → sum (cond (callOf x (getD ls i blank .call)) (stopOf t k (getD ls i blank .call)) []) + talkedBy t (modAt (signOff u x) i ls) ≡ talkedBy t ls
+signOff-takes : (t u : ℕ) (x : Party) (i k : ℕ) (ls : List Column) → sum (cond (callOf x (getD ls i blank .call)) (stopOf t k (getD ls i blank .call)) []) + talkedBy t (modAt (signOff u x) i ls) ≡ talkedBy t ls
 signOff-takes t u x i k [] = refl
 signOff-takes t u x zero k (l ∷ ls) = go (l .call)
   where
-    pick : (b : Bool) (y : Party) (m : Mode) (c : ℕ) → sum (cond b (stopOf t k (talking y m c)) []) + (talked t (cond b (line-of (l .said) (some (after u holdTime)) quiet none) (line-of (l .said) (l .wait) (talking y m c) (l .gone)) .call) + talkedBy t ls) ≡ (t - c) + talkedBy t ls
+    pick : (b : Bool) (y : Party) (m : Mode) (c : ℕ) → sum (cond b (stopOf t k (talking y m c)) []) + (talked t (cond b (column-of (l .said) (some (after u holdTime)) quiet none) (column-of (l .said) (l .wait) (talking y m c) (l .gone)) .call) + talkedBy t ls) ≡ (t - c) + talkedBy t ls
     pick true y m c = omega arith
     pick false y m c = omega arith
 
-    pick0 : (b : Bool) (y : Party) (m : Mode) → sum (cond b (stopOf t k (dialled y m)) []) + (talked t (cond b (line-of (l .said) (some (after u holdTime)) quiet none) (line-of (l .said) (l .wait) (dialled y m) (l .gone)) .call) + talkedBy t ls) ≡ 0 + talkedBy t ls
+    pick0 : (b : Bool) (y : Party) (m : Mode) → sum (cond b (stopOf t k (dialled y m)) []) + (talked t (cond b (column-of (l .said) (some (after u holdTime)) quiet none) (column-of (l .said) (l .wait) (dialled y m) (l .gone)) .call) + talkedBy t ls) ≡ 0 + talkedBy t ls
     pick0 true y m = omega arith
     pick0 false y m = omega arith
 
-    go : (c : Call) → sum (cond (callOf x c) (stopOf t k c) []) + (talked t (signOff u x (line-of (l .said) (l .wait) c (l .gone)) .call) + talkedBy t ls) ≡ talked t c + talkedBy t ls
+    go : (c : Call) → sum (cond (callOf x c) (stopOf t k c) []) + (talked t (signOff u x (column-of (l .said) (l .wait) c (l .gone)) .call) + talkedBy t ls) ≡ talked t c + talkedBy t ls
     go quiet = omega arith
     go (dialled y m) = pick0 (is x y) y m
     go (talking y m b) = pick (is x y) y m b
 signOff-takes t u x (suc i) k (l ∷ ls) = omega (arith, signOff-takes t u x i k ls)
 
-again-takes : (t : ℕ) (x : Party) (k : ℕ) (ls : List Line) → sum (stopsAgain t x k ls) + talkedBy t (map (again x) ls) ≡ talkedBy t ls
+again-takes : (t : ℕ) (x : Party) (k : ℕ) (ls : List Column) → sum (stopsAgain t x k ls) + talkedBy t (map (again x) ls) ≡ talkedBy t ls
 again-takes t x k [] = refl
 again-takes t x k (l ∷ ls) = go (askedAgain x (l .call) (l .gone)) (l .call) (again-takes t x (suc k) ls)
   where
@@ -87,32 +87,32 @@ again-takes t x k (l ∷ ls) = go (askedAgain x (l .call) (l .gone)) (l .call) (
     pick (talking y m b) = omega arith
 
     go : (b : Bool) (c : Call) → sum (stopsAgain t x (suc k) ls) + talkedBy t (map (again x) ls) ≡ talkedBy t ls
-        → sum (cond b (stopOf t k c) [] ++ stopsAgain t x (suc k) ls) + (talked t (cond b (close (line-of (l .said) (l .wait) c (l .gone))) (line-of (l .said) (l .wait) c (l .gone)) .call) + talkedBy t (map (again x) ls)) ≡ talked t c + talkedBy t ls
+        → sum (cond b (stopOf t k c) [] ++ stopsAgain t x (suc k) ls) + (talked t (cond b (close (column-of (l .said) (l .wait) c (l .gone))) (column-of (l .said) (l .wait) c (l .gone)) .call) + talkedBy t (map (again x) ls)) ≡ talked t c + talkedBy t ls
     go true c h = omega (arith, sum-append (stopOf t k c) (stopsAgain t x (suc k) ls), pick c)
     go false c h = omega arith
 
-pickUp-takes : (t i : ℕ) (ls : List Line) → talkedBy t (modAt (pickUp t) i ls) ≡ talkedBy t ls
+pickUp-takes : (t i : ℕ) (ls : List Column) → talkedBy t (modAt (pickUp t) i ls) ≡ talkedBy t ls
 pickUp-takes t i [] = refl
 pickUp-takes t zero (l ∷ ls) = go (l .call)
   where
-    go : (c : Call) → talked t (pickUp t (line-of (l .said) (l .wait) c (l .gone)) .call) + talkedBy t ls ≡ talked t c + talkedBy t ls
+    go : (c : Call) → talked t (pickUp t (column-of (l .said) (l .wait) c (l .gone)) .call) + talkedBy t ls ≡ talked t c + talkedBy t ls
     go quiet = refl
     go (dialled x m) = omega arith
     go (talking x m b) = refl
 pickUp-takes t (suc i) (l ∷ ls) = ap (λ n. talked t (l .call) + n) (pickUp-takes t i ls)
 
-hears-takes : (t i : ℕ) (e : What) (f : Line → Line) (s : Call → List Stop) → Hears t i e f s → (ls : List Line) → sum (s (getD ls i blank .call)) + talkedBy t (modAt f i ls) ≡ talkedBy t ls
+hears-takes : (t i : ℕ) (e : What) (f : Column → Column) (s : Call → List Stop) → Hears t i e f s → (ls : List Column) → sum (s (getD ls i blank .call)) + talkedBy t (modAt f i ls) ≡ talkedBy t ls
 hears-takes t i e _ _ (says-nothing f h) ls = omega (arith, keeps-at t f h i ls)
 hears-takes t i e _ _ (says-begun h) ls = omega (arith, pickUp-takes t i ls)
 hears-takes t i e _ _ says-over ls = close-takes t i i ls
 hears-takes t i e _ _ (says-end x) ls = signOff-takes t t x i i ls
 
-hearing-takes : (t : ℕ) (e : What) (b k : Book) (cs : List Stop) → Hearing t e b k cs → sum cs + talkedBy t (k .lines) ≡ talkedBy t (b .lines)
-hearing-takes t e b _ _ (no-line ps) = omega arith
-hearing-takes t e b _ _ (one-line i f s h) = hears-takes t i e f s h (b .lines)
-hearing-takes t e b _ _ (all-lines x) = again-takes t x 0 (b .lines)
+hearing-takes : (t : ℕ) (e : What) (b k : Book) (cs : List Stop) → Hearing t e b k cs → sum cs + talkedBy t (k .columns) ≡ talkedBy t (b .columns)
+hearing-takes t e b _ _ (no-column ps) = omega arith
+hearing-takes t e b _ _ (one-column i f s h) = hears-takes t i e f s h (b .columns)
+hearing-takes t e b _ _ (all-columns x) = again-takes t x 0 (b .columns)
 
 -- a law of the list alone: what an entry stops is taken from what runs, and nothing else is
-pub turn-takes : (cfg : Config) (b : Book) (n : Note) → sum (stopsIn cfg b n) + talkedBy (moment b (n .event)) (turn cfg b n .lines) ≡ talkedBy (moment b (n .event)) (b .lines)
+pub turn-takes : (cfg : Config) (b : Book) (n : Note) → sum (stopsIn cfg b n) + talkedBy (moment b (n .event)) (turn cfg b n .columns) ≡ talkedBy (moment b (n .event)) (b .columns)
 unfolding turn stopsIn
 turn-takes cfg b n = rw (reads-keeps (moment b (n .event)) (moment b (n .event)) (n .deeds) (hear cfg (moment b (n .event)) (falling b (n .event)) (n .event .what) (setNow (moment b (n .event)) b))) (hearing-takes (moment b (n .event)) (n .event .what) b _ _ (event-hearing cfg (moment b (n .event)) b (falling b (n .event)) (n .event .what)))

@@ -23,7 +23,7 @@ use Rattle.rules.proofs.Accepted.{accepted, sounds, begun-all}
 use Rattle.rules.proofs.Run.{noteOf, turn-is, stops-are, play-on, play-past, final-on, final-past, fresh-seen}
 use Rattle.rules.proofs.Talked.{sum, turn-takes}
 use Rattle.rules.proofs.Moments.{moment-on}
-use Rattle.rules.proofs.Hears.{Hearing, no-line, one-line, all-lines, event-hearing}
+use Rattle.rules.proofs.Hears.{Hearing, no-column, one-column, all-columns, event-hearing}
 
 -- ── the time moves on ────────────────────────────────────────────────────────
 
@@ -84,7 +84,7 @@ tenths-numbered : (k : ℕ) (cs : List Stop) (r : List (Numbered Charge)) → te
 tenths-numbered k [] r = omega arith
 tenths-numbered k (c ∷ cs) r = omega (arith, tenths-numbered k cs r)
 
-pub uncharged-seen : (st : Station) → unchargedTenths st ≡ talkedBy (st .clock) (seen st .lines)
+pub uncharged-seen : (st : Station) → unchargedTenths st ≡ talkedBy (st .clock) (seen st .columns)
 unfolding unchargedTenths seen
 uncharged-seen st = sym (uncharged-slots (st .clock) (st .slots))
 
@@ -107,9 +107,9 @@ reads-now u (d ∷ ds) b = reads-now u ds (read u d b) ∙ one d
     one (releaseLine i) = refl
 
 hearing-now : (u : ℕ) (e : What) (b k : Book) (cs : List Stop) → Hearing u e b k cs → k .now ≡ u
-hearing-now u e b _ _ (no-line ps) = refl
-hearing-now u e b _ _ (one-line i f s h) = refl
-hearing-now u e b _ _ (all-lines x) = refl
+hearing-now u e b _ _ (no-column ps) = refl
+hearing-now u e b _ _ (one-column i f s h) = refl
+hearing-now u e b _ _ (all-columns x) = refl
 
 pub turn-now : (cfg : Config) (b : Book) (n : Note) → turn cfg b n .now ≡ moment b (n .event)
 unfolding turn
@@ -125,16 +125,16 @@ settle-up h x s a n w p q r = omega arith
 
 -- one entry: what ran before, and the tenths that passed, are what it charges and what runs after
 entry-tenths : (cfg : Config) (st : Station) (e : Event) → verdict cfg st e ≡ none
-    → unchargedTenths st + (moment (seen st) e - st .clock) * talkers (seen st .lines) ≡ sum (stopsIn cfg (seen st) (noteOf e (act cfg st e .acts))) + unchargedTenths (act cfg st e .next)
+    → unchargedTenths st + (moment (seen st) e - st .clock) * talkers (seen st .columns) ≡ sum (stopsIn cfg (seen st) (noteOf e (act cfg st e .acts))) + unchargedTenths (act cfg st e .next)
 unfolding seen
 entry-tenths cfg st e v =
     let t = moment (seen st) e in
     let o = act cfg st e in
-    let after : ℕ = talkedBy t (turn cfg (seen st) (noteOf e (o .acts)) .lines) in
-    let p1 : talkedBy t (seen st .lines) ≡ unchargedTenths st + (t - st .clock) * talkers (seen st .lines) = rw (uncharged-seen st) (advance (st .clock) t (moment-on cfg st e v) (st .slots) (begun-all cfg st (sounds cfg st (accepted cfg st e v .is-sound)))) in
-    let p2 : sum (stopsIn cfg (seen st) (noteOf e (o .acts))) + after ≡ talkedBy t (seen st .lines) = turn-takes cfg (seen st) (noteOf e (o .acts)) in
-    let p3 : unchargedTenths (o .next) ≡ after = uncharged-seen (o .next) ∙ ap (λ (c : ℕ). talkedBy c (seen (o .next) .lines)) (clock-is cfg st e v) ∙ ap (λ (b : Book). talkedBy t (b .lines)) (sym (turn-is cfg st e v)) in
-    settle-up (unchargedTenths st) ((t - st .clock) * talkers (seen st .lines)) (sum (stopsIn cfg (seen st) (noteOf e (o .acts)))) after (unchargedTenths (o .next)) (talkedBy t (seen st .lines)) p1 p2 p3
+    let after : ℕ = talkedBy t (turn cfg (seen st) (noteOf e (o .acts)) .columns) in
+    let p1 : talkedBy t (seen st .columns) ≡ unchargedTenths st + (t - st .clock) * talkers (seen st .columns) = rw (uncharged-seen st) (advance (st .clock) t (moment-on cfg st e v) (st .slots) (begun-all cfg st (sounds cfg st (accepted cfg st e v .is-sound)))) in
+    let p2 : sum (stopsIn cfg (seen st) (noteOf e (o .acts))) + after ≡ talkedBy t (seen st .columns) = turn-takes cfg (seen st) (noteOf e (o .acts)) in
+    let p3 : unchargedTenths (o .next) ≡ after = uncharged-seen (o .next) ∙ ap (λ (c : ℕ). talkedBy c (seen (o .next) .columns)) (clock-is cfg st e v) ∙ ap (λ (b : Book). talkedBy t (b .columns)) (sym (turn-is cfg st e v)) in
+    settle-up (unchargedTenths st) ((t - st .clock) * talkers (seen st .columns)) (sum (stopsIn cfg (seen st) (noteOf e (o .acts)))) after (unchargedTenths (o .next)) (talkedBy t (seen st .columns)) p1 p2 p3
 
 carry : (s r f h x n c : ℕ) → h + x ≡ s + n → r + f ≡ n + c → s + r + f ≡ h + (x + c)
 carry s r f h x n c p q = omega arith
@@ -146,7 +146,7 @@ run-tenths cfg (e ∷ es) k st = go (verdict cfg st e) refl (λ k s. run-tenths 
   where
     go : (o : Option ℕ) → verdict cfg st e ≡ o → ((k : ℕ) (s : Station) → tenthsIn (charged k (play cfg es s)) + unchargedTenths (final cfg es s) ≡ unchargedTenths s + counted cfg (notes (play cfg es s)) (seen s))
         → tenthsIn (charged k (play cfg (e ∷ es) st)) + unchargedTenths (final cfg (e ∷ es) st) ≡ unchargedTenths st + counted cfg (notes (play cfg (e ∷ es) st)) (seen st)
-    go none h ih = rw (play-on cfg e es st h, final-on cfg e es st h, turn-is cfg st e h, stops-are cfg st e h, tenths-numbered k (stopsIn cfg (seen st) (noteOf e (act cfg st e .acts))) (charged (suc k) (play cfg es (act cfg st e .next)))) (carry (sum (stopsIn cfg (seen st) (noteOf e (act cfg st e .acts)))) (tenthsIn (charged (suc k) (play cfg es (act cfg st e .next)))) (unchargedTenths (final cfg es (act cfg st e .next))) (unchargedTenths st) ((moment (seen st) e - st .clock) * talkers (seen st .lines)) (unchargedTenths (act cfg st e .next)) (counted cfg (notes (play cfg es (act cfg st e .next))) (seen (act cfg st e .next))) (entry-tenths cfg st e h) (ih (suc k) (act cfg st e .next)))
+    go none h ih = rw (play-on cfg e es st h, final-on cfg e es st h, turn-is cfg st e h, stops-are cfg st e h, tenths-numbered k (stopsIn cfg (seen st) (noteOf e (act cfg st e .acts))) (charged (suc k) (play cfg es (act cfg st e .next)))) (carry (sum (stopsIn cfg (seen st) (noteOf e (act cfg st e .acts)))) (tenthsIn (charged (suc k) (play cfg es (act cfg st e .next)))) (unchargedTenths (final cfg es (act cfg st e .next))) (unchargedTenths st) ((moment (seen st) e - st .clock) * talkers (seen st .columns)) (unchargedTenths (act cfg st e .next)) (counted cfg (notes (play cfg es (act cfg st e .next))) (seen (act cfg st e .next))) (entry-tenths cfg st e h) (ih (suc k) (act cfg st e .next)))
     go (some n) h ih = rw (play-past cfg e es st n h, final-past cfg e es st n h) (ih k st)
 
 none-uncharged : (n : ℕ) → talkedBy 0 (replicate n blank) ≡ 0

@@ -15,7 +15,7 @@ use Rattle.rules.specs.Rules.Requests.{Out, freed, coastEnd, owns, slotO
 use Rattle.rules.specs.Rules.Calls.{act}
 use Rattle.rules.specs.Rules.Verdict.{verdict}
 use Rattle.rules.specs.Rules.Actions.{Action}
-use Rattle.rules.specs.ListAlone.Book.{Stop, Line, Book}
+use Rattle.rules.specs.ListAlone.Book.{Stop, Column, Book}
 use Rattle.rules.specs.ListAlone.Reading.{closed, moment}
 use Rattle.rules.specs.ListAlone.ThreeWords.{Word}
 use Rattle.rules.proofs.Readable.{heard-keeps}
@@ -45,7 +45,7 @@ module _ (cfg : Config) (P : Station → Type 0) (closed : Closed cfg P) where
   unfolding coastEnd
   coastEnd-kept i r g st s = closed .freeing i st s
 
-  outcome-kept : (i : ℕ) (st : Station) {f : Line → Line} {w : Word → Word} {cs : List Stop} (p : Slot) {o : Out} → Outcome i st f w cs p o → theSlot st i ≡ p → P st → P (o .next)
+  outcome-kept : (i : ℕ) (st : Station) {f : Column → Column} {w : Word → Word} {cs : List Stop} (p : Slot) {o : Out} → Outcome i st f w cs p o → theSlot st i ≡ p → P st → P (o .next)
   outcome-kept i st p (passed a b c) e s = s
   outcome-kept i st p (moved {n = stays} u a b c) e s = s
   outcome-kept i st p (moved {n = becomes q} u a b c) e s = closed .turning i st p q _ e u s

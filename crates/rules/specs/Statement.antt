@@ -14,7 +14,7 @@ use Rattle.rules.specs.Rules.Sound.{sound}
 use Rattle.rules.specs.Rules.Calls.{act}
 use Rattle.rules.specs.Rules.Verdict.{verdict, setUpVerdict, Entry, play, final}
 use Rattle.rules.specs.Rules.Bytes.{payloadOf}
-use Rattle.rules.specs.ListAlone.Book.{Book, Note, Stop, line, blankBook}
+use Rattle.rules.specs.ListAlone.Book.{Book, Note, Stop, column, blankBook}
 use Rattle.rules.specs.ListAlone.Reading.{Numbered, numbered, stops, counted, countedByCalls, readAll}
 use Rattle.rules.specs.ListAlone.ThreeWords.{idle, wordAfter, wordOf}
 use Rattle.rules.specs.ListAlone.Repeated.{Answers, RingsSame, DialsNamed, DeedByDeed}
@@ -138,9 +138,9 @@ AlwaysFits = OfEveryRun (λ c es. (length (stationAfter c es .slots) ≤ 16) × 
 abbrev pub OfEveryList : (Config → List Note → Type 0) → Type 0
 OfEveryList P = OfEveryRun (λ c es. P c (listOf c es))
 
--- "dial", "release line" and off-hook alone say of every slot what the book says of its line, after the last entry
+-- "dial", "release line" and off-hook alone say of every slot what the book says in its column, after the last entry
 abbrev pub WordsAgree : Config → List Note → Type 0
-WordsAgree c l = (i : ℕ) → i < length (c .channels) → wordAfter i l idle ≡ wordOf (line (readAll c l (blankBook c)) i .call)
+WordsAgree c l = (i : ℕ) → i < length (c .channels) → wordAfter i l idle ≡ wordOf (column (readAll c l (blankBook c)) i .call)
 
 -- of every list, so after every entry
 unfoldable pub Literally : Type 0

@@ -80,7 +80,7 @@ pub data Call : Type 0 where
   dialled : Party → Mode → Call
   talking : Party → Mode → ℕ → Call  -- since when
 
-pub record Line : Type 0 where
+pub record Column : Type 0 where
   pub said : Said
   pub wait : Option ℕ  -- due time of its wait
   pub call : Call
@@ -92,35 +92,35 @@ pub record Place : Type 0 where
 
 pub record Book : Type 0 where
   pub now : ℕ
-  pub lines : List Line
+  pub columns : List Column
   pub places : List Place
 
-abbrev pub blank : Line
+abbrev pub blank : Column
 blank = record { said = silent; wait = none; call = quiet; gone = none }
 
 -- before the first entry
 unfoldable pub blankBook : Config → Book
-blankBook c = record { now = 0; lines = replicate (length (c .channels)) blank; places = [] }
+blankBook c = record { now = 0; columns = replicate (length (c .channels)) blank; places = [] }
 
-abbrev pub atLine : ℕ → (Line → Line) → Book → Book
-atLine i f b = record { now = b .now; lines = modAt f i (b .lines); places = b .places }
+abbrev pub atColumn : ℕ → (Column → Column) → Book → Book
+atColumn i f b = record { now = b .now; columns = modAt f i (b .columns); places = b .places }
 
 abbrev pub atPlaces : (List Place → List Place) → Book → Book
-atPlaces f b = record { now = b .now; lines = b .lines; places = f (b .places) }
+atPlaces f b = record { now = b .now; columns = b .columns; places = f (b .places) }
 
-abbrev pub line : Book → ℕ → Line
-line b i = getD (b .lines) i blank
+abbrev pub column : Book → ℕ → Column
+column b i = getD (b .columns) i blank
 
 -- ── which wait is due: 01's order ─────────────────────────────────────────────
 
 -- "slots, lowest first; in one slot carrier loss before no reply"
-abbrev pub lineTable : ℕ → List Line → List Due
-lineTable i [] = []
-lineTable i (l ∷ ls) = running (loss i) (l .gone) (running (main i) (l .wait) (lineTable (suc i) ls))
+abbrev pub columnTable : ℕ → List Column → List Due
+columnTable i [] = []
+columnTable i (l ∷ ls) = running (loss i) (l .gone) (running (main i) (l .wait) (columnTable (suc i) ls))
 
 -- every wait that runs: "queue entries, oldest first; slots"
 abbrev pub waitsIn : Book → List Due
-waitsIn b = queueTable 0 (map (λ p. p .due) (b .places)) (lineTable 0 (b .lines))
+waitsIn b = queueTable 0 (map (λ p. p .due) (b .places)) (columnTable 0 (b .columns))
 
 unfoldable pub falls : ℕ → Book → Option Due
 falls t b = ifDue t (earliest (waitsIn b))

@@ -14,7 +14,7 @@ use Rattle.rules.specs.Rules.Waits.{ofQueue, loss, main, Due}
 use Rattle.rules.specs.Rules.Heard.{Heard, callRequest, dataRequest, bq, workingCall, endOfCall, nothing, meaning}
 use Rattle.rules.specs.ListAlone.Book.{Note, Stop, after, silence, offerTime, ringTime, replyTime, holdTime, queueTime}
 use Rattle.rules.specs.ListAlone.Book.{Said, silent, toldBQ, toldRQ, settled, Call, quiet, dialled, talking}
-use Rattle.rules.specs.ListAlone.Book.{Line, Place, Book, atLine, atPlaces, line, falls}
+use Rattle.rules.specs.ListAlone.Book.{Column, Place, Book, atColumn, atPlaces, column, falls}
 unfoldable use Rattle.rules.specs.ListAlone.Book.{alike}
 
 -- ── the moment of an entry ───────────────────────────────────────────────────
@@ -72,7 +72,7 @@ stopsOn c t i k (operator h) = []
 -- "carrier absent until a tick fires its wait"
 abbrev pub stopsDue : ℕ → Book → Option Due → List Stop
 stopsDue t b none = []
-stopsDue t b (some p) = elim (p .what) [ ofQueue k ↦ [] | loss i ↦ stopOf t i (line b i .call) | main i ↦ [] ]
+stopsDue t b (some p) = elim (p .what) [ ofQueue k ↦ [] | loss i ↦ stopOf t i (column b i .call) | main i ↦ [] ]
 
 abbrev pub lost : Mode → Option ℕ → Bool
 lost simplex (some d) = true
@@ -85,11 +85,11 @@ askedAgain x quiet g = false
 askedAgain x (dialled y m) g = false
 askedAgain x (talking y m b) g = is x y && lost m g
 
-abbrev pub stopsAgain : ℕ → Party → ℕ → List Line → List Stop
+abbrev pub stopsAgain : ℕ → Party → ℕ → List Column → List Stop
 stopsAgain t x i [] = []
 stopsAgain t x i (l ∷ ls) = cond (askedAgain x (l .call) (l .gone)) (stopOf t i (l .call)) [] ++ stopsAgain t x (suc i) ls
 
-abbrev pub stopsHeard : ℕ → List Line → Heard → List Stop
+abbrev pub stopsHeard : ℕ → List Column → Heard → List Stop
 stopsHeard t ls (callRequest r) = stopsAgain t (r .who) 0 ls
 stopsHeard t ls (dataRequest x n) = []
 stopsHeard t ls (bq i x) = []
@@ -100,8 +100,8 @@ stopsHeard t ls nothing = []
 -- the calls that an entry stops at the moment t, if it fires the wait f
 abbrev pub stopsAt : Config → ℕ → Book → Option Due → What → List Stop
 stopsAt c t b f tick = stopsDue t b f
-stopsAt c t b f (onChannel70 m) = stopsHeard t (b .lines) (meaning c m)
-stopsAt c t b f (onSlot i h) = stopsOn c t i (line b i .call) h
+stopsAt c t b f (onChannel70 m) = stopsHeard t (b .columns) (meaning c m)
+stopsAt c t b f (onSlot i h) = stopsOn c t i (column b i .call) h
 
 -- ── what an event says ───────────────────────────────────────────────────────
 
@@ -116,22 +116,22 @@ closed quiet = quiet
 closed (dialled x m) = dialled x m
 closed (talking x m b) = quiet
 
-abbrev pub close : Line → Line
+abbrev pub close : Column → Column
 close l = record { said = l .said; wait = l .wait; call = closed (l .call); gone = goneAfter (l .call) (l .gone) }
 
-abbrev pub withWait : Option ℕ → Line → Line
+abbrev pub withWait : Option ℕ → Column → Column
 withWait w l = record { said = l .said; wait = w; call = l .call; gone = l .gone }
 
-abbrev pub withGone : Option ℕ → Line → Line
+abbrev pub withGone : Option ℕ → Column → Column
 withGone g l = record { said = l .said; wait = l .wait; call = l .call; gone = g }
 
 -- off-hook on a dialled line: it talks from then on, and the reply wait ends
-abbrev pub pickUpCall : ℕ → Call → Line → Line
+abbrev pub pickUpCall : ℕ → Call → Column → Column
 pickUpCall t quiet l = l
 pickUpCall t (dialled x m) l = record { said = l .said; wait = none; call = talking x m t; gone = l .gone }
 pickUpCall t (talking x m b) l = l
 
-abbrev pub pickUp : ℕ → Line → Line
+abbrev pub pickUp : ℕ → Column → Column
 pickUp t l = pickUpCall t (l .call) l
 
 -- absent from t on, unless it is absent already
@@ -139,19 +139,19 @@ abbrev pub absentFrom : ℕ → Mode → Option ℕ → Option ℕ
 absentFrom t m none = some (after t (silence m))
 absentFrom t m (some d) = some d
 
-abbrev pub loseCall : ℕ → Call → Line → Line
+abbrev pub loseCall : ℕ → Call → Column → Column
 loseCall t quiet l = l
 loseCall t (dialled x m) l = withGone (absentFrom t m (l .gone)) l
 loseCall t (talking x m b) l = withGone (absentFrom t m (l .gone)) l
 
-abbrev pub lose : ℕ → Line → Line
+abbrev pub lose : ℕ → Column → Column
 lose t l = loseCall t (l .call) l
 
 -- the ship's end of call: the line is held for it
-abbrev pub signOff : ℕ → Party → Line → Line
+abbrev pub signOff : ℕ → Party → Column → Column
 signOff t x l = cond (callOf x (l .call)) (record { said = l .said; wait = some (after t holdTime); call = quiet; gone = none }) l
 
-abbrev pub hearSaid : ℕ → Heard → Line → Line
+abbrev pub hearSaid : ℕ → Heard → Column → Column
 hearSaid t (callRequest r) l = l
 hearSaid t (dataRequest x n) l = l
 hearSaid t (bq i x) l = l
@@ -159,19 +159,19 @@ hearSaid t (workingCall x) l = l
 hearSaid t (endOfCall x) l = signOff t x l
 hearSaid t nothing l = l
 
-abbrev pub hearSignal : ℕ → Signal → Line → Line
+abbrev pub hearSignal : ℕ → Signal → Column → Column
 hearSignal t lineLifted l = pickUp t l
 hearSignal t lineHung l = close l
 hearSignal t carrierHeard l = withGone none l
 hearSignal t carrierLost l = lose t l
 
-abbrev pub hearLine : Config → ℕ → Happened → Line → Line
-hearLine c t (heard m) l = hearSaid t (meaning c m) l
-hearLine c t (signal g) l = hearSignal t g l
-hearLine c t (operator h) l = l
+abbrev pub hearColumn : Config → ℕ → Happened → Column → Column
+hearColumn c t (heard m) l = hearSaid t (meaning c m) l
+hearColumn c t (signal g) l = hearSignal t g l
+hearColumn c t (operator h) l = l
 
 -- the ship's BQ to a ring-back
-abbrev pub settleSaid : ℕ → Party → Said → Line → Line
+abbrev pub settleSaid : ℕ → Party → Said → Column → Column
 settleSaid t x silent l = l
 settleSaid t x (toldBQ r) l = l
 settleSaid t x (toldRQ r) l = cond (is x (r .who))
@@ -179,17 +179,17 @@ settleSaid t x (toldRQ r) l = cond (is x (r .who))
     l
 settleSaid t x (settled r) l = l
 
-abbrev pub settle : ℕ → Party → Line → Line
+abbrev pub settle : ℕ → Party → Column → Column
 settle t x l = settleSaid t x (l .said) l
 
 -- a request from the ship of an answered simplex call whose carrier is absent
-abbrev pub again : Party → Line → Line
+abbrev pub again : Party → Column → Column
 again x l = cond (askedAgain x (l .call) (l .gone)) (close l) l
 
 abbrev pub hearHeard : ℕ → Heard → Book → Book
-hearHeard t (callRequest r) b = record { now = b .now; lines = map (again (r .who)) (b .lines); places = b .places }
+hearHeard t (callRequest r) b = record { now = b .now; columns = map (again (r .who)) (b .columns); places = b .places }
 hearHeard t (dataRequest x n) b = b
-hearHeard t (bq i x) b = atLine i (settle t x) b
+hearHeard t (bq i x) b = atColumn i (settle t x) b
 hearHeard t (workingCall x) b = b
 hearHeard t (endOfCall x) b = b
 hearHeard t nothing b = b
@@ -197,12 +197,13 @@ hearHeard t nothing b = b
 -- the wait that the tick fires is over
 abbrev pub hearDue : Book → Option Due → Book
 hearDue b none = b
-hearDue b (some p) = elim (p .what) [ ofQueue k ↦ atPlaces (dropAt k) b | loss i ↦ atLine i close b | main i ↦ atLine i (withWait none) b ]
+hearDue b (some p) =
+    elim (p .what) [ ofQueue k ↦ atPlaces (dropAt k) b | loss i ↦ atColumn i close b | main i ↦ atColumn i (withWait none) b ]
 
 abbrev pub hear : Config → ℕ → Option Due → What → Book → Book
 hear c t f tick b = hearDue b f
 hear c t f (onChannel70 m) b = hearHeard t (meaning c m) b
-hear c t f (onSlot i h) b = atLine i (hearLine c t h) b
+hear c t f (onSlot i h) b = atColumn i (hearColumn c t h) b
 
 -- what channel 70 says to this station
 abbrev pub heardAt : Config → What → Heard
@@ -212,20 +213,20 @@ heardAt c (onSlot i h) = nothing
 
 -- ── what a deed says ─────────────────────────────────────────────────────────
 
-abbrev pub told : ℕ → Request → Line → Line
+abbrev pub told : ℕ → Request → Column → Column
 told t r l = record { said = toldBQ r; wait = some (after t offerTime); call = l .call; gone = l .gone }
 
 -- an acknowledgement that repeats the one before it leaves the wait as it is
-abbrev pub tellSaid : ℕ → Request → Said → Line → Line
+abbrev pub tellSaid : ℕ → Request → Said → Column → Column
 tellSaid t r silent l = told t r l
 tellSaid t r (toldBQ o) l = cond (alike r o) l (told t r l)
 tellSaid t r (toldRQ o) l = told t r l
 tellSaid t r (settled o) l = told t r l
 
-abbrev pub tell : ℕ → Request → Line → Line
+abbrev pub tell : ℕ → Request → Column → Column
 tell t r l = tellSaid t r (l .said) l
 
-abbrev pub rungUp : ℕ → Request → Line → Line
+abbrev pub rungUp : ℕ → Request → Column → Column
 rungUp t r l = record { said = toldRQ r; wait = some (after t ringTime); call = l .call; gone = l .gone }
 
 abbrev pub beginCall : Request → Call → Call
@@ -234,29 +235,29 @@ beginCall r (dialled x m) = dialled (r .who) (r .mode)
 beginCall r (talking x m b) = talking x m b
 
 -- "Carrier counts as present"; the called person has a minute
-abbrev pub dialReq : ℕ → Request → Line → Line
+abbrev pub dialReq : ℕ → Request → Column → Column
 dialReq t r l = record { said = silent; wait = some (after t replyTime); call = beginCall r (l .call); gone = none }
 
 -- dialled for the ship and in the mode that channel 70 last named
-abbrev pub dialSaid : ℕ → Said → Line → Line
+abbrev pub dialSaid : ℕ → Said → Column → Column
 dialSaid t silent l = l
 dialSaid t (toldBQ r) l = dialReq t r l
 dialSaid t (toldRQ r) l = dialReq t r l
 dialSaid t (settled r) l = dialReq t r l
 
-abbrev pub dialUp : ℕ → Line → Line
+abbrev pub dialUp : ℕ → Column → Column
 dialUp t l = dialSaid t (l .said) l
 
-abbrev pub letGoCall : Call → Line → Line
+abbrev pub letGoCall : Call → Column → Column
 letGoCall quiet l = l
 letGoCall (dialled x m) l = record { said = l .said; wait = none; call = quiet; gone = none }
 letGoCall (talking x m b) l = l
 
 -- the line is released; a call that is answered goes on to one of its stops
-abbrev pub letGo : Line → Line
+abbrev pub letGo : Column → Column
 letGo l = letGoCall (l .call) l
 
-abbrev pub hush : Line → Line
+abbrev pub hush : Column → Column
 hush l = record { said = silent; wait = l .wait; call = l .call; gone = l .gone }
 
 abbrev pub leave : Party → List Place → List Place
@@ -273,12 +274,12 @@ queued t n x b = cond (eqb n 103) (atPlaces (join t x) b) b
 
 abbrev pub read : ℕ → Deed → Book → Book
 read t (carrierOn i) b = b
-read t (carrierOff i) b = atLine i hush b
-read t (acknowledge i r) b = atLine i (tell t r) b
-read t (ringBack i r) b = atPlaces (leave (r .who)) (atLine i (rungUp t r) b)
+read t (carrierOff i) b = atColumn i hush b
+read t (acknowledge i r) b = atColumn i (tell t r) b
+read t (ringBack i r) b = atPlaces (leave (r .who)) (atColumn i (rungUp t r) b)
 read t (unable n x digits) b = queued t n x b
-read t (dial i digits) b = atLine i (dialUp t) b
-read t (releaseLine i) b = atLine i letGo b
+read t (dial i digits) b = atColumn i (dialUp t) b
+read t (releaseLine i) b = atColumn i letGo b
 
 unfoldable pub reads : ℕ → List Deed → Book → Book
 reads t [] b = b
@@ -287,7 +288,7 @@ reads t (d ∷ ds) b = reads t ds (read t d b)
 -- ── the list read ────────────────────────────────────────────────────────────
 
 abbrev pub setNow : ℕ → Book → Book
-setNow t b = record { now = t; lines = b .lines; places = b .places }
+setNow t b = record { now = t; columns = b .columns; places = b .places }
 
 -- the book after an entry: its event heard, then its deeds read
 unfoldable pub turn : Config → Book → Note → Book
@@ -323,14 +324,14 @@ isTalking quiet = 0
 isTalking (dialled x m) = 0
 isTalking (talking x m b) = 1
 
-abbrev pub talkers : List Line → ℕ
+abbrev pub talkers : List Column → ℕ
 talkers [] = 0
 talkers (l ∷ ls) = isTalking (l .call) + talkers ls
 
 -- by time: each entry moves the time on, and every answered call that runs meanwhile counts
 unfoldable pub counted : Config → List Note → Book → ℕ
 counted c [] b = 0
-counted c (n ∷ ns) b = (moment b (n .event) - b .now) * talkers (b .lines) + counted c ns (turn c b n)
+counted c (n ∷ ns) b = (moment b (n .event) - b .now) * talkers (b .columns) + counted c ns (turn c b n)
 
 -- by calls: what a call has talked up to t, if it is answered and not stopped
 abbrev pub talked : ℕ → Call → ℕ
@@ -338,7 +339,7 @@ talked t quiet = 0
 talked t (dialled x m) = 0
 talked t (talking x m b) = t - b
 
-abbrev pub talkedBy : ℕ → List Line → ℕ
+abbrev pub talkedBy : ℕ → List Column → ℕ
 talkedBy t [] = 0
 talkedBy t (l ∷ ls) = talked t (l .call) + talkedBy t ls
 
@@ -348,4 +349,4 @@ lengths (s ∷ ss) = (s .it .stop .0 - s .it .start .0) + lengths ss
 
 -- the calls that stopped, and those that still talk at the end of the list
 unfoldable pub countedByCalls : Config → List Note → Book → ℕ
-countedByCalls c ns b = lengths (stops c 0 ns b) + talkedBy (readAll c ns b .now) (readAll c ns b .lines)
+countedByCalls c ns b = lengths (stops c 0 ns b) + talkedBy (readAll c ns b .now) (readAll c ns b .columns)

@@ -8,7 +8,7 @@ use lib.ListN.{getD, length}
 use Rattle.rules.specs.Rules.Places.{Each}
 use Rattle.rules.specs.Rules.Words.{Party, Mode, Config, answeringOn, Deed}
 use Rattle.rules.specs.Rules.Waits.{ofQueue, Due, queueTable}
-use Rattle.rules.specs.ListAlone.Book.{Note, Stop, dialled, talking, Book, line, waitsIn, falls}
+use Rattle.rules.specs.ListAlone.Book.{Note, Stop, dialled, talking, Book, column, waitsIn, falls}
 use Rattle.rules.specs.ListAlone.Reading.{turn, stopsIn, moment}
 
 -- ── 01's order of waits, without the function that finds the earliest ─────────
@@ -45,15 +45,16 @@ stopAt i x b t = record { slot = i; ship = x .ship; start = record { 0 = b }; st
 
 -- a slot talks after an entry only if it talked before, or the entry answers it while it was dialled
 unfoldable pub Begins : Type 0
-Begins = (c : Config) (b : Book) (n : Note) (i : ℕ) (x : Party) (m : Mode) (t : ℕ) → line (turn c b n) i .call ≡ talking x m t
-    → (line b i .call ≡ talking x m t) ⊎ ((n .event .what ≡ answeringOn i) × ((moment b (n .event) ≡ t) × (line b i .call ≡ dialled x m)))
+Begins = (c : Config) (b : Book) (n : Note) (i : ℕ) (x : Party) (m : Mode) (t : ℕ) → column (turn c b n) i .call ≡ talking x m t
+    → (column b i .call ≡ talking x m t)
+    ⊎ ((n .event .what ≡ answeringOn i) × ((moment b (n .event) ≡ t) × (column b i .call ≡ dialled x m)))
 
 -- a dialled slot that is answered talks since that time
 unfoldable pub Lifts : Type 0
-Lifts = (c : Config) (t room : ℕ) (ds : List Deed) (b : Book) (i : ℕ) (x : Party) (m : Mode) → line b i .call ≡ dialled x m
-    → line (turn c b (record { event = record { time = t; room = room; what = answeringOn i }; deeds = ds })) i .call ≡ talking x m t
+Lifts = (c : Config) (t room : ℕ) (ds : List Deed) (b : Book) (i : ℕ) (x : Party) (m : Mode) → column b i .call ≡ dialled x m
+    → column (turn c b (record { event = record { time = t; room = room; what = answeringOn i }; deeds = ds })) i .call ≡ talking x m t
 
 -- a slot that talked talks on, or the entry holds its stop, with its beginning and the entry's moment
 unfoldable pub Ends : Type 0
-Ends = (c : Config) (b : Book) (n : Note) (i : ℕ) (x : Party) (m : Mode) (t : ℕ) → line b i .call ≡ talking x m t
-    → (line (turn c b n) i .call ≡ talking x m t) ⊎ In (stopAt i x t (moment b (n .event))) (stopsIn c b n)
+Ends = (c : Config) (b : Book) (n : Note) (i : ℕ) (x : Party) (m : Mode) (t : ℕ) → column b i .call ≡ talking x m t
+    → (column (turn c b n) i .call ≡ talking x m t) ⊎ In (stopAt i x t (moment b (n .event))) (stopsIn c b n)

@@ -9,7 +9,7 @@ use Rattle.rules.specs.Rules.Places.{Each}
 use Rattle.rules.specs.Rules.Words.{Party, is, Request, Config}
 use Rattle.rules.specs.Rules.Words.{Deed, carrierOn, carrierOff, acknowledge, ringBack, unable, dial, releaseLine}
 use Rattle.rules.specs.Rules.Heard.{Heard, callRequest, dataRequest, bq, workingCall, endOfCall, nothing}
-use Rattle.rules.specs.ListAlone.Book.{Note, Said, silent, toldBQ, toldRQ, settled, Book, blankBook, line}
+use Rattle.rules.specs.ListAlone.Book.{Note, Said, silent, toldBQ, toldRQ, settled, Book, blankBook, column}
 use Rattle.rules.specs.ListAlone.Reading.{moment, heardAt, read, readAll}
 
 -- what channel 70 says in the entry itself
@@ -87,7 +87,7 @@ abbrev pub RingsSame : Option ℕ → Book → Deed → Type 0
 RingsSame on b (carrierOn i) = Unit {0}
 RingsSame on b (carrierOff i) = Unit {0}
 RingsSame on b (acknowledge i r) = Unit {0}
-RingsSame on b (ringBack i r) = Rings i r on (line b i .said)
+RingsSame on b (ringBack i r) = Rings i r on (column b i .said)
 RingsSame on b (unable n x digits) = Unit {0}
 RingsSame on b (dial i digits) = Unit {0}
 RingsSame on b (releaseLine i) = Unit {0}
@@ -98,7 +98,7 @@ DialsNamed on b (carrierOff i) = Unit {0}
 DialsNamed on b (acknowledge i r) = Unit {0}
 DialsNamed on b (ringBack i r) = Unit {0}
 DialsNamed on b (unable n x digits) = Unit {0}
-DialsNamed on b (dial i digits) = Dials digits (line b i .said)
+DialsNamed on b (dial i digits) = Dials digits (column b i .said)
 DialsNamed on b (releaseLine i) = Unit {0}
 
 -- each deed with the book just before it, the deeds being read from b on at the time t

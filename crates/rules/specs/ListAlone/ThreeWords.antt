@@ -39,7 +39,7 @@ unfoldable pub wordAfter : ℕ → List Note → Word → Word
 wordAfter i [] w = w
 wordAfter i (n ∷ ns) w = wordAfter i ns (wordsDone i (n .deeds) (wordHeard i (n .event .time) (n .event .what) w))
 
--- what the book's line says, in the same three words
+-- what the book's column says, in the same three words
 abbrev pub wordOf : Call → Word
 wordOf quiet = idle
 wordOf (dialled x m) = ringing
