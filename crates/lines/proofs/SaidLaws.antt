@@ -50,7 +50,7 @@ by-form P h (onSlot i (signal carrierLost)) = h (Signalled CarrierLost) i []
 by-form P h (onSlot i (operator handTakes)) = h (Operated Takes) i []
 by-form P h (onSlot i (operator handGives)) = h (Operated GivesBack) i []
 
--- ── of the command that its letter names, with its numbers ──────────────────────
+-- ── of the command that its letter names, with its numbers ───────────────────
 
 abbrev letterFor : Command → ℕ
 letterFor Unreadable = 0
@@ -102,7 +102,7 @@ said-by (Happens Alone) [] said e = absurd (no-some e)
 said-by (Happens Alone) (time ∷ []) said e = the-same (form-said-by Alone time 0 [] (time ∷ []) refl) e
 said-by (Happens Alone) (time ∷ more ∷ rest) said e = absurd (no-some e)
 
--- ── from a command to its letter ────────────────────────────────────────────────
+-- ── from a command to its letter ─────────────────────────────────────────────
 
 abbrev Named : ℕ → Command → Type 0
 Named b k = (k ≡ Unreadable) ⊎ (letterFor k ≡ b)

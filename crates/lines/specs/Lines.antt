@@ -50,7 +50,7 @@ abbrev pub letterOf : Said → ℕ
 letterOf (setsUp a) = setUpLetter
 letterOf (happens time what) = whatLetter what
 
--- ── the command that a letter names ─────────────────────────────────────────────
+-- ── the command that a letter names ──────────────────────────────────────────
 
 -- what happens by a line of a form, with the slot and the symbols that it has
 abbrev pub formWhat : Form → ℕ → List ℕ → What
@@ -61,7 +61,7 @@ formWhat (Operated h) slot symbols = onSlot slot (operator (handView h))
 formWhat Alone slot symbols = tick
 
 abbrev pub formLetter : Form → ℕ
-formLetter f = whatLetter (formWhat f 0 [])
+formLetter form = whatLetter (formWhat form 0 [])
 
 abbrev pub forms : List Form
 forms =
@@ -71,11 +71,11 @@ forms =
     ∷ Alone ∷ []
 
 abbrev pub commandAmong : ℕ → List Form → Command
-commandAmong b [] = Unreadable
-commandAmong b (f ∷ fs) = cond (eqb b (formLetter f)) (Happens f) (commandAmong b fs)
+commandAmong letter [] = Unreadable
+commandAmong letter (form ∷ more) = cond (eqb letter (formLetter form)) (Happens form) (commandAmong letter more)
 
 unfoldable pub commandOf : ℕ → Command
-commandOf b = cond (eqb b setUpLetter) SetUp (commandAmong b forms)
+commandOf letter = cond (eqb letter setUpLetter) SetUp (commandAmong letter forms)
 
 -- ── the fields ───────────────────────────────────────────────────────────────
 

@@ -38,7 +38,7 @@ scan (inside v) (b ∷ t) =
     (cond (isNumber (v * 10 + (b - 48))) (scan (inside (v * 10 + (b - 48))) t) none)
     (cond (eqb b 32) (with v (scan opened t)) none)
 
--- ── the fields of a command ─────────────────────────────────────────────────────
+-- ── the fields of a command ──────────────────────────────────────────────────
 
 abbrev pub saysSetUp : List ℕ → Option Said
 saysSetUp [] = none
@@ -82,12 +82,12 @@ says SetUp ns = saysSetUp ns
 says (Happens f) ns = saysForm f ns
 
 abbrev pub saysOf : Command → Option (List ℕ) → Option Said
-saysOf k none = none
-saysOf k (some ns) = says k ns
+saysOf command none = none
+saysOf command (some ns) = says command ns
 
 abbrev pub lineSays : List ℕ → Option Said
 lineSays [] = none
-lineSays (b ∷ t) = saysOf (commandOf b) (scan between t)
+lineSays (letter ∷ rest) = saysOf (commandOf letter) (scan between rest)
 
 -- "one over 200 characters .. : 40"
 abbrev pub longestLine : ℕ

@@ -40,7 +40,7 @@ use Rattle.script.specs.declared.Desk.{Desk}
 use Rattle.script.specs.declared.Handled.{Handled}
 use Rattle.script.specs.Answering.{desk, unchanged, afterSetUp, askedFor, handledFor, shownFor, noBlocks, deskAfter, replyTo}
 use Rattle.script.specs.Session.{begun}
-use Rattle.script.specs.Transcript.{talk, transcript}
+use Rattle.script.specs.Transcript.{answersFrom, transcript}
 use Rattle.script.specs.Printed.{saidIn, eventOf, nothingBut, outOf, printedOn, noStation, printedFrom, TranscriptIsPrinted, saysEvent, RoomNeeded, EventsArePrinted}
 
 -- ── line by line ─────────────────────────────────────────────────────────────
@@ -49,14 +49,14 @@ answers : Desk → List (Option Said) → List ℕ
 answers d [] = []
 answers d (said ∷ more) = replyTo d said ++ answers (deskAfter d said) more
 
-answered : (d : Desk) (line script : List ℕ) → talk d line script ≡ answers d (saidIn line script)
-unfolding talk saidIn answers
+answered : (d : Desk) (line script : List ℕ) → answersFrom d line script ≡ answers d (saidIn line script)
+unfolding answersFrom saidIn answers
 answered d [] [] = refl
 answered d (b ∷ line) [] = sym (append-nil (replyTo d (readsAs (b ∷ line))))
 answered d line (b ∷ script) = go (which (eqb b 10)) (answered (deskAfter d (readsAs line)) [] script) (answered d (line ++ (b ∷ [])) script)
   where
-    go : Either (eqb b 10) → talk (deskAfter d (readsAs line)) [] script ≡ answers (deskAfter d (readsAs line)) (saidIn [] script)
-        → talk d (line ++ (b ∷ [])) script ≡ answers d (saidIn (line ++ (b ∷ [])) script) → talk d line (b ∷ script) ≡ answers d (saidIn line (b ∷ script))
+    go : Either (eqb b 10) → answersFrom (deskAfter d (readsAs line)) [] script ≡ answers (deskAfter d (readsAs line)) (saidIn [] script)
+        → answersFrom d (line ++ (b ∷ [])) script ≡ answers d (saidIn (line ++ (b ∷ [])) script) → answersFrom d line (b ∷ script) ≡ answers d (saidIn line (b ∷ script))
     go (yes! h) e f = rw (h, e)
     go (no! h) e f = rw h f
 

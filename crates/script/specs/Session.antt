@@ -44,7 +44,7 @@ beforeFeed (byte ∷ more) = cond (eqb byte 10) 0 (suc (beforeFeed more))
 
 -- ── a session ────────────────────────────────────────────────────────────────
 
--- no station: what a refused set-up hands back
+-- "No station yet": a blank one in its place
 unfoldable pub begun : Session
 begun = record { desk = desk false blankStation; text = noText }
 

@@ -24,7 +24,7 @@ use Rattle.script.specs.declared.Session.{Session}
 use Rattle.script.specs.declared.Text.{Text}
 use Rattle.script.specs.Answering.{handledFor, blocksFor, clockOf, dueOf, noBlocks, deskAfter, replyTo}
 use Rattle.script.specs.Session.{noText, addByte, addBytes, saysText, beforeFeed, begun, fedFor, roomFor, fedWith, roomWith, ended, roomEnded}
-use Rattle.script.specs.Transcript.{talk, transcript, sessionOf, lineAfter, Feeds, Ends, Begins, Prints, fed, over, PrintsTranscript}
+use Rattle.script.specs.Transcript.{answersFrom, transcript, sessionOf, lineAfter, Feeds, Ends, Begins, Prints, fed, over, PrintsTranscript}
 
 -- ── the line so far says what the line says ──────────────────────────────────
 
@@ -98,15 +98,15 @@ feed-within (b ∷ bytes) = go (eqb b 10) (feed-within bytes)
     go false h = omega arith
 
 up-to-feed : (d : Desk) (line bytes more : List ℕ)
-    → talk d line (bytes ++ more) ≡ talk d (line ++ take (beforeFeed bytes) bytes) (drop (beforeFeed bytes) bytes ++ more)
-unfolding talk
+    → answersFrom d line (bytes ++ more) ≡ answersFrom d (line ++ take (beforeFeed bytes) bytes) (drop (beforeFeed bytes) bytes ++ more)
+unfolding answersFrom
 up-to-feed d line [] more = rw (append-nil line)
 up-to-feed d line (b ∷ bytes) more = go (which (eqb b 10)) (up-to-feed d (line ++ (b ∷ [])) bytes more)
   where
-    go : Either (eqb b 10) → talk d (line ++ (b ∷ [])) (bytes ++ more) ≡ talk d ((line ++ (b ∷ [])) ++ take (beforeFeed bytes) bytes) (drop (beforeFeed bytes) bytes ++ more)
-        → talk d line (b ∷ (bytes ++ more)) ≡ talk d (line ++ take (beforeFeed (b ∷ bytes)) (b ∷ bytes)) (drop (beforeFeed (b ∷ bytes)) (b ∷ bytes) ++ more)
+    go : Either (eqb b 10) → answersFrom d (line ++ (b ∷ [])) (bytes ++ more) ≡ answersFrom d ((line ++ (b ∷ [])) ++ take (beforeFeed bytes) bytes) (drop (beforeFeed bytes) bytes ++ more)
+        → answersFrom d line (b ∷ (bytes ++ more)) ≡ answersFrom d (line ++ take (beforeFeed (b ∷ bytes)) (b ∷ bytes)) (drop (beforeFeed (b ∷ bytes)) (b ∷ bytes) ++ more)
     go (yes! e) f = rw (e, append-nil line, e)
-    go (no! e) f = rw e (f ∙ ap (λ l. talk d l (drop (beforeFeed bytes) bytes ++ more)) (append-assoc line (b ∷ []) (take (beforeFeed bytes) bytes)))
+    go (no! e) f = rw e (f ∙ ap (λ l. answersFrom d l (drop (beforeFeed bytes) bytes ++ more)) (append-assoc line (b ∷ []) (take (beforeFeed bytes) bytes)))
 
 feed-at : (bytes : List ℕ) → beforeFeed bytes < length bytes → drop (beforeFeed bytes) bytes ≡ 10 ∷ drop (beforeFeed bytes + 1) bytes
 feed-at [] h = absurd (omega arith)
@@ -122,8 +122,8 @@ feed-at (b ∷ bytes) h = go (which (eqb b 10)) (feed-at bytes) h
 
 -- ── feeding ──────────────────────────────────────────────────────────────────
 
-fed-line : (d : Desk) (line script : List ℕ) → talk d line (10 ∷ script) ≡ replyTo d (readsAs line) ++ talk (deskAfter d (readsAs line)) [] script
-unfolding talk
+fed-line : (d : Desk) (line script : List ℕ) → answersFrom d line (10 ∷ script) ≡ replyTo d (readsAs line) ++ answersFrom (deskAfter d (readsAs line)) [] script
+unfolding answersFrom
 fed-line d line script = refl
 
 module _ (d : Desk) (line bytes : List ℕ) where
@@ -131,14 +131,14 @@ module _ (d : Desk) (line bytes : List ℕ) where
   whole-line = ap saysText (sym (add-append noText line (take (beforeFeed bytes) bytes))) ∙ says-line (line ++ take (beforeFeed bytes) bytes)
 
   answers : (more : List ℕ) → beforeFeed bytes < length bytes
-      → talk d line (bytes ++ more)
+      → answersFrom d line (bytes ++ more)
       ≡ replyTo d (readsAs (line ++ take (beforeFeed bytes) bytes))
-      ++ talk (deskAfter d (readsAs (line ++ take (beforeFeed bytes) bytes))) [] (drop (beforeFeed bytes + 1) bytes ++ more)
-  answers more h = up-to-feed d line bytes more ∙ ap (λ l. talk d (line ++ take (beforeFeed bytes) bytes) (l ++ more)) (feed-at bytes h) ∙ spoken
+      ++ answersFrom (deskAfter d (readsAs (line ++ take (beforeFeed bytes) bytes))) [] (drop (beforeFeed bytes + 1) bytes ++ more)
+  answers more h = up-to-feed d line bytes more ∙ ap (λ l. answersFrom d (line ++ take (beforeFeed bytes) bytes) (l ++ more)) (feed-at bytes h) ∙ spoken
     where
-      spoken : talk d (line ++ take (beforeFeed bytes) bytes) (10 ∷ (drop (beforeFeed bytes + 1) bytes ++ more))
+      spoken : answersFrom d (line ++ take (beforeFeed bytes) bytes) (10 ∷ (drop (beforeFeed bytes + 1) bytes ++ more))
           ≡ replyTo d (readsAs (line ++ take (beforeFeed bytes) bytes))
-          ++ talk (deskAfter d (readsAs (line ++ take (beforeFeed bytes) bytes))) [] (drop (beforeFeed bytes + 1) bytes ++ more)
+          ++ answersFrom (deskAfter d (readsAs (line ++ take (beforeFeed bytes) bytes))) [] (drop (beforeFeed bytes + 1) bytes ++ more)
       spoken = fed-line d (line ++ take (beforeFeed bytes) bytes) (drop (beforeFeed bytes + 1) bytes ++ more)
 
 pub feeds : Feeds
@@ -146,8 +146,8 @@ unfolding fedWith roomWith
 feeds d line bytes more room h = rw (le-leb 4096 (length room) h) (go (which (ltb (beforeFeed bytes) (length bytes))))
   where
     go : Either (ltb (beforeFeed bytes) (length bytes))
-        → (talk d line (bytes ++ more) ≡ take (fedFor (sessionOf d line) bytes room .count) (roomFor (sessionOf d line) bytes room)
-        ++ talk (fedFor (sessionOf d line) bytes room .session .desk) (lineAfter line bytes) (drop (fedFor (sessionOf d line) bytes room .used) bytes ++ more))
+        → (answersFrom d line (bytes ++ more) ≡ take (fedFor (sessionOf d line) bytes room .count) (roomFor (sessionOf d line) bytes room)
+        ++ answersFrom (fedFor (sessionOf d line) bytes room .session .desk) (lineAfter line bytes) (drop (fedFor (sessionOf d line) bytes room .used) bytes ++ more))
         × (fedFor (sessionOf d line) bytes room .session ≡ sessionOf (fedFor (sessionOf d line) bytes room .session .desk) (lineAfter line bytes))
     go (yes! e) = (
       rw (e, whole-line d line bytes, stands-there room (replyTo d (readsAs (line ++ take (beforeFeed bytes) bytes))) (reply-short d (readsAs (line ++ take (beforeFeed bytes) bytes))) h)
@@ -156,7 +156,7 @@ feeds d line bytes more room h = rw (le-leb 4096 (length room) h) (go (which (lt
     )
     go (no! e) =
         let k : take (beforeFeed bytes) bytes ≡ bytes = take-all (beforeFeed bytes) bytes (ltb-false _ _ e) in
-        (rw e (up-to-feed d line bytes more ∙ ap (λ l. talk d (line ++ l) (drop (beforeFeed bytes) bytes ++ more)) k), rw (e, k) (ap (λ t. record { desk = d; text = t }) (sym (add-append noText line bytes))))
+        (rw e (up-to-feed d line bytes more ∙ ap (λ l. answersFrom d (line ++ l) (drop (beforeFeed bytes) bytes ++ more)) k), rw (e, k) (ap (λ t. record { desk = d; text = t }) (sym (add-append noText line bytes))))
 
 -- ── the end ──────────────────────────────────────────────────────────────────
 
@@ -166,7 +166,7 @@ some-text b l =
     ne-eqb (addBytes noText (b ∷ l) .length) 0 (λ q. absurd (omega (arith, ap (λ t. t .length) (first-kept (b ∷ l)), q)))
 
 pub ends : Ends
-unfolding ended roomEnded talk
+unfolding ended roomEnded answersFrom
 ends d [] room h = rw (le-leb 4096 (length room) h)
 ends d (b ∷ l) room h =
     rw (le-leb 4096 (length room) h, some-text b l, says-line (b ∷ l)) (sym (stands-there room (replyTo d (readsAs (b ∷ l))) (reply-short d (readsAs (b ∷ l))) h))
@@ -177,10 +177,10 @@ begins script = (refl, refl)
 
 -- ── the whole ────────────────────────────────────────────────────────────────
 
-as-said : {s : Session} {script printed : List ℕ} → Prints s script printed → (d : Desk) (line : List ℕ) → s ≡ sessionOf d line → printed ≡ talk d line script
+as-said : {s : Session} {script printed : List ℕ} → Prints s script printed → (d : Desk) (line : List ℕ) → s ≡ sessionOf d line → printed ≡ answersFrom d line script
 as-said (fed s bytes more room rest h p) d line e =
     let f = feeds d line bytes more room h in
-    let i : rest ≡ talk (fedWith s bytes room .session .desk) (lineAfter line bytes) (drop (fedWith s bytes room .used) bytes ++ more) =
+    let i : rest ≡ answersFrom (fedWith s bytes room .session .desk) (lineAfter line bytes) (drop (fedWith s bytes room .used) bytes ++ more) =
     as-said p (fedWith s bytes room .session .desk) (lineAfter line bytes) (rw e (f .1)) in
     rw (i, e) (sym (f .0))
 as-said (over s room h) d line e = rw e (sym (ends d line room h))
