@@ -13,27 +13,27 @@ pub(crate) const CHANGED: u8 = 255;
 // Whether a room of 165s, 320 of them at most, is still so from a place on.
 pub(crate) fn untouched_from(room: &[u8], from: usize) -> bool {
     let before = [165u8; 320];
-    let n = room.len();
-    if 320 < n {
+    let length = room.len();
+    if 320 < length {
         return false;
     }
-    if n < from {
+    if length < from {
         return false;
     }
-    same(&room[from..n], &before[from..n])
+    same(&room[from..length], &before[from..length])
 }
 
-fn tick_in_part(station: Station, time: Tenths, room: &mut [u8], n: usize) -> Stepped {
-    if n < room.len() {
-        return station.tick(time, &mut room[0..n]);
+fn tick_in_part(station: Station, time: Tenths, room: &mut [u8], length: usize) -> Stepped {
+    if length < room.len() {
+        return station.tick(time, &mut room[0..length]);
     }
     station.tick(time, room)
 }
 
-// The answer to a tick in the first n bytes of a room. A refusal has no action.
-fn ticked_in(station: Station, time: Tenths, n: usize) -> u8 {
+// The answer to a tick in a room of that length. A refusal has no action.
+fn ticked_in(station: Station, time: Tenths, length: usize) -> u8 {
     let mut room = [165u8; 320];
-    let stepped = tick_in_part(station, time, &mut room, n);
+    let stepped = tick_in_part(station, time, &mut room, length);
     if untouched_from(&room, stepped.count as usize * 40) {
         return stepped.answer;
     }
@@ -46,8 +46,8 @@ pub(crate) fn judged(station: Station) -> u8 {
     ticked_in(station, clock, 320)
 }
 
-fn busy_in(time: Tenths, n: usize) -> u8 {
-    ticked_in(busy(), time, n)
+fn busy_in(time: Tenths, length: usize) -> u8 {
+    ticked_in(busy(), time, length)
 }
 
 // How many actions rule c gives where a slot is free and a ship waits, which no run leads to.

@@ -76,8 +76,8 @@ fn made(
     let mut channels = [Channel(0); 16];
     channels[0] = Channel(26);
     channels[1] = Channel(27);
-    let u = Station::set_up(2001234, channels, 2);
-    let mut station = u.station;
+    let set_up = Station::set_up(2001234, channels, 2);
+    let mut station = set_up.station;
     station.clock = clock;
     station.mast.identity = identity;
     station.count = count;

@@ -50,12 +50,12 @@ fn try_records() {
 }
 
 fn held_for_sixty_minutes() -> Station {
-    let d = Duration {
+    let duration = Duration {
         hours: 0,
         minutes: 60,
         seconds: 0,
     };
-    held(Tenths(1041), Told::Lasting(d))
+    held(Tenths(1041), Told::Lasting(duration))
 }
 
 fn stored(number: Number) -> Station {

@@ -11,15 +11,15 @@ use sequence::Written;
 use units::Channel;
 use writing::write;
 
-fn write_in_part(meaning: Meaning, room: &mut [u8], n: usize) -> Written {
-    if n < room.len() {
-        return write(meaning, &mut room[0..n]);
+fn write_in_part(meaning: Meaning, room: &mut [u8], length: usize) -> Written {
+    if length < room.len() {
+        return write(meaning, &mut room[0..length]);
     }
     write(meaning, room)
 }
 
-// The answer to a meaning written in the first n bytes of a room; with a refusal the length is 0.
-fn written_in(n: usize, address: u32, first: u8, field: Field, number: Number, end: u8) -> u8 {
+// The answer to a meaning written in a room of that length; with a refusal nothing is written.
+fn written_in(length: usize, address: u32, first: u8, field: Field, number: Number, end: u8) -> u8 {
     let meaning = Meaning {
         address: address,
         sender: 200056789,
@@ -30,9 +30,9 @@ fn written_in(n: usize, address: u32, first: u8, field: Field, number: Number, e
         end: end,
     };
     let mut room = [165u8; 40];
-    let w = write_in_part(meaning, &mut room, n);
-    let answer = w.answer;
-    if untouched_from(&room, w.length) {
+    let wrote = write_in_part(meaning, &mut room, length);
+    let answer = wrote.answer;
+    if untouched_from(&room, wrote.length) {
         return answer.number();
     }
     CHANGED
@@ -80,9 +80,9 @@ fn try_alone() {
 }
 
 // Each has channel 16 in its field, no number, and end of sequence 118.
-fn refused(n: usize, address: u32, first: u8) -> u8 {
+fn refused(length: usize, address: u32, first: u8) -> u8 {
     let field = Field::Channel(Channel(16));
-    written_in(n, address, first, field, no_number(), 118)
+    written_in(length, address, first, field, no_number(), 118)
 }
 
 fn try_order() {

@@ -15,7 +15,7 @@ struct Tally {
 
 // A case in progress: the answer to the last line handed in, and how much of it the table has named.
 struct Trial {
-    stands: bool,
+    open: bool,
     right: bool,
     answer: [u8; 4096],
     count: usize,
@@ -28,30 +28,30 @@ fn run_file(tally: Tally, path: &[u8]) -> Tally {
         return tally.missing(path);
     }
     let mut table = io::large_buffer();
-    let n = io::read_full(fd, &mut table);
+    let length = io::read_full(fd, &mut table);
     libc::close(fd);
-    if 65536 <= n {
+    if 65536 <= length {
         return tally.missing(path);
     }
     say(path);
     say(b"\n");
-    run_table(tally, &table[..n])
+    run_table(tally, &table[..length])
 }
 
 fn run_tables(tally: Tally) -> Tally {
-    let t = run_file(tally, b"refusals");
-    let t = run_file(t, b"requests");
-    let t = run_file(t, b"calls");
-    let t = run_file(t, b"ends");
-    let t = run_file(t, b"operator");
-    let t = run_file(t, b"ring-back");
-    let t = run_file(t, b"waits");
-    let t = run_file(t, b"queue");
-    let t = run_file(t, b"published");
-    run_file(t, b"script")
+    let tally = run_file(tally, b"refusals");
+    let tally = run_file(tally, b"requests");
+    let tally = run_file(tally, b"calls");
+    let tally = run_file(tally, b"ends");
+    let tally = run_file(tally, b"operator");
+    let tally = run_file(tally, b"ring-back");
+    let tally = run_file(tally, b"waits");
+    let tally = run_file(tally, b"queue");
+    let tally = run_file(tally, b"published");
+    run_file(tally, b"script")
 }
 
 fn main() {
-    let t = run_tables(Tally { cases: 0, wrong: 0 });
-    t.tell();
+    let tally = run_tables(Tally { cases: 0, wrong: 0 });
+    tally.print();
 }

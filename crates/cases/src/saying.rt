@@ -3,21 +3,21 @@ pub(crate) fn say(text: &[u8]) {
     io::write_all(1, text);
 }
 
-pub(crate) fn say_number(n: u64) {
-    io::print_decimal(1, n);
+pub(crate) fn say_number(number: u64) {
+    io::print_decimal(1, number);
 }
 
-pub(crate) fn say_first(text: &[u8], n: usize) {
-    if n <= text.len() {
-        io::write_all(1, &text[0..n]);
+pub(crate) fn say_first(text: &[u8], count: usize) {
+    if count <= text.len() {
+        io::write_all(1, &text[0..count]);
     }
 }
 
 // A title stands behind its mark and before the line feed.
-pub(crate) fn say_title(line: &[u8]) {
-    if 3 <= line.len() {
-        let end = line.len() - 1;
-        io::write_all(1, &line[2..end]);
+pub(crate) fn say_title(row: &[u8]) {
+    if 3 <= row.len() {
+        let end = row.len() - 1;
+        io::write_all(1, &row[2..end]);
     }
     io::write_all(1, b": ");
 }

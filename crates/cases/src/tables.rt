@@ -1,4 +1,4 @@
-// A table: `#` begins a case, `>` hands a line to its session, `<` names a line of the answer; empty lines say nothing.
+// A table, row by row: `#` begins a case, `>` hands a line to its session, `<` names a row of the answer; empty rows say nothing.
 ghost use Prim.Native.Nat.{_+_, _≤_};
 ghost use lib.ListN.{length};
 use crate::Tally;
@@ -7,7 +7,7 @@ use crate::saying::say_title;
 use crate::tallies::one_more;
 use script::Session;
 
-struct Reading {
+struct Progress {
     number: u64,
     trial: Trial,
     tally: Tally,
@@ -15,7 +15,7 @@ struct Reading {
 
 struct Turn {
     session: Session,
-    reading: Reading,
+    progress: Progress,
 }
 
 struct Handed {
@@ -24,8 +24,8 @@ struct Handed {
     count: usize,
 }
 
-// Where the line that begins at start ends, behind its line feed.
-fn line_end(table: &[u8], start: usize) -> usize
+// Where the row that begins at start ends, behind its line feed.
+fn row_end(table: &[u8], start: usize) -> usize
     requires { ⌜ start + 1 ≤ length (now table) ⌝ }
     ensures { λ r. ⌜ start + 1 ≤ r ⌝ }
     ensures { λ r. ⌜ r ≤ length (now (table .entry)) ⌝ }
@@ -40,43 +40,43 @@ fn line_end(table: &[u8], start: usize) -> usize
     i
 }
 
-fn mark_of(line: &[u8]) -> u8 {
-    if line.len() == 0 {
+fn mark_of(row: &[u8]) -> u8 {
+    if row.len() == 0 {
         return b'\n';
     }
-    line[0]
+    row[0]
 }
 
-impl Reading {
-    fn with(self, trial: Trial) -> Reading {
+impl Progress {
+    fn with(self, trial: Trial) -> Progress {
         let tally = self.tally;
-        Reading {
+        Progress {
             number: one_more(self.number),
             trial: trial,
             tally: tally,
         }
     }
 
-    fn title(self, line: &[u8]) -> Reading {
+    fn title(self, row: &[u8]) -> Progress {
         let trial = self.trial;
         let tally = trial.close(self.number, self.tally);
-        say_title(line);
-        Reading {
+        say_title(row);
+        Progress {
             number: one_more(self.number),
             trial: Trial::fresh(true),
             tally: tally,
         }
     }
 
-    fn answered(self, answer: [u8; 4096], count: usize) -> Reading {
+    fn answered(self, answer: [u8; 4096], count: usize) -> Progress {
         let trial = self.trial;
-        self.with(trial.settled(self.number).answered(answer, count))
+        self.with(trial.all_named(self.number).answered(answer, count))
     }
 
-    fn take(self, mark: u8, line: &[u8]) -> Reading {
+    fn take(self, mark: u8, row: &[u8]) -> Progress {
         let trial = self.trial;
         if mark == b'<' {
-            return self.with(trial.name(self.number, line));
+            return self.with(trial.name(self.number, row));
         }
         if mark == b'\n' {
             return self.with(trial);
@@ -85,67 +85,67 @@ impl Reading {
     }
 }
 
-// What stands behind the mark of a line is handed to the session.
-fn hand_in(session: Session, line: &[u8]) -> Handed {
+// What stands behind the mark of a row is handed to the session, a line of its script.
+fn hand_in(session: Session, row: &[u8]) -> Handed {
     let mut answer = io::buffer();
-    if line.len() < 2 {
+    if row.len() < 2 {
         return Handed {
             session: session,
             answer: answer,
             count: 0,
         };
     }
-    let f = session.feed(&line[2..], &mut answer);
-    let next = f.session;
+    let fed = session.feed(&row[2..], &mut answer);
+    let next = fed.session;
     Handed {
         session: next,
         answer: answer,
-        count: f.count,
+        count: fed.count,
     }
 }
 
-fn one_line(session: Session, reading: Reading, line: &[u8]) -> Turn {
-    let mark = mark_of(line);
+fn one_row(session: Session, progress: Progress, row: &[u8]) -> Turn {
+    let mark = mark_of(row);
     if mark == b'#' {
         let fresh = Session::begin();
         return Turn {
             session: fresh,
-            reading: reading.title(line),
+            progress: progress.title(row),
         };
     }
     if mark == b'>' {
-        let h = hand_in(session, line);
-        let next = h.session;
-        let answer = h.answer;
+        let handed = hand_in(session, row);
+        let next = handed.session;
+        let answer = handed.answer;
         return Turn {
             session: next,
-            reading: reading.answered(answer, h.count),
+            progress: progress.answered(answer, handed.count),
         };
     }
     Turn {
         session: session,
-        reading: reading.take(mark, line),
+        progress: progress.take(mark, row),
     }
 }
 
-fn read_all(reading: Reading, table: &[u8]) -> Reading {
+fn read_all(progress: Progress, table: &[u8]) -> Progress {
     let mut session = Session::begin();
-    let mut at = reading;
+    let mut current = progress;
     let mut start = 0;
     while start < table.len() {
-        let end = line_end(table, start);
-        let t = one_line(session, at, &table[start..end]);
-        let then = t.session;
-        let next = t.reading;
-        session = then;
-        at = next;
+        let end = row_end(table, start);
+        let turn = one_row(session, current, &table[start..end]);
+        let next_session = turn.session;
+        let next = turn.progress;
+        session = next_session;
+        current = next;
         start = end;
     }
-    at
+    current
 }
 
 pub(crate) fn run_table(tally: Tally, table: &[u8]) -> Tally {
-    let first = Reading {
+    let first = Progress {
         number: 1,
         trial: Trial::fresh(false),
         tally: tally,

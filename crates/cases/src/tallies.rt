@@ -1,13 +1,13 @@
-// Right and wrong cases are counted and told.
+// Right and wrong cases are counted, and their counts printed.
 use crate::Tally;
 use crate::saying::say;
 use crate::saying::say_number;
 
-pub(crate) fn one_more(n: u64) -> u64 {
-    if n == u64::MAX {
-        return n;
+pub(crate) fn one_more(count: u64) -> u64 {
+    if count == u64::MAX {
+        return count;
     }
-    n + 1
+    count + 1
 }
 
 impl Tally {
@@ -19,7 +19,7 @@ impl Tally {
         }
     }
 
-    // What went wrong was told already.
+    // What went wrong was printed already.
     pub(crate) fn wrong(self) -> Tally {
         Tally {
             cases: one_more(self.cases),
@@ -33,7 +33,7 @@ impl Tally {
         self.wrong()
     }
 
-    pub(crate) fn tell(self) {
+    pub(crate) fn print(self) {
         say_number(self.cases);
         say(b" cases, ");
         say_number(self.wrong);

@@ -1,4 +1,4 @@
-// One case: each answer is held to the lines that name it.
+// One case: each answer is compared with the rows that name it.
 use crate::Tally;
 use crate::Trial;
 use crate::saying::say;
@@ -6,12 +6,12 @@ use crate::saying::say_first;
 use crate::saying::say_number;
 use check::same;
 
-// Whether the answer goes on with what stands behind the mark of a line.
-fn goes_on(answer: &[u8], named: usize, line: &[u8]) -> bool {
-    if line.len() < 2 {
+// Whether the answer goes on with what stands behind the mark of a row.
+fn goes_on(answer: &[u8], named: usize, row: &[u8]) -> bool {
+    if row.len() < 2 {
         return false;
     }
-    let more = line.len() - 2;
+    let more = row.len() - 2;
     if answer.len() < named {
         return false;
     }
@@ -19,23 +19,23 @@ fn goes_on(answer: &[u8], named: usize, line: &[u8]) -> bool {
         return false;
     }
     let end = named + more;
-    same(&answer[named..end], &line[2..])
+    same(&answer[named..end], &row[2..])
 }
 
-fn behind(named: usize, line: &[u8]) -> usize {
-    if line.len() < 2 {
+fn behind(named: usize, row: &[u8]) -> usize {
+    if row.len() < 2 {
         return named;
     }
     if 4096 < named {
         return named;
     }
-    named + (line.len() - 2)
+    named + (row.len() - 2)
 }
 
 impl Trial {
-    pub(crate) fn fresh(stands: bool) -> Trial {
+    pub(crate) fn fresh(open: bool) -> Trial {
         Trial {
-            stands: stands,
+            open: open,
             right: true,
             answer: io::buffer(),
             count: 0,
@@ -43,7 +43,7 @@ impl Trial {
         }
     }
 
-    // The first fault of a case is told, with the whole answer that was given.
+    // The first fault of a case is printed, with the whole answer that was given.
     pub(crate) fn fault(self, number: u64) -> Trial {
         let answer = self.answer;
         let count = self.count;
@@ -54,7 +54,7 @@ impl Trial {
             say_first(&answer, count);
         }
         Trial {
-            stands: true,
+            open: true,
             right: false,
             answer: answer,
             count: count,
@@ -63,7 +63,7 @@ impl Trial {
     }
 
     // All of the last answer must be named before another line is handed in and before a case ends.
-    pub(crate) fn settled(self, number: u64) -> Trial {
+    pub(crate) fn all_named(self, number: u64) -> Trial {
         if self.named == self.count {
             return self;
         }
@@ -72,7 +72,7 @@ impl Trial {
 
     pub(crate) fn answered(self, answer: [u8; 4096], count: usize) -> Trial {
         Trial {
-            stands: true,
+            open: true,
             right: self.right,
             answer: answer,
             count: count,
@@ -80,26 +80,26 @@ impl Trial {
         }
     }
 
-    pub(crate) fn name(self, number: u64, line: &[u8]) -> Trial {
+    pub(crate) fn name(self, number: u64, row: &[u8]) -> Trial {
         let answer = self.answer;
-        if !goes_on(&answer, self.named, line) {
+        if !goes_on(&answer, self.named, row) {
             return self.fault(number);
         }
         Trial {
-            stands: self.stands,
+            open: self.open,
             right: self.right,
             answer: answer,
             count: self.count,
-            named: behind(self.named, line),
+            named: behind(self.named, row),
         }
     }
 
     // The end of a case; one that handed nothing in shows nothing.
     pub(crate) fn close(self, number: u64, tally: Tally) -> Tally {
-        if !self.stands {
+        if !self.open {
             return tally;
         }
-        let last = self.settled(number);
+        let last = self.all_named(number);
         if last.right && 0 < last.count {
             return tally.right();
         }

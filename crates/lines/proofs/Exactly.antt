@@ -10,29 +10,29 @@ use borrow.Author.Tests.{le-leb, leb-true}
 use Rattle.rules.specs.Rules.Places.{all}
 use Rattle.sequence.proofs.Tests.{Either, yes!, no!, which}
 use Rattle.lines.specs.Decimal.{valueOf}
-use Rattle.lines.specs.Lines.{Said, letterOf, kindOf, numbersOf, spaced, LineOf, isNumber, inRange}
+use Rattle.lines.specs.Lines.{Said, letterOf, commandOf, numbersOf, spaced, LineOf, isNumber, inRange}
 use Rattle.lines.specs.Readable.{between, scan, says, saysOf, lineSays, readsAs}
 use Rattle.lines.specs.Statement.{Readable, ReadsExactly, UnreadableExactly}
-use Rattle.lines.proofs.SaidLaws.{no-some, told, its-letter, said-of, numbers-are, in-range}
+use Rattle.lines.proofs.SaidLaws.{no-some, said-by, its-letter, said-of, numbers-are, in-range}
 use Rattle.lines.proofs.FieldLaws.{Fields, fields-read, fields-of}
 
 -- ── what is read is a line of the event ──────────────────────────────────────
 
 module _ (b : ℕ) (t : List ℕ) (said : Said) where
-  by-numbers : (ns : List ℕ) → scan between t ≡ some ns → says (kindOf b) ns ≡ some said → LineOf said (b ∷ t) × (inRange said ≡ true)
+  by-numbers : (ns : List ℕ) → scan between t ≡ some ns → says (commandOf b) ns ≡ some said → LineOf said (b ∷ t) × (inRange said ≡ true)
   by-numbers ns s e =
       let f : Fields t ns = fields-of t ns s in
-      let k = told (kindOf b) ns said e in (
+      let k = said-by (commandOf b) ns said e in (
         record {
           fields = f .fields;
           decimals = f .decimals;
           numbers = f .values ∙ sym (k .numbers);
           written = rw (← its-letter b ns said e, ← f .written);
         },
-        in-range (kindOf b) ns said (f .small) e,
+        in-range (commandOf b) ns said (f .small) e,
       )
 
-  of-fields : (o : Option (List ℕ)) → scan between t ≡ o → saysOf (kindOf b) o ≡ some said → LineOf said (b ∷ t) × (inRange said ≡ true)
+  of-fields : (o : Option (List ℕ)) → scan between t ≡ o → saysOf (commandOf b) o ≡ some said → LineOf said (b ∷ t) × (inRange said ≡ true)
   of-fields none s e = absurd (no-some e)
   of-fields (some ns) s e = by-numbers ns s e
 
@@ -56,7 +56,7 @@ complete text said r =
     let l = r .0 in
     let n : all isNumber (map valueOf (l .fields)) ≡ true = rw (l .numbers) (numbers-are said (r .2)) in
     let s : scan between (spaced (l .fields)) ≡ some (numbersOf said) = fields-read (l .fields) (l .decimals) n ∙ ap some (l .numbers) in
-    rw (le-leb (length text) 200 (r .1)) (ap lineSays (l .written) ∙ ap (saysOf (kindOf (letterOf said))) s ∙ said-of said (r .2))
+    rw (le-leb (length text) 200 (r .1)) (ap lineSays (l .written) ∙ ap (saysOf (commandOf (letterOf said))) s ∙ said-of said (r .2))
 
 pub reads-exactly : ReadsExactly
 reads-exactly text said = (sound text said, complete text said)

@@ -1,4 +1,4 @@
-pub mod KindLaws
+pub mod CommandLaws
 pub mod NumberLaws
 pub mod SaidLaws
 pub mod ReadLaws

@@ -10,11 +10,11 @@ use borrow.Author.Tests.{le-leb, lt-leb}
 use Rattle.rules.specs.Rules.Places.{isSome}
 use Rattle.rules.specs.Rules.Bytes.{padded}
 use Rattle.requests.proofs.ArrayLaws.{padded-length, padded-front}
-use Rattle.lines.specs.declared.Kind.{Kind}
+use Rattle.lines.specs.declared.Command.{Command}
 use Rattle.lines.specs.declared.Numbers.{Numbers}
-use Rattle.lines.specs.Lines.{Said, kindOf}
+use Rattle.lines.specs.Lines.{Said, commandOf}
 use Rattle.lines.specs.Readable.{between, scan, says, saysOf, readsAs, numbersImage, lineImage}
-use Rattle.lines.proofs.SaidLaws.{told}
+use Rattle.lines.proofs.SaidLaws.{said-by}
 
 module _ (text : List ℕ) where
   pub too-long : 200 < length text → readsAs text ≡ none
@@ -29,21 +29,21 @@ module _ (text : List ℕ) where
       go [] e = refl
       go (b ∷ t) e = absurd (omega arith)
 
-  pub by-letter : length text ≤ 200 → 1 ≤ length text → readsAs text ≡ saysOf (kindOf (getD text 0 0)) (scan between (drop 1 text))
+  pub by-letter : length text ≤ 200 → 1 ≤ length text → readsAs text ≡ saysOf (commandOf (getD text 0 0)) (scan between (drop 1 text))
   unfolding readsAs
   by-letter h k = go text h k
     where
-      go : (t : List ℕ) → length t ≤ 200 → 1 ≤ length t → readsAs t ≡ saysOf (kindOf (getD t 0 0)) (scan between (drop 1 t))
+      go : (t : List ℕ) → length t ≤ 200 → 1 ≤ length t → readsAs t ≡ saysOf (commandOf (getD t 0 0)) (scan between (drop 1 t))
       go [] h k = absurd (omega arith)
       go (b ∷ t) h k = rw (le-leb (length (b ∷ t)) 200 h)
 
 -- ── from the record of the numbers ───────────────────────────────────────────
 
-unread : (k : Kind) (o : Option (List ℕ)) → numbersImage o .readable ≡ false → saysOf k o ≡ none
+unread : (k : Command) (o : Option (List ℕ)) → numbersImage o .readable ≡ false → saysOf k o ≡ none
 unread k none e = refl
 unread k (some ns) e = cc
 
-unfit : (k : Kind) (o : Option (List ℕ)) → numbersImage o .readable ≡ true → numbersImage o .count ≤ 99
+unfit : (k : Command) (o : Option (List ℕ)) → numbersImage o .readable ≡ true → numbersImage o .count ≤ 99
     → isSome (says k (take (numbersImage o .count) (numbersImage o .all))) ≡ false → saysOf k o ≡ none
 unfit k none r h e = cc
 unfit k (some ns) r h e = go (says k ns) (rw (padded-front 0 100 ns (omega arith)) at e)
@@ -52,19 +52,19 @@ unfit k (some ns) r h e = go (says k ns) (rw (padded-front 0 100 ns (omega arith
     go none e = refl
     go (some said) e = cc
 
-fit : (k : Kind) (o : Option (List ℕ)) → numbersImage o .readable ≡ true → numbersImage o .count ≤ 99
+fit : (k : Command) (o : Option (List ℕ)) → numbersImage o .readable ≡ true → numbersImage o .count ≤ 99
     → isSome (says k (take (numbersImage o .count) (numbersImage o .all))) ≡ true
-    → record { kind = k; count = numbersImage o .count; numbers = numbersImage o .all } ≡ lineImage (saysOf k o)
+    → record { command = k; count = numbersImage o .count; numbers = numbersImage o .all } ≡ lineImage (saysOf k o)
 fit k none r h e = cc
 fit k (some ns) r h e = go (says k ns) refl (rw (padded-front 0 100 ns (omega arith)) at e)
   where
-    go : (x : Option Said) → says k ns ≡ x → isSome x ≡ true → record { kind = k; count = length ns; numbers = padded 0 100 ns } ≡ lineImage (says k ns)
+    go : (x : Option Said) → says k ns ≡ x → isSome x ≡ true → record { command = k; count = length ns; numbers = padded 0 100 ns } ≡ lineImage (says k ns)
     go none q e = cc
     go (some said) q e =
-        let t = told k ns said q in
-        rw (q, t .kind, t .numbers)
+        let t = said-by k ns said q in
+        rw (q, t .command, t .numbers)
 
-module _ (k : Kind) (o : Option (List ℕ)) (n : Numbers) (e : n ≡ numbersImage o) where
+module _ (k : Command) (o : Option (List ℕ)) (n : Numbers) (e : n ≡ numbersImage o) where
   pub not-readable : n .readable ≡ false → saysOf k o ≡ none
   not-readable r = unread k o (rw e at r)
 
@@ -72,7 +72,7 @@ module _ (k : Kind) (o : Option (List ℕ)) (n : Numbers) (e : n ≡ numbersImag
   not-fitting r h f = unfit k o (rw e at r) (rw e at h) (rw e at f)
 
   pub fitting : n .readable ≡ true → n .count ≤ 99 → isSome (says k (take (n .count) (n .all))) ≡ true
-      → record { kind = k; count = n .count; numbers = n .all } ≡ lineImage (saysOf k o)
+      → record { command = k; count = n .count; numbers = n .all } ≡ lineImage (saysOf k o)
   fitting r h f = rw e (fit k o (rw e at r) (rw e at h) (rw e at f))
 
   pub hundred : length (n .all) ≡ 100

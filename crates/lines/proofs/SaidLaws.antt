@@ -1,4 +1,4 @@
--- What a kind of line says, and the letter that names a kind.
+-- What a command says, and the letter that names a command.
 use mathlib.Core.Bool.{Bool, true, false, cond, _&&_}
 use mathlib.Core.List.{List, [], _∷_}
 use mathlib.Core.Logic.{_⊎_, inl, inr, ⊎-elim}
@@ -15,9 +15,9 @@ use Rattle.slots.specs.declared.Signal.the-variants.{LineLifted, LineHung, Carr
 use Rattle.slots.specs.declared.Hand.the-variants.{Takes, GivesBack}
 use Rattle.lines.specs.declared.Form.{Form}
 use Rattle.lines.specs.declared.Form.the-variants.{Symbols, SlotSymbols, Signalled, Operated, Alone}
-use Rattle.lines.specs.declared.Kind.{Kind}
-use Rattle.lines.specs.declared.Kind.the-variants.{Unreadable, SetUp, Happens}
-use Rattle.lines.specs.Lines.{Said, setsUp, happens, whatLetter, setUpLetter, letterOf, formWhat, formLetter, forms, kindAmong, kindOf, symbolsIn, whatNumbers, numbersOf, setUpSaid, isSymbol, isNumber, whatInRange, inRange}
+use Rattle.lines.specs.declared.Command.{Command}
+use Rattle.lines.specs.declared.Command.the-variants.{Unreadable, SetUp, Happens}
+use Rattle.lines.specs.Lines.{Said, setsUp, happens, whatLetter, setUpLetter, letterOf, formWhat, formLetter, forms, commandAmong, commandOf, symbolsIn, whatNumbers, numbersOf, setUpSaid, isSymbol, isNumber, whatInRange, inRange}
 use Rattle.lines.specs.Readable.{saysSlot, says}
 
 pub no-some : {A : Type 0} {x : A} → none ≡ some x → ⊥
@@ -26,8 +26,8 @@ no-some e = let z : _≡_ {A = ℕ} 0 1 = cc in omega arith
 -- ── every letter ─────────────────────────────────────────────────────────────
 
 -- the letter of what a form says names that form
-pub names-form : (f : Form) (slot : ℕ) (symbols : List ℕ) → kindOf (whatLetter (formWhat f slot symbols)) ≡ Happens f
-unfolding kindOf
+pub names-form : (f : Form) (slot : ℕ) (symbols : List ℕ) → commandOf (whatLetter (formWhat f slot symbols)) ≡ Happens f
+unfolding commandOf
 names-form Symbols slot symbols = refl
 names-form SlotSymbols slot symbols = refl
 names-form (Signalled LineLifted) slot symbols = refl
@@ -50,22 +50,22 @@ by-form P h (onSlot i (signal carrierLost)) = h (Signalled CarrierLost) i []
 by-form P h (onSlot i (operator handTakes)) = h (Operated Takes) i []
 by-form P h (onSlot i (operator handGives)) = h (Operated GivesBack) i []
 
--- ── of the kind that its letter names, with its numbers ──────────────────────
+-- ── of the command that its letter names, with its numbers ───────────────────
 
-abbrev letterFor : Kind → ℕ
+abbrev letterFor : Command → ℕ
 letterFor Unreadable = 0
 letterFor SetUp = setUpLetter
 letterFor (Happens f) = formLetter f
 
-pub record Told (k : Kind) (ns : List ℕ) (said : Said) : Type 0 where
+pub record SaidBy (k : Command) (ns : List ℕ) (said : Said) : Type 0 where
   pub letter : letterFor k ≡ letterOf said
-  pub kind : kindOf (letterOf said) ≡ k
+  pub command : commandOf (letterOf said) ≡ k
   pub numbers : numbersOf said ≡ ns
 
-the-same : {k : Kind} {ns : List ℕ} {x said : Said} → Told k ns x → some x ≡ some said → Told k ns said
+the-same : {k : Command} {ns : List ℕ} {x said : Said} → SaidBy k ns x → some x ≡ some said → SaidBy k ns said
 the-same {k} {ns} {x} {said} t e = let q : x ≡ said = cc in rw (← q) t
 
-of-symbols : {k : Kind} {ns : List ℕ} {x said : Said} (b : Bool) → Told k ns x → cond b (some x) none ≡ some said → Told k ns said
+of-symbols : {k : Command} {ns : List ℕ} {x said : Said} (b : Bool) → SaidBy k ns x → cond b (some x) none ≡ some said → SaidBy k ns said
 of-symbols true t e = the-same t e
 of-symbols false t e = absurd (no-some e)
 
@@ -76,58 +76,58 @@ same-letter (Signalled g) slot symbols = refl
 same-letter (Operated h) slot symbols = refl
 same-letter Alone slot symbols = refl
 
-form-told : (f : Form) (time slot : ℕ) (symbols ns : List ℕ) → numbersOf (happens time (formWhat f slot symbols)) ≡ ns
-    → Told (Happens f) ns (happens time (formWhat f slot symbols))
-form-told f time slot symbols ns e = record { letter = same-letter f slot symbols; kind = names-form f slot symbols; numbers = e }
+form-said-by : (f : Form) (time slot : ℕ) (symbols ns : List ℕ) → numbersOf (happens time (formWhat f slot symbols)) ≡ ns
+    → SaidBy (Happens f) ns (happens time (formWhat f slot symbols))
+form-said-by f time slot symbols ns e = record { letter = same-letter f slot symbols; command = names-form f slot symbols; numbers = e }
 
-slot-told : (f : Form) (ns : List ℕ) (said : Said) → ((slot : ℕ) → whatNumbers (formWhat f slot []) ≡ slot ∷ []) → saysSlot f ns ≡ some said → Told (Happens f) ns said
-slot-told f [] said s e = absurd (no-some e)
-slot-told f (time ∷ []) said s e = absurd (no-some e)
-slot-told f (time ∷ slot ∷ []) said s e = the-same (form-told f time slot [] (time ∷ slot ∷ []) (rw (s slot))) e
-slot-told f (time ∷ slot ∷ more ∷ rest) said s e = absurd (no-some e)
+slot-said-by : (f : Form) (ns : List ℕ) (said : Said) → ((slot : ℕ) → whatNumbers (formWhat f slot []) ≡ slot ∷ []) → saysSlot f ns ≡ some said → SaidBy (Happens f) ns said
+slot-said-by f [] said s e = absurd (no-some e)
+slot-said-by f (time ∷ []) said s e = absurd (no-some e)
+slot-said-by f (time ∷ slot ∷ []) said s e = the-same (form-said-by f time slot [] (time ∷ slot ∷ []) (rw (s slot))) e
+slot-said-by f (time ∷ slot ∷ more ∷ rest) said s e = absurd (no-some e)
 
-pub told : (k : Kind) (ns : List ℕ) (said : Said) → says k ns ≡ some said → Told k ns said
-unfolding kindOf
-told Unreadable ns said e = absurd (no-some e)
-told SetUp [] said e = absurd (no-some e)
-told SetUp (n ∷ ns) said e = the-same (record { letter = refl; kind = refl; numbers = refl }) e
-told (Happens Symbols) [] said e = absurd (no-some e)
-told (Happens Symbols) (time ∷ symbols) said e = of-symbols (all isSymbol symbols) (form-told Symbols time 0 symbols (time ∷ symbols) refl) e
-told (Happens SlotSymbols) [] said e = absurd (no-some e)
-told (Happens SlotSymbols) (time ∷ []) said e = absurd (no-some e)
-told (Happens SlotSymbols) (time ∷ slot ∷ symbols) said e = of-symbols (all isSymbol symbols) (form-told SlotSymbols time slot symbols (time ∷ slot ∷ symbols) refl) e
-told (Happens (Signalled g)) ns said e = slot-told (Signalled g) ns said (λ slot. refl) e
-told (Happens (Operated h)) ns said e = slot-told (Operated h) ns said (λ slot. refl) e
-told (Happens Alone) [] said e = absurd (no-some e)
-told (Happens Alone) (time ∷ []) said e = the-same (form-told Alone time 0 [] (time ∷ []) refl) e
-told (Happens Alone) (time ∷ more ∷ rest) said e = absurd (no-some e)
+pub said-by : (k : Command) (ns : List ℕ) (said : Said) → says k ns ≡ some said → SaidBy k ns said
+unfolding commandOf
+said-by Unreadable ns said e = absurd (no-some e)
+said-by SetUp [] said e = absurd (no-some e)
+said-by SetUp (n ∷ ns) said e = the-same (record { letter = refl; command = refl; numbers = refl }) e
+said-by (Happens Symbols) [] said e = absurd (no-some e)
+said-by (Happens Symbols) (time ∷ symbols) said e = of-symbols (all isSymbol symbols) (form-said-by Symbols time 0 symbols (time ∷ symbols) refl) e
+said-by (Happens SlotSymbols) [] said e = absurd (no-some e)
+said-by (Happens SlotSymbols) (time ∷ []) said e = absurd (no-some e)
+said-by (Happens SlotSymbols) (time ∷ slot ∷ symbols) said e = of-symbols (all isSymbol symbols) (form-said-by SlotSymbols time slot symbols (time ∷ slot ∷ symbols) refl) e
+said-by (Happens (Signalled g)) ns said e = slot-said-by (Signalled g) ns said (λ slot. refl) e
+said-by (Happens (Operated h)) ns said e = slot-said-by (Operated h) ns said (λ slot. refl) e
+said-by (Happens Alone) [] said e = absurd (no-some e)
+said-by (Happens Alone) (time ∷ []) said e = the-same (form-said-by Alone time 0 [] (time ∷ []) refl) e
+said-by (Happens Alone) (time ∷ more ∷ rest) said e = absurd (no-some e)
 
--- ── from a kind to its letter ────────────────────────────────────────────────
+-- ── from a command to its letter ─────────────────────────────────────────────
 
-abbrev Named : ℕ → Kind → Type 0
+abbrev Named : ℕ → Command → Type 0
 Named b k = (k ≡ Unreadable) ⊎ (letterFor k ≡ b)
 
-named-more : (b n : ℕ) (k rest : Kind) → letterFor k ≡ n → Named b rest → Named b (cond (eqb b n) k rest)
+named-more : (b n : ℕ) (k rest : Command) → letterFor k ≡ n → Named b rest → Named b (cond (eqb b n) k rest)
 named-more b n k rest l r = go (which (eqb b n))
   where
     go : Either (eqb b n) → Named b (cond (eqb b n) k rest)
     go (yes! e) = rw e (inr (l ∙ sym (eqb-true b n e)))
     go (no! e) = rw e r
 
-named-among : (b : ℕ) (fs : List Form) → Named b (kindAmong b fs)
+named-among : (b : ℕ) (fs : List Form) → Named b (commandAmong b fs)
 named-among b [] = inl refl
-named-among b (f ∷ fs) = named-more b (formLetter f) (Happens f) (kindAmong b fs) refl (named-among b fs)
+named-among b (f ∷ fs) = named-more b (formLetter f) (Happens f) (commandAmong b fs) refl (named-among b fs)
 
-named : (b : ℕ) → Named b (kindOf b)
-unfolding kindOf
-named b = named-more b setUpLetter SetUp (kindAmong b forms) refl (named-among b forms)
+named : (b : ℕ) → Named b (commandOf b)
+unfolding commandOf
+named b = named-more b setUpLetter SetUp (commandAmong b forms) refl (named-among b forms)
 
--- only its own letter names a kind that says something
-pub its-letter : (b : ℕ) (ns : List ℕ) (said : Said) → says (kindOf b) ns ≡ some said → b ≡ letterOf said
+-- only its own letter names a command that says something
+pub its-letter : (b : ℕ) (ns : List ℕ) (said : Said) → says (commandOf b) ns ≡ some said → b ≡ letterOf said
 its-letter b ns said e =
     ⊎-elim
     (λ u. absurd (no-some (rw u at e)))
-    (λ l. sym l ∙ told (kindOf b) ns said e .letter)
+    (λ l. sym l ∙ said-by (commandOf b) ns said e .letter)
     (named b)
 
 -- ── what is in range is said ─────────────────────────────────────────────────
@@ -143,12 +143,12 @@ form-said time (Signalled g) slot symbols e = refl
 form-said time (Operated h) slot symbols e = refl
 form-said time Alone slot symbols e = refl
 
-pub said-of : (said : Said) → inRange said ≡ true → says (kindOf (letterOf said)) (numbersOf said) ≡ some said
-unfolding kindOf
+pub said-of : (said : Said) → inRange said ≡ true → says (commandOf (letterOf said)) (numbersOf said) ≡ some said
+unfolding commandOf
 said-of (setsUp a) e = refl
 said-of (happens time what) e =
     by-form
-    (λ w. inRange (happens time w) ≡ true → says (kindOf (whatLetter w)) (numbersOf (happens time w)) ≡ some (happens time w))
+    (λ w. inRange (happens time w) ≡ true → says (commandOf (whatLetter w)) (numbersOf (happens time w)) ≡ some (happens time w))
     (λ f slot symbols e. rw (names-form f slot symbols) (form-said time f slot symbols e))
     what e
 
@@ -185,7 +185,7 @@ slot-in f (time ∷ []) said s n e = absurd (no-some e)
 slot-in f (time ∷ slot ∷ []) said s n e = let q : happens time (formWhat f slot []) ≡ said = cc in rw (← q, s slot) n
 slot-in f (time ∷ slot ∷ more ∷ rest) said s n e = absurd (no-some e)
 
-pub in-range : (k : Kind) (ns : List ℕ) (said : Said) → all isNumber ns ≡ true → says k ns ≡ some said → inRange said ≡ true
+pub in-range : (k : Command) (ns : List ℕ) (said : Said) → all isNumber ns ≡ true → says k ns ≡ some said → inRange said ≡ true
 unfolding inRange
 in-range Unreadable ns said n e = absurd (no-some e)
 in-range SetUp [] said n e = absurd (no-some e)

@@ -6,14 +6,15 @@ use mathlib.Core.Path.{_≡_}
 use Prim.Native.Nat.{ℕ}
 use lib.Dec.{leb, eqb}
 use Rattle.rules.specs.Rules.Places.{all}
-use Rattle.rules.specs.Rules.Words.{Happened, lineLifted, lineHung, carrierHeard, carrierLost, handTakes, handGives, heard, signal, operator, What, tick, onChannel70, onSlot}
+use Rattle.rules.specs.Rules.Words.{Happened, heard, signal, operator, What, tick, onChannel70, onSlot}
+use Rattle.rules.specs.Rules.Words.{lineLifted, lineHung, carrierHeard, carrierLost, handTakes, handGives}
 use Rattle.slots.specs.declared.Signal.the-variants.{LineLifted, LineHung, CarrierHeard, CarrierLost}
 use Rattle.slots.specs.declared.Hand.the-variants.{Takes, GivesBack}
 use Rattle.slots.specs.Views.{signalView, handView}
 use Rattle.lines.specs.declared.Form.{Form}
 use Rattle.lines.specs.declared.Form.the-variants.{Symbols, SlotSymbols, Signalled, Operated, Alone}
-use Rattle.lines.specs.declared.Kind.{Kind}
-use Rattle.lines.specs.declared.Kind.the-variants.{Unreadable, SetUp, Happens}
+use Rattle.lines.specs.declared.Command.{Command}
+use Rattle.lines.specs.declared.Command.the-variants.{Unreadable, SetUp, Happens}
 use Rattle.lines.specs.Decimal.{isDecimal, valueOf}
 
 -- what a set-up asks for, its channels as numbers
@@ -49,7 +50,7 @@ abbrev pub letterOf : Said → ℕ
 letterOf (setsUp a) = setUpLetter
 letterOf (happens time what) = whatLetter what
 
--- ── the kind that a letter names ─────────────────────────────────────────────
+-- ── the command that a letter names ──────────────────────────────────────────
 
 -- what happens by a line of a form, with the slot and the symbols that it has
 abbrev pub formWhat : Form → ℕ → List ℕ → What
@@ -60,7 +61,7 @@ formWhat (Operated h) slot symbols = onSlot slot (operator (handView h))
 formWhat Alone slot symbols = tick
 
 abbrev pub formLetter : Form → ℕ
-formLetter f = whatLetter (formWhat f 0 [])
+formLetter form = whatLetter (formWhat form 0 [])
 
 abbrev pub forms : List Form
 forms =
@@ -69,12 +70,12 @@ forms =
     ∷ Operated Takes ∷ Operated GivesBack
     ∷ Alone ∷ []
 
-abbrev pub kindAmong : ℕ → List Form → Kind
-kindAmong b [] = Unreadable
-kindAmong b (f ∷ fs) = cond (eqb b (formLetter f)) (Happens f) (kindAmong b fs)
+abbrev pub commandAmong : ℕ → List Form → Command
+commandAmong letter [] = Unreadable
+commandAmong letter (form ∷ more) = cond (eqb letter (formLetter form)) (Happens form) (commandAmong letter more)
 
-unfoldable pub kindOf : ℕ → Kind
-kindOf b = cond (eqb b setUpLetter) SetUp (kindAmong b forms)
+unfoldable pub commandOf : ℕ → Command
+commandOf letter = cond (eqb letter setUpLetter) SetUp (commandAmong letter forms)
 
 -- ── the fields ───────────────────────────────────────────────────────────────
 

@@ -9,12 +9,12 @@ use Rattle.rules.specs.Rules.Places.{all}
 use Rattle.rules.specs.Rules.Bytes.{padded}
 use Rattle.lines.specs.declared.Form.{Form}
 use Rattle.lines.specs.declared.Form.the-variants.{Symbols, SlotSymbols, Signalled, Operated, Alone}
-use Rattle.lines.specs.declared.Kind.{Kind}
-use Rattle.lines.specs.declared.Kind.the-variants.{Unreadable, SetUp, Happens}
+use Rattle.lines.specs.declared.Command.{Command}
+use Rattle.lines.specs.declared.Command.the-variants.{Unreadable, SetUp, Happens}
 use Rattle.lines.specs.declared.Line.{Line}
 use Rattle.lines.specs.declared.Numbers.{Numbers}
 use Rattle.lines.specs.Decimal.{isDigit}
-use Rattle.lines.specs.Lines.{Said, happens, letterOf, formWhat, kindOf, numbersOf, setUpSaid, isSymbol, isNumber}
+use Rattle.lines.specs.Lines.{Said, happens, letterOf, formWhat, commandOf, numbersOf, setUpSaid, isSymbol, isNumber}
 
 -- ── the fields, byte by byte ─────────────────────────────────────────────────
 
@@ -38,7 +38,7 @@ scan (inside v) (b ∷ t) =
     (cond (isNumber (v * 10 + (b - 48))) (scan (inside (v * 10 + (b - 48))) t) none)
     (cond (eqb b 32) (with v (scan opened t)) none)
 
--- ── the fields of a kind ─────────────────────────────────────────────────────
+-- ── the fields of a command ──────────────────────────────────────────────────
 
 abbrev pub saysSetUp : List ℕ → Option Said
 saysSetUp [] = none
@@ -76,18 +76,18 @@ saysForm (Signalled g) ns = saysSlot (Signalled g) ns
 saysForm (Operated h) ns = saysSlot (Operated h) ns
 saysForm Alone ns = saysTime Alone ns
 
-abbrev pub says : Kind → List ℕ → Option Said
+abbrev pub says : Command → List ℕ → Option Said
 says Unreadable ns = none
 says SetUp ns = saysSetUp ns
 says (Happens f) ns = saysForm f ns
 
-abbrev pub saysOf : Kind → Option (List ℕ) → Option Said
-saysOf k none = none
-saysOf k (some ns) = says k ns
+abbrev pub saysOf : Command → Option (List ℕ) → Option Said
+saysOf command none = none
+saysOf command (some ns) = says command ns
 
 abbrev pub lineSays : List ℕ → Option Said
 lineSays [] = none
-lineSays (b ∷ t) = saysOf (kindOf b) (scan between t)
+lineSays (letter ∷ rest) = saysOf (commandOf letter) (scan between rest)
 
 -- "one over 200 characters .. : 40"
 abbrev pub longestLine : ℕ
@@ -104,5 +104,10 @@ numbersImage none = record { readable = false; count = 0; all = padded 0 100 [] 
 numbersImage (some ns) = record { readable = true; count = length ns; all = padded 0 100 ns }
 
 abbrev pub lineImage : Option Said → Line
-lineImage none = record { kind = Unreadable; count = 0; numbers = padded 0 100 [] }
-lineImage (some said) = record { kind = kindOf (letterOf said); count = length (numbersOf said); numbers = padded 0 100 (numbersOf said) }
+lineImage none = record { command = Unreadable; count = 0; numbers = padded 0 100 [] }
+lineImage (some said) =
+    record {
+      command = commandOf (letterOf said);
+      count = length (numbersOf said);
+      numbers = padded 0 100 (numbersOf said);
+    }

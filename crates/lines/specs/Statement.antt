@@ -13,7 +13,12 @@ abbrev pub Readable : Said → List ℕ → Type 0
 Readable said text = LineOf said text × (length text ≤ longestLine) × (inRange said ≡ true)
 
 abbrev pub ReadsExactly : Type 0
-ReadsExactly = (text : List ℕ) (said : Said) → (readsAs text ≡ some said → Readable said text) × (Readable said text → readsAs text ≡ some said)
+ReadsExactly =
+    (text : List ℕ) (said : Said)
+    → (readsAs text ≡ some said → Readable said text) × (Readable said text → readsAs text ≡ some said)
 
 abbrev pub UnreadableExactly : Type 0
-UnreadableExactly = (text : List ℕ) → (readsAs text ≡ none → (said : Said) → Readable said text → ⊥) × (((said : Said) → Readable said text → ⊥) → readsAs text ≡ none)
+UnreadableExactly =
+    (text : List ℕ)
+    → (readsAs text ≡ none → (said : Said) → Readable said text → ⊥)
+    × (((said : Said) → Readable said text → ⊥) → readsAs text ≡ none)

@@ -9,26 +9,26 @@ ghost use Rattle.lines.specs.Found.{means, Within};
 use crate::Field;
 use crate::Numbers;
 
-fn is_digit(b: u8) -> bool
-    ensures { λ r. ⌜ r ≡ isDigit b ⌝ }
+fn is_digit(byte: u8) -> bool
+    ensures { λ r. ⌜ r ≡ isDigit byte ⌝ }
 {
-    48 <= b && b <= 57
+    48 <= byte && byte <= 57
 }
 
-// The field whose digits before a place say v.
-fn digits_from(s: &[u8], start: usize, v: u32) -> Field
-    requires { ⌜ start ≤ length (now s) ⌝ }
-    ensures { λ r. ⌜ scan (inside v) (drop start (now (s .entry))) ≡ means r (now (s .entry)) ⌝ }
-    ensures { λ r. ⌜ Within r start (length (now (s .entry))) ⌝ }
+// The field whose digits before a place say so much.
+fn digits_from(text: &[u8], start: usize, before: u32) -> Field
+    requires { ⌜ start ≤ length (now text) ⌝ }
+    ensures { λ r. ⌜ scan (inside before) (drop start (now (text .entry))) ≡ means r (now (text .entry)) ⌝ }
+    ensures { λ r. ⌜ Within r start (length (now (text .entry))) ⌝ }
 {
-    let mut value = v;
+    let mut value = before;
     let mut i = start;
-    while i < s.len() {
-        let b = s[i];
-        if !is_digit(b) {
+    while i < text.len() {
+        let byte = text[i];
+        if !is_digit(byte) {
             return Field::Number(value, i);
         }
-        let more = value as u64 * 10 + (b - 48) as u64;
+        let more = value as u64 * 10 + (byte - 48) as u64;
         if 4294967295 < more {
             return Field::Nothing;
         }
@@ -39,19 +39,19 @@ fn digits_from(s: &[u8], start: usize, v: u32) -> Field
 }
 
 // The field that begins at a place, behind its space.
-fn field_at(s: &[u8], start: usize) -> Field
-    requires { ⌜ start ≤ length (now s) ⌝ }
-    ensures { λ r. ⌜ scan opened (drop start (now (s .entry))) ≡ means r (now (s .entry)) ⌝ }
-    ensures { λ r. ⌜ Within r (start + 1) (length (now (s .entry))) ⌝ }
+fn field_at(text: &[u8], start: usize) -> Field
+    requires { ⌜ start ≤ length (now text) ⌝ }
+    ensures { λ r. ⌜ scan opened (drop start (now (text .entry))) ≡ means r (now (text .entry)) ⌝ }
+    ensures { λ r. ⌜ Within r (start + 1) (length (now (text .entry))) ⌝ }
 {
-    if s.len() <= start {
+    if text.len() <= start {
         return Field::Nothing;
     }
-    let b = s[start];
-    if !is_digit(b) {
+    let byte = text[start];
+    if !is_digit(byte) {
         return Field::Nothing;
     }
-    digits_from(s, start + 1, (b - 48) as u32)
+    digits_from(text, start + 1, (byte - 48) as u32)
 }
 
 fn no_numbers() -> Numbers
@@ -64,23 +64,23 @@ fn no_numbers() -> Numbers
     }
 }
 
-pub(crate) fn numbers_in(s: &[u8]) -> Numbers
-    requires { ⌜ length (now s) ≤ 199 ⌝ }
-    ensures { λ r. ⌜ r ≡ numbersImage (scan between (now (s .entry))) ⌝ }
+pub(crate) fn numbers_in(text: &[u8]) -> Numbers
+    requires { ⌜ length (now text) ≤ 199 ⌝ }
+    ensures { λ r. ⌜ r ≡ numbersImage (scan between (now (text .entry))) ⌝ }
     ensures { λ r. ⌜ r .count ≤ 99 ⌝ }
 {
     let mut all = [0u32; 100];
     let mut count: usize = 0;
     let mut i = 0;
-    while i < s.len() {
-        if s[i] != 32 {
+    while i < text.len() {
+        if text[i] != 32 {
             return no_numbers();
         }
-        let f = field_at(s, i + 1);
-        let Field::Number(v, next) = f else {
+        let field = field_at(text, i + 1);
+        let Field::Number(value, next) = field else {
             return no_numbers();
         };
-        all[count] = v;
+        all[count] = value;
         count += 1;
         i = next;
     }

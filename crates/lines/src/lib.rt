@@ -4,20 +4,20 @@ ghost use mathlib.Core.Option.{none};
 ghost use Prim.Native.Nat.{_≤_};
 ghost use Rattle.lines.specs.Readable.{readsAs, lineImage};
 
+mod commands;
 mod fields;
-mod kinds;
 
+use crate::commands::command_of;
+use crate::commands::fits;
 use crate::fields::numbers_in;
-use crate::kinds::fits;
-use crate::kinds::kind_of;
 use slots::Hand;
 use slots::Signal;
 
 // "one over 200 characters .. : 40"
 pub const LONGEST_LINE: usize = 200;
 
-// By its letter; a line that is no event's is unreadable.
-pub enum Kind {
+// What the letter of a line names; a line that is no event's is unreadable.
+pub enum Command {
     Unreadable,
     SetUp,
     Happens(Form),
@@ -32,9 +32,9 @@ pub enum Form {
     Alone,
 }
 
-// What a line says: its kind, and so many numbers behind the letter.
+// What a line says: its command, and so many numbers behind the letter.
 pub struct Line {
-    pub kind: Kind,
+    pub command: Command,
     pub count: usize,
     pub numbers: [u32; 100],
 }
@@ -56,7 +56,7 @@ fn unreadable() -> Line
     ensures { λ r. ⌜ r ≡ lineImage none ⌝ }
 {
     Line {
-        kind: Kind::Unreadable,
+        command: Command::Unreadable,
         count: 0,
         numbers: [0u32; 100],
     }
@@ -73,18 +73,18 @@ pub fn read(text: &[u8]) -> Line
     if text.len() == 0 {
         return unreadable();
     }
-    let kind = kind_of(text[0]);
+    let command = command_of(text[0]);
     let found = numbers_in(&text[1..]);
     let numbers = found.all;
     let count = found.count;
     if !found.readable {
         return unreadable();
     }
-    if !fits(kind, &numbers[..count]) {
+    if !fits(command, &numbers[..count]) {
         return unreadable();
     }
     Line {
-        kind: kind,
+        command: command,
         count: count,
         numbers: numbers,
     }

@@ -26,9 +26,9 @@ use Rattle.station.specs.Model.{configOf, modelOf, imageOf}
 use Rattle.station.specs.Step.{dueImage, recordsKeep, refusal, steppedBy, roomAfter}
 use Rattle.printing.specs.Texts.{numbersText}
 use Rattle.printing.specs.Replies.{headText, actionText, actionTexts, replyText}
-use Rattle.printing.specs.Statement.{lineText, firstText, linesText, replyOf, ReplyIsPrinted}
+use Rattle.printing.specs.Statement.{rowText, firstText, rowsText, replyOf, ReplyIsPrinted}
 
--- ── the first line ───────────────────────────────────────────────────────────
+-- ── the first row ────────────────────────────────────────────────────────────
 
 pub first-is : (answer clock count : ℕ) (o : Option ℕ) → headText answer clock count (dueImage o) ≡ firstText (answer ∷ clock ∷ count ∷ dueShown o)
 unfolding headText numbersText
@@ -37,7 +37,7 @@ first-is answer clock count (some t) = simp (append-assoc, append-nil)
 
 -- ── the actions ──────────────────────────────────────────────────────────────
 
-action-is : (c : Config) (a : Action) → Slim c a → actionText (blockOf c a) ≡ lineText (shown c a)
+action-is : (c : Config) (a : Action) → Slim c a → actionText (blockOf c a) ≡ rowText (shown c a)
 unfolding actionText blockOf block numbersText
 action-is c a h =
     let n : min (length (payloadOf c a)) 36 ≡ length (payloadOf c a) = omega arith in
@@ -51,7 +51,7 @@ first-behind (suc k) room =
     let place : 40 * suc k ≡ 40 + 40 * k = omega arith in
     rw (first-behind k room, place, ← drop-drop (40 * k) 40 room) (append-assoc (actionText (take 40 room)) (actionTexts k (drop 40 room)) _)
 
-actions-are : (c : Config) (l : List Action) → Each (Slim c) l → (rest : List ℕ) → actionTexts (length l) (blocks c l ++ rest) ≡ flatMap lineText (map (shown c) l)
+actions-are : (c : Config) (l : List Action) → Each (Slim c) l → (rest : List ℕ) → actionTexts (length l) (blocks c l ++ rest) ≡ flatMap rowText (map (shown c) l)
 unfolding flatMap
 actions-are c [] h rest = unfold actionTexts in refl
 actions-are c (a ∷ l) h rest =
@@ -69,8 +69,8 @@ actions-are c (a ∷ l) h rest =
 
 -- to what the rules give, with blocks at the front of the room
 pub reply-is : (c : Config) (o : Out) → length (o .acts) ≤ 8 → Each (Slim c) (o .acts) → (rest : List ℕ)
-    → replyText (o .answer) (o .next .clock) (length (o .acts)) (dueImage (nextDue (o .next))) (blocks c (o .acts) ++ rest) ≡ linesText (lines c o)
-unfolding replyText linesText
+    → replyText (o .answer) (o .next .clock) (length (o .acts)) (dueImage (nextDue (o .next))) (blocks c (o .acts) ++ rest) ≡ rowsText (lines c o)
+unfolding replyText rowsText
 reply-is c o few slim rest =
     let n : min (length (o .acts)) 8 ≡ length (o .acts) = omega arith in
     rw (n, first-is (o .answer) (o .next .clock) (length (o .acts)) (nextDue (o .next)), actions-are c (o .acts) slim rest)
@@ -81,7 +81,7 @@ module _ (s : Station) (e : Event) (room : List ℕ) (keep : recordsKeep s ≡ t
   judged = rw keep
 
   printed : (o : Option ℕ) → verdict (configOf s) (modelOf s) e ≡ o
-      → replyOf (steppedBy s e) (roomAfter s room e) ≡ linesText (lines (configOf s) (step (configOf s) (modelOf s) e))
+      → replyOf (steppedBy s e) (roomAfter s room e) ≡ rowsText (lines (configOf s) (step (configOf s) (modelOf s) e))
   unfolding steppedBy roomAfter step AtMostEight imageOf
   printed none v =
       let c = configOf s in

@@ -20,27 +20,29 @@ use Rattle.printing.specs.Replies.{lineFeed, replyText}
 
 -- the text of a number is decimal as a script's own fields are, has no 0 before it, and says that number
 abbrev pub DecimalSaysIt : Type 0
-DecimalSaysIt = (n : ℕ) → n ≤ 4294967295 → (isDecimal (decimal n) ≡ true) × (shortened (decimal n) ≡ decimal n) × (valueOf (decimal n) ≡ n)
+DecimalSaysIt =
+    (n : ℕ) → n ≤ 4294967295
+    → (isDecimal (decimal n) ≡ true) × (shortened (decimal n) ≡ decimal n) × (valueOf (decimal n) ≡ n)
 
 -- one space apart
 abbrev pub fieldsText : List ℕ → List ℕ
 fieldsText [] = []
 fieldsText (n ∷ ns) = decimal n ++ numbersText ns
 
-abbrev pub lineText : List ℕ → List ℕ
-lineText l = fieldsText l ++ lineFeed
+abbrev pub rowText : List ℕ → List ℕ
+rowText row = fieldsText row ++ lineFeed
 
--- "next due time (`-` if none)": a first line of three numbers has none
+-- "next due time (`-` if none)": a first row of three numbers has none
 abbrev pub dash : List ℕ → List ℕ
-dash l = cond (eqb (length l) 3) (32 ∷ 45 ∷ []) []
+dash row = cond (eqb (length row) 3) (32 ∷ 45 ∷ []) []
 
 abbrev pub firstText : List ℕ → List ℕ
-firstText l = fieldsText l ++ dash l ++ lineFeed
+firstText row = fieldsText row ++ dash row ++ lineFeed
 
--- the first line, and a line for each action
-unfoldable pub linesText : List (List ℕ) → List ℕ
-linesText [] = []
-linesText (first ∷ actions) = firstText first ++ flatMap lineText actions
+-- the first row, and a row for each action
+unfoldable pub rowsText : List (List ℕ) → List ℕ
+rowsText [] = []
+rowsText (first ∷ actions) = firstText first ++ flatMap rowText actions
 
 -- ── one reply ────────────────────────────────────────────────────────────────
 
@@ -51,4 +53,4 @@ replyOf r room = replyText (r .answer) (r .station .clock .0) (r .count) (r .due
 -- any event, accepted or not, in any room
 unfoldable pub ReplyIsPrinted : Type 0
 ReplyIsPrinted = (s : Station) (e : Event) (room : List ℕ) → recordsKeep s ≡ true
-    → replyOf (steppedBy s e) (roomAfter s room e) ≡ linesText (lines (configOf s) (step (configOf s) (modelOf s) e))
+    → replyOf (steppedBy s e) (roomAfter s room e) ≡ rowsText (lines (configOf s) (step (configOf s) (modelOf s) e))

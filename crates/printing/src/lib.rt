@@ -2,11 +2,11 @@
 ghost use mathlib.Core.Path.{_≡_};
 ghost use Rattle.printing.specs.Replies.{replyText, putText, putLength};
 
-mod deeds;
+mod rows;
 mod texts;
 
-use crate::deeds::put_actions;
-use crate::deeds::put_head;
+use crate::rows::put_actions;
+use crate::rows::put_head;
 use actions::ACTIONS;
 use actions::ROOM;
 use requests::least;
@@ -33,7 +33,7 @@ pub fn put_reply(
     if out.len() < ANSWER_ROOM {
         return 0;
     }
-    let k = least(count, MOST_ACTIONS);
-    let n = put_head(answer, clock, count, due, out);
-    put_actions(&blocks, k as usize, out, n)
+    let shown = least(count, MOST_ACTIONS);
+    let next = put_head(answer, clock, count, due, out);
+    put_actions(&blocks, shown as usize, out, next)
 }

@@ -11,21 +11,21 @@ struct Turn {
     more: bool,
 }
 
-fn show(text: &[u8], n: usize) {
-    if n <= text.len() {
-        io::write_all(1, &text[..n]);
+fn show(text: &[u8], count: usize) {
+    if count <= text.len() {
+        io::write_all(1, &text[..count]);
     }
 }
 
 // Feeds bytes up to the end of a line, and writes what the session answers.
-fn feed_line(session: Session, s: &[u8]) -> Moved {
+fn feed_line(session: Session, bytes: &[u8]) -> Moved {
     let mut out = io::buffer();
-    let f = session.feed(s, &mut out);
-    show(&out, f.count);
-    let next = f.session;
+    let fed = session.feed(bytes, &mut out);
+    show(&out, fed.count);
+    let next = fed.session;
     Moved {
         session: next,
-        used: f.used,
+        used: fed.used,
     }
 }
 
@@ -40,22 +40,22 @@ fn ahead(start: usize, used: usize, end: usize) -> usize {
 }
 
 // Each turn uses a byte at least, so as many turns as bytes are enough.
-fn feed_all(session: Session, s: &[u8]) -> Session {
-    let end = s.len();
-    let mut at = session;
+fn feed_all(session: Session, bytes: &[u8]) -> Session {
+    let end = bytes.len();
+    let mut current = session;
     let mut start = 0;
     let mut left = end;
     while 0 < left {
         if end <= start {
-            return at;
+            return current;
         }
-        let m = feed_line(at, &s[start..]);
-        let next = m.session;
-        at = next;
-        start = ahead(start, m.used, end);
+        let moved = feed_line(current, &bytes[start..]);
+        let next = moved.session;
+        current = next;
+        start = ahead(start, moved.used, end);
         left -= 1;
     }
-    at
+    current
 }
 
 fn one_turn(session: Session) -> Turn {
@@ -67,8 +67,8 @@ fn one_turn(session: Session) -> Turn {
             more: false,
         };
     }
-    let n = io::count(got, &input);
-    let next = feed_all(session, &input[..n]);
+    let count = io::count(got, &input);
+    let next = feed_all(session, &input[..count]);
     Turn {
         session: next,
         more: true,
@@ -77,23 +77,23 @@ fn one_turn(session: Session) -> Turn {
 
 // Nothing says that the input ends, so the turns are counted down from a number that no run uses up.
 fn run(session: Session) -> Session {
-    let mut at = session;
+    let mut current = session;
     let mut turns = u64::MAX;
     while 0 < turns {
-        let t = one_turn(at);
-        let next = t.session;
-        at = next;
-        if !t.more {
-            return at;
+        let turn = one_turn(current);
+        let next = turn.session;
+        current = next;
+        if !turn.more {
+            return current;
         }
         turns -= 1;
     }
-    at
+    current
 }
 
 fn main() {
     let last = run(Session::begin());
     let mut out = io::buffer();
-    let f = last.finish(&mut out);
-    show(&out, f.count);
+    let fed = last.finish(&mut out);
+    show(&out, fed.count);
 }

@@ -1,6 +1,6 @@
 pub mod LineLaws
 pub mod TextLaws
 pub mod SessionLaws
-pub mod TalkLaws
+pub mod TranscriptLaws
 pub mod PrintedLaws
 pub mod Settled

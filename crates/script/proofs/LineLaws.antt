@@ -16,7 +16,7 @@ use Rattle.rules.specs.Rules.Bytes.{padded}
 use Rattle.requests.proofs.ArrayLaws.{padded-front}
 use Rattle.lines.specs.declared.Form.{Form}
 use Rattle.lines.specs.declared.Form.the-variants.{Symbols, SlotSymbols, Signalled, Operated, Alone}
-use Rattle.lines.specs.Lines.{Said, setsUp, happens, formWhat, kindOf, numbersOf, setUpSaid, isSymbol, isNumber, inRange}
+use Rattle.lines.specs.Lines.{Said, setsUp, happens, formWhat, commandOf, numbersOf, setUpSaid, isSymbol, isNumber, inRange}
 use Rattle.lines.specs.Readable.{lineImage}
 use Rattle.lines.proofs.SaidLaws.{names-form, by-form}
 use Rattle.station.specs.declared.Station.{Station}
@@ -93,7 +93,7 @@ module _ (time : ℕ) where
   form-back f slot symbols h e = rw (names-form f slot symbols) (ap (λ w. some (happens time w)) (what-back f slot symbols h e))
 
 set-up-back : (n : ℕ) (l : List ℕ) → length (numbersOf (setUpSaid n l)) ≤ 99 → lineSaid (lineImage (some (setUpSaid n l))) ≡ some (setUpSaid n l)
-unfolding lineSaid kindOf padded
+unfolding lineSaid commandOf padded
 set-up-back n l h = ap (λ r. some (setUpSaid n r)) (behind-first n l (omega arith))
 
 -- what an unreadable line says is in range too

@@ -34,13 +34,13 @@ use Rattle.station_theorems.proofs.Laid.{refusal-is}
 use Rattle.station_theorems.proofs.Steps.{allowed-does, left-for, stepFor, step-allowed}
 use Rattle.station_theorems.proofs.Traces.{done-back, done-left, refused-back}
 use Rattle.printing.specs.Replies.{actionTexts, replyText}
-use Rattle.printing.specs.Statement.{linesText}
+use Rattle.printing.specs.Statement.{rowsText}
 use Rattle.printing.proofs.PrintedLaws.{first-is, reply-is}
 use Rattle.script.specs.declared.Desk.{Desk}
 use Rattle.script.specs.declared.Handled.{Handled}
 use Rattle.script.specs.Answering.{desk, unchanged, afterSetUp, askedFor, handledFor, shownFor, noBlocks, deskAfter, replyTo}
 use Rattle.script.specs.Session.{begun}
-use Rattle.script.specs.Transcript.{talk, transcript}
+use Rattle.script.specs.Transcript.{answersFrom, transcript}
 use Rattle.script.specs.Printed.{saidIn, eventOf, nothingBut, outOf, printedOn, noStation, printedFrom, TranscriptIsPrinted, saysEvent, RoomNeeded, EventsArePrinted}
 
 -- ── line by line ─────────────────────────────────────────────────────────────
@@ -49,14 +49,14 @@ answers : Desk → List (Option Said) → List ℕ
 answers d [] = []
 answers d (said ∷ more) = replyTo d said ++ answers (deskAfter d said) more
 
-answered : (d : Desk) (line script : List ℕ) → talk d line script ≡ answers d (saidIn line script)
-unfolding talk saidIn answers
+answered : (d : Desk) (line script : List ℕ) → answersFrom d line script ≡ answers d (saidIn line script)
+unfolding answersFrom saidIn answers
 answered d [] [] = refl
 answered d (b ∷ line) [] = sym (append-nil (replyTo d (readsAs (b ∷ line))))
 answered d line (b ∷ script) = go (which (eqb b 10)) (answered (deskAfter d (readsAs line)) [] script) (answered d (line ++ (b ∷ [])) script)
   where
-    go : Either (eqb b 10) → talk (deskAfter d (readsAs line)) [] script ≡ answers (deskAfter d (readsAs line)) (saidIn [] script)
-        → talk d (line ++ (b ∷ [])) script ≡ answers d (saidIn (line ++ (b ∷ [])) script) → talk d line (b ∷ script) ≡ answers d (saidIn line (b ∷ script))
+    go : Either (eqb b 10) → answersFrom (deskAfter d (readsAs line)) [] script ≡ answers (deskAfter d (readsAs line)) (saidIn [] script)
+        → answersFrom d (line ++ (b ∷ [])) script ≡ answers d (saidIn (line ++ (b ∷ [])) script) → answersFrom d line (b ∷ script) ≡ answers d (saidIn line (b ∷ script))
     go (yes! h) e f = rw (h, e)
     go (no! h) e f = rw h f
 
@@ -64,7 +64,7 @@ answered d line (b ∷ script) = go (which (eqb b 10)) (answered (deskAfter d (r
 
 -- what was said is answered so, and the next station is again such a one
 record Comes (c : Config) (m : R.Station) (said : Option Said) : Type 0 where
-  reply : replyTo (desk true (imageOf c m)) said ≡ linesText (lines c (outOf c m said))
+  reply : replyTo (desk true (imageOf c m)) said ≡ rowsText (lines c (outOf c m said))
   after : deskAfter (desk true (imageOf c m)) said ≡ desk true (imageOf c (outOf c m said .next))
   sounds : sound c (outOf c m said .next) ≡ true
 
@@ -83,7 +83,7 @@ module _ (c : Config) (m : R.Station) (good : sound c m ≡ true) where
 
   -- an answer that changes nothing
   only : (answer : ℕ)
-      → replyText answer (imageOf c m .clock .0) 0 (dueImage (nextDue (modelOf (imageOf c m)))) noBlocks ≡ linesText (lines c (nothingBut answer m))
+      → replyText answer (imageOf c m .clock .0) 0 (dueImage (nextDue (modelOf (imageOf c m)))) noBlocks ≡ rowsText (lines c (nothingBut answer m))
   only answer = shows answer 0 noBlocks ∙ reply-is c (nothingBut answer m) (omega arith) tt noBlocks
 
 module _ (c : Config) (m : R.Station) (good : sound c m ≡ true) (time : ℕ) (what : What) where
@@ -133,7 +133,7 @@ comes c m good none = record { reply = only c m good 40; after = refl; sounds = 
 comes c m good (some (setsUp a)) = record { reply = only c m good 41; after = refl; sounds = good }
 comes c m good (some (happens time what)) = event-comes c m good time what
 
-on-station : (said : List (Option Said)) (c : Config) (m : R.Station) → sound c m ≡ true → answers (desk true (imageOf c m)) said ≡ flatMap linesText (printedOn c m said)
+on-station : (said : List (Option Said)) (c : Config) (m : R.Station) → sound c m ≡ true → answers (desk true (imageOf c m)) said ≡ flatMap rowsText (printedOn c m said)
 unfolding answers printedOn flatMap
 on-station [] c m good = refl
 on-station (x ∷ more) c m good =
@@ -142,8 +142,8 @@ on-station (x ∷ more) c m good =
 
 -- ── before a set-up that is not refused ──────────────────────────────────────
 
-without : (answer : ℕ) → replyText answer 0 0 Never noBlocks ≡ linesText (noStation answer)
-unfolding replyText actionTexts linesText flatMap
+without : (answer : ℕ) → replyText answer 0 0 Never noBlocks ≡ rowsText (noStation answer)
+unfolding replyText actionTexts rowsText flatMap
 without answer = rw (first-is answer 0 0 none)
 
 fresh-sound : (c : Config) → setUpVerdict c ≡ none → sound c (fresh c) ≡ true
@@ -159,12 +159,12 @@ refused-36 c n = go (configKeeps c)
     go false e = cc
 
 module _ (s : Station) where
-  unread : (replyTo (desk false s) none ≡ linesText (noStation 40)) × (deskAfter (desk false s) none ≡ desk false s)
+  unread : (replyTo (desk false s) none ≡ rowsText (noStation 40)) × (deskAfter (desk false s) none ≡ desk false s)
   unfolding replyTo deskAfter
   unread = (without 40, refl)
 
   early : (time : ℕ) (what : What)
-      → (replyTo (desk false s) (some (happens time what)) ≡ linesText (noStation 41)) × (deskAfter (desk false s) (some (happens time what)) ≡ desk false s)
+      → (replyTo (desk false s) (some (happens time what)) ≡ rowsText (noStation 41)) × (deskAfter (desk false s) (some (happens time what)) ≡ desk false s)
   unfolding replyTo deskAfter
   early time what = (without 41, refl)
 
@@ -176,7 +176,7 @@ module _ (s : Station) where
     handled o v = ap (λ (x : Option ℕ). afterSetUp (desk false s) (setUpFor asked x)) v
 
     set-up : setUpVerdict asked ≡ none
-        → (replyTo (desk false s) (some (setsUp a)) ≡ linesText (lines asked (done (fresh asked))))
+        → (replyTo (desk false s) (some (setsUp a)) ≡ rowsText (lines asked (done (fresh asked))))
         × (deskAfter (desk false s) (some (setsUp a)) ≡ desk true (imageOf asked (fresh asked)))
     unfolding replyTo deskAfter
     set-up v = (
@@ -185,7 +185,7 @@ module _ (s : Station) where
     )
 
     not-set-up : (n : ℕ) → setUpVerdict asked ≡ some n
-        → (replyTo (desk false s) (some (setsUp a)) ≡ linesText (noStation n))
+        → (replyTo (desk false s) (some (setsUp a)) ≡ rowsText (noStation n))
         × (deskAfter (desk false s) (some (setsUp a)) ≡ desk false s)
     unfolding replyTo deskAfter
     not-set-up n v =
@@ -193,15 +193,15 @@ module _ (s : Station) where
         let same : handledFor (desk false s) noBlocks (some (setsUp a)) ≡ unchanged (desk false s) n = handled (some n) v ∙ rw z refl in
         (ap (λ (h : Handled). shownFor h noBlocks) same ∙ without n, ap (λ (h : Handled). h .desk) same)
 
-from-begin : (said : List (Option Said)) (s : Station) → answers (desk false s) said ≡ flatMap linesText (printedFrom said)
+from-begin : (said : List (Option Said)) (s : Station) → answers (desk false s) said ≡ flatMap rowsText (printedFrom said)
 unfolding answers printedFrom flatMap
 from-begin [] s = refl
 from-begin (none ∷ more) s = rw (unread s .0, unread s .1, from-begin more s)
 from-begin (some (happens time what) ∷ more) s = rw (early s time what .0, early s time what .1, from-begin more s)
 from-begin (some (setsUp a) ∷ more) s = go (setUpVerdict (askedFor a)) refl (from-begin more s)
   where
-    go : (o : Option ℕ) → setUpVerdict (askedFor a) ≡ o → answers (desk false s) more ≡ flatMap linesText (printedFrom more)
-        → answers (desk false s) (some (setsUp a) ∷ more) ≡ flatMap linesText (printedFrom (some (setsUp a) ∷ more))
+    go : (o : Option ℕ) → setUpVerdict (askedFor a) ≡ o → answers (desk false s) more ≡ flatMap rowsText (printedFrom more)
+        → answers (desk false s) (some (setsUp a) ∷ more) ≡ flatMap rowsText (printedFrom (some (setsUp a) ∷ more))
     go none v later =
         let c = askedFor a in
         let x = set-up s a v in

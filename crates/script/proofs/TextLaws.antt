@@ -1,12 +1,14 @@
 -- The line so far, byte by byte, and what it says.
 use mathlib.Core.Bool.{true}
-use mathlib.Core.List.{List, []}
+use mathlib.Core.List.{List}
 use mathlib.Core.Option.{Option, none, some}
 use mathlib.Core.Path.{_≡_, refl}
-use Prim.Native.Nat.{ℕ, suc, _+_, _<_, _≤_}
+use Prim.Native.Nat.{ℕ, suc, _+_, _<_, _≤_, min}
+use native.Mathlib.Omega.{arith}
 use lib.Dec.{leb}
 use lib.ListN.{length, take, drop, getD, drop-of-length-le}
-use borrow.Author.Tests.{eq-eqb, ne-eqb, le-leb, lt-leb}
+use lib.Seq.{take-all}
+use borrow.Author.Tests.{eq-eqb, ne-eqb, leb-true, leb-false}
 use Rattle.sequence.proofs.Rest.{rest}
 use Rattle.sequence.proofs.Tests.{Either, yes!, no!, which}
 use Rattle.lines.specs.Lines.{Said}
@@ -32,13 +34,18 @@ module _ (s : List ℕ) (i : ℕ) where
   pub no-more-feeds : length s ≤ i → beforeFeed (drop i s) ≡ 0
   no-more-feeds h = rw (drop-of-length-le s {i = i} h)
 
-pub too-long-says : (t : Text) → 200 < t .length → saysText t ≡ readsAs []
-unfolding saysText readsAs
-too-long-says t h = rw (lt-leb (t .length) 200 h)
-
-pub short-says : (t : Text) → t .length ≤ 200 → saysText t ≡ readsAs (take (t .length) (t .bytes))
+-- a text that says it is longer than its bytes has no more of them
+pub kept-says : (t : Text) (n : ℕ) → length (t .bytes) ≡ 201 → n ≡ min (t .length) 201 → readsAs (take n (t .bytes)) ≡ saysText t
 unfolding saysText
-short-says t h = rw (le-leb (t .length) 200 h)
+kept-says t n w e = go (which (leb (t .length) 201))
+  where
+    go : Either (leb (t .length) 201) → readsAs (take n (t .bytes)) ≡ readsAs (take (t .length) (t .bytes))
+    go (yes! h) =
+        let q : n ≡ t .length = omega (arith, leb-true (t .length) 201 h) in
+        rw q
+    go (no! h) =
+        let k = leb-false (t .length) 201 h in
+        rw (take-all n (t .bytes) (omega arith), take-all (t .length) (t .bytes) (omega arith))
 
 reads-in-range : (text : List ℕ) → inRangeOf (readsAs text) ≡ true
 reads-in-range text = go (readsAs text) refl
@@ -49,8 +56,4 @@ reads-in-range text = go (readsAs text) refl
 
 pub says-in-range : (t : Text) → inRangeOf (saysText t) ≡ true
 unfolding saysText
-says-in-range t = go (which (leb (t .length) 200))
-  where
-    go : Either (leb (t .length) 200) → inRangeOf (saysText t) ≡ true
-    go (yes! e) = rw e (reads-in-range (take (t .length) (t .bytes)))
-    go (no! e) = rw e refl
+says-in-range t = reads-in-range (take (t .length) (t .bytes))

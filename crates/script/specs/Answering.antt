@@ -32,19 +32,25 @@ unchanged d answer = record { answer = answer; count = 0; desk = d }
 
 -- after a refused set-up no station stands
 abbrev pub afterSetUp : Desk → SetUp → Handled
-afterSetUp d u = cond (eqb (u .answer) 0) (record { answer = 0; count = 0; desk = desk true (u .station) }) (unchanged d (u .answer))
+afterSetUp d setUp =
+    cond (eqb (setUp .answer) 0)
+    (record { answer = 0; count = 0; desk = desk true (setUp .station) })
+    (unchanged d (setUp .answer))
 
 abbrev pub afterEvent : Stepped → Handled
-afterEvent s = record { answer = s .answer; count = s .count; desk = desk true (s .station) }
+afterEvent stepped = record { answer = stepped .answer; count = stepped .count; desk = desk true (stepped .station) }
 
 -- what a set-up asks for, in the words of the rules
 abbrev pub askedFor : Asked → Config
-askedFor a = given (a .identity) (a .channels)
+askedFor asked = given (asked .identity) (asked .channels)
 
 abbrev pub handledFor : Desk → List ℕ → Option Said → Handled
 handledFor d room none = unchanged d 40
 handledFor d room (some (setsUp a)) = cond (d .stands) (unchanged d 41) (afterSetUp d (setUpOf (askedFor a)))
-handledFor d room (some (happens time what)) = cond (d .stands) (afterEvent (steppedBy (d .station) (eventAt time what room))) (unchanged d 41)
+handledFor d room (some (happens time what)) =
+    cond (d .stands)
+    (afterEvent (steppedBy (d .station) (eventAt time what room)))
+    (unchanged d 41)
 
 -- ── the actions ──────────────────────────────────────────────────────────────
 

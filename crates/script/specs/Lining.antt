@@ -3,14 +3,14 @@ use mathlib.Core.List.{List, map}
 use mathlib.Core.Option.{Option, none, some}
 use Prim.Native.Nat.{ℕ, _-_, _%_, min}
 use lib.ListN.{getD, take, drop}
-use Rattle.rules.specs.Rules.Words.{What, Event}
+use Rattle.rules.specs.Rules.Words.{Config, What, Event}
 use Rattle.lines.specs.declared.Form.{Form}
 use Rattle.lines.specs.declared.Form.the-variants.{Symbols, SlotSymbols, Signalled, Operated, Alone}
-use Rattle.lines.specs.declared.Kind.{Kind}
-use Rattle.lines.specs.declared.Kind.the-variants.{Unreadable, SetUp, Happens}
+use Rattle.lines.specs.declared.Command.{Command}
+use Rattle.lines.specs.declared.Command.the-variants.{Unreadable, SetUp, Happens}
 use Rattle.lines.specs.declared.Line.{Line}
 use Rattle.lines.specs.Lines.{Said, happens, formWhat, setUpSaid}
-use Rattle.station.specs.Step.{eventAt}
+use Rattle.station.specs.Step.{eventAt, given}
 
 abbrev pub byteOf : ℕ → ℕ
 byteOf n = n % 256
@@ -36,10 +36,14 @@ lineWhat f line = formWhat f (getD (line .numbers) 1 0) (symbolsFrom (before f) 
 abbrev pub lineEvent : Form → Line → List ℕ → Event
 lineEvent f line room = eventAt (getD (line .numbers) 0 0) (lineWhat f line) room
 
-abbrev pub kindSaid : Kind → Line → Option Said
-kindSaid Unreadable line = none
-kindSaid SetUp line = some (setUpSaid (getD (line .numbers) 0 0) (part 1 (line .count) (line .numbers)))
-kindSaid (Happens f) line = some (happens (getD (line .numbers) 0 0) (lineWhat f line))
+-- what a set-up line asks for, in the words of the rules
+abbrev pub lineAsks : Line → Config
+lineAsks line = given (getD (line .numbers) 0 0) (part 1 (line .count) (line .numbers))
+
+abbrev pub commandSaid : Command → Line → Option Said
+commandSaid Unreadable line = none
+commandSaid SetUp line = some (setUpSaid (getD (line .numbers) 0 0) (part 1 (line .count) (line .numbers)))
+commandSaid (Happens f) line = some (happens (getD (line .numbers) 0 0) (lineWhat f line))
 
 unfoldable pub lineSaid : Line → Option Said
-lineSaid line = kindSaid (line .kind) line
+lineSaid line = commandSaid (line .command) line

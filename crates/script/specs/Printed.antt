@@ -13,7 +13,7 @@ use Rattle.rules.specs.Rules.Verdict.{setUpVerdict, roomNeeded, step}
 use Rattle.rules.specs.Rules.Printed.{lines, printed}
 use Rattle.lines.specs.Lines.{Asked, Said, setsUp, happens}
 use Rattle.lines.specs.Readable.{readsAs}
-use Rattle.printing.specs.Statement.{linesText}
+use Rattle.printing.specs.Statement.{rowsText}
 use Rattle.script.specs.Answering.{askedFor}
 use Rattle.script.specs.Transcript.{transcript}
 
@@ -68,7 +68,7 @@ printedFrom (some (setsUp a) ∷ more) = printedAfter (askedFor a) more (printed
 
 -- of every script
 unfoldable pub TranscriptIsPrinted : Type 0
-TranscriptIsPrinted = (script : List ℕ) → transcript script ≡ flatMap linesText (printedFrom (saidIn [] script))
+TranscriptIsPrinted = (script : List ℕ) → transcript script ≡ flatMap rowsText (printedFrom (saidIn [] script))
 
 -- so of a set-up that is not refused and then events: the very list that `printed` has of them
 abbrev pub saysEvent : Event → Option Said
@@ -81,4 +81,4 @@ unfoldable pub EventsArePrinted : Type 0
 EventsArePrinted = (script : List ℕ) (a : Asked) (es : List Event) → Each RoomNeeded es
     → setUpVerdict (askedFor a) ≡ none → saidIn [] script ≡ some (setsUp a) ∷ map saysEvent es
     → transcript script
-    ≡ linesText (lines (askedFor a) (done (fresh (askedFor a)))) ++ flatMap linesText (printed (askedFor a) es (fresh (askedFor a)))
+    ≡ rowsText (lines (askedFor a) (done (fresh (askedFor a)))) ++ flatMap rowsText (printed (askedFor a) es (fresh (askedFor a)))

@@ -1,7 +1,7 @@
 -- The line so far, and what bytes make of a session.
 use mathlib.Core.Bool.{Bool, false, cond}
 use mathlib.Core.List.{List, [], _∷_}
-use mathlib.Core.Option.{Option, none}
+use mathlib.Core.Option.{Option}
 use Prim.Native.Nat.{ℕ, suc, _+_}
 use lib.Dec.{leb, ltb, eqb}
 use lib.ListN.{length, set, take, replicate}
@@ -17,31 +17,34 @@ use Rattle.script.specs.Answering.{desk, deskAfter, replyTo}
 
 -- ── the line so far ──────────────────────────────────────────────────────────
 
-abbrev pub noText : Text
-noText = record { length = 0; bytes = replicate longestLine 0 }
+-- "one over 200 characters": so many bytes of a line tell whether it is, and no further one is kept
+abbrev pub keptBytes : ℕ
+keptBytes = longestLine + 1
 
--- "one over 200 characters": a longer line keeps no further byte
+abbrev pub noText : Text
+noText = record { length = 0; bytes = replicate keptBytes 0 }
+
 unfoldable pub addByte : Text → ℕ → Text
-addByte t b =
-    cond (leb longestLine (t .length))
-    (record { length = longestLine + 1; bytes = t .bytes })
-    (record { length = t .length + 1; bytes = set (t .bytes) (t .length) b })
+addByte text byte =
+    cond (leb keptBytes (text .length))
+    text
+    (record { length = text .length + 1; bytes = set (text .bytes) (text .length) byte })
 
 abbrev pub addBytes : Text → List ℕ → Text
-addBytes t [] = t
-addBytes t (b ∷ l) = addBytes (addByte t b) l
+addBytes text [] = text
+addBytes text (byte ∷ more) = addBytes (addByte text byte) more
 
 unfoldable pub saysText : Text → Option Said
-saysText t = cond (leb (t .length) longestLine) (readsAs (take (t .length) (t .bytes))) none
+saysText text = readsAs (take (text .length) (text .bytes))
 
 -- how many bytes stand before the first line feed
 abbrev pub beforeFeed : List ℕ → ℕ
 beforeFeed [] = 0
-beforeFeed (b ∷ l) = cond (eqb b 10) 0 (suc (beforeFeed l))
+beforeFeed (byte ∷ more) = cond (eqb byte 10) 0 (suc (beforeFeed more))
 
 -- ── a session ────────────────────────────────────────────────────────────────
 
--- no station: what a refused set-up hands back
+-- "No station yet": a blank one in its place
 unfoldable pub begun : Session
 begun = record { desk = desk false blankStation; text = noText }
 
@@ -67,7 +70,10 @@ fedFor s bytes room =
     (record { used = beforeFeed bytes; count = 0; session = record { desk = s .desk; text = textWith s bytes } })
 
 abbrev pub roomFor : Session → List ℕ → List ℕ → List ℕ
-roomFor s bytes room = cond (ltb (beforeFeed bytes) (length bytes)) (putText room (replyTo (s .desk) (saysText (textWith s bytes)))) room
+roomFor s bytes room =
+    cond (ltb (beforeFeed bytes) (length bytes))
+    (putText room (replyTo (s .desk) (saysText (textWith s bytes))))
+    room
 
 -- nothing is taken where the room for an answer is short
 unfoldable pub fedWith : Session → List ℕ → List ℕ → Fed
@@ -84,4 +90,7 @@ unfoldable pub ended : Session → List ℕ → Fed
 ended s room = cond (leb answerRoom (length room)) (endFor s room) (untaken s)
 
 unfoldable pub roomEnded : Session → List ℕ → List ℕ
-roomEnded s room = cond (leb answerRoom (length room)) (cond (eqb (s .text .length) 0) room (putText room (replyTo (s .desk) (saysText (s .text))))) room
+roomEnded s room =
+    cond (leb answerRoom (length room))
+    (cond (eqb (s .text .length) 0) room (putText room (replyTo (s .desk) (saysText (s .text)))))
+    room

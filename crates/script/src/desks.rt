@@ -3,15 +3,14 @@ ghost use mathlib.Core.Bool.{false};
 ghost use mathlib.Core.Path.{_≡_};
 ghost use mathlib.Core.List.{map};
 ghost use Prim.Native.Nat.{_≤_, min};
-ghost use lib.ListN.{getD};
 ghost use Rattle.lines.specs.declared.Form.the-variants.{Symbols, SlotSymbols};
-ghost use Rattle.station.specs.Step.{sixteenOf, steppedBy, roomAfter, given, setUpOf};
+ghost use Rattle.station.specs.Step.{sixteenOf, steppedBy, roomAfter, setUpOf};
 ghost use Rattle.script.specs.Answering.{desk, unchanged, afterSetUp, handledFor, blocksFor, clockOf, dueOf};
-ghost use Rattle.script.specs.Lining.{byteOf, part, lineEvent, lineSaid};
+ghost use Rattle.script.specs.Lining.{byteOf, lineEvent, lineAsks, lineSaid};
 use crate::Desk;
 use crate::Handled;
+use lines::Command;
 use lines::Form;
-use lines::Kind;
 use lines::Line;
 use slots::SLOTS;
 use station::NextDue;
@@ -35,7 +34,7 @@ fn symbols_of(numbers: [u32; 100]) -> [u8; 100]
     symbols
 }
 
-fn least_of(a: usize, b: usize) -> usize
+pub(crate) fn least_length(a: usize, b: usize) -> usize
     ensures { λ r. ⌜ r ≡ min a b ⌝ }
 {
     if a < b { a } else { b }
@@ -48,10 +47,10 @@ fn with_symbols(station: Station, line: Line, room: &mut [u8]) -> Stepped
     ensures { λ _. ⌜ now (room .exit) ≡ roomAfter station (now (room .entry)) (lineEvent Symbols line (now (room .entry))) ⌝ }
 {
     let numbers = line.numbers;
-    let n = line.count;
+    let count = line.count;
     let symbols = symbols_of(numbers);
-    let from = least_of(1, n);
-    station.heard_on_channel_70(Tenths(numbers[0]), &symbols[from..n], room)
+    let from = least_length(1, count);
+    station.heard_on_channel_70(Tenths(numbers[0]), &symbols[from..count], room)
 }
 
 // A time, a slot and symbols.
@@ -61,13 +60,13 @@ fn with_slot_symbols(station: Station, line: Line, room: &mut [u8]) -> Stepped
     ensures { λ _. ⌜ now (room .exit) ≡ roomAfter station (now (room .entry)) (lineEvent SlotSymbols line (now (room .entry))) ⌝ }
 {
     let numbers = line.numbers;
-    let n = line.count;
+    let count = line.count;
     let symbols = symbols_of(numbers);
-    let from = least_of(2, n);
+    let from = least_length(2, count);
     station.heard_on_slot(
         Tenths(numbers[0]),
         SlotNumber(numbers[1]),
-        &symbols[from..n],
+        &symbols[from..count],
         room,
     )
 }
@@ -83,8 +82,8 @@ fn happening(station: Station, form: Form, line: Line, room: &mut [u8]) -> Stepp
     match form {
         Form::Symbols => with_symbols(station, line, room),
         Form::SlotSymbols => with_slot_symbols(station, line, room),
-        Form::Signalled(g) => station.plainly(Plain::Signal(g), time, slot, room),
-        Form::Operated(h) => station.plainly(Plain::Hand(h), time, slot, room),
+        Form::Signalled(signal) => station.plainly(Plain::Signal(signal), time, slot, room),
+        Form::Operated(hand) => station.plainly(Plain::Hand(hand), time, slot, room),
         Form::Alone => station.tick(time, room),
     }
 }
@@ -92,14 +91,14 @@ fn happening(station: Station, form: Form, line: Line, room: &mut [u8]) -> Stepp
 fn kept(stands: bool, station: Station, answer: u8) -> Handled
     ensures { λ r. ⌜ r ≡ unchanged (desk stands station) answer ⌝ }
 {
-    let d = Desk {
+    let desk = Desk {
         stands: stands,
         station: station,
     };
     Handled {
         answer: answer,
         count: 0,
-        desk: d,
+        desk: desk,
     }
 }
 
@@ -108,9 +107,9 @@ fn channels_of(numbers: &[u32]) -> [Channel; SLOTS]
     ensures { λ r. ⌜ r ≡ sixteenOf (now (numbers .entry)) ⌝ }
 {
     let mut channels = [Channel(0); SLOTS];
-    let n = least_of(SLOTS, numbers.len());
+    let count = least_length(SLOTS, numbers.len());
     let mut i = 0;
-    while i < n {
+    while i < count {
         channels[i] = Channel(numbers[i]);
         i += 1;
     }
@@ -120,17 +119,17 @@ fn channels_of(numbers: &[u32]) -> [Channel; SLOTS]
 // "set-up": where no station stands.
 fn setting(station: Station, line: Line) -> Handled
     requires { ⌜ line .count ≤ 99 ⌝ }
-    ensures { λ r. ⌜ r ≡ afterSetUp (desk false station) (setUpOf (given (getD (line .numbers) 0 0) (part 1 (line .count) (line .numbers)))) ⌝ }
+    ensures { λ r. ⌜ r ≡ afterSetUp (desk false station) (setUpOf (lineAsks line)) ⌝ }
 {
     let numbers = line.numbers;
-    let n = line.count;
+    let count = line.count;
     let identity = numbers[0];
-    let from = least_of(1, n);
-    let listed = &numbers[from..n];
+    let from = least_length(1, count);
+    let listed = &numbers[from..count];
     let channels = channels_of(listed);
-    let u = Station::set_up(identity, channels, listed.len() as u8);
-    let answer = u.answer;
-    let next = u.station;
+    let set_up = Station::set_up(identity, channels, listed.len() as u8);
+    let answer = set_up.answer;
+    let next = set_up.station;
     if answer == 0 {
         return kept(true, next, 0);
     }
@@ -143,29 +142,29 @@ pub(crate) fn handle(stands: bool, station: Station, line: Line, room: &mut [u8]
     ensures { λ r. ⌜ r ≡ handledFor (desk stands station) (now (room .entry)) (lineSaid line) ⌝ }
     ensures { λ _. ⌜ now (room .exit) ≡ blocksFor (desk stands station) (now (room .entry)) (lineSaid line) ⌝ }
 {
-    let kind = line.kind;
-    match kind {
-        Kind::Unreadable => kept(stands, station, 40),
-        Kind::SetUp => {
+    let command = line.command;
+    match command {
+        Command::Unreadable => kept(stands, station, 40),
+        Command::SetUp => {
             if stands {
                 return kept(stands, station, 41);
             }
             setting(station, line)
         }
-        Kind::Happens(form) => {
+        Command::Happens(form) => {
             if !stands {
                 return kept(stands, station, 41);
             }
-            let s = happening(station, form, line, room);
-            let next = s.station;
-            let d = Desk {
+            let stepped = happening(station, form, line, room);
+            let next = stepped.station;
+            let desk = Desk {
                 stands: true,
                 station: next,
             };
             Handled {
-                answer: s.answer,
-                count: s.count,
-                desk: d,
+                answer: stepped.answer,
+                count: stepped.count,
+                desk: desk,
             }
         }
     }

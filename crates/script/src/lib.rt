@@ -12,10 +12,13 @@ pub struct Desk {
     pub station: Station,
 }
 
-// The line so far; a longer line than any that is read has one character more.
+// "one over 200 characters": so many bytes of a line tell whether it is, and no further one is kept.
+pub const KEPT_BYTES: usize = LONGEST_LINE + 1;
+
+// The line so far, as much of it as is kept.
 pub struct Text {
     pub length: usize,
-    pub bytes: [u8; LONGEST_LINE],
+    pub bytes: [u8; KEPT_BYTES],
 }
 
 pub struct Session {

@@ -26,13 +26,18 @@ fn answer(used: usize, stands: bool, station: Station, text: Text, out: &mut [u8
 {
     let mut blocks = [0u8; ROOM];
     let line = line_of(text);
-    let h = handle(stands, station, line, &mut blocks);
-    let d = h.desk;
-    let b = d.stands;
-    let s = d.station;
-    let count = put_reply(h.answer, clock_of(b, s), h.count, due_of(b, s), blocks, out);
-    let t = no_text();
-    let session = Session { desk: d, text: t };
+    let handled = handle(stands, station, line, &mut blocks);
+    let desk = handled.desk;
+    let stands = desk.stands;
+    let station = desk.station;
+    let clock = clock_of(stands, station);
+    let due = due_of(stands, station);
+    let count = put_reply(handled.answer, clock, handled.count, due, blocks, out);
+    let next = no_text();
+    let session = Session {
+        desk: desk,
+        text: next,
+    };
     Fed {
         used: used,
         count: count,
@@ -45,13 +50,16 @@ impl Session {
     pub fn begin() -> Session
         ensures { λ r. ⌜ r ≡ begun ⌝ }
     {
-        let s = Station::blank();
-        let d = Desk {
+        let station = Station::blank();
+        let desk = Desk {
             stands: false,
-            station: s,
+            station: station,
         };
-        let t = no_text();
-        Session { desk: d, text: t }
+        let text = no_text();
+        Session {
+            desk: desk,
+            text: text,
+        }
     }
 
     // Takes bytes up to the first line feed and with it; a line that ends is answered into a room of 4,096 bytes. Nothing is
@@ -67,21 +75,21 @@ impl Session {
                 session: self,
             };
         }
-        let d = self.desk;
-        let t = self.text;
-        let k = before_feed(bytes);
-        let text = with_bytes(t, &bytes[..k]);
-        if k < bytes.len() {
-            let stands = d.stands;
-            let station = d.station;
-            return answer(k + 1, stands, station, text, out);
+        let desk = self.desk;
+        let so_far = self.text;
+        let before = before_feed(bytes);
+        let text = with_bytes(so_far, &bytes[..before]);
+        if before < bytes.len() {
+            let stands = desk.stands;
+            let station = desk.station;
+            return answer(before + 1, stands, station, text, out);
         }
         let session = Session {
-            desk: d,
+            desk: desk,
             text: text,
         };
         Fed {
-            used: k,
+            used: before,
             count: 0,
             session: session,
         }
@@ -99,18 +107,18 @@ impl Session {
                 session: self,
             };
         }
-        let d = self.desk;
-        let t = self.text;
-        let n = t.length;
-        if n == 0 {
+        let desk = self.desk;
+        let text = self.text;
+        let length = text.length;
+        if length == 0 {
             return Fed {
                 used: 0,
                 count: 0,
                 session: self,
             };
         }
-        let stands = d.stands;
-        let station = d.station;
-        answer(0, stands, station, t, out)
+        let stands = desk.stands;
+        let station = desk.station;
+        answer(0, stands, station, text, out)
     }
 }

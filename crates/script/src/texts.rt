@@ -4,60 +4,56 @@ ghost use Prim.Native.Nat.{_≤_};
 ghost use lib.ListN.{length};
 ghost use Rattle.lines.specs.Readable.{lineImage};
 ghost use Rattle.script.specs.Session.{noText, addByte, addBytes, saysText, beforeFeed};
+use crate::KEPT_BYTES;
 use crate::Text;
-use lines::LONGEST_LINE;
+use crate::desks::least_length;
 use lines::Line;
 use lines::read;
-
-const TOO_LONG: usize = LONGEST_LINE + 1;
 
 pub(crate) fn no_text() -> Text
     ensures { λ r. ⌜ r ≡ noText ⌝ }
 {
     Text {
         length: 0,
-        bytes: [0u8; LONGEST_LINE],
+        bytes: [0u8; KEPT_BYTES],
     }
 }
 
-fn with_byte(t: Text, b: u8) -> Text
-    ensures { λ r. ⌜ r ≡ addByte t b ⌝ }
+fn with_byte(text: Text, byte: u8) -> Text
+    ensures { λ r. ⌜ r ≡ addByte text byte ⌝ }
 {
-    let n = t.length;
-    let mut bytes = t.bytes;
-    if LONGEST_LINE <= n {
-        return Text {
-            length: TOO_LONG,
-            bytes: bytes,
-        };
+    let length = text.length;
+    if KEPT_BYTES <= length {
+        return text;
     }
-    bytes[n] = b;
+    let mut bytes = text.bytes;
+    bytes[length] = byte;
     Text {
-        length: n + 1,
+        length: length + 1,
         bytes: bytes,
     }
 }
 
-pub(crate) fn with_bytes(t: Text, s: &[u8]) -> Text
-    ensures { λ r. ⌜ r ≡ addBytes t (now (s .entry)) ⌝ }
+pub(crate) fn with_bytes(text: Text, bytes: &[u8]) -> Text
+    ensures { λ r. ⌜ r ≡ addBytes text (now (bytes .entry)) ⌝ }
 {
-    let mut next = t;
+    let mut next = text;
     let mut i = 0;
-    while i < s.len() {
-        next = with_byte(next, s[i]);
+    while i < bytes.len() {
+        next = with_byte(next, bytes[i]);
         i += 1;
     }
     next
 }
 
 // How many bytes stand before the first line feed.
-pub(crate) fn before_feed(s: &[u8]) -> usize
-    ensures { λ r. ⌜ r ≡ beforeFeed (now (s .entry)) ⌝ }
-    ensures { λ r. ⌜ r ≤ length (now (s .entry)) ⌝ }
+pub(crate) fn before_feed(bytes: &[u8]) -> usize
+    ensures { λ r. ⌜ r ≡ beforeFeed (now (bytes .entry)) ⌝ }
+    ensures { λ r. ⌜ r ≤ length (now (bytes .entry)) ⌝ }
 {
     let mut i = 0;
-    while i < s.len() {
-        if s[i] == 10 {
+    while i < bytes.len() {
+        if bytes[i] == 10 {
             return i;
         }
         i += 1;
@@ -65,14 +61,11 @@ pub(crate) fn before_feed(s: &[u8]) -> usize
     i
 }
 
-pub(crate) fn line_of(t: Text) -> Line
-    ensures { λ r. ⌜ r ≡ lineImage (saysText t) ⌝ }
+pub(crate) fn line_of(text: Text) -> Line
+    ensures { λ r. ⌜ r ≡ lineImage (saysText text) ⌝ }
     ensures { λ r. ⌜ r .count ≤ 99 ⌝ }
 {
-    let n = t.length;
-    let bytes = t.bytes;
-    if LONGEST_LINE < n {
-        return read(&bytes[..0]);
-    }
-    read(&bytes[..n])
+    let bytes = text.bytes;
+    let length = least_length(text.length, KEPT_BYTES);
+    read(&bytes[..length])
 }

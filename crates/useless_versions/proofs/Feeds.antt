@@ -22,7 +22,7 @@ use Rattle.station.specs.Model.{configOf, modelOf}
 use Rattle.station.specs.Step.{eventAt, refusal, steppedBy, setUpOf}
 use Rattle.station.proofs.GateLaws.{passed}
 use Rattle.lines.specs.Decimal.{isDigit}
-use Rattle.lines.specs.Lines.{Said, setsUp, happens, kindOf, setUpSaid, spaced}
+use Rattle.lines.specs.Lines.{Said, setsUp, happens, commandOf, setUpSaid, spaced}
 use Rattle.lines.specs.Readable.{scan, readsAs}
 use Rattle.printing.specs.Texts.{tenDigits, shortened, decimal, numbersText, putAt}
 use Rattle.printing.specs.Replies.{lineFeed, dueText, headText, payloadIn, actionText, blockAt, actionTexts, replyText, putText, putLength}
@@ -95,7 +95,7 @@ abbrev saidS : Option Said
 saidS = some (setUpSaid 2001234 (26 ∷ []))
 
 read-s : saysText (addBytes noText (take (beforeFeed letterS) letterS)) ≡ saidS
-unfolding addByte saysText readsAs scan kindOf isDigit
+unfolding addByte saysText readsAs scan commandOf isDigit
 read-s = refl
 
 stands-s : (d : Desk) → d .stands ≡ false → handledFor d noBlocks saidS .desk .stands ≡ true

@@ -4,9 +4,9 @@ use Prim.Native.Nat.{_-_}
 use lib.ListN.{length, take, drop, getD, length-take, length-drop}
 use Rattle.sequence.proofs.RefusalLaws.{held, failed}
 use borrow.Author.Tests.{not-true, not-false}
-use Rattle.lines.specs.Lines.{kindOf}
+use Rattle.lines.specs.Lines.{commandOf}
 use Rattle.lines.specs.Readable.{between, scan, readsAs, lineImage, numbersImage}
-use Rattle.lines.proofs.KindLaws.{part-left}
+use Rattle.lines.proofs.CommandLaws.{part-left}
 use Rattle.lines.proofs.ReadLaws.{too-long, empty, by-letter, not-readable, not-fitting, fitting, hundred}
 use borrow.Author.Needs.{needs}
 use Rattle.lines.proofs.read.Statement.{statement}
@@ -25,27 +25,27 @@ returns-3 : tie.Need-returns-3
 returns-3 c = let text = c .before .before .before .before .before .before .before .before .before .before .before .args .text .now in
     let e : c .before .before .before .before .numbers-in .result ≡ numbersImage (scan between (drop 1 text)) = c .before .before .before .before .numbers-in .ensures .0 ∙ ap (λ l. numbersImage (scan between l)) (part-left text 1) in
     let b = by-letter text (omega arith) (omega arith) in
-    (c .unreadable3 .ensures ∙ ap lineImage (sym (b ∙ not-readable (kindOf (getD text 0 0)) (scan between (drop 1 text)) (c .before .before .before .before .numbers-in .result) e (not-true _ (c .before .if3 .taken)))), omega (arith, ap (λ l. l .count) (c .unreadable3 .ensures)))
+    (c .unreadable3 .ensures ∙ ap lineImage (sym (b ∙ not-readable (commandOf (getD text 0 0)) (scan between (drop 1 text)) (c .before .before .before .before .numbers-in .result) e (not-true _ (c .before .if3 .taken)))), omega (arith, ap (λ l. l .count) (c .unreadable3 .ensures)))
 
 array-share-prefix-numbers : tie.Need-array-share-prefix-numbers
-array-share-prefix-numbers c = omega (arith, c .before .before .before .numbers-in .ensures .1, hundred (c .before .before .before .before .before .kind-of .result) (scan between (take (length (c .before .before .before .before .before .before .before .before .before .before .args .text .now) - 1) (drop 1 (c .before .before .before .before .before .before .before .before .before .before .args .text .now)))) (c .before .before .before .numbers-in .result) (c .before .before .before .numbers-in .ensures .0))
+array-share-prefix-numbers c = omega (arith, c .before .before .before .numbers-in .ensures .1, hundred (c .before .before .before .before .before .command-of .result) (scan between (take (length (c .before .before .before .before .before .before .before .before .before .before .args .text .now) - 1) (drop 1 (c .before .before .before .before .before .before .before .before .before .before .args .text .now)))) (c .before .before .before .numbers-in .result) (c .before .before .before .numbers-in .ensures .0))
 
 slice-aggregate-fits : tie.Need-slice-aggregate-fits
-slice-aggregate-fits c = simp length-take (omega (arith, c .before .before .before .before .numbers-in .ensures .1, hundred (c .before .before .before .before .before .before .kind-of .result) (scan between (take (length (c .before .before .before .before .before .before .before .before .before .before .before .args .text .now) - 1) (drop 1 (c .before .before .before .before .before .before .before .before .before .before .before .args .text .now)))) (c .before .before .before .before .numbers-in .result) (c .before .before .before .before .numbers-in .ensures .0)))
+slice-aggregate-fits c = simp length-take (omega (arith, c .before .before .before .before .numbers-in .ensures .1, hundred (c .before .before .before .before .before .before .command-of .result) (scan between (take (length (c .before .before .before .before .before .before .before .before .before .before .before .args .text .now) - 1) (drop 1 (c .before .before .before .before .before .before .before .before .before .before .before .args .text .now)))) (c .before .before .before .before .numbers-in .result) (c .before .before .before .before .numbers-in .ensures .0)))
 
 returns-4 : tie.Need-returns-4
 returns-4 c = let text = c .before .before .before .before .before .before .before .before .before .before .before .before .before .before .args .text .now in
     let e : c .before .before .before .before .before .before .before .numbers-in .result ≡ numbersImage (scan between (drop 1 text)) = c .before .before .before .before .before .before .before .numbers-in .ensures .0 ∙ ap (λ l. numbersImage (scan between l)) (part-left text 1) in
     let b = by-letter text (omega arith) (omega arith) in
-    let f = rw (c .before .before .before .before .before .before .before .before .before .kind-of .ensures) at (failed (c .before .before .fits2 .ensures) (c .before .if4 .taken)) in
-    (c .unreadable4 .ensures ∙ ap lineImage (sym (b ∙ not-fitting (kindOf (getD text 0 0)) (scan between (drop 1 text)) (c .before .before .before .before .before .before .before .numbers-in .result) e (not-false _ (c .before .before .before .before .if3 .left)) (c .before .before .before .before .before .before .before .numbers-in .ensures .1) f)), omega (arith, ap (λ l. l .count) (c .unreadable4 .ensures)))
+    let f = rw (c .before .before .before .before .before .before .before .before .before .command-of .ensures) at (failed (c .before .before .fits2 .ensures) (c .before .if4 .taken)) in
+    (c .unreadable4 .ensures ∙ ap lineImage (sym (b ∙ not-fitting (commandOf (getD text 0 0)) (scan between (drop 1 text)) (c .before .before .before .before .before .before .before .numbers-in .result) e (not-false _ (c .before .before .before .before .if3 .left)) (c .before .before .before .before .before .before .before .numbers-in .ensures .1) f)), omega (arith, ap (λ l. l .count) (c .unreadable4 .ensures)))
 
 returns-5 : tie.Need-returns-5
 returns-5 c = let text = c .before .before .before .before .before .before .before .before .before .before .before .before .before .args .text .now in
     let e : c .before .before .before .before .before .before .numbers-in .result ≡ numbersImage (scan between (drop 1 text)) = c .before .before .before .before .before .before .numbers-in .ensures .0 ∙ ap (λ l. numbersImage (scan between l)) (part-left text 1) in
     let b = by-letter text (omega arith) (omega arith) in
-    let f = rw (c .before .before .before .before .before .before .before .before .kind-of .ensures) at (held (c .before .fits2 .ensures) (c .if4 .left)) in
-    (rw (c .before .before .before .before .before .before .before .before .kind-of .ensures) (fitting (kindOf (getD text 0 0)) (scan between (drop 1 text)) (c .before .before .before .before .before .before .numbers-in .result) e (not-false _ (c .before .before .before .if3 .left)) (c .before .before .before .before .before .before .numbers-in .ensures .1) f ∙ ap lineImage (sym b)), c .before .before .before .before .before .before .numbers-in .ensures .1)
+    let f = rw (c .before .before .before .before .before .before .before .before .command-of .ensures) at (held (c .before .fits2 .ensures) (c .if4 .left)) in
+    (rw (c .before .before .before .before .before .before .before .before .command-of .ensures) (fitting (commandOf (getD text 0 0)) (scan between (drop 1 text)) (c .before .before .before .before .before .before .numbers-in .result) e (not-false _ (c .before .before .before .if3 .left)) (c .before .before .before .before .before .before .numbers-in .ensures .1) f ∙ ap lineImage (sym b)), c .before .before .before .before .before .before .numbers-in .ensures .1)
 
 pub read-spec : {M : Type 1} → statement M
 read-spec =

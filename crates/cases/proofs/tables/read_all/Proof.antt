@@ -14,20 +14,20 @@ abbrev μ-loop : tie.MeasureT-loop
 loop-holds : tie.Need-loop-holds Inv-loop μ-loop
 loop-holds c = omega arith
 
-line-end-requires : tie.Need-line-end-requires Inv-loop μ-loop
-line-end-requires c κs = omega arith
+row-end-requires : tie.Need-row-end-requires Inv-loop μ-loop
+row-end-requires c κs = omega arith
 
-sub-one-line : tie.Need-sub-one-line Inv-loop μ-loop
-sub-one-line c = omega (arith, c .line-end .ensures .0)
+sub-one-row : tie.Need-sub-one-row Inv-loop μ-loop
+sub-one-row c = omega (arith, c .row-end .ensures .0)
 
-part-one-line-end : tie.Need-part-one-line-end Inv-loop μ-loop
-part-one-line-end c = omega (arith, c .line-end .ensures .1)
+part-one-row-end : tie.Need-part-one-row-end Inv-loop μ-loop
+part-one-row-end c = omega (arith, c .row-end .ensures .1)
 
 loop-less : tie.Need-loop-less Inv-loop μ-loop
-loop-less c = let e = c .before .before .before .before .line-end .ensures in omega (arith, e .0, e .1)
+loop-less c = let e = c .before .before .before .before .row-end .ensures in omega (arith, e .0, e .1)
 
 loop-again : tie.Need-loop-again Inv-loop μ-loop
-loop-again c = c .before .before .before .before .line-end .ensures .1
+loop-again c = c .before .before .before .before .row-end .ensures .1
 
 pub read-all-spec : {M : Type 1} → statement M
 read-all-spec =
@@ -37,10 +37,10 @@ read-all-spec =
     μ-loop
     (λ c κs. search needs)
     loop-holds
-    line-end-requires
-    sub-one-line
+    row-end-requires
+    sub-one-row
     (λ c. search needs)
-    part-one-line-end
+    part-one-row-end
     (λ c κs. search needs)
     loop-less
     loop-again

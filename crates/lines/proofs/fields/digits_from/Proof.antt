@@ -18,12 +18,12 @@ abbrev μ-loop : tie.MeasureT-loop
 loop-holds : tie.Need-loop-holds Inv-loop μ-loop
 loop-holds c = (refl, omega arith, omega arith, omega arith)
 
-shared-slice-read-b : tie.Need-shared-slice-read-b Inv-loop μ-loop
-shared-slice-read-b c = omega arith
+shared-slice-read-byte : tie.Need-shared-slice-read-byte Inv-loop μ-loop
+shared-slice-read-byte c = omega arith
 
 returns : tie.Need-returns Inv-loop μ-loop
 returns c = let l = c .before .before .before .before .loop in
-    (sym (l .inv .0) ∙ stop-here (l .value) (c .before .before .before .before .before .before .args .s .now) (l .i) (c .before .before .before .loop-test .taken) (failed (c .before .is-digit .ensures) (c .if1 .taken)), (omega arith, omega arith))
+    (sym (l .inv .0) ∙ stop-here (l .value) (c .before .before .before .before .before .before .args .text .now) (l .i) (c .before .before .before .loop-test .taken) (failed (c .before .is-digit .ensures) (c .if1 .taken)), (omega arith, omega arith))
 
 cast-more : tie.Need-cast-more Inv-loop μ-loop
 cast-more c = omega arith
@@ -42,7 +42,7 @@ add-more c = omega (arith, digit-within _ (held (c .before .is-digit .ensures) (
 
 returns-2 : tie.Need-returns-2 Inv-loop μ-loop
 returns-2 c = let l = c .before .before .before .before .before .loop in
-    (sym (l .inv .0) ∙ over-here (l .value) (c .before .before .before .before .before .before .before .args .s .now) (l .i) (c .before .before .before .before .loop-test .taken) (held (c .before .before .is-digit .ensures) (c .before .if1 .left)) (c .if2 .taken), tt)
+    (sym (l .inv .0) ∙ over-here (l .value) (c .before .before .before .before .before .before .before .args .text .now) (l .i) (c .before .before .before .before .loop-test .taken) (held (c .before .before .is-digit .ensures) (c .before .if1 .left)) (c .if2 .taken), tt)
 
 cast-value : tie.Need-cast-value Inv-loop μ-loop
 cast-value c = omega arith
@@ -55,11 +55,11 @@ loop-less c = omega arith
 
 loop-again : tie.Need-loop-again Inv-loop μ-loop
 loop-again c = let l = c .before .before .before .before .before .loop in
-    (more-here (l .value) (c .before .before .before .before .before .before .before .args .s .now) (l .i) (c .before .before .before .before .loop-test .taken) (held (c .before .before .is-digit .ensures) (c .before .if1 .left)) (c .if2 .left) ∙ l .inv .0, omega arith, omega arith, omega arith)
+    (more-here (l .value) (c .before .before .before .before .before .before .before .args .text .now) (l .i) (c .before .before .before .before .loop-test .taken) (held (c .before .before .is-digit .ensures) (c .before .if1 .left)) (c .if2 .left) ∙ l .inv .0, omega arith, omega arith, omega arith)
 
 returns-3 : tie.Need-returns-3 Inv-loop μ-loop
 returns-3 c = let l = c .before .loop in
-    (sym (l .inv .0) ∙ end-here (l .value) (c .before .before .before .args .s .now) (l .i) (c .loop-test .left), (omega arith, omega arith))
+    (sym (l .inv .0) ∙ end-here (l .value) (c .before .before .before .args .text .now) (l .i) (c .loop-test .left), (omega arith, omega arith))
 
 pub digits-from-spec : {M : Type 1} → statement M
 digits-from-spec =
@@ -68,7 +68,7 @@ digits-from-spec =
     Inv-loop
     μ-loop
     loop-holds
-    shared-slice-read-b
+    shared-slice-read-byte
     (λ c κs. search needs)
     returns
     cast-more

@@ -26,7 +26,7 @@ shared-slice-read-if1 c = omega (arith, c .before .before .loop .inv .place)
 
 returns : tie.Need-returns Inv-loop μ-loop
 returns c = let g = c .before .before .before .before .loop .inv in
-    let e = nothing (c .before .before .before .before .before .before .args .s .now) g (no-space (c .before .before .before .before .before .before .args .s .now) _ (c .before .before .before .loop-test .taken) (c .before .if1 .taken)) in
+    let e = nothing (c .before .before .before .before .before .before .args .text .now) g (no-space (c .before .before .before .before .before .before .args .text .now) _ (c .before .before .before .loop-test .taken) (c .before .if1 .taken)) in
     (c .no-numbers .ensures ∙ ap numbersImage (sym e), omega (arith, ap (λ n. n .count) (c .no-numbers .ensures)))
 
 add-field-at : tie.Need-add-field-at Inv-loop μ-loop
@@ -36,7 +36,7 @@ field-at-requires : tie.Need-field-at-requires Inv-loop μ-loop
 field-at-requires c κs = omega arith
 
 returns-2 : tie.Need-returns-2 Inv-loop μ-loop
-returns-2 c = let s = c .before .before .before .before .before .before .before .before .before .args .s .now in
+returns-2 c = let s = c .before .before .before .before .before .before .before .before .before .args .text .now in
     let g = c .before .before .before .before .before .before .before .loop .inv in
     let f = rw (c .before .enum-told .given .1) at (c .before .before .before .field-at .ensures .0) in
     let e = nothing s g (space-here s _ (c .before .before .before .before .before .before .loop-test .taken) (c .before .before .before .before .if1 .left) ∙ f) in
@@ -54,16 +54,16 @@ add-count : tie.Need-add-count Inv-loop μ-loop
 add-count c = let g = c .before .before .before .before .before .before .before .loop .inv in omega (arith, g .few, g .place)
 
 loop-less : tie.Need-loop-less Inv-loop μ-loop
-loop-less c = let w = rw (c .before .f .given .1) at (c .before .before .before .field-at .ensures .1) in omega (arith, w)
+loop-less c = let w = rw (c .before .field .given .1) at (c .before .before .before .field-at .ensures .1) in omega (arith, w)
 
 loop-again : tie.Need-loop-again Inv-loop μ-loop
-loop-again c = let s = c .before .before .before .before .before .before .before .before .before .args .s .now in
-    let w = rw (c .before .f .given .1) at (c .before .before .before .field-at .ensures .1) in
-    let f = rw (c .before .f .given .1) at (c .before .before .before .field-at .ensures .0) in
+loop-again c = let s = c .before .before .before .before .before .before .before .before .before .args .text .now in
+    let w = rw (c .before .field .given .1) at (c .before .before .before .field-at .ensures .1) in
+    let f = rw (c .before .field .given .1) at (c .before .before .before .field-at .ensures .0) in
     got-more s (c .before .before .before .before .before .before .before .loop .inv) _ _ (omega arith) (omega (arith, w)) (omega (arith, w)) (space-here s _ (c .before .before .before .before .before .before .loop-test .taken) (c .before .before .before .before .if1 .left) ∙ f)
 
 returns-3 : tie.Need-returns-3 Inv-loop μ-loop
-returns-3 c = let g = c .before .loop .inv in (got-all (c .before .before .before .args .s .now) g (c .loop-test .left), omega (arith, g .few, g .place))
+returns-3 c = let g = c .before .loop .inv in (got-all (c .before .before .before .args .text .now) g (c .loop-test .left), omega (arith, g .few, g .place))
 
 pub numbers-in-spec : {M : Type 1} → statement M
 numbers-in-spec =

@@ -15,7 +15,7 @@ abbrev μ-loop : tie.MeasureT-loop
 μ-loop s out₀ at i₀ out i = length s - i
 
 loop-holds : tie.Need-loop-holds Inv-loop μ-loop
-loop-holds c = (paste-zero (c .args .out .now) (c .args .at) (c .args .s .now), omega arith, refl)
+loop-holds c = (paste-zero (c .args .out .now) (c .args .at) (c .args .bytes .now), omega arith, refl)
 
 shared-slice-read-out : tie.Need-shared-slice-read-out Inv-loop μ-loop
 shared-slice-read-out c = omega arith
@@ -35,7 +35,7 @@ loop-less c = omega arith
 loop-again : tie.Need-loop-again Inv-loop μ-loop
 loop-again c = let a = c .before .before .before .args in
     let l = c .before .before .loop in
-    (rw (l .inv .0) (paste-turn (a .out .now) (a .at) (a .s .now) (l .i) (omega arith) (c .before .loop-test .taken)), omega arith, length-set (l .out) (a .at + l .i) _ ∙ l .inv .2)
+    (rw (l .inv .0) (paste-turn (a .out .now) (a .at) (a .bytes .now) (l .i) (omega arith) (c .before .loop-test .taken)), omega arith, length-set (l .out) (a .at + l .i) _ ∙ l .inv .2)
 
 add-result : tie.Need-add-result Inv-loop μ-loop
 add-result c = omega arith
@@ -44,7 +44,7 @@ same-length : tie.Need-same-length Inv-loop μ-loop
 same-length c = c .before .loop .inv .2
 
 returns : tie.Need-returns Inv-loop μ-loop
-returns c = let a = c .before .before .args in copied (a .out .now) (a .s .now) (c .before .loop .out) (a .at) (c .before .loop .i) (omega arith) (c .before .loop .inv .0)
+returns c = let a = c .before .before .args in copied (a .out .now) (a .bytes .now) (c .before .loop .out) (a .at) (c .before .loop .i) (omega arith) (c .before .loop .inv .0)
 
 pub put-bytes-spec : {M : Type 1} → statement M
 put-bytes-spec =

@@ -11,7 +11,7 @@ put-number-requires : tie.Need-put-number-requires
 put-number-requires c κs = omega (arith, c .before .before .before .put-byte .ensures .behind)
 
 returns : tie.Need-returns
-returns c = then (omega (arith, decimal-length (c .before .before .before .before .before .before .before .before .before .args .n))) (c .before .before .before .before .before .before .put-byte .ensures) (c .before .before .put-number .ensures)
+returns c = then (omega (arith, decimal-length (c .before .before .before .before .before .before .before .before .before .args .number))) (c .before .before .before .before .before .before .put-byte .ensures) (c .before .before .put-number .ensures)
 
 pub put-field-spec : {M : Type 1} → statement M
 put-field-spec = tie.close (tie.spec put-byte-requires put-number-requires (λ c. search needs) returns)

@@ -23,7 +23,7 @@ cast-put-field : tie.Need-cast-put-field Inv-loop μ-loop
 cast-put-field c = omega (arith, c .shared-slice-known2 .given (c .before .before .loop .i))
 
 put-field-requires : tie.Need-put-field-requires Inv-loop μ-loop
-put-field-requires c κs = let s = c .before .before .before .before .before .before .args .s .now in
+put-field-requires c κs = let s = c .before .before .before .before .before .before .args .numbers .now in
     let l = c .before .before .before .loop in
     omega (arith, l .inv .0 .behind, l .inv .2, numbers-length (take (l .i) s), length-take-le (l .i) s (l .inv .1))
 
@@ -34,7 +34,7 @@ loop-less : tie.Need-loop-less Inv-loop μ-loop
 loop-less c = omega arith
 
 loop-again : tie.Need-loop-again Inv-loop μ-loop
-loop-again c = let s = c .before .before .before .before .before .before .before .before .before .args .s .now in
+loop-again c = let s = c .before .before .before .before .before .before .before .before .before .args .numbers .now in
     let l = c .before .before .before .before .before .before .loop in
     let k = c .before .before .before .before .before .loop-test .taken in
     let w = length-take-le (l .i) s (l .inv .1) in
@@ -44,7 +44,7 @@ same-length : tie.Need-same-length Inv-loop μ-loop
 same-length c = c .before .loop .inv .2
 
 returns : tie.Need-returns Inv-loop μ-loop
-returns c = put-all (c .before .before .before .before .args .s .now) (c .before .loop .i) (c .loop-test .left) (c .before .loop .inv .0)
+returns c = put-all (c .before .before .before .before .args .numbers .now) (c .before .loop .i) (c .loop-test .left) (c .before .loop .inv .0)
 
 pub put-fields-spec : {M : Type 1} → statement M
 put-fields-spec =

@@ -11,7 +11,7 @@ put-bytes-requires c κs = let w : length (c .before .before .before .before .be
     simp (length-take, length-drop) (omega (arith, c .before .before .before .zeros .ensures .1))
 
 returns : tie.Need-returns
-returns c = put-decimal (c .before .before .before .before .before .before .before .before .before .before .args .n) (c .before .before .before .before .before .before .zeros .result) (c .before .before .before .before .before .before .before .before .ten-digits .result) (c .before .before .before .before .before .before .before .before .ten-digits .ensures) (c .before .before .before .before .before .before .zeros .ensures .0) (c .before .before .put-bytes .ensures)
+returns c = put-decimal (c .before .before .before .before .before .before .before .before .before .before .args .number) (c .before .before .before .before .before .before .zeros .result) (c .before .before .before .before .before .before .before .before .ten-digits .result) (c .before .before .before .before .before .before .before .before .ten-digits .ensures) (c .before .before .before .before .before .before .zeros .ensures .0) (c .before .before .put-bytes .ensures)
 
 pub put-number-spec : {M : Type 1} → statement M
 put-number-spec =

@@ -23,7 +23,7 @@ shared-slice-read-if1 : tie.Need-shared-slice-read-if1 Inv-loop μ-loop
 shared-slice-read-if1 c = omega arith
 
 returns : tie.Need-returns Inv-loop μ-loop
-returns c = (sym (c .before .before .before .loop .inv .0) ∙ no-zero-leads (c .before .before .before .before .args .s .now) (c .before .before .before .loop .i) (c .before .before .loop-test .taken) (c .if1 .taken), omega arith)
+returns c = (sym (c .before .before .before .loop .inv .0) ∙ no-zero-leads (c .before .before .before .before .args .digits .now) (c .before .before .before .loop .i) (c .before .before .loop-test .taken) (c .if1 .taken), omega arith)
 
 add-i : tie.Need-add-i Inv-loop μ-loop
 add-i c = omega arith
@@ -32,10 +32,10 @@ loop-less : tie.Need-loop-less Inv-loop μ-loop
 loop-less c = omega arith
 
 loop-again : tie.Need-loop-again Inv-loop μ-loop
-loop-again c = (zero-leads (c .before .before .before .before .args .s .now) (c .before .before .before .loop .i) (c .before .before .loop-test .taken) (c .if1 .left) ∙ c .before .before .before .loop .inv .0, omega arith)
+loop-again c = (zero-leads (c .before .before .before .before .args .digits .now) (c .before .before .before .loop .i) (c .before .before .loop-test .taken) (c .if1 .left) ∙ c .before .before .before .loop .inv .0, omega arith)
 
 returns-2 : tie.Need-returns-2 Inv-loop μ-loop
-returns-2 c = (sym (c .before .loop .inv .0) ∙ last-stays (c .before .before .args .s .now) (c .before .loop .i) (omega arith), omega arith)
+returns-2 c = (sym (c .before .loop .inv .0) ∙ last-stays (c .before .before .args .digits .now) (c .before .loop .i) (omega arith), omega arith)
 
 pub zeros-spec : {M : Type 1} → statement M
 zeros-spec =

@@ -19,7 +19,7 @@ abbrev μ-loop : tie.MeasureT-loop
 
 loop-holds : tie.Need-loop-holds Inv-loop μ-loop
 unfolding padded viewed
-loop-holds c = (c .least-of .ensures, omega arith, search needs, refl)
+loop-holds c = (c .least-length .ensures, omega arith, search needs, refl)
 
 loop-less : tie.Need-loop-less Inv-loop μ-loop
 loop-less c = omega arith

@@ -17,7 +17,7 @@ setting-requires c κs = c .before .before .before .before .pre
 
 returns-2 : tie.Need-returns-2
 unfolding lineSaid
-returns-2 c = let k = c .before .before .before .kind .given .1 in
+returns-2 c = let k = c .before .before .before .command .given .1 in
     let e = not-true (c .before .before .before .before .before .before .args .stands) (c .before .if2 .taken) in
     (rw (k, e) (rw e at (c .kept3 .ensures)), rw (k, e) refl)
 
@@ -34,7 +34,7 @@ returns-4 c = let k = c .before .before .enum-told2 .given .1 in (rw (k, c .befo
 
 returns-5 : tie.Need-returns-5
 unfolding lineSaid
-returns-5 c = let k = c .before .before .before .before .before .before .before .kind .given .1 in
+returns-5 c = let k = c .before .before .before .before .before .before .before .command .given .1 in
     let e = not-false (c .before .before .before .before .before .before .before .before .before .before .args .stands) (c .before .before .before .before .before .if2 .left) in
     (rw (k, e) (ap afterEvent (c .before .before .before .happening .ensures .0)), rw (k, e) (c .before .before .before .happening .ensures .1))
 

@@ -15,7 +15,7 @@ part-listed-end c = let w : length (c .before .before .before .args .line .numbe
 cast-set-up : tie.Need-cast-set-up
 cast-set-up c = let n = c .before .before .before .before .before .args .line .numbers in
     let k = c .before .before .before .before .before .args .line .count in
-    let f = c .before .before .before .least-of .result in
+    let f = c .before .before .before .least-length .result in
     let few : length (take (k - f) (drop f n)) ≤ k - f = simp length-take (omega arith) in
     omega (arith, few, c .before .before .before .before .before .pre)
 
@@ -24,7 +24,7 @@ returns c = let b = c .before .before .before in
     let a = b .before .before .before .before .before .before .args in
     let n = a .line .numbers in
     let k = a .line .count in
-    let u = b .set-up .ensures ∙ channels-as n _ k _ (b .before .before .before .before .least-of .ensures) (b .before .channels-of .ensures) in
+    let u = b .set-up .ensures ∙ channels-as n _ k _ (b .before .before .before .before .least-length .ensures) (b .before .channels-of .ensures) in
     c .kept .ensures ∙ set-as (a .station) (b .set-up .result) (setUpOf (given (getD n 0 0) (part 1 k n))) u (c .before .if1 .taken)
 
 returns-2 : tie.Need-returns-2
@@ -32,7 +32,7 @@ returns-2 c = let b = c .before .before .before in
     let a = b .before .before .before .before .before .before .args in
     let n = a .line .numbers in
     let k = a .line .count in
-    let u = b .set-up .ensures ∙ channels-as n _ k _ (b .before .before .before .before .least-of .ensures) (b .before .channels-of .ensures) in
+    let u = b .set-up .ensures ∙ channels-as n _ k _ (b .before .before .before .before .least-length .ensures) (b .before .channels-of .ensures) in
     c .kept2 .ensures ∙ set-not (a .station) (b .set-up .result) (setUpOf (given (getD n 0 0) (part 1 k n))) u (c .before .if1 .left)
 
 pub setting-spec : {M : Type 1} → statement M

@@ -9,7 +9,7 @@ part-heard-on-channel-70-end : tie.Need-part-heard-on-channel-70-end
 part-heard-on-channel-70-end c = let w : length (c .before .before .symbols-of .result) ≡ 100 = search needs in omega (arith, c .before .before .before .before .before .pre)
 
 returns : tie.Need-returns
-returns c = (rw (← c .before .before .before .before .before .before .before .symbols-of .ensures, ← c .before .before .before .before .before .before .least-of .ensures) (c .before .before .heard-on-channel-70 .ensures .0), rw (← c .before .before .before .before .before .before .before .symbols-of .ensures, ← c .before .before .before .before .before .before .least-of .ensures) (c .before .before .heard-on-channel-70 .ensures .1))
+returns c = (rw (← c .before .before .before .before .before .before .before .symbols-of .ensures, ← c .before .before .before .before .before .before .least-length .ensures) (c .before .before .heard-on-channel-70 .ensures .0), rw (← c .before .before .before .before .before .before .before .symbols-of .ensures, ← c .before .before .before .before .before .before .least-length .ensures) (c .before .before .heard-on-channel-70 .ensures .1))
 
 pub with-symbols-spec : {M : Type 1} → statement M
 with-symbols-spec =

@@ -20,7 +20,7 @@ shared-slice-read-if1 : tie.Need-shared-slice-read-if1 Inv-loop μ-loop
 shared-slice-read-if1 c = omega arith
 
 returns : tie.Need-returns Inv-loop μ-loop
-returns c = (omega (arith, c .before .before .before .loop .inv .0, feed-here (c .before .before .before .before .args .s .now) (c .before .before .before .loop .i) (c .before .before .loop-test .taken) (c .if1 .taken)), omega arith)
+returns c = (omega (arith, c .before .before .before .loop .inv .0, feed-here (c .before .before .before .before .args .bytes .now) (c .before .before .before .loop .i) (c .before .before .loop-test .taken) (c .if1 .taken)), omega arith)
 
 add-i : tie.Need-add-i Inv-loop μ-loop
 add-i c = omega arith
@@ -29,10 +29,10 @@ loop-less : tie.Need-loop-less Inv-loop μ-loop
 loop-less c = omega arith
 
 loop-again : tie.Need-loop-again Inv-loop μ-loop
-loop-again c = (omega (arith, c .before .before .before .loop .inv .0, no-feed-here (c .before .before .before .before .args .s .now) (c .before .before .before .loop .i) (c .before .before .loop-test .taken) (c .if1 .left)), omega arith)
+loop-again c = (omega (arith, c .before .before .before .loop .inv .0, no-feed-here (c .before .before .before .before .args .bytes .now) (c .before .before .before .loop .i) (c .before .before .loop-test .taken) (c .if1 .left)), omega arith)
 
 returns-2 : tie.Need-returns-2 Inv-loop μ-loop
-returns-2 c = (omega (arith, c .before .loop .inv .0, no-more-feeds (c .before .before .args .s .now) (c .before .loop .i) (c .loop-test .left)), omega arith)
+returns-2 c = (omega (arith, c .before .loop .inv .0, no-more-feeds (c .before .before .args .bytes .now) (c .before .loop .i) (c .loop-test .left)), omega arith)
 
 pub before-feed-spec : {M : Type 1} → statement M
 before-feed-spec =

@@ -10,7 +10,7 @@ returns c = rw (le-leb _ _ (c .if1 .taken))
 
 returns-2 : tie.Need-returns-2
 unfolding addByte
-returns-2 c = rw (lt-leb _ _ (c .if1 .left))
+returns-2 c = rw (lt-leb _ _ (c .before .if1 .left))
 
 pub with-byte-spec : {M : Type 1} → statement M
 with-byte-spec = tie.close (tie.spec returns (λ c. search needs) (λ c. search needs) returns-2)

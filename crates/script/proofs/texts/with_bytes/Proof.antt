@@ -27,10 +27,10 @@ loop-less : tie.Need-loop-less Inv-loop μ-loop
 loop-less c = omega arith
 
 loop-again : tie.Need-loop-again Inv-loop μ-loop
-loop-again c = let l = c .before .before .before .loop in (rw (c .with-byte .ensures) (byte-more (c .before .before .before .before .before .args .s .now) (l .i) (c .before .before .loop-test .taken) (l .next) ∙ l .inv .0), omega arith)
+loop-again c = let l = c .before .before .before .loop in (rw (c .with-byte .ensures) (byte-more (c .before .before .before .before .before .args .bytes .now) (l .i) (c .before .before .loop-test .taken) (l .next) ∙ l .inv .0), omega arith)
 
 returns : tie.Need-returns Inv-loop μ-loop
-returns c = let l = c .before .loop in sym (bytes-all (c .before .before .before .args .s .now) (l .i) (c .loop-test .left) (l .next)) ∙ l .inv .0
+returns c = let l = c .before .loop in sym (bytes-all (c .before .before .before .args .bytes .now) (l .i) (c .loop-test .left) (l .next)) ∙ l .inv .0
 
 pub with-bytes-spec : {M : Type 1} → statement M
 with-bytes-spec =

@@ -4,9 +4,9 @@ use native.Mathlib.Omega.{arith}
 use lib.ListN.{length, drop, drop-of-length-le}
 use Rattle.rules.specs.Rules.Places.{all}
 use Rattle.lines.specs.Lines.{isSymbol}
-use Rattle.lines.proofs.KindLaws.{symbol-here, no-symbol-here}
-use Rattle.lines.proofs.kinds.are_symbols.Statement.{statement}
-use Rattle.lines.proofs.kinds.are_symbols.Tie as tie
+use Rattle.lines.proofs.CommandLaws.{symbol-here, no-symbol-here}
+use Rattle.lines.proofs.commands.are_symbols.Statement.{statement}
+use Rattle.lines.proofs.commands.are_symbols.Tie as tie
 
 abbrev Inv-loop : tie.InvT-loop
 Inv-loop s i₀ i = (all isSymbol (drop i s) ≡ all isSymbol s) × (i ≤ length s)

@@ -1,4 +1,4 @@
--- Which fields a kind of line takes.
+-- Which fields a command takes.
 use mathlib.Core.Bool.{Bool, true, false, _&&_, cond}
 use mathlib.Core.List.{List, [], _∷_}
 use mathlib.Core.Option.{none, some}

@@ -1,8 +1,8 @@
 use Prim.Native.Nat.{_≤_, _-_}
 use native.Mathlib.Omega.{arith}
 use lib.ListN.{length}
-use Rattle.cases.proofs.tables.line_end.Statement.{statement}
-use Rattle.cases.proofs.tables.line_end.Tie as tie
+use Rattle.cases.proofs.tables.row_end.Statement.{statement}
+use Rattle.cases.proofs.tables.row_end.Tie as tie
 
 abbrev Inv-loop : tie.InvT-loop
 Inv-loop table start i₀ i = (start ≤ i) × (i ≤ length table)
@@ -34,8 +34,8 @@ loop-again c = (omega arith, omega arith)
 returns-2 : tie.Need-returns-2 Inv-loop μ-loop
 returns-2 c = (omega arith, omega arith)
 
-pub line-end-spec : {M : Type 1} → statement M
-line-end-spec =
+pub row-end-spec : {M : Type 1} → statement M
+row-end-spec =
     tie.close
     (tie.spec
     Inv-loop

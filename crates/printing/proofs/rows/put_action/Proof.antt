@@ -4,8 +4,8 @@ use Rattle.printing.proofs.PutLaws.{decimal-length, numbers-length}
 use Rattle.printing.proofs.ReplyLaws.{action-put}
 use native.Mathlib.Omega.{arith}
 use borrow.Author.Needs.{needs}
-use Rattle.printing.proofs.deeds.put_action.Statement.{statement}
-use Rattle.printing.proofs.deeds.put_action.Tie as tie
+use Rattle.printing.proofs.rows.put_action.Statement.{statement}
+use Rattle.printing.proofs.rows.put_action.Tie as tie
 
 cast-put-number : tie.Need-cast-put-number
 cast-put-number c = omega (arith, c .shared-slice-known3 .given 0)

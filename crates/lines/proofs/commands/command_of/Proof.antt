@@ -1,54 +1,54 @@
-use Rattle.lines.specs.Lines.{kindOf}
+use Rattle.lines.specs.Lines.{commandOf}
 use Rattle.sequence.proofs.Tests.{tests}
-use Rattle.lines.proofs.kinds.kind_of.Statement.{statement}
-use Rattle.lines.proofs.kinds.kind_of.Tie as tie
+use Rattle.lines.proofs.commands.command_of.Statement.{statement}
+use Rattle.lines.proofs.commands.command_of.Tie as tie
 
 returns : tie.Need-returns
-unfolding kindOf
+unfolding commandOf
 returns c = search tests
 
 returns-2 : tie.Need-returns-2
-unfolding kindOf
+unfolding commandOf
 returns-2 c = search tests
 
 returns-3 : tie.Need-returns-3
-unfolding kindOf
+unfolding commandOf
 returns-3 c = search tests
 
 returns-4 : tie.Need-returns-4
-unfolding kindOf
+unfolding commandOf
 returns-4 c = search tests
 
 returns-5 : tie.Need-returns-5
-unfolding kindOf
+unfolding commandOf
 returns-5 c = search tests
 
 returns-6 : tie.Need-returns-6
-unfolding kindOf
+unfolding commandOf
 returns-6 c = search tests
 
 returns-7 : tie.Need-returns-7
-unfolding kindOf
+unfolding commandOf
 returns-7 c = search tests
 
 returns-8 : tie.Need-returns-8
-unfolding kindOf
+unfolding commandOf
 returns-8 c = search tests
 
 returns-9 : tie.Need-returns-9
-unfolding kindOf
+unfolding commandOf
 returns-9 c = search tests
 
 returns-10 : tie.Need-returns-10
-unfolding kindOf
+unfolding commandOf
 returns-10 c = search tests
 
 returns-11 : tie.Need-returns-11
-unfolding kindOf
+unfolding commandOf
 returns-11 c = search tests
 
-pub kind-of-spec : {M : Type 1} → statement M
-kind-of-spec =
+pub command-of-spec : {M : Type 1} → statement M
+command-of-spec =
     tie.close
     (tie.spec
     returns

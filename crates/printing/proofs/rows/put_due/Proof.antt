@@ -1,8 +1,8 @@
 use Rattle.printing.proofs.PutLaws.{then}
 use native.Mathlib.Omega.{arith}
 use borrow.Author.Needs.{needs}
-use Rattle.printing.proofs.deeds.put_due.Statement.{statement}
-use Rattle.printing.proofs.deeds.put_due.Tie as tie
+use Rattle.printing.proofs.rows.put_due.Statement.{statement}
+use Rattle.printing.proofs.rows.put_due.Tie as tie
 
 put-byte-requires : tie.Need-put-byte-requires
 put-byte-requires c κs = omega arith

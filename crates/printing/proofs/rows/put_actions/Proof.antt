@@ -7,8 +7,8 @@ use Rattle.printing.specs.Replies.{actionTexts}
 use Rattle.printing.proofs.PutLaws.{then, nothing}
 use Rattle.printing.proofs.ReplyLaws.{actions-length, actions-more, action-length}
 use borrow.Author.Needs.{needs}
-use Rattle.printing.proofs.deeds.put_actions.Statement.{statement}
-use Rattle.printing.proofs.deeds.put_actions.Tie as tie
+use Rattle.printing.proofs.rows.put_actions.Statement.{statement}
+use Rattle.printing.proofs.rows.put_actions.Tie as tie
 
 abbrev Inv-loop : tie.InvT-loop
 Inv-loop blocks count out₀ at next₀ i₀ out next i = Put out₀ out at next (actionTexts i blocks) × (i ≤ count) × (length out ≡ length out₀)

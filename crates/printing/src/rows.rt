@@ -1,4 +1,4 @@
-// The first line of a reply, and a line for each action.
+// The head of a reply, and a row for each action.
 ghost use mathlib.Core.Path.{_≡_};
 ghost use Prim.Native.Nat.{_+_, _*_, _≤_};
 ghost use lib.ListN.{length};
@@ -26,7 +26,7 @@ fn put_due(due: NextDue, out: &mut [u8], at: usize) -> usize
             let next = put_byte(32, out, at);
             put_byte(45, out, next)
         }
-        NextDue::At(t) => put_field(t.0, out, at),
+        NextDue::At(time) => put_field(time.0, out, at),
     }
 }
 
@@ -35,11 +35,11 @@ pub(crate) fn put_head(answer: u8, clock: Tenths, count: u8, due: NextDue, out: 
     requires { ⌜ 44 ≤ length (now out) ⌝ }
     ensures { λ r. ⌜ Put (now (out .entry)) (now (out .exit)) 0 r (headText answer (clock .0) count due) ⌝ }
 {
-    let a = put_number(answer as u32, out, 0);
-    let b = put_field(clock.0, out, a);
-    let c = put_field(count as u32, out, b);
-    let d = put_due(due, out, c);
-    put_byte(10, out, d)
+    let next = put_number(answer as u32, out, 0);
+    let next = put_field(clock.0, out, next);
+    let next = put_field(count as u32, out, next);
+    let next = put_due(due, out, next);
+    put_byte(10, out, next)
 }
 
 const MOST_BYTES: u8 = PAYLOAD as u8;
@@ -49,11 +49,11 @@ fn put_action(block: &[u8], out: &mut [u8], at: usize) -> usize
     requires { ⌜ (length (now block) ≡ blockSize) × (at + 418 ≤ length (now out)) ⌝ }
     ensures { λ r. ⌜ Put (now (out .entry)) (now (out .exit)) at r (actionText (now (block .entry))) ⌝ }
 {
-    let n = least(block[2], MOST_BYTES) as usize;
-    let a = put_number(block[0] as u32, out, at);
-    let b = put_field(block[1] as u32, out, a);
-    let c = put_fields(&block[4..4 + n], out, b);
-    put_byte(10, out, c)
+    let length = least(block[2], MOST_BYTES) as usize;
+    let next = put_number(block[0] as u32, out, at);
+    let next = put_field(block[1] as u32, out, next);
+    let next = put_fields(&block[4..4 + length], out, next);
+    put_byte(10, out, next)
 }
 
 pub(crate) fn put_actions(blocks: &[u8], count: usize, out: &mut [u8], at: usize) -> usize

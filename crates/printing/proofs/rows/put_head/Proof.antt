@@ -2,8 +2,8 @@ use Rattle.printing.proofs.PutLaws.{decimal-length}
 use Rattle.printing.proofs.ReplyLaws.{due-length, head-put}
 use native.Mathlib.Omega.{arith}
 use borrow.Author.Needs.{needs}
-use Rattle.printing.proofs.deeds.put_head.Statement.{statement}
-use Rattle.printing.proofs.deeds.put_head.Tie as tie
+use Rattle.printing.proofs.rows.put_head.Statement.{statement}
+use Rattle.printing.proofs.rows.put_head.Tie as tie
 
 put-number-requires : tie.Need-put-number-requires
 put-number-requires c κs = omega arith
