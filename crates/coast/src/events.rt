@@ -47,7 +47,9 @@ pub(crate) fn hand_back(r: Stepped, station: &mut [u8]) -> u64
 pub extern "C" fn coast_tick(station: &mut [u8], time: u32, room: &mut [u8]) -> u64
     ensures { λ r. ⌜ r ≡ returned (now (station .entry)) (eventAt time tick (now (room .entry))) ⌝ }
     ensures { λ _. ⌜ now (station .exit) ≡ stationAfter (now (station .entry)) (eventAt time tick (now (room .entry))) ⌝ }
-    ensures { λ _. ⌜ now (room .exit) ≡ roomLeft (now (station .entry)) (now (room .entry)) (eventAt time tick (now (room .entry))) ⌝ }
+    ensures { λ _. ⌜
+        now (room .exit) ≡ roomLeft (now (station .entry)) (now (room .entry)) (eventAt time tick (now (room .entry)))
+        ⌝ }
 {
     let s = station_from(station);
     let r = s.tick(Tenths(time), room);
@@ -63,8 +65,14 @@ pub extern "C" fn coast_heard_on_channel_70(
     room: &mut [u8],
 ) -> u64
     ensures { λ r. ⌜ r ≡ returned (now (station .entry)) (eventAt time (onChannel70 (now (symbols .entry))) (now (room .entry))) ⌝ }
-    ensures { λ _. ⌜ now (station .exit) ≡ stationAfter (now (station .entry)) (eventAt time (onChannel70 (now (symbols .entry))) (now (room .entry))) ⌝ }
-    ensures { λ _. ⌜ now (room .exit) ≡ roomLeft (now (station .entry)) (now (room .entry)) (eventAt time (onChannel70 (now (symbols .entry))) (now (room .entry))) ⌝ }
+    ensures { λ _. ⌜
+        now (station .exit)
+        ≡ stationAfter (now (station .entry)) (eventAt time (onChannel70 (now (symbols .entry))) (now (room .entry)))
+        ⌝ }
+    ensures { λ _. ⌜
+        now (room .exit)
+        ≡ roomLeft (now (station .entry)) (now (room .entry)) (eventAt time (onChannel70 (now (symbols .entry))) (now (room .entry)))
+        ⌝ }
 {
     let s = station_from(station);
     let r = s.heard_on_channel_70(Tenths(time), symbols, room);
@@ -81,8 +89,14 @@ pub extern "C" fn coast_heard_on_slot(
     room: &mut [u8],
 ) -> u64
     ensures { λ r. ⌜ r ≡ returned (now (station .entry)) (slotAt time slot (heard (now (symbols .entry))) (now (room .entry))) ⌝ }
-    ensures { λ _. ⌜ now (station .exit) ≡ stationAfter (now (station .entry)) (slotAt time slot (heard (now (symbols .entry))) (now (room .entry))) ⌝ }
-    ensures { λ _. ⌜ now (room .exit) ≡ roomLeft (now (station .entry)) (now (room .entry)) (slotAt time slot (heard (now (symbols .entry))) (now (room .entry))) ⌝ }
+    ensures { λ _. ⌜
+        now (station .exit)
+        ≡ stationAfter (now (station .entry)) (slotAt time slot (heard (now (symbols .entry))) (now (room .entry)))
+        ⌝ }
+    ensures { λ _. ⌜
+        now (room .exit)
+        ≡ roomLeft (now (station .entry)) (now (room .entry)) (slotAt time slot (heard (now (symbols .entry))) (now (room .entry)))
+        ⌝ }
 {
     let s = station_from(station);
     let r = s.heard_on_slot(Tenths(time), SlotNumber(slot), symbols, room);
@@ -92,8 +106,12 @@ pub extern "C" fn coast_heard_on_slot(
 // Whatever happens on a slot and is no sequence.
 fn plainly(w: Plain, station: &mut [u8], time: u32, slot: u32, room: &mut [u8]) -> u64
     ensures { λ r. ⌜ r ≡ returned (now (station .entry)) (slotAt time slot (plainView w) (now (room .entry))) ⌝ }
-    ensures { λ _. ⌜ now (station .exit) ≡ stationAfter (now (station .entry)) (slotAt time slot (plainView w) (now (room .entry))) ⌝ }
-    ensures { λ _. ⌜ now (room .exit) ≡ roomLeft (now (station .entry)) (now (room .entry)) (slotAt time slot (plainView w) (now (room .entry))) ⌝ }
+    ensures { λ _. ⌜
+        now (station .exit) ≡ stationAfter (now (station .entry)) (slotAt time slot (plainView w) (now (room .entry)))
+        ⌝ }
+    ensures { λ _. ⌜
+        now (room .exit) ≡ roomLeft (now (station .entry)) (now (room .entry)) (slotAt time slot (plainView w) (now (room .entry)))
+        ⌝ }
 {
     let s = station_from(station);
     let r = s.plainly(w, Tenths(time), SlotNumber(slot), room);
@@ -105,7 +123,9 @@ fn plainly(w: Plain, station: &mut [u8], time: u32, slot: u32, room: &mut [u8]) 
 pub extern "C" fn coast_carrier_up(station: &mut [u8], time: u32, slot: u32, room: &mut [u8]) -> u64
     ensures { λ r. ⌜ r ≡ returned (now (station .entry)) (slotAt time slot carrierUp (now (room .entry))) ⌝ }
     ensures { λ _. ⌜ now (station .exit) ≡ stationAfter (now (station .entry)) (slotAt time slot carrierUp (now (room .entry))) ⌝ }
-    ensures { λ _. ⌜ now (room .exit) ≡ roomLeft (now (station .entry)) (now (room .entry)) (slotAt time slot carrierUp (now (room .entry))) ⌝ }
+    ensures { λ _. ⌜
+        now (room .exit) ≡ roomLeft (now (station .entry)) (now (room .entry)) (slotAt time slot carrierUp (now (room .entry)))
+        ⌝ }
 {
     plainly(
         Plain::Signal(Signal::CarrierHeard),
@@ -126,7 +146,9 @@ pub extern "C" fn coast_carrier_down(
 ) -> u64
     ensures { λ r. ⌜ r ≡ returned (now (station .entry)) (slotAt time slot carrierDown (now (room .entry))) ⌝ }
     ensures { λ _. ⌜ now (station .exit) ≡ stationAfter (now (station .entry)) (slotAt time slot carrierDown (now (room .entry))) ⌝ }
-    ensures { λ _. ⌜ now (room .exit) ≡ roomLeft (now (station .entry)) (now (room .entry)) (slotAt time slot carrierDown (now (room .entry))) ⌝ }
+    ensures { λ _. ⌜
+        now (room .exit) ≡ roomLeft (now (station .entry)) (now (room .entry)) (slotAt time slot carrierDown (now (room .entry)))
+        ⌝ }
 {
     plainly(
         Plain::Signal(Signal::CarrierLost),
@@ -142,7 +164,9 @@ pub extern "C" fn coast_carrier_down(
 pub extern "C" fn coast_off_hook(station: &mut [u8], time: u32, slot: u32, room: &mut [u8]) -> u64
     ensures { λ r. ⌜ r ≡ returned (now (station .entry)) (slotAt time slot offHook (now (room .entry))) ⌝ }
     ensures { λ _. ⌜ now (station .exit) ≡ stationAfter (now (station .entry)) (slotAt time slot offHook (now (room .entry))) ⌝ }
-    ensures { λ _. ⌜ now (room .exit) ≡ roomLeft (now (station .entry)) (now (room .entry)) (slotAt time slot offHook (now (room .entry))) ⌝ }
+    ensures { λ _. ⌜
+        now (room .exit) ≡ roomLeft (now (station .entry)) (now (room .entry)) (slotAt time slot offHook (now (room .entry)))
+        ⌝ }
 {
     plainly(Plain::Signal(Signal::LineLifted), station, time, slot, room)
 }
@@ -152,7 +176,9 @@ pub extern "C" fn coast_off_hook(station: &mut [u8], time: u32, slot: u32, room:
 pub extern "C" fn coast_on_hook(station: &mut [u8], time: u32, slot: u32, room: &mut [u8]) -> u64
     ensures { λ r. ⌜ r ≡ returned (now (station .entry)) (slotAt time slot onHook (now (room .entry))) ⌝ }
     ensures { λ _. ⌜ now (station .exit) ≡ stationAfter (now (station .entry)) (slotAt time slot onHook (now (room .entry))) ⌝ }
-    ensures { λ _. ⌜ now (room .exit) ≡ roomLeft (now (station .entry)) (now (room .entry)) (slotAt time slot onHook (now (room .entry))) ⌝ }
+    ensures { λ _. ⌜
+        now (room .exit) ≡ roomLeft (now (station .entry)) (now (room .entry)) (slotAt time slot onHook (now (room .entry)))
+        ⌝ }
 {
     plainly(Plain::Signal(Signal::LineHung), station, time, slot, room)
 }
@@ -162,7 +188,9 @@ pub extern "C" fn coast_on_hook(station: &mut [u8], time: u32, slot: u32, room: 
 pub extern "C" fn coast_take(station: &mut [u8], time: u32, slot: u32, room: &mut [u8]) -> u64
     ensures { λ r. ⌜ r ≡ returned (now (station .entry)) (slotAt time slot takes (now (room .entry))) ⌝ }
     ensures { λ _. ⌜ now (station .exit) ≡ stationAfter (now (station .entry)) (slotAt time slot takes (now (room .entry))) ⌝ }
-    ensures { λ _. ⌜ now (room .exit) ≡ roomLeft (now (station .entry)) (now (room .entry)) (slotAt time slot takes (now (room .entry))) ⌝ }
+    ensures { λ _. ⌜
+        now (room .exit) ≡ roomLeft (now (station .entry)) (now (room .entry)) (slotAt time slot takes (now (room .entry)))
+        ⌝ }
 {
     plainly(Plain::Hand(Hand::Takes), station, time, slot, room)
 }
@@ -172,7 +200,9 @@ pub extern "C" fn coast_take(station: &mut [u8], time: u32, slot: u32, room: &mu
 pub extern "C" fn coast_give_back(station: &mut [u8], time: u32, slot: u32, room: &mut [u8]) -> u64
     ensures { λ r. ⌜ r ≡ returned (now (station .entry)) (slotAt time slot givesBack (now (room .entry))) ⌝ }
     ensures { λ _. ⌜ now (station .exit) ≡ stationAfter (now (station .entry)) (slotAt time slot givesBack (now (room .entry))) ⌝ }
-    ensures { λ _. ⌜ now (room .exit) ≡ roomLeft (now (station .entry)) (now (room .entry)) (slotAt time slot givesBack (now (room .entry))) ⌝ }
+    ensures { λ _. ⌜
+        now (room .exit) ≡ roomLeft (now (station .entry)) (now (room .entry)) (slotAt time slot givesBack (now (room .entry)))
+        ⌝ }
 {
     plainly(Plain::Hand(Hand::GivesBack), station, time, slot, room)
 }
