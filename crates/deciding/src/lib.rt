@@ -1,7 +1,9 @@
 // What each event does: by the slot's phase, and for a ship that stands nowhere; what document 01 does not name is ignored. No rule
 // holds a station.
 ghost use mathlib.Core.Path.{_≡_};
-ghost use Rattle.deciding.specs.Decides.{offHookBy, upBy, lossFrom, downBy, coastEndBy, workingBy, shipEndBy, bqBy, bySignal, takeBy, giveBackBy, byHand, mainDueBy, ruleCBy, askedAgainBy, newcomerBy};
+ghost use Rattle.deciding.specs.Decides.{offHookBy, upBy, lossFrom, downBy, coastEndBy, workingBy, shipEndBy, bqBy};
+ghost use Rattle.deciding.specs.Decides.{bySignal, takeBy, giveBackBy, byHand, mainDueBy, ruleCBy, askedAgainBy};
+ghost use Rattle.deciding.specs.Decides.{newcomerBy};
 use due_times::carrier_wait;
 use due_times::due_after;
 use outcomes::Outcome;
@@ -204,13 +206,13 @@ pub fn asked_again(m: Mode, same: bool, p: Phase) -> Outcome
 }
 
 // e, f or g, by whether a slot was found free, and how many wait.
-pub fn newcomer(found: bool, line: u8) -> Outcome
-    ensures { λ r. ⌜ r ≡ newcomerBy found line ⌝ }
+pub fn newcomer(found: bool, waiting: u8) -> Outcome
+    ensures { λ r. ⌜ r ≡ newcomerBy found waiting ⌝ }
 {
     if found {
         return Outcome::Offers;
     }
-    if line < MOST_WAITING {
+    if waiting < MOST_WAITING {
         return Outcome::Joins;
     }
     Outcome::Unable(102)

@@ -1,8 +1,8 @@
 // What an outcome comes to: the answer, the slot, the queue.
 ghost use mathlib.Core.Path.{_≡_};
-ghost use Rattle.outcomes.specs.Does.{answerOf, goesOn, toldOf, freeTurn, turnOf, freeLine, lineOf, enteredOf};
-use crate::Line;
+ghost use Rattle.outcomes.specs.Does.{answerOf, goesOn, toldOf, freeTurn, turnOf, freeChange, queueChange, enteredOf};
 use crate::Outcome;
+use crate::QueueChange;
 use crate::Talk;
 use crate::Turn;
 use actions::deeds::lasted;
@@ -51,10 +51,10 @@ pub fn goes_on(o: Outcome) -> bool
 }
 
 // A slot is freed where so many wait: "the same event takes the oldest".
-fn free_turn(t: Tenths, line: u8) -> Turn
-    ensures { λ r. ⌜ r ≡ freeTurn t line ⌝ }
+fn free_turn(t: Tenths, waiting: u8) -> Turn
+    ensures { λ r. ⌜ r ≡ freeTurn t waiting ⌝ }
 {
-    if line == 0 {
+    if waiting == 0 {
         return Turn::Own(Phase::Free);
     }
     let d = due_after(t, RING_WAIT);
@@ -62,8 +62,8 @@ fn free_turn(t: Tenths, line: u8) -> Turn
 }
 
 // What becomes of the slot at the time t, where so many wait.
-pub fn turn_of(o: Outcome, t: Tenths, line: u8) -> Turn
-    ensures { λ r. ⌜ r ≡ turnOf t line o ⌝ }
+pub fn turn_of(o: Outcome, t: Tenths, waiting: u8) -> Turn
+    ensures { λ r. ⌜ r ≡ turnOf t waiting o ⌝ }
 {
     match o {
         Outcome::Turns(p) => Turn::Own(p),
@@ -86,36 +86,35 @@ pub fn turn_of(o: Outcome, t: Tenths, line: u8) -> Turn
         }
         Outcome::Frees | Outcome::Clears | Outcome::CoastEnds(_) | Outcome::Redials(_) => free_turn(
             t,
-            line,
+            waiting,
         ),
         _ => Turn::Stays,
     }
 }
 
-fn free_line(line: u8) -> Line
-    ensures { λ r. ⌜ r ≡ freeLine line ⌝ }
+fn free_change(waiting: u8) -> QueueChange
+    ensures { λ r. ⌜ r ≡ freeChange waiting ⌝ }
 {
-    if line == 0 {
-        return Line::Same;
+    if waiting == 0 {
+        return QueueChange::Same;
     }
-    Line::Leaves(QueuePlace(0))
+    QueueChange::Leaves(QueuePlace(0))
 }
 
 // What becomes of the queue.
-pub fn line_of(o: Outcome, t: Tenths, line: u8) -> Line
-    ensures { λ r. ⌜ r ≡ lineOf t line o ⌝ }
+pub fn queue_change(o: Outcome, t: Tenths, waiting: u8) -> QueueChange
+    ensures { λ r. ⌜ r ≡ queueChange t waiting o ⌝ }
 {
     match o {
-        Outcome::Frees | Outcome::Clears | Outcome::CoastEnds(_) | Outcome::Redials(_) => free_line(
-            line,
-        ),
+        Outcome::Frees | Outcome::Clears | Outcome::CoastEnds(_) | Outcome::Redials(_) =>
+            free_change(waiting),
         Outcome::Joins => {
             let d = due_after(t, QUEUE_WAIT);
-            Line::Joins(d)
+            QueueChange::Joins(d)
         }
-        Outcome::Replaces(k) => Line::Replaces(k),
-        Outcome::Drops(k) => Line::Leaves(k),
-        _ => Line::Same,
+        Outcome::Replaces(k) => QueueChange::Replaces(k),
+        Outcome::Drops(k) => QueueChange::Leaves(k),
+        _ => QueueChange::Same,
     }
 }
 
@@ -128,13 +127,13 @@ fn asking(w: Waiting, q: Request) -> Waiting
 }
 
 // What is written over the record w of a waiting ship, where q is asked for.
-pub fn entered(line: Line, w: Waiting, q: Request) -> Waiting
-    ensures { λ r. ⌜ r ≡ enteredOf q w line ⌝ }
+pub fn entered(change: QueueChange, w: Waiting, q: Request) -> Waiting
+    ensures { λ r. ⌜ r ≡ enteredOf q w change ⌝ }
 {
-    match line {
-        Line::Same => w,
-        Line::Leaves(_) => w,
-        Line::Joins(u) => Waiting { due: u, request: q },
-        Line::Replaces(_) => asking(w, q),
+    match change {
+        QueueChange::Same => w,
+        QueueChange::Leaves(_) => w,
+        QueueChange::Joins(u) => Waiting { due: u, request: q },
+        QueueChange::Replaces(_) => asking(w, q),
     }
 }

@@ -24,7 +24,7 @@ impl Station {
     }
 
     // How many wait.
-    pub(crate) fn line(self) -> u8
+    pub(crate) fn queue_length(self) -> u8
         ensures { λ r. ⌜ r ≡ length (modelOf self .queue) ⌝ }
     {
         least(self.waiting, MOST_WAITING)

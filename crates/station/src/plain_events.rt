@@ -53,21 +53,23 @@ impl Station {
     // Any of them.
     pub fn plainly(self, w: Plain, time: Tenths, slot: SlotNumber, room: &mut [u8]) -> Stepped
         ensures { λ r. ⌜ r ≡ steppedBy self (slotAt (time .0) (slot .0) (plainView w) (now (room .entry))) ⌝ }
-        ensures { λ _. ⌜ now (room .exit) ≡ roomAfter self (now (room .entry)) (slotAt (time .0) (slot .0) (plainView w) (now (room .entry))) ⌝ }
+        ensures { λ _. ⌜
+            now (room .exit) ≡ roomAfter self (now (room .entry)) (slotAt (time .0) (slot .0) (plainView w) (now (room .entry)))
+            ⌝ }
     {
         let look = self.looked();
         let first = look.due;
-        let x = self.slot_at(slot);
-        let v = look.judge_slot(room.len(), time, slot)
-            .and_then(may_happen(w, x), 35);
-        match v {
+        let the_slot = self.slot_at(slot);
+        let verdict = look.judge_slot(room.len(), time, slot)
+            .and_then(may_happen(w, the_slot), 35);
+        match verdict {
             Verdict::Refused(n) => self.refused(n, first),
             Verdict::Accepted => {
-                let q = x.request;
-                let m = q.mode;
-                let p = x.phase;
-                let o = by_plain(w, time, m, p);
-                self.enact(time, slot, o, q, 0, room)
+                let request = the_slot.request;
+                let mode = request.mode;
+                let phase = the_slot.phase;
+                let outcome = by_plain(w, time, mode, phase);
+                self.enact(time, slot, outcome, request, 0, room)
             }
         }
     }

@@ -72,18 +72,18 @@ impl Station {
     {
         let look = self.looked();
         let first = look.due;
-        let v = look.judge(room.len(), time);
-        match v {
+        let verdict = look.judge(room.len(), time);
+        match verdict {
             Verdict::Refused(n) => self.refused(n, first),
             Verdict::Accepted => {
-                let d = due_by(first, time);
-                let t = moment(d, time);
-                let i = due_slot(d);
-                let x = self.slot_at(i);
-                let q = x.request;
-                let p = x.phase;
-                let o = by_due(d, p);
-                self.enact(t, i, o, q, 0, room)
+                let due = due_by(first, time);
+                let when = moment(due, time);
+                let slot = due_slot(due);
+                let the_slot = self.slot_at(slot);
+                let request = the_slot.request;
+                let phase = the_slot.phase;
+                let outcome = by_due(due, phase);
+                self.enact(when, slot, outcome, request, 0, room)
             }
         }
     }

@@ -3,7 +3,8 @@ ghost use mathlib.Core.Path.{_≡_};
 ghost use Rattle.actions.specs.Blocks.{actionBlock};
 ghost use Rattle.actions.specs.Sent.{enderOf, sentOn};
 ghost use Rattle.outcomes.specs.Does.{actsOf};
-ghost use Rattle.telling.specs.Told.{sceneView, telling, closeOf, freeSay, sayOf, billActs, offActs, endedActs, againActs, closeActs, wordAct, sayActs};
+ghost use Rattle.telling.specs.Tells.{sceneView, telling, closeOf, freeSay, sayOf};
+ghost use Rattle.telling.specs.Tells.{billActs, offActs, endedActs, againActs, closeActs, wordAct, sayActs};
 use actions::Action;
 use actions::Ender;
 use actions::deeds::carrier_off;
@@ -33,7 +34,7 @@ pub struct Scene {
     pub own: Request, // the slot's
     pub asked: Request, // the event's
     pub oldest: Request, // the oldest waiting ship's, where one waits
-    pub line: u8, // how many wait
+    pub waiting: u8, // how many wait
 }
 
 // How the call of the slot is closed.
@@ -73,23 +74,23 @@ fn close_of(o: Outcome) -> Close
 }
 
 // A slot is freed: the oldest of those that wait is rung back.
-fn free_say(line: u8) -> Say
-    ensures { λ r. ⌜ r ≡ freeSay line ⌝ }
+fn free_say(waiting: u8) -> Say
+    ensures { λ r. ⌜ r ≡ freeSay waiting ⌝ }
 {
-    if line == 0 {
+    if waiting == 0 {
         return Say::Nothing;
     }
     Say::Lifted(Word::RingsOldest)
 }
 
-fn say_of(o: Outcome, line: u8) -> Say
-    ensures { λ r. ⌜ r ≡ sayOf line o ⌝ }
+fn say_of(o: Outcome, waiting: u8) -> Say
+    ensures { λ r. ⌜ r ≡ sayOf waiting o ⌝ }
 {
     match o {
         Outcome::Dials => Say::Plain(Word::Dials),
         Outcome::RingsAgain => Say::Plain(Word::RingsOwn),
         Outcome::Frees | Outcome::Clears | Outcome::CoastEnds(_) | Outcome::Redials(_) => free_say(
-            line,
+            waiting,
         ),
         Outcome::Repeats | Outcome::Renews => Say::Plain(Word::Acknowledges),
         Outcome::Offers => Say::Lifted(Word::Acknowledges),
@@ -190,7 +191,7 @@ impl Scene {
         ensures { λ _. ⌜ now (room .exit) ≡ telling self (actsOf (sceneView self) o) k (now (room .entry)) .room ⌝ }
     {
         let c = close_of(o);
-        let s = say_of(o, self.line);
+        let s = say_of(o, self.waiting);
         let n = self.close(c, k, room);
         self.say(s, n, room)
     }

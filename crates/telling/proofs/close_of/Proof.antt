@@ -1,7 +1,7 @@
 use borrow.Author.Needs.{needs}
 use mathlib.Core.List.{[], _∷_}
 use Rattle.outcomes.proofs.ArmLaws.{outcome-arm}
-use Rattle.telling.specs.Told.{closeOf}
+use Rattle.telling.specs.Tells.{closeOf}
 use Rattle.telling.proofs.close_of.Statement.{statement}
 use Rattle.telling.proofs.close_of.Tie as tie
 

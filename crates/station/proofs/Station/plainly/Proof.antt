@@ -9,7 +9,7 @@ use Rattle.station.specs.Step.{slotAt, refusal}
 use Rattle.station.specs.Pieces.{outAt, plainView}
 use Rattle.station.proofs.PlaceLaws.{slot-view}
 use Rattle.station.proofs.GateLaws.{passed, asked-plainly, one-more-on-slot}
-use Rattle.station.proofs.StepLaws.{refused-is, line-fits, accepted-is}
+use Rattle.station.proofs.StepLaws.{refused-is, queue-fits, accepted-is}
 use Rattle.station.proofs.EventLaws.{plain-acts}
 use borrow.Author.Needs.{needs}
 use Rattle.station.proofs.Station.plainly.Statement.{statement}
@@ -37,7 +37,7 @@ decided b =
 enact-requires : tie.Need-enact-requires
 enact-requires c κs =
     let x = start c .args in
-    (passed (x .self) (event (start c)) (accepted c) .time, line-fits (x .self) (x .room .now) (event (start c)) refl (accepted c) _ (decided c))
+    (passed (x .self) (event (start c)) (accepted c) .time, queue-fits (x .self) (x .room .now) (event (start c)) refl (accepted c) _ (decided c))
 
 returns : tie.Need-returns
 returns c =
@@ -45,7 +45,7 @@ returns c =
     let sees = c .before .before .before .before .before .before .before .before .looked .ensures in
     rw (c .refused .ensures)
     (refused-is _ _ sees _ (event z) _
-    ((rw (c .before .before .v .given .1, c .before .before .before .before .before .may-happen .ensures, c .before .before .before .before .before .before .judge-slot .ensures, c .before .before .before .before .before .before .before .slot-at .ensures, slot-view (z .args .self) (z .args .slot .0)) at (c .before .before .before .before .and-then .ensures))
+    ((rw (c .before .before .verdict .given .1, c .before .before .before .before .before .may-happen .ensures, c .before .before .before .before .before .before .judge-slot .ensures, c .before .before .before .before .before .before .before .slot-at .ensures, slot-view (z .args .self) (z .args .slot .0)) at (c .before .before .before .before .and-then .ensures))
     ∙ one-more-on-slot _ _ sees (length (z .args .room .now)) (z .args .time .0) (z .args .slot .0) _ _
     ∙ asked-plainly _ _ sees (length (z .args .room .now)) (z .args .time .0) (z .args .slot .0) (z .args .w)))
 
