@@ -15,15 +15,15 @@ use slots::Phase;
 use units::SlotNumber;
 use units::Tenths;
 
-fn by_kind(k: Kind, own: bool, p: Phase) -> Outcome
-    ensures { λ r. ⌜ r ≡ byKind k own p ⌝ }
+fn by_kind(kind: Kind, own: bool, phase: Phase) -> Outcome
+    ensures { λ r. ⌜ r ≡ byKind kind own phase ⌝ }
 {
-    match k {
+    match kind {
         Kind::CallRequest => Outcome::Ignored,
         Kind::DataRequest => Outcome::Ignored,
         Kind::Bq(_) => Outcome::Ignored,
-        Kind::WorkingCall => deciding::working_call(own, p),
-        Kind::EndOfCall => deciding::ship_end(own, p),
+        Kind::WorkingCall => deciding::working_call(own, phase),
+        Kind::EndOfCall => deciding::ship_end(own, phase),
         Kind::Nothing => Outcome::Ignored,
     }
 }
