@@ -17,9 +17,9 @@ STEPS = {
     'told_by': ('hearing', LEFT, 7, FULL, 'which kind of sequence, and who asks for what', ['heardOf', 'addressed']),
     'by_kind': ('station', LEFT, 8, FULL, 'which rule it is for', ['byKind']),
     'working_call': ('deciding', LEFT, 9, FULL, "an outcome, by the slot's phase", ['workingBy']),
-    'enact': ('station', RIGHT, 9, FULL, 'the outcome is carried out', ['outAt', 'laidOf', 'enacted']),
+    'enact': ('station', RIGHT, 9, FULL, 'the outcome is carried out', ['outAt', 'handedBack', 'roomLaid']),
     'tell': ('telling', RIGHT, 8, FULL, 'its actions are laid into the room', ['telling', 'actsOf']),
-    'turn_of, line_of': ('outcomes', RIGHT, 7, FULL, 'what becomes of the slot, and of the queue', ['turnOf', 'lineOf']),
+    'turn_of, queue_change': ('outcomes', RIGHT, 7, FULL, 'what becomes of the slot, and of the queue', ['turnOf', 'queueChange']),
     'refused': ('station', RIGHT, 6, HALF, 'the station as it was', ['dueImage']),
     'hand_back': ('coast', RIGHT, 2, FULL, 'one number: answer, count, next due time', ['told', 'kept']),
     'lay_station': ('lent_layout', RIGHT, 1, FULL, 'the next station to bytes, if accepted', ['stationLaid']),
@@ -27,7 +27,7 @@ STEPS = {
 CALLS = {  # what each calls
     'coast_heard_on_slot': ['station_from', 'heard_on_slot', 'hand_back'],
     'heard_on_slot': ['read', 'looked', 'judge_slot', 'and_read', 'refused', 'told_by', 'by_kind', 'enact'],
-    'by_kind': ['working_call'], 'enact': ['tell', 'turn_of', 'line_of'], 'hand_back': ['lay_station'],
+    'by_kind': ['working_call'], 'enact': ['tell', 'turn_of', 'queue_change'], 'hand_back': ['lay_station'],
 }
 # Where definitions and laws say what the picture says of them: a file, what stands there, and the names in that line.
 SAID = {

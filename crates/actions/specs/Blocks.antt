@@ -11,7 +11,13 @@ use Rattle.actions.specs.declared.Action.{Action}
 
 -- an action as it is laid out: its payload, and zeros
 unfoldable pub actionOf : ℕ → ℕ → List ℕ → Action
-actionOf kind slot payload = record { kind = kind; slot = record { 0 = slot }; length = length payload; payload = padded 0 payloadRoom payload }
+actionOf kind slot payload =
+    record {
+      kind = kind;
+      slot = record { 0 = slot };
+      length = length payload;
+      payload = padded 0 payloadRoom payload;
+    }
 
 unfoldable pub actionBlock : Action → List ℕ
 actionBlock a = block (a .kind) (a .slot .0) (take (a .length) (a .payload))

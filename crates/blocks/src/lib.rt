@@ -22,7 +22,8 @@ fn slot_byte(i: SlotNumber) -> u8
     255
 }
 
-// "kind, slot .., payload length, 0, payload, zeros": lays an action as block number k where the room holds it, and returns the number of the next block.
+// "kind, slot .., payload length, 0, payload, zeros": lays an action as block number k where the room holds it, and returns the number
+// of the next block.
 pub fn lay(x: Action, k: u8, room: &mut [u8]) -> u8
     ensures { λ r. ⌜ r ≡ layCount k (length (now (room .entry))) ⌝ }
     ensures { λ _. ⌜ now (room .exit) ≡ layRoom (actionBlock x) k (now (room .entry)) ⌝ }

@@ -19,7 +19,8 @@ use Rattle.coast.specs.Events.{told, returned, stationAfter, roomLeft, s
 
 -- "leaves lent bytes untouched": the station's and the room's
 abbrev pub RefusalLeavesAll : Type 0
-RefusalLeavesAll = (b room : List ℕ) (e : Event) (n : ℕ) → refusal (stationFrom b) e ≡ some n → (stationAfter b e ≡ b) × (roomLeft b room e ≡ room)
+RefusalLeavesAll = (b room : List ℕ) (e : Event) (n : ℕ) → refusal (stationFrom b) e ≡ some n
+    → (stationAfter b e ≡ b) × (roomLeft b room e ≡ room)
 
 -- an accepted event leaves the next station's bytes, and they stand for it
 abbrev pub AcceptedLeavesItsStation : Type 0
@@ -41,7 +42,8 @@ dueTime (At t) = t .0
 
 abbrev pub TakenApart : Type 0
 TakenApart = (r : Stepped) → r .answer < 256 → r .count < 256
-    → (told r % 256 ≡ r .answer) × (told r / 256 % 256 ≡ r .count) × (told r / 65536 % 2 ≡ waits (r .due)) × (told r / 4294967296 ≡ dueTime (r .due))
+    → (told r % 256 ≡ r .answer) × (told r / 256 % 256 ≡ r .count)
+    × (told r / 65536 % 2 ≡ waits (r .due)) × (told r / 4294967296 ≡ dueTime (r .due))
 
 -- ── a host that hands on what it was left ────────────────────────────────────
 
@@ -69,4 +71,5 @@ abbrev pub HostHandsOn : Type 0
 HostHandsOn = (c : Config) (lent : List ℕ) → setUpVerdict c ≡ none → sized lent ≡ true → (es : List Event)
     → (returnedBy (stationSetUp c lent) es ≡ toldBy (setUpOf c .station) es)
     × (leftBy (stationSetUp c lent) es ≡ stationBytes (handedBy (setUpOf c .station) es))
-    × ((e : Event) (room : List ℕ) → roomLeft (leftBy (stationSetUp c lent) es) room e ≡ roomAfter (handedBy (setUpOf c .station) es) room e)
+    × ((e : Event) (room : List ℕ)
+    → roomLeft (leftBy (stationSetUp c lent) es) room e ≡ roomAfter (handedBy (setUpOf c .station) es) room e)

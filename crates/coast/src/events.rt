@@ -26,14 +26,14 @@ pub(crate) fn due_number(due: NextDue) -> u64
 }
 
 // What an event came to, as one number; the next station is laid where it was accepted.
-pub(crate) fn hand_back(r: Stepped, station: &mut [u8]) -> u64
-    ensures { λ n. ⌜ n ≡ told r ⌝ }
-    ensures { λ _. ⌜ now (station .exit) ≡ kept (now (station .entry)) r ⌝ }
+pub(crate) fn hand_back(stepped: Stepped, station: &mut [u8]) -> u64
+    ensures { λ n. ⌜ n ≡ told stepped ⌝ }
+    ensures { λ _. ⌜ now (station .exit) ≡ kept (now (station .entry)) stepped ⌝ }
 {
-    let answer = r.answer;
-    let count = r.count;
-    let due = r.due;
-    let next = r.station;
+    let answer = stepped.answer;
+    let count = stepped.count;
+    let due = stepped.due;
+    let next = stepped.station;
     let number = (answer as u64) + 256 * (count as u64) + due_number(due);
     if answer <= 1 {
         lay_station(next, station);
@@ -47,11 +47,13 @@ pub(crate) fn hand_back(r: Stepped, station: &mut [u8]) -> u64
 pub extern "C" fn coast_tick(station: &mut [u8], time: u32, room: &mut [u8]) -> u64
     ensures { λ r. ⌜ r ≡ returned (now (station .entry)) (eventAt time tick (now (room .entry))) ⌝ }
     ensures { λ _. ⌜ now (station .exit) ≡ stationAfter (now (station .entry)) (eventAt time tick (now (room .entry))) ⌝ }
-    ensures { λ _. ⌜ now (room .exit) ≡ roomLeft (now (station .entry)) (now (room .entry)) (eventAt time tick (now (room .entry))) ⌝ }
+    ensures { λ _. ⌜
+        now (room .exit) ≡ roomLeft (now (station .entry)) (now (room .entry)) (eventAt time tick (now (room .entry)))
+        ⌝ }
 {
-    let s = station_from(station);
-    let r = s.tick(Tenths(time), room);
-    hand_back(r, station)
+    let by_value = station_from(station);
+    let stepped = by_value.tick(Tenths(time), room);
+    hand_back(stepped, station)
 }
 
 // A sequence was heard on channel 70.
@@ -63,12 +65,18 @@ pub extern "C" fn coast_heard_on_channel_70(
     room: &mut [u8],
 ) -> u64
     ensures { λ r. ⌜ r ≡ returned (now (station .entry)) (eventAt time (onChannel70 (now (symbols .entry))) (now (room .entry))) ⌝ }
-    ensures { λ _. ⌜ now (station .exit) ≡ stationAfter (now (station .entry)) (eventAt time (onChannel70 (now (symbols .entry))) (now (room .entry))) ⌝ }
-    ensures { λ _. ⌜ now (room .exit) ≡ roomLeft (now (station .entry)) (now (room .entry)) (eventAt time (onChannel70 (now (symbols .entry))) (now (room .entry))) ⌝ }
+    ensures { λ _. ⌜
+        now (station .exit)
+        ≡ stationAfter (now (station .entry)) (eventAt time (onChannel70 (now (symbols .entry))) (now (room .entry)))
+        ⌝ }
+    ensures { λ _. ⌜
+        now (room .exit)
+        ≡ roomLeft (now (station .entry)) (now (room .entry)) (eventAt time (onChannel70 (now (symbols .entry))) (now (room .entry)))
+        ⌝ }
 {
-    let s = station_from(station);
-    let r = s.heard_on_channel_70(Tenths(time), symbols, room);
-    hand_back(r, station)
+    let by_value = station_from(station);
+    let stepped = by_value.heard_on_channel_70(Tenths(time), symbols, room);
+    hand_back(stepped, station)
 }
 
 // A sequence was heard on a slot's working channel.
@@ -81,23 +89,33 @@ pub extern "C" fn coast_heard_on_slot(
     room: &mut [u8],
 ) -> u64
     ensures { λ r. ⌜ r ≡ returned (now (station .entry)) (slotAt time slot (heard (now (symbols .entry))) (now (room .entry))) ⌝ }
-    ensures { λ _. ⌜ now (station .exit) ≡ stationAfter (now (station .entry)) (slotAt time slot (heard (now (symbols .entry))) (now (room .entry))) ⌝ }
-    ensures { λ _. ⌜ now (room .exit) ≡ roomLeft (now (station .entry)) (now (room .entry)) (slotAt time slot (heard (now (symbols .entry))) (now (room .entry))) ⌝ }
+    ensures { λ _. ⌜
+        now (station .exit)
+        ≡ stationAfter (now (station .entry)) (slotAt time slot (heard (now (symbols .entry))) (now (room .entry)))
+        ⌝ }
+    ensures { λ _. ⌜
+        now (room .exit)
+        ≡ roomLeft (now (station .entry)) (now (room .entry)) (slotAt time slot (heard (now (symbols .entry))) (now (room .entry)))
+        ⌝ }
 {
-    let s = station_from(station);
-    let r = s.heard_on_slot(Tenths(time), SlotNumber(slot), symbols, room);
-    hand_back(r, station)
+    let by_value = station_from(station);
+    let stepped = by_value.heard_on_slot(Tenths(time), SlotNumber(slot), symbols, room);
+    hand_back(stepped, station)
 }
 
 // Whatever happens on a slot and is no sequence.
-fn plainly(w: Plain, station: &mut [u8], time: u32, slot: u32, room: &mut [u8]) -> u64
-    ensures { λ r. ⌜ r ≡ returned (now (station .entry)) (slotAt time slot (plainView w) (now (room .entry))) ⌝ }
-    ensures { λ _. ⌜ now (station .exit) ≡ stationAfter (now (station .entry)) (slotAt time slot (plainView w) (now (room .entry))) ⌝ }
-    ensures { λ _. ⌜ now (room .exit) ≡ roomLeft (now (station .entry)) (now (room .entry)) (slotAt time slot (plainView w) (now (room .entry))) ⌝ }
+fn plainly(what: Plain, station: &mut [u8], time: u32, slot: u32, room: &mut [u8]) -> u64
+    ensures { λ r. ⌜ r ≡ returned (now (station .entry)) (slotAt time slot (plainView what) (now (room .entry))) ⌝ }
+    ensures { λ _. ⌜
+        now (station .exit) ≡ stationAfter (now (station .entry)) (slotAt time slot (plainView what) (now (room .entry)))
+        ⌝ }
+    ensures { λ _. ⌜
+        now (room .exit) ≡ roomLeft (now (station .entry)) (now (room .entry)) (slotAt time slot (plainView what) (now (room .entry)))
+        ⌝ }
 {
-    let s = station_from(station);
-    let r = s.plainly(w, Tenths(time), SlotNumber(slot), room);
-    hand_back(r, station)
+    let by_value = station_from(station);
+    let stepped = by_value.plainly(what, Tenths(time), SlotNumber(slot), room);
+    hand_back(stepped, station)
 }
 
 // The ship's carrier comes.
@@ -105,7 +123,9 @@ fn plainly(w: Plain, station: &mut [u8], time: u32, slot: u32, room: &mut [u8]) 
 pub extern "C" fn coast_carrier_up(station: &mut [u8], time: u32, slot: u32, room: &mut [u8]) -> u64
     ensures { λ r. ⌜ r ≡ returned (now (station .entry)) (slotAt time slot carrierUp (now (room .entry))) ⌝ }
     ensures { λ _. ⌜ now (station .exit) ≡ stationAfter (now (station .entry)) (slotAt time slot carrierUp (now (room .entry))) ⌝ }
-    ensures { λ _. ⌜ now (room .exit) ≡ roomLeft (now (station .entry)) (now (room .entry)) (slotAt time slot carrierUp (now (room .entry))) ⌝ }
+    ensures { λ _. ⌜
+        now (room .exit) ≡ roomLeft (now (station .entry)) (now (room .entry)) (slotAt time slot carrierUp (now (room .entry)))
+        ⌝ }
 {
     plainly(
         Plain::Signal(Signal::CarrierHeard),
@@ -126,7 +146,9 @@ pub extern "C" fn coast_carrier_down(
 ) -> u64
     ensures { λ r. ⌜ r ≡ returned (now (station .entry)) (slotAt time slot carrierDown (now (room .entry))) ⌝ }
     ensures { λ _. ⌜ now (station .exit) ≡ stationAfter (now (station .entry)) (slotAt time slot carrierDown (now (room .entry))) ⌝ }
-    ensures { λ _. ⌜ now (room .exit) ≡ roomLeft (now (station .entry)) (now (room .entry)) (slotAt time slot carrierDown (now (room .entry))) ⌝ }
+    ensures { λ _. ⌜
+        now (room .exit) ≡ roomLeft (now (station .entry)) (now (room .entry)) (slotAt time slot carrierDown (now (room .entry)))
+        ⌝ }
 {
     plainly(
         Plain::Signal(Signal::CarrierLost),
@@ -142,7 +164,9 @@ pub extern "C" fn coast_carrier_down(
 pub extern "C" fn coast_off_hook(station: &mut [u8], time: u32, slot: u32, room: &mut [u8]) -> u64
     ensures { λ r. ⌜ r ≡ returned (now (station .entry)) (slotAt time slot offHook (now (room .entry))) ⌝ }
     ensures { λ _. ⌜ now (station .exit) ≡ stationAfter (now (station .entry)) (slotAt time slot offHook (now (room .entry))) ⌝ }
-    ensures { λ _. ⌜ now (room .exit) ≡ roomLeft (now (station .entry)) (now (room .entry)) (slotAt time slot offHook (now (room .entry))) ⌝ }
+    ensures { λ _. ⌜
+        now (room .exit) ≡ roomLeft (now (station .entry)) (now (room .entry)) (slotAt time slot offHook (now (room .entry)))
+        ⌝ }
 {
     plainly(Plain::Signal(Signal::LineLifted), station, time, slot, room)
 }
@@ -152,7 +176,9 @@ pub extern "C" fn coast_off_hook(station: &mut [u8], time: u32, slot: u32, room:
 pub extern "C" fn coast_on_hook(station: &mut [u8], time: u32, slot: u32, room: &mut [u8]) -> u64
     ensures { λ r. ⌜ r ≡ returned (now (station .entry)) (slotAt time slot onHook (now (room .entry))) ⌝ }
     ensures { λ _. ⌜ now (station .exit) ≡ stationAfter (now (station .entry)) (slotAt time slot onHook (now (room .entry))) ⌝ }
-    ensures { λ _. ⌜ now (room .exit) ≡ roomLeft (now (station .entry)) (now (room .entry)) (slotAt time slot onHook (now (room .entry))) ⌝ }
+    ensures { λ _. ⌜
+        now (room .exit) ≡ roomLeft (now (station .entry)) (now (room .entry)) (slotAt time slot onHook (now (room .entry)))
+        ⌝ }
 {
     plainly(Plain::Signal(Signal::LineHung), station, time, slot, room)
 }
@@ -162,7 +188,9 @@ pub extern "C" fn coast_on_hook(station: &mut [u8], time: u32, slot: u32, room: 
 pub extern "C" fn coast_take(station: &mut [u8], time: u32, slot: u32, room: &mut [u8]) -> u64
     ensures { λ r. ⌜ r ≡ returned (now (station .entry)) (slotAt time slot takes (now (room .entry))) ⌝ }
     ensures { λ _. ⌜ now (station .exit) ≡ stationAfter (now (station .entry)) (slotAt time slot takes (now (room .entry))) ⌝ }
-    ensures { λ _. ⌜ now (room .exit) ≡ roomLeft (now (station .entry)) (now (room .entry)) (slotAt time slot takes (now (room .entry))) ⌝ }
+    ensures { λ _. ⌜
+        now (room .exit) ≡ roomLeft (now (station .entry)) (now (room .entry)) (slotAt time slot takes (now (room .entry)))
+        ⌝ }
 {
     plainly(Plain::Hand(Hand::Takes), station, time, slot, room)
 }
@@ -172,7 +200,9 @@ pub extern "C" fn coast_take(station: &mut [u8], time: u32, slot: u32, room: &mu
 pub extern "C" fn coast_give_back(station: &mut [u8], time: u32, slot: u32, room: &mut [u8]) -> u64
     ensures { λ r. ⌜ r ≡ returned (now (station .entry)) (slotAt time slot givesBack (now (room .entry))) ⌝ }
     ensures { λ _. ⌜ now (station .exit) ≡ stationAfter (now (station .entry)) (slotAt time slot givesBack (now (room .entry))) ⌝ }
-    ensures { λ _. ⌜ now (room .exit) ≡ roomLeft (now (station .entry)) (now (room .entry)) (slotAt time slot givesBack (now (room .entry))) ⌝ }
+    ensures { λ _. ⌜
+        now (room .exit) ≡ roomLeft (now (station .entry)) (now (room .entry)) (slotAt time slot givesBack (now (room .entry)))
+        ⌝ }
 {
     plainly(Plain::Hand(Hand::GivesBack), station, time, slot, room)
 }

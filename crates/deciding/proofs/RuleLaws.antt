@@ -125,9 +125,9 @@ module _ (i : ℕ) (st : R.Station) (r q : Request) where
   asked-again-is m e s h = by-phase _ refl (λ t. rule-b-is s h) (λ t. refl) (λ t. refl) (λ t. refl) (λ t l. rule-c-is m e Unanswered l) (λ t l. rule-c-is m e (Since t) l) (λ t n. refl) refl
 
   -- e: i is the lowest free slot; f and g: none is free
-  pub offers-is : (line : ℕ) → some i ≡ lowest isFree (st .slots) → outOf i r q (newcomerBy true line) st ≡ newcomer st q
+  pub offers-is : (waiting : ℕ) → some i ≡ lowest isFree (st .slots) → outOf i r q (newcomerBy true waiting) st ≡ newcomer st q
   unfolding outOf newcomer eToG
-  offers-is line h = rw (← h) refl
+  offers-is waiting h = rw (← h) refl
 
   f-or-g : (b : Bool) → outOf i r q (cond b Joins (Unable 102)) st ≡ cond b (ruleF st q) (ruleG st q)
   unfolding outOf ruleG

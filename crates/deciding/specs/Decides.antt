@@ -20,11 +20,13 @@ use Rattle.slots.specs.declared.Hand.the-variants.{Takes, GivesBack}
 use Rattle.outcomes.specs.declared.Talk.{Talk}
 use Rattle.outcomes.specs.declared.Talk.the-variants.{Unanswered, Since}
 use Rattle.outcomes.specs.declared.Outcome.{Outcome}
-use Rattle.outcomes.specs.declared.Outcome.the-variants.{Ignored, Turns, Dials, RingsAgain, Frees, Clears, CoastEnds, ShipEnds, SaysAgain, Repeats, Renews, Redials, Offers, Joins, Unable}
+use Rattle.outcomes.specs.declared.Outcome.the-variants.{Ignored, Turns, Dials, RingsAgain, Frees, Clears, CoastEnds}
+use Rattle.outcomes.specs.declared.Outcome.the-variants.{ShipEnds, SaysAgain, Repeats, Renews, Redials, Offers, Joins, Unable}
 use Rattle.outcomes.specs.Does.{waitFrom}
 
 -- the columns: free; taken; before the line is dialled; dialling; answered; in the hold
-abbrev pub on : Outcome → Outcome → (Kind → Outcome) → (Tenths → Carrier → Outcome) → (Tenths → Carrier → Outcome) → (Told → Outcome) → Phase → Outcome
+abbrev pub on : Outcome → Outcome → (Kind → Outcome) → (Tenths → Carrier → Outcome) → (Tenths → Carrier → Outcome)
+    → (Told → Outcome) → Phase → Outcome
 on a b k d c h Free = a
 on a b k d c h (Offered t) = k offered
 on a b k d c h (RingBack t) = k firstRing
@@ -84,7 +86,8 @@ workingBy own p = ifOwn own (on Ignored Ignored workingKindBy (λ d l. Ignored) 
 
 -- "while dialling or answered"; "in the hold"
 abbrev pub shipEndBy : Bool → Phase → Outcome
-shipEndBy own p = ifOwn own (on Ignored Ignored (λ k. Ignored) (λ d l. ShipEnds Unanswered) (λ b l. ShipEnds (Since b)) (λ n. SaysAgain n) p)
+shipEndBy own p =
+    ifOwn own (on Ignored Ignored (λ k. Ignored) (λ d l. ShipEnds Unanswered) (λ b l. ShipEnds (Since b)) (λ n. SaysAgain n) p)
 
 -- "acknowledged, wait 160"
 abbrev pub bqKindBy : Tenths → Kind → Outcome
@@ -141,4 +144,4 @@ askedAgainBy m same = on Ignored Ignored (ruleBBy same) (λ d l. ruleCBy m Unans
 
 -- e. "A slot is free"; f. "The queue has room"; g. "Otherwise answer 104/102."
 abbrev pub newcomerBy : Bool → ℕ → Outcome
-newcomerBy found line = cond found Offers (cond (ltb line queueRoom) Joins (Unable 102))
+newcomerBy found waiting = cond found Offers (cond (ltb waiting queueRoom) Joins (Unable 102))

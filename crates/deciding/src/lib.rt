@@ -1,7 +1,9 @@
 // What each event does: by the slot's phase, and for a ship that stands nowhere; what document 01 does not name is ignored. No rule
 // holds a station.
 ghost use mathlib.Core.Path.{_≡_};
-ghost use Rattle.deciding.specs.Decides.{offHookBy, upBy, lossFrom, downBy, coastEndBy, workingBy, shipEndBy, bqBy, bySignal, takeBy, giveBackBy, byHand, mainDueBy, ruleCBy, askedAgainBy, newcomerBy};
+ghost use Rattle.deciding.specs.Decides.{offHookBy, upBy, lossFrom, downBy, coastEndBy, workingBy, shipEndBy, bqBy};
+ghost use Rattle.deciding.specs.Decides.{bySignal, takeBy, giveBackBy, byHand, mainDueBy, ruleCBy, askedAgainBy};
+ghost use Rattle.deciding.specs.Decides.{newcomerBy};
 use due_times::carrier_wait;
 use due_times::due_after;
 use outcomes::Outcome;
@@ -16,83 +18,83 @@ use slots::Signal;
 use units::Tenths;
 
 // "while dialling: answered, the reply wait ends, a carrier wait runs on"
-fn off_hook(t: Tenths, p: Phase) -> Outcome
-    ensures { λ r. ⌜ r ≡ offHookBy t p ⌝ }
+fn off_hook(time: Tenths, phase: Phase) -> Outcome
+    ensures { λ r. ⌜ r ≡ offHookBy time phase ⌝ }
 {
-    match p {
-        Phase::Dialling(_, c) => Outcome::Turns(Phase::Answered(t, c)),
+    match phase {
+        Phase::Dialling(_, carrier) => Outcome::Turns(Phase::Answered(time, carrier)),
         Phase::Answered(_, _) => Outcome::Ignored,
         _ => Outcome::Ignored,
     }
 }
 
 // "carrier up ends it"
-fn carrier_up(p: Phase) -> Outcome
-    ensures { λ r. ⌜ r ≡ upBy p ⌝ }
+fn carrier_up(phase: Phase) -> Outcome
+    ensures { λ r. ⌜ r ≡ upBy phase ⌝ }
 {
-    match p {
-        Phase::Dialling(d, _) => Outcome::Turns(Phase::Dialling(d, Carrier::Present)),
-        Phase::Answered(b, _) => Outcome::Turns(Phase::Answered(b, Carrier::Present)),
+    match phase {
+        Phase::Dialling(due, _) => Outcome::Turns(Phase::Dialling(due, Carrier::Present)),
+        Phase::Answered(since, _) => Outcome::Turns(Phase::Answered(since, Carrier::Present)),
         _ => Outcome::Ignored,
     }
 }
 
 // The carrier's wait begins; "a second down doesn't restart it".
-fn lost_from(t: Tenths, m: Mode, c: Carrier) -> Carrier
-    ensures { λ r. ⌜ r ≡ lossFrom t m c ⌝ }
+fn lost_from(time: Tenths, mode: Mode, carrier: Carrier) -> Carrier
+    ensures { λ r. ⌜ r ≡ lossFrom time mode carrier ⌝ }
 {
-    let d = due_after(t, carrier_wait(m));
-    match c {
-        Carrier::Present => Carrier::Lost(d),
-        Carrier::Lost(u) => Carrier::Lost(u),
+    let due = due_after(time, carrier_wait(mode));
+    match carrier {
+        Carrier::Present => Carrier::Lost(due),
+        Carrier::Lost(earlier) => Carrier::Lost(earlier),
     }
 }
 
 // "starts a wait of 50 duplex, 450 simplex"
-fn carrier_down(t: Tenths, m: Mode, p: Phase) -> Outcome
-    ensures { λ r. ⌜ r ≡ downBy t m p ⌝ }
+fn carrier_down(time: Tenths, mode: Mode, phase: Phase) -> Outcome
+    ensures { λ r. ⌜ r ≡ downBy time mode phase ⌝ }
 {
-    match p {
-        Phase::Dialling(d, c) => {
-            let l = lost_from(t, m, c);
-            Outcome::Turns(Phase::Dialling(d, l))
+    match phase {
+        Phase::Dialling(due, carrier) => {
+            let lost = lost_from(time, mode, carrier);
+            Outcome::Turns(Phase::Dialling(due, lost))
         }
-        Phase::Answered(b, c) => {
-            let l = lost_from(t, m, c);
-            Outcome::Turns(Phase::Answered(b, l))
+        Phase::Answered(since, carrier) => {
+            let lost = lost_from(time, mode, carrier);
+            Outcome::Turns(Phase::Answered(since, lost))
         }
         _ => Outcome::Ignored,
     }
 }
 
 // On-hook, and a carrier loss.
-pub fn coast_end(p: Phase) -> Outcome
-    ensures { λ r. ⌜ r ≡ coastEndBy p ⌝ }
+pub fn coast_end(phase: Phase) -> Outcome
+    ensures { λ r. ⌜ r ≡ coastEndBy phase ⌝ }
 {
-    match p {
+    match phase {
         Phase::Dialling(_, _) => Outcome::CoastEnds(Talk::Unanswered),
-        Phase::Answered(b, _) => Outcome::CoastEnds(Talk::Since(b)),
+        Phase::Answered(since, _) => Outcome::CoastEnds(Talk::Since(since)),
         _ => Outcome::Ignored,
     }
 }
 
-pub fn by_signal(g: Signal, t: Tenths, m: Mode, p: Phase) -> Outcome
-    ensures { λ r. ⌜ r ≡ bySignal g t m p ⌝ }
+pub fn by_signal(signal: Signal, time: Tenths, mode: Mode, phase: Phase) -> Outcome
+    ensures { λ r. ⌜ r ≡ bySignal signal time mode phase ⌝ }
 {
-    match g {
-        Signal::LineLifted => off_hook(t, p),
-        Signal::LineHung => coast_end(p),
-        Signal::CarrierHeard => carrier_up(p),
-        Signal::CarrierLost => carrier_down(t, m, p),
+    match signal {
+        Signal::LineLifted => off_hook(time, phase),
+        Signal::LineHung => coast_end(phase),
+        Signal::CarrierHeard => carrier_up(phase),
+        Signal::CarrierLost => carrier_down(time, mode, phase),
     }
 }
 
 // "on an offered or acknowledged slot, same ship"
-pub fn working_call(own: bool, p: Phase) -> Outcome
-    ensures { λ r. ⌜ r ≡ workingBy own p ⌝ }
+pub fn working_call(own: bool, phase: Phase) -> Outcome
+    ensures { λ r. ⌜ r ≡ workingBy own phase ⌝ }
 {
     if own {
-        return match p {
+        return match phase {
             Phase::Offered(_) | Phase::Acknowledged(_) => Outcome::Dials,
             _ => Outcome::Ignored,
         };
@@ -101,13 +103,13 @@ pub fn working_call(own: bool, p: Phase) -> Outcome
 }
 
 // "while dialling or answered, same ship"; "in the hold: .. the same answer sent"
-pub fn ship_end(own: bool, p: Phase) -> Outcome
-    ensures { λ r. ⌜ r ≡ shipEndBy own p ⌝ }
+pub fn ship_end(own: bool, phase: Phase) -> Outcome
+    ensures { λ r. ⌜ r ≡ shipEndBy own phase ⌝ }
 {
     if own {
-        return match p {
+        return match phase {
             Phase::Dialling(_, _) => Outcome::ShipEnds(Talk::Unanswered),
-            Phase::Answered(b, _) => Outcome::ShipEnds(Talk::Since(b)),
+            Phase::Answered(since, _) => Outcome::ShipEnds(Talk::Since(since)),
             Phase::Hold(_, told) => Outcome::SaysAgain(told),
             _ => Outcome::Ignored,
         };
@@ -116,14 +118,14 @@ pub fn ship_end(own: bool, p: Phase) -> Outcome
 }
 
 // Ring-back acknowledged: "wait 160".
-pub fn bq(own: bool, t: Tenths, p: Phase) -> Outcome
-    ensures { λ r. ⌜ r ≡ bqBy own t p ⌝ }
+pub fn bq(own: bool, time: Tenths, phase: Phase) -> Outcome
+    ensures { λ r. ⌜ r ≡ bqBy own time phase ⌝ }
 {
     if own {
-        return match p {
+        return match phase {
             Phase::RingBack(_) | Phase::RingAgain(_) => {
-                let d = due_after(t, OFFER_WAIT);
-                Outcome::Turns(Phase::Acknowledged(d))
+                let due = due_after(time, OFFER_WAIT);
+                Outcome::Turns(Phase::Acknowledged(due))
             }
             _ => Outcome::Ignored,
         };
@@ -132,39 +134,39 @@ pub fn bq(own: bool, t: Tenths, p: Phase) -> Outcome
 }
 
 // The operator "takes a free slot".
-fn take(p: Phase) -> Outcome
-    ensures { λ r. ⌜ r ≡ takeBy p ⌝ }
+fn take(phase: Phase) -> Outcome
+    ensures { λ r. ⌜ r ≡ takeBy phase ⌝ }
 {
-    match p {
+    match phase {
         Phase::Free => Outcome::Turns(Phase::Taken),
         _ => Outcome::Ignored,
     }
 }
 
 // "or gives it back (freed)"
-fn give_back(p: Phase) -> Outcome
-    ensures { λ r. ⌜ r ≡ giveBackBy p ⌝ }
+fn give_back(phase: Phase) -> Outcome
+    ensures { λ r. ⌜ r ≡ giveBackBy phase ⌝ }
 {
-    match p {
+    match phase {
         Phase::Taken => Outcome::Frees,
         _ => Outcome::Ignored,
     }
 }
 
-pub fn by_hand(h: Hand, p: Phase) -> Outcome
-    ensures { λ r. ⌜ r ≡ byHand h p ⌝ }
+pub fn by_hand(hand: Hand, phase: Phase) -> Outcome
+    ensures { λ r. ⌜ r ≡ byHand hand phase ⌝ }
 {
-    match h {
-        Hand::Takes => take(p),
-        Hand::GivesBack => give_back(p),
+    match hand {
+        Hand::Takes => take(phase),
+        Hand::GivesBack => give_back(phase),
     }
 }
 
 // The wait of a slot other than its carrier's falls due.
-pub fn main_due(p: Phase) -> Outcome
-    ensures { λ r. ⌜ r ≡ mainDueBy p ⌝ }
+pub fn main_due(phase: Phase) -> Outcome
+    ensures { λ r. ⌜ r ≡ mainDueBy phase ⌝ }
 {
-    match p {
+    match phase {
         Phase::Offered(_) | Phase::RingAgain(_) | Phase::Acknowledged(_) => Outcome::Clears,
         Phase::RingBack(_) => Outcome::RingsAgain,
         Phase::Dialling(_, _) => Outcome::CoastEnds(Talk::Unanswered),
@@ -174,43 +176,43 @@ pub fn main_due(p: Phase) -> Outcome
 }
 
 // c. "ignored if duplex or if its carrier is present. If simplex with carrier absent, .."
-fn rule_c(m: Mode, k: Talk, c: Carrier) -> Outcome
-    ensures { λ r. ⌜ r ≡ ruleCBy m k c ⌝ }
+fn rule_c(mode: Mode, talk: Talk, carrier: Carrier) -> Outcome
+    ensures { λ r. ⌜ r ≡ ruleCBy mode talk carrier ⌝ }
 {
-    match m {
+    match mode {
         Mode::Duplex => Outcome::Ignored,
-        Mode::Simplex => match c {
+        Mode::Simplex => match carrier {
             Carrier::Present => Outcome::Ignored,
-            Carrier::Lost(_) => Outcome::Redials(k),
+            Carrier::Lost(_) => Outcome::Redials(talk),
         },
     }
 }
 
 // b or c, by the mode of the slot's own request, and whether the one asked is the same.
-pub fn asked_again(m: Mode, same: bool, p: Phase) -> Outcome
-    ensures { λ r. ⌜ r ≡ askedAgainBy m same p ⌝ }
+pub fn asked_again(mode: Mode, same: bool, phase: Phase) -> Outcome
+    ensures { λ r. ⌜ r ≡ askedAgainBy mode same phase ⌝ }
 {
-    match p {
+    match phase {
         Phase::Offered(_) => if same {
             Outcome::Repeats
         } else {
             Outcome::Renews
         },
         Phase::RingBack(_) | Phase::RingAgain(_) | Phase::Acknowledged(_) => Outcome::Renews,
-        Phase::Dialling(_, c) => rule_c(m, Talk::Unanswered, c),
-        Phase::Answered(b, c) => rule_c(m, Talk::Since(b), c),
+        Phase::Dialling(_, carrier) => rule_c(mode, Talk::Unanswered, carrier),
+        Phase::Answered(since, carrier) => rule_c(mode, Talk::Since(since), carrier),
         _ => Outcome::Ignored,
     }
 }
 
 // e, f or g, by whether a slot was found free, and how many wait.
-pub fn newcomer(found: bool, line: u8) -> Outcome
-    ensures { λ r. ⌜ r ≡ newcomerBy found line ⌝ }
+pub fn newcomer(found: bool, waiting: u8) -> Outcome
+    ensures { λ r. ⌜ r ≡ newcomerBy found waiting ⌝ }
 {
     if found {
         return Outcome::Offers;
     }
-    if line < MOST_WAITING {
+    if waiting < MOST_WAITING {
         return Outcome::Joins;
     }
     Outcome::Unable(102)

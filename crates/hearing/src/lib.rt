@@ -44,10 +44,10 @@ pub struct Heard {
     pub request: Request,
 }
 
-fn is_blank(f: Field) -> bool
-    ensures { λ r. ⌜ r ≡ isBlank f ⌝ }
+fn is_blank(field: Field) -> bool
+    ensures { λ r. ⌜ r ≡ isBlank field ⌝ }
 {
-    match f {
+    match field {
         Field::Blank => true,
         Field::Channel(_) => false,
         Field::Duration(_) => false,
@@ -55,27 +55,27 @@ fn is_blank(f: Field) -> bool
 }
 
 // An end of sequence and a first telecommand, with the field 126s.
-fn says(m: Meaning, end: u8, first: u8) -> bool
-    ensures { λ r. ⌜ r ≡ says end first m ⌝ }
+fn says(meaning: Meaning, end: u8, first: u8) -> bool
+    ensures { λ r. ⌜ r ≡ says end first meaning ⌝ }
 {
-    let e = m.end;
-    let t = m.first;
-    let f = m.field;
+    let e = meaning.end;
+    let t = meaning.first;
+    let field = meaning.field;
     if e != end {
         return false;
     }
     if t != first {
         return false;
     }
-    is_blank(f)
+    is_blank(field)
 }
 
 // "BQ .. telecommand 100 or 101"
-fn agrees(m: Meaning) -> bool
-    ensures { λ r. ⌜ r ≡ agrees m ⌝ }
+fn agrees(meaning: Meaning) -> bool
+    ensures { λ r. ⌜ r ≡ agrees meaning ⌝ }
 {
-    let e = m.end;
-    let t = m.first;
+    let e = meaning.end;
+    let t = meaning.first;
     if e != END_BQ {
         return false;
     }
@@ -86,13 +86,13 @@ fn agrees(m: Meaning) -> bool
 }
 
 // "Working call (127; 100 or 101; field 126s)"
-fn works(m: Meaning) -> bool
-    ensures { λ r. ⌜ r ≡ (says endLast firstSimplex m || says endLast firstDuplex m) ⌝ }
+fn works(meaning: Meaning) -> bool
+    ensures { λ r. ⌜ r ≡ (says endLast firstSimplex meaning || says endLast firstDuplex meaning) ⌝ }
 {
-    if says(m, END_LAST, FIRST_SIMPLEX) {
+    if says(meaning, END_LAST, FIRST_SIMPLEX) {
         return true;
     }
-    says(m, END_LAST, FIRST_DUPLEX)
+    says(meaning, END_LAST, FIRST_DUPLEX)
 }
 
 fn mode_in(first: u8) -> Mode
@@ -105,25 +105,25 @@ fn mode_in(first: u8) -> Mode
 }
 
 // Who asks for what, whatever kind of sequence it is.
-fn asked_in(m: Meaning) -> Request
-    ensures { λ r. ⌜ r ≡ askedIn m ⌝ }
+fn asked_in(meaning: Meaning) -> Request
+    ensures { λ r. ⌜ r ≡ askedIn meaning ⌝ }
 {
-    let n = m.number;
-    let mode = mode_in(m.first);
+    let number = meaning.number;
+    let mode = mode_in(meaning.first);
     Request {
-        ship: m.sender,
-        station: m.address,
+        ship: meaning.sender,
+        station: meaning.address,
         mode: mode,
-        second: m.second,
-        number: n,
+        second: meaning.second,
+        number: number,
     }
 }
 
 // The slot whose channel is named.
-fn named(slots: [Slot; SLOTS], count: u8, f: Field) -> Found
-    ensures { λ r. ⌜ ((mast : Mast) → foundView r ≡ slotNamed (configFor mast count slots) f) ⌝ }
+fn named(slots: [Slot; SLOTS], count: u8, field: Field) -> Found
+    ensures { λ r. ⌜ ((mast : Mast) → foundView r ≡ slotNamed (configFor mast count slots) field) ⌝ }
 {
-    match f {
+    match field {
         Field::Blank => Found::Nothing,
         Field::Channel(c) => slot_named(slots, count, c),
         Field::Duration(_) => Found::Nothing,
@@ -131,56 +131,58 @@ fn named(slots: [Slot; SLOTS], count: u8, f: Field) -> Found
 }
 
 // A BQ that names the channel of a slot.
-fn bq_on(i: Found) -> Kind
-    ensures { λ r. ⌜ ((x : W.Request) → heardAs r x ≡ bqOn (x .who) (foundView i)) ⌝ }
+fn bq_on(slot: Found) -> Kind
+    ensures { λ r. ⌜ ((x : W.Request) → heardAs r x ≡ bqOn (x .who) (foundView slot)) ⌝ }
 {
-    match i {
+    match slot {
         Found::At(k) => Kind::Bq(k),
         Found::Nothing => Kind::Nothing,
     }
 }
 
-// Which of document 01's kinds it is, where its field names the slot i.
-fn kind_of(m: Meaning, i: Found) -> Kind
-    ensures { λ r. ⌜ ((c : Config) → foundView i ≡ slotNamed c (m .field) → heardAs r (requestOf (askedIn m)) ≡ kindOf c m) ⌝ }
+// Which of document 01's kinds it is, where its field names the slot.
+fn kind_of(meaning: Meaning, slot: Found) -> Kind
+    ensures { λ r. ⌜
+        ((c : Config) → foundView slot ≡ slotNamed c (meaning .field) → heardAs r (requestOf (askedIn meaning)) ≡ kindOf c meaning)
+        ⌝ }
 {
-    if says(m, END_RQ, FIRST_SIMPLEX) {
+    if says(meaning, END_RQ, FIRST_SIMPLEX) {
         return Kind::CallRequest;
     }
-    if says(m, END_RQ, FIRST_DUPLEX) {
+    if says(meaning, END_RQ, FIRST_DUPLEX) {
         return Kind::CallRequest;
     }
-    if says(m, END_RQ, FIRST_DATA) {
+    if says(meaning, END_RQ, FIRST_DATA) {
         return Kind::DataRequest;
     }
-    if works(m) {
+    if works(meaning) {
         return Kind::WorkingCall;
     }
-    if says(m, END_RQ, FIRST_OVER) {
+    if says(meaning, END_RQ, FIRST_OVER) {
         return Kind::EndOfCall;
     }
-    if agrees(m) {
-        return bq_on(i);
+    if agrees(meaning) {
+        return bq_on(slot);
     }
     Kind::Nothing
 }
 
 // "a sequence not addressed to this station" says nothing.
-pub fn told_by(mast: Mast, slots: [Slot; SLOTS], count: u8, m: Meaning) -> Heard
-    ensures { λ r. ⌜ r .request ≡ askedIn m ⌝ }
-    ensures { λ r. ⌜ heardOf r ≡ addressed (configFor mast count slots) m ⌝ }
+pub fn told_by(mast: Mast, slots: [Slot; SLOTS], count: u8, meaning: Meaning) -> Heard
+    ensures { λ r. ⌜ r .request ≡ askedIn meaning ⌝ }
+    ensures { λ r. ⌜ heardOf r ≡ addressed (configFor mast count slots) meaning ⌝ }
 {
-    let f = m.field;
-    let q = asked_in(m);
-    if is_ours(mast, m.address) {
-        let k = kind_of(m, named(slots, count, f));
+    let field = meaning.field;
+    let request = asked_in(meaning);
+    if is_ours(mast, meaning.address) {
+        let kind = kind_of(meaning, named(slots, count, field));
         return Heard {
-            kind: k,
-            request: q,
+            kind: kind,
+            request: request,
         };
     }
     Heard {
         kind: Kind::Nothing,
-        request: q,
+        request: request,
     }
 }

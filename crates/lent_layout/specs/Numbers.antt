@@ -106,5 +106,7 @@ stationIn ns =
       count = getD ns 3 0;
       waiting = getD ns 4 0;
       slots = inUse blankSlot mostSlots (getD ns 3 0) (recordsIn slotFrom mostSlots (length slotFields) (drop (length headFields) ns));
-      queue = inUse blankWaiting queueRoom (getD ns 4 0) (recordsIn waitingFrom queueRoom (length waitingFields) (drop (length slotFields * mostSlots) (drop (length headFields) ns)));
+      queue =
+          inUse blankWaiting queueRoom (getD ns 4 0)
+          (recordsIn waitingFrom queueRoom (length waitingFields) (drop (length slotFields * mostSlots) (drop (length headFields) ns)));
     }

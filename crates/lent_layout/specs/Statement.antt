@@ -16,7 +16,8 @@ use Rattle.lent_layout.specs.Stations.{sized, current, stationBytes, sta
 
 -- the bytes of a valid meaning, whatever stands behind them
 abbrev pub MeaningIsFoundAgain : Type 0
-MeaningIsFoundAgain = (m : Meaning) (rest : List ℕ) → (length (meaningBytes m) ≡ meaningSize) × (valid m ≡ true → meaningFrom (meaningBytes m ++ rest) ≡ m)
+MeaningIsFoundAgain = (m : Meaning) (rest : List ℕ)
+    → (length (meaningBytes m) ≡ meaningSize) × (valid m ≡ true → meaningFrom (meaningBytes m ++ rest) ≡ m)
 
 -- and bytes that tell a valid meaning are that meaning's, all of them
 abbrev pub MeaningIsLaidAgain : Type 0

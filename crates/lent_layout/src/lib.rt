@@ -58,7 +58,10 @@ pub const STATION_SIZE: usize = QUEUE_PLACE + QUEUE_ROOM * WAITING_SIZE;
 
 fn slots_from(bytes: &[u8], count: u8) -> [Slot; SLOTS]
     requires { ⌜ queuePlace ≤ length (now bytes) ⌝ }
-    ensures { λ r. ⌜ r ≡ inUse blankSlot mostSlots count (recordsAt (λ p. slotFrom (decode slotFields (now (bytes .entry)) p)) mostSlots slotSize slotsPlace) ⌝ }
+    ensures { λ r. ⌜
+        r ≡ inUse blankSlot mostSlots count
+        (recordsAt (λ p. slotFrom (decode slotFields (now (bytes .entry)) p)) mostSlots slotSize slotsPlace)
+        ⌝ }
 {
     let blank = blank_slot();
     let mut a = [blank; SLOTS];
@@ -74,7 +77,10 @@ fn slots_from(bytes: &[u8], count: u8) -> [Slot; SLOTS]
 
 fn queue_from(bytes: &[u8], waiting: u8) -> [Waiting; QUEUE_ROOM]
     requires { ⌜ queuePlace + waitingSize * queueRoom ≤ length (now bytes) ⌝ }
-    ensures { λ r. ⌜ r ≡ inUse blankWaiting queueRoom waiting (recordsAt (λ p. waitingFrom (decode waitingFields (now (bytes .entry)) p)) queueRoom waitingSize queuePlace) ⌝ }
+    ensures { λ r. ⌜
+        r ≡ inUse blankWaiting queueRoom waiting
+        (recordsAt (λ p. waitingFrom (decode waitingFields (now (bytes .entry)) p)) queueRoom waitingSize queuePlace)
+        ⌝ }
 {
     let blank = blank_waiting();
     let mut a = [blank; QUEUE_ROOM];

@@ -13,13 +13,13 @@ use Rattle.rules.specs.Rules.Calls.{dialNow, shipEnd, sayAgain, offerDue, ringA
 use Rattle.outcomes.specs.declared.Talk.{Talk}
 use Rattle.outcomes.specs.declared.Outcome.{Outcome}
 use Rattle.outcomes.specs.declared.Outcome.the-variants.{Ignored, Passes, Turns, Dials, RingsAgain, Frees, Clears, CoastEnds, ShipEnds, SaysAgain, Repeats, Renews, Redials, Offers, Joins, Replaces, Unable, Drops}
-use Rattle.outcomes.specs.Does.{sinceOf, outOf, sceneOf, actsOf, turned, lined, applied}
+use Rattle.outcomes.specs.Does.{sinceOf, outOf, sceneOf, actsOf, turned, requeued, applied}
 use Rattle.outcomes.proofs.WaitLaws.{wait-fits}
 
 module _ (i : ℕ) (own asked : Request) (st : R.Station) (h : st .clock ≤ limit) where
   -- a slot is freed: nobody waits, or the oldest is rung back
   frees-applied : (q : List R.Waiting) → st .queue ≡ q → freed i st ≡ applied (sceneOf i own asked st) Frees st
-  unfolding freed freedFor rungBack applied sceneOf actsOf turned lined
+  unfolding freed freedFor rungBack applied sceneOf actsOf turned requeued
   frees-applied [] e = rw e refl
   frees-applied (w ∷ q) e = rw (e, wait-fits (st .clock) (kindWait R.firstRing) h (omega arith)) refl
 
@@ -40,7 +40,7 @@ module _ (i : ℕ) (own asked : Request) (st : R.Station) (h : st .clock ≤ lim
   redials-applied k = ends-applied k
 
   pub outcome-applied : (o : Outcome) → outOf i own asked o st ≡ applied (sceneOf i own asked st) o st
-  unfolding outOf applied sceneOf actsOf turned lined dialNow ringAgain shipEnd sayAgain repeated afresh offer ruleD ruleF fire
+  unfolding outOf applied sceneOf actsOf turned requeued dialNow ringAgain shipEnd sayAgain repeated afresh offer ruleD ruleF fire
   outcome-applied Ignored = refl
   outcome-applied Passes = refl
   outcome-applied (Turns p) = refl

@@ -5,7 +5,7 @@ use Rattle.outcomes.proofs.parts.told_of.Reads as told-of
 use Rattle.outcomes.proofs.parts.answer_of.Reads as answer-of
 use Rattle.outcomes.proofs.parts.goes_on.Reads as goes-on
 use Rattle.outcomes.proofs.parts.turn_of.Reads as turn-of
-use Rattle.outcomes.proofs.parts.line_of.Reads as line-of
+use Rattle.outcomes.proofs.parts.queue_change.Reads as queue-change
 use Rattle.outcomes.proofs.parts.entered.Reads as entered
 
 pub told-of-settled : (κs : Lfts 0) (a : _) (r r' : _) (s s' : _) → told-of.Post κs a r s → told-of.Post κs a r' s' → r ≡ r'
@@ -20,8 +20,8 @@ goes-on-settled κs a r r' s s' p q = p ∙ sym q
 pub turn-of-settled : (κs : Lfts 0) (a : _) (r r' : _) (s s' : _) → turn-of.Post κs a r s → turn-of.Post κs a r' s' → r ≡ r'
 turn-of-settled κs a r r' s s' p q = p ∙ sym q
 
-pub line-of-settled : (κs : Lfts 0) (a : _) (r r' : _) (s s' : _) → line-of.Post κs a r s → line-of.Post κs a r' s' → r ≡ r'
-line-of-settled κs a r r' s s' p q = p ∙ sym q
+pub queue-change-settled : (κs : Lfts 0) (a : _) (r r' : _) (s s' : _) → queue-change.Post κs a r s → queue-change.Post κs a r' s' → r ≡ r'
+queue-change-settled κs a r r' s s' p q = p ∙ sym q
 
 pub entered-settled : (κs : Lfts 0) (a : _) (r r' : _) (s s' : _) → entered.Post κs a r s → entered.Post κs a r' s' → r ≡ r'
 entered-settled κs a r r' s s' p q = p ∙ sym q

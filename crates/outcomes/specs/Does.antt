@@ -10,8 +10,10 @@ use Rattle.rules.specs.Rules.Places.{modAt, dropAt}
 use Rattle.rules.specs.Rules.Words.{Request, carrierOn, carrierOff, acknowledge, ringBack, unable, dial}
 use Rattle.rules.specs.Rules.Actions.{Action, does, over, theShip, theCoast}
 use Rattle.rules.specs.Rules.Station as R
-use Rattle.rules.specs.Rules.Station.{dealing, offered, firstRing, secondRing, setSlot, setQueue, dueAfter, kindWait, replyWait, holdWait, queueWait}
-use Rattle.rules.specs.Rules.Requests.{Out, done, ignored, saying, also, freed, lasted, endActs, coastEnd, placeOf, repeated, afresh, ruleD, offer, ruleF, dToG}
+use Rattle.rules.specs.Rules.Station.{dealing, offered, firstRing, secondRing, setSlot, setQueue}
+use Rattle.rules.specs.Rules.Station.{dueAfter, kindWait, replyWait, holdWait, queueWait}
+use Rattle.rules.specs.Rules.Requests.{Out, done, ignored, saying, also, freed, lasted, endActs, coastEnd}
+use Rattle.rules.specs.Rules.Requests.{placeOf, repeated, afresh, ruleD, offer, ruleF, dToG}
 use Rattle.rules.specs.Rules.Calls.{dialNow, shipEnd, sayAgain, offerDue, ringAgain, fire}
 use Rattle.rules.specs.Rules.Waits.{ofQueue}
 use Rattle.slots.specs.declared.Carrier.the-variants.{Present}
@@ -24,12 +26,14 @@ use Rattle.slots.specs.Images.{blankWaiting}
 use Rattle.outcomes.specs.declared.Talk.{Talk}
 use Rattle.outcomes.specs.declared.Talk.the-variants.{Unanswered, Since}
 use Rattle.outcomes.specs.declared.Outcome.{Outcome}
-use Rattle.outcomes.specs.declared.Outcome.the-variants.{Ignored, Passes, Turns, Dials, RingsAgain, Frees, Clears, CoastEnds, ShipEnds, SaysAgain, Repeats, Renews, Redials, Offers, Joins, Replaces, Unable, Drops}
+use Rattle.outcomes.specs.declared.Outcome.the-variants.{Ignored, Passes, Turns, Dials, RingsAgain, Frees, Clears}
+use Rattle.outcomes.specs.declared.Outcome.the-variants.{CoastEnds, ShipEnds, SaysAgain, Repeats, Renews, Redials}
+use Rattle.outcomes.specs.declared.Outcome.the-variants.{Offers, Joins, Replaces, Unable, Drops}
 use Rattle.outcomes.specs.declared.Turn.{Turn}
 use Rattle.outcomes.specs.declared.Turn.the-variants.{Stays, Own, Asked, Oldest}
-use Rattle.outcomes.specs.declared.Line.{Line}
-use Rattle.outcomes.specs.declared.Line.the-variants as L
-use Rattle.outcomes.specs.declared.Line.the-variants.{Same, Leaves}
+use Rattle.outcomes.specs.declared.QueueChange.{QueueChange}
+use Rattle.outcomes.specs.declared.QueueChange.the-variants as L
+use Rattle.outcomes.specs.declared.QueueChange.the-variants.{Same, Leaves}
 
 -- since when a call is answered, as the rules have it
 abbrev pub sinceOf : Talk → Option ℕ
@@ -100,7 +104,7 @@ pub record Scene : Type 0 where
   pub own : Request  -- the slot's
   pub asked : Request  -- the event's
   pub oldest : Request  -- the oldest waiting ship's, where one waits
-  pub line : ℕ  -- how many wait
+  pub waiting : ℕ  -- how many wait
 
 unfoldable pub sceneOf : ℕ → Request → Request → R.Station → Scene
 sceneOf i own asked st =
@@ -110,7 +114,7 @@ sceneOf i own asked st =
       own = own;
       asked = asked;
       oldest = getD (st .queue) 0 (waitingView blankWaiting) .request;
-      line = length (st .queue);
+      waiting = length (st .queue);
     }
 
 -- "0 done", "1 ignored"
@@ -140,7 +144,7 @@ ringActs i oldest zero = []
 ringActs i oldest (suc n) = does (carrierOn i) ∷ does (ringBack i oldest) ∷ []
 
 abbrev pub freeActs : Scene → List Action
-freeActs sc = ringActs (sc .slot) (sc .oldest) (sc .line)
+freeActs sc = ringActs (sc .slot) (sc .oldest) (sc .waiting)
 
 abbrev pub unableActs : ℕ → Scene → List Action
 unableActs n sc = does (unable n (sc .asked .who) (sc .asked .number)) ∷ []
@@ -156,7 +160,8 @@ actsOf sc Frees = freeActs sc
 actsOf sc Clears = does (carrierOff (sc .slot)) ∷ freeActs sc
 actsOf sc (CoastEnds k) = endActs (sc .slot) theCoast (sc .own) (sinceOf k) (sc .clock) ++ freeActs sc
 actsOf sc (ShipEnds k) = endActs (sc .slot) theShip (sc .own) (sinceOf k) (sc .clock)
-actsOf sc (SaysAgain n) = does (carrierOn (sc .slot)) ∷ over (sc .slot) theShip (sc .own .who) (sc .own .number) n ∷ does (carrierOff (sc .slot)) ∷ []
+actsOf sc (SaysAgain n) =
+    does (carrierOn (sc .slot)) ∷ over (sc .slot) theShip (sc .own .who) (sc .own .number) n ∷ does (carrierOff (sc .slot)) ∷ []
 actsOf sc Repeats = does (acknowledge (sc .slot) (sc .asked)) ∷ []
 actsOf sc Renews = does (acknowledge (sc .slot) (sc .asked)) ∷ []
 actsOf sc (Redials k) = endActs (sc .slot) theCoast (sc .own) (sinceOf k) (sc .clock) ++ freeActs sc
@@ -183,49 +188,49 @@ freeTurn t (suc n) = Oldest (RingBack (waitFrom t (kindWait firstRing)))
 
 -- what becomes of the slot at the time t, where so many wait
 abbrev pub turnOf : Tenths → ℕ → Outcome → Turn
-turnOf t line Ignored = Stays
-turnOf t line Passes = Stays
-turnOf t line (Turns p) = Own p
-turnOf t line Dials = Own (Dialling (waitFrom t replyWait) Present)
-turnOf t line RingsAgain = Own (RingAgain (waitFrom t (kindWait secondRing)))
-turnOf t line Frees = freeTurn t line
-turnOf t line Clears = freeTurn t line
-turnOf t line (CoastEnds k) = freeTurn t line
-turnOf t line (ShipEnds k) = Own (Hold (waitFrom t holdWait) (toldOf k t))
-turnOf t line (SaysAgain n) = Stays
-turnOf t line Repeats = Stays
-turnOf t line Renews = Asked (Offered (waitFrom t (kindWait offered)))
-turnOf t line (Redials k) = freeTurn t line
-turnOf t line Offers = Asked (Offered (waitFrom t (kindWait offered)))
-turnOf t line Joins = Stays
-turnOf t line (Replaces k) = Stays
-turnOf t line (Unable n) = Stays
-turnOf t line (Drops k) = Stays
+turnOf t waiting Ignored = Stays
+turnOf t waiting Passes = Stays
+turnOf t waiting (Turns p) = Own p
+turnOf t waiting Dials = Own (Dialling (waitFrom t replyWait) Present)
+turnOf t waiting RingsAgain = Own (RingAgain (waitFrom t (kindWait secondRing)))
+turnOf t waiting Frees = freeTurn t waiting
+turnOf t waiting Clears = freeTurn t waiting
+turnOf t waiting (CoastEnds k) = freeTurn t waiting
+turnOf t waiting (ShipEnds k) = Own (Hold (waitFrom t holdWait) (toldOf k t))
+turnOf t waiting (SaysAgain n) = Stays
+turnOf t waiting Repeats = Stays
+turnOf t waiting Renews = Asked (Offered (waitFrom t (kindWait offered)))
+turnOf t waiting (Redials k) = freeTurn t waiting
+turnOf t waiting Offers = Asked (Offered (waitFrom t (kindWait offered)))
+turnOf t waiting Joins = Stays
+turnOf t waiting (Replaces k) = Stays
+turnOf t waiting (Unable n) = Stays
+turnOf t waiting (Drops k) = Stays
 
-abbrev pub freeLine : ℕ → Line
-freeLine zero = Same
-freeLine (suc n) = Leaves (record { 0 = 0 })
+abbrev pub freeChange : ℕ → QueueChange
+freeChange zero = Same
+freeChange (suc n) = Leaves (record { 0 = 0 })
 
 -- what becomes of the queue
-abbrev pub lineOf : Tenths → ℕ → Outcome → Line
-lineOf t line Ignored = Same
-lineOf t line Passes = Same
-lineOf t line (Turns p) = Same
-lineOf t line Dials = Same
-lineOf t line RingsAgain = Same
-lineOf t line Frees = freeLine line
-lineOf t line Clears = freeLine line
-lineOf t line (CoastEnds k) = freeLine line
-lineOf t line (ShipEnds k) = Same
-lineOf t line (SaysAgain n) = Same
-lineOf t line Repeats = Same
-lineOf t line Renews = Same
-lineOf t line (Redials k) = freeLine line
-lineOf t line Offers = Same
-lineOf t line Joins = L.Joins (waitFrom t queueWait)
-lineOf t line (Replaces k) = L.Replaces k
-lineOf t line (Unable n) = Same
-lineOf t line (Drops k) = Leaves k
+abbrev pub queueChange : Tenths → ℕ → Outcome → QueueChange
+queueChange t waiting Ignored = Same
+queueChange t waiting Passes = Same
+queueChange t waiting (Turns p) = Same
+queueChange t waiting Dials = Same
+queueChange t waiting RingsAgain = Same
+queueChange t waiting Frees = freeChange waiting
+queueChange t waiting Clears = freeChange waiting
+queueChange t waiting (CoastEnds k) = freeChange waiting
+queueChange t waiting (ShipEnds k) = Same
+queueChange t waiting (SaysAgain n) = Same
+queueChange t waiting Repeats = Same
+queueChange t waiting Renews = Same
+queueChange t waiting (Redials k) = freeChange waiting
+queueChange t waiting Offers = Same
+queueChange t waiting Joins = L.Joins (waitFrom t queueWait)
+queueChange t waiting (Replaces k) = L.Replaces k
+queueChange t waiting (Unable n) = Same
+queueChange t waiting (Drops k) = Leaves k
 
 -- a slot and a queue so changed
 unfoldable pub turned : Scene → Turn → R.Station → R.Station
@@ -234,14 +239,14 @@ turned sc (Own p) st = setSlot (sc .slot) (phaseView p (sc .own)) st
 turned sc (Asked p) st = setSlot (sc .slot) (phaseView p (sc .asked)) st
 turned sc (Oldest p) st = setSlot (sc .slot) (phaseView p (sc .oldest)) st
 
-unfoldable pub lined : Scene → Line → R.Station → R.Station
-lined sc Same st = st
-lined sc (Leaves k) st = setQueue (dropAt (k .0) (st .queue)) st
-lined sc (L.Joins d) st = setQueue (st .queue ++ record { request = sc .asked; due = d .0 } ∷ []) st
-lined sc (L.Replaces k) st = setQueue (modAt (λ w. record { request = sc .asked; due = w .due }) (k .0) (st .queue)) st
+unfoldable pub requeued : Scene → QueueChange → R.Station → R.Station
+requeued sc Same st = st
+requeued sc (Leaves k) st = setQueue (dropAt (k .0) (st .queue)) st
+requeued sc (L.Joins d) st = setQueue (st .queue ++ record { request = sc .asked; due = d .0 } ∷ []) st
+requeued sc (L.Replaces k) st = setQueue (modAt (λ w. record { request = sc .asked; due = w .due }) (k .0) (st .queue)) st
 
 -- what is written over the record w of a waiting ship: who joins has a due time of its own, who asks for something else keeps the old one
-abbrev pub enteredOf : Stored → Waiting → Line → Waiting
+abbrev pub enteredOf : Stored → Waiting → QueueChange → Waiting
 enteredOf q w Same = w
 enteredOf q w (Leaves k) = w
 enteredOf q w (L.Joins d) = record { due = d; request = q }
@@ -252,6 +257,6 @@ unfoldable pub applied : Scene → Outcome → R.Station → Out
 applied sc o st =
     record {
       answer = answerOf o;
-      next = turned sc (turnOf (timeOf st) (sc .line) o) (lined sc (lineOf (timeOf st) (sc .line) o) st);
+      next = turned sc (turnOf (timeOf st) (sc .waiting) o) (requeued sc (queueChange (timeOf st) (sc .waiting) o) st);
       acts = actsOf sc o;
     }

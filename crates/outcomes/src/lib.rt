@@ -43,7 +43,7 @@ pub enum Turn {
 }
 
 // What becomes of the queue: a ship leaves it, the one asked joins it with a due time, or asks for something else.
-pub enum Line {
+pub enum QueueChange {
     Same,
     Leaves(QueuePlace),
     Joins(Tenths),

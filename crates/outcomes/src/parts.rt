@@ -1,8 +1,8 @@
 // What an outcome comes to: the answer, the slot, the queue.
 ghost use mathlib.Core.Path.{_≡_};
-ghost use Rattle.outcomes.specs.Does.{answerOf, goesOn, toldOf, freeTurn, turnOf, freeLine, lineOf, enteredOf};
-use crate::Line;
+ghost use Rattle.outcomes.specs.Does.{answerOf, goesOn, toldOf, freeTurn, turnOf, freeChange, queueChange, enteredOf};
 use crate::Outcome;
+use crate::QueueChange;
 use crate::Talk;
 use crate::Turn;
 use actions::deeds::lasted;
@@ -20,102 +20,101 @@ use slots::Waiting;
 use units::Tenths;
 use units::Told;
 
-// What an end of call at t tells: of an unanswered one nothing.
-pub fn told_of(k: Talk, t: Tenths) -> Told
-    ensures { λ r. ⌜ r ≡ toldOf k t ⌝ }
+// What an end of call at that time tells: of an unanswered one nothing.
+pub fn told_of(talk: Talk, time: Tenths) -> Told
+    ensures { λ r. ⌜ r ≡ toldOf talk time ⌝ }
 {
-    match k {
+    match talk {
         Talk::Unanswered => Told::Nothing,
-        Talk::Since(b) => lasted(b, t),
+        Talk::Since(since) => lasted(since, time),
     }
 }
 
 // "0 done", "1 ignored"
-pub fn answer_of(o: Outcome) -> u8
-    ensures { λ r. ⌜ r ≡ answerOf o ⌝ }
+pub fn answer_of(outcome: Outcome) -> u8
+    ensures { λ r. ⌜ r ≡ answerOf outcome ⌝ }
 {
-    match o {
+    match outcome {
         Outcome::Ignored => 1,
         _ => 0,
     }
 }
 
 // Rule c: "then d to g apply".
-pub fn goes_on(o: Outcome) -> bool
-    ensures { λ r. ⌜ r ≡ goesOn o ⌝ }
+pub fn goes_on(outcome: Outcome) -> bool
+    ensures { λ r. ⌜ r ≡ goesOn outcome ⌝ }
 {
-    match o {
+    match outcome {
         Outcome::Redials(_) => true,
         _ => false,
     }
 }
 
 // A slot is freed where so many wait: "the same event takes the oldest".
-fn free_turn(t: Tenths, line: u8) -> Turn
-    ensures { λ r. ⌜ r ≡ freeTurn t line ⌝ }
+fn free_turn(time: Tenths, waiting: u8) -> Turn
+    ensures { λ r. ⌜ r ≡ freeTurn time waiting ⌝ }
 {
-    if line == 0 {
+    if waiting == 0 {
         return Turn::Own(Phase::Free);
     }
-    let d = due_after(t, RING_WAIT);
-    Turn::Oldest(Phase::RingBack(d))
+    let due = due_after(time, RING_WAIT);
+    Turn::Oldest(Phase::RingBack(due))
 }
 
-// What becomes of the slot at the time t, where so many wait.
-pub fn turn_of(o: Outcome, t: Tenths, line: u8) -> Turn
-    ensures { λ r. ⌜ r ≡ turnOf t line o ⌝ }
+// What becomes of the slot at that time, where so many wait.
+pub fn turn_of(outcome: Outcome, time: Tenths, waiting: u8) -> Turn
+    ensures { λ r. ⌜ r ≡ turnOf time waiting outcome ⌝ }
 {
-    match o {
-        Outcome::Turns(p) => Turn::Own(p),
+    match outcome {
+        Outcome::Turns(phase) => Turn::Own(phase),
         Outcome::Dials => {
-            let d = due_after(t, REPLY_WAIT);
-            Turn::Own(Phase::Dialling(d, Carrier::Present))
+            let due = due_after(time, REPLY_WAIT);
+            Turn::Own(Phase::Dialling(due, Carrier::Present))
         }
         Outcome::RingsAgain => {
-            let d = due_after(t, RING_WAIT);
-            Turn::Own(Phase::RingAgain(d))
+            let due = due_after(time, RING_WAIT);
+            Turn::Own(Phase::RingAgain(due))
         }
-        Outcome::ShipEnds(k) => {
-            let told = told_of(k, t);
-            let d = due_after(t, HOLD_WAIT);
-            Turn::Own(Phase::Hold(d, told))
+        Outcome::ShipEnds(talk) => {
+            let told = told_of(talk, time);
+            let due = due_after(time, HOLD_WAIT);
+            Turn::Own(Phase::Hold(due, told))
         }
         Outcome::Renews | Outcome::Offers => {
-            let d = due_after(t, OFFER_WAIT);
-            Turn::Asked(Phase::Offered(d))
+            let due = due_after(time, OFFER_WAIT);
+            Turn::Asked(Phase::Offered(due))
         }
         Outcome::Frees | Outcome::Clears | Outcome::CoastEnds(_) | Outcome::Redials(_) => free_turn(
-            t,
-            line,
+            time,
+            waiting,
         ),
         _ => Turn::Stays,
     }
 }
 
-fn free_line(line: u8) -> Line
-    ensures { λ r. ⌜ r ≡ freeLine line ⌝ }
+fn free_change(waiting: u8) -> QueueChange
+    ensures { λ r. ⌜ r ≡ freeChange waiting ⌝ }
 {
-    if line == 0 {
-        return Line::Same;
+    if waiting == 0 {
+        return QueueChange::Same;
     }
-    Line::Leaves(QueuePlace(0))
+    QueueChange::Leaves(QueuePlace(0))
 }
 
 // What becomes of the queue.
-pub fn line_of(o: Outcome, t: Tenths, line: u8) -> Line
-    ensures { λ r. ⌜ r ≡ lineOf t line o ⌝ }
+pub fn queue_change(outcome: Outcome, time: Tenths, waiting: u8) -> QueueChange
+    ensures { λ r. ⌜ r ≡ queueChange time waiting outcome ⌝ }
 {
-    match o {
-        Outcome::Frees | Outcome::Clears | Outcome::CoastEnds(_) | Outcome::Redials(_) => free_line(
-            line,
-        ),
+    match outcome {
+        Outcome::Frees | Outcome::Clears | Outcome::CoastEnds(_) | Outcome::Redials(_) =>
+            free_change(waiting),
         Outcome::Joins => {
-            let d = due_after(t, QUEUE_WAIT);
-            Line::Joins(d)
+            let due = due_after(time, QUEUE_WAIT);
+            QueueChange::Joins(due)
         }
-        Outcome::Replaces(k) => Line::Replaces(k),
-        Outcome::Drops(k) => Line::Leaves(k),
-        _ => Line::Same,
+        Outcome::Replaces(place) => QueueChange::Replaces(place),
+        Outcome::Drops(place) => QueueChange::Leaves(place),
+        _ => QueueChange::Same,
     }
 }
 
@@ -128,13 +127,13 @@ fn asking(w: Waiting, q: Request) -> Waiting
 }
 
 // What is written over the record w of a waiting ship, where q is asked for.
-pub fn entered(line: Line, w: Waiting, q: Request) -> Waiting
-    ensures { λ r. ⌜ r ≡ enteredOf q w line ⌝ }
+pub fn entered(change: QueueChange, w: Waiting, q: Request) -> Waiting
+    ensures { λ r. ⌜ r ≡ enteredOf q w change ⌝ }
 {
-    match line {
-        Line::Same => w,
-        Line::Leaves(_) => w,
-        Line::Joins(u) => Waiting { due: u, request: q },
-        Line::Replaces(_) => asking(w, q),
+    match change {
+        QueueChange::Same => w,
+        QueueChange::Leaves(_) => w,
+        QueueChange::Joins(u) => Waiting { due: u, request: q },
+        QueueChange::Replaces(_) => asking(w, q),
     }
 }

@@ -26,15 +26,15 @@ use slots::is_free;
 use units::Channel;
 use units::SlotNumber;
 
-// The lowest free slot of n.
-pub fn first_free(a: [Slot; SLOTS], n: u8) -> Found
-    ensures { λ r. ⌜ foundView r ≡ lowest isFree (viewed slotView n a) ⌝ }
+// The lowest free slot of so many.
+pub fn first_free(slots: [Slot; SLOTS], count: u8) -> Found
+    ensures { λ r. ⌜ foundView r ≡ lowest isFree (viewed slotView count slots) ⌝ }
 {
-    let m = least(n, MOST_SLOTS) as u32;
+    let end = least(count, MOST_SLOTS) as u32;
     let mut i: u32 = 0;
-    while i < m {
-        let s = a[i as usize];
-        if is_free(s) {
+    while i < end {
+        let slot = slots[i as usize];
+        if is_free(slot) {
             return Found::At(SlotNumber(i));
         }
         i += 1;
@@ -42,16 +42,16 @@ pub fn first_free(a: [Slot; SLOTS], n: u8) -> Found
     Found::Nothing
 }
 
-// The lowest slot, from a number on, that works on the channel c.
-fn channel_from(a: [Slot; SLOTS], n: u8, from: SlotNumber, c: Channel) -> Found
-    ensures { λ r. ⌜ foundView r ≡ lowestFrom (sameChannel c) (from .0) (left channelOf n a (from .0)) ⌝ }
+// The lowest slot, from a number on, that works on the channel.
+fn channel_from(slots: [Slot; SLOTS], count: u8, from: SlotNumber, wanted: Channel) -> Found
+    ensures { λ r. ⌜ foundView r ≡ lowestFrom (sameChannel wanted) (from .0) (left channelOf count slots (from .0)) ⌝ }
 {
-    let m = least(n, MOST_SLOTS) as u32;
+    let end = least(count, MOST_SLOTS) as u32;
     let mut i = from.0;
-    while i < m {
-        let s = a[i as usize];
-        let d = s.channel;
-        if c.0 == d.0 {
+    while i < end {
+        let slot = slots[i as usize];
+        let channel = slot.channel;
+        if wanted.0 == channel.0 {
             return Found::At(SlotNumber(i));
         }
         i += 1;
@@ -60,32 +60,32 @@ fn channel_from(a: [Slot; SLOTS], n: u8, from: SlotNumber, c: Channel) -> Found
 }
 
 // The slot whose channel is named.
-pub fn slot_named(a: [Slot; SLOTS], n: u8, c: Channel) -> Found
-    ensures { λ r. ⌜ foundView r ≡ lowest (sameChannel c) (viewed channelOf n a) ⌝ }
+pub fn slot_named(slots: [Slot; SLOTS], count: u8, wanted: Channel) -> Found
+    ensures { λ r. ⌜ foundView r ≡ lowest (sameChannel wanted) (viewed channelOf count slots) ⌝ }
 {
-    channel_from(a, n, SlotNumber(0), c)
+    channel_from(slots, count, SlotNumber(0), wanted)
 }
 
-fn is_of(s: Slot, ship: u32, station: u32) -> bool
-    ensures { λ r. ⌜ r ≡ owns (partyOf ship station) (slotView s) ⌝ }
+fn is_of(slot: Slot, ship: u32, station: u32) -> bool
+    ensures { λ r. ⌜ r ≡ owns (partyOf ship station) (slotView slot) ⌝ }
 {
-    let p = s.phase;
-    let q = s.request;
-    if has_ship(p) {
-        return is_by(q, ship, station);
+    let phase = slot.phase;
+    let request = slot.request;
+    if has_ship(phase) {
+        return is_by(request, ship, station);
     }
     false
 }
 
 // The lowest slot, from a number on, that is the ship's.
-fn slot_from(a: [Slot; SLOTS], n: u8, from: SlotNumber, ship: u32, station: u32) -> Found
-    ensures { λ r. ⌜ foundView r ≡ lowestFrom (owns (partyOf ship station)) (from .0) (left slotView n a (from .0)) ⌝ }
+fn slot_from(slots: [Slot; SLOTS], count: u8, from: SlotNumber, ship: u32, station: u32) -> Found
+    ensures { λ r. ⌜ foundView r ≡ lowestFrom (owns (partyOf ship station)) (from .0) (left slotView count slots (from .0)) ⌝ }
 {
-    let m = least(n, MOST_SLOTS) as u32;
+    let end = least(count, MOST_SLOTS) as u32;
     let mut i = from.0;
-    while i < m {
-        let s = a[i as usize];
-        if is_of(s, ship, station) {
+    while i < end {
+        let slot = slots[i as usize];
+        if is_of(slot, ship, station) {
             return Found::At(SlotNumber(i));
         }
         i += 1;
@@ -94,15 +94,21 @@ fn slot_from(a: [Slot; SLOTS], n: u8, from: SlotNumber, ship: u32, station: u32)
 }
 
 // The first place of the queue, from a place on, where the ship waits.
-fn place_from(b: [Waiting; QUEUE_ROOM], m: u8, from: QueuePlace, ship: u32, station: u32) -> Place
-    ensures { λ r. ⌜ placeView r ≡ lowestFrom (waitsFor (partyOf ship station)) (from .0) (left waitingView m b (from .0)) ⌝ }
+fn place_from(
+    queue: [Waiting; QUEUE_ROOM],
+    waiting: u8,
+    from: QueuePlace,
+    ship: u32,
+    station: u32,
+) -> Place
+    ensures { λ r. ⌜ placeView r ≡ lowestFrom (waitsFor (partyOf ship station)) (from .0) (left waitingView waiting queue (from .0)) ⌝ }
 {
-    let n = least(m, MOST_WAITING);
+    let end = least(waiting, MOST_WAITING);
     let mut k = from.0;
-    while k < n {
-        let w = b[k as usize];
-        let q = w.request;
-        if is_by(q, ship, station) {
+    while k < end {
+        let entry = queue[k as usize];
+        let request = entry.request;
+        if is_by(request, ship, station) {
             return Place::At(QueuePlace(k));
         }
         k += 1;
@@ -111,37 +117,41 @@ fn place_from(b: [Waiting; QUEUE_ROOM], m: u8, from: QueuePlace, ship: u32, stat
 }
 
 // The ship's place in the queue.
-pub fn place_of(b: [Waiting; QUEUE_ROOM], m: u8, ship: u32, station: u32) -> Place
-    ensures { λ r. ⌜ placeView r ≡ lowest (waitsFor (partyOf ship station)) (viewed waitingView m b) ⌝ }
+pub fn place_of(queue: [Waiting; QUEUE_ROOM], waiting: u8, ship: u32, station: u32) -> Place
+    ensures { λ r. ⌜ placeView r ≡ lowest (waitsFor (partyOf ship station)) (viewed waitingView waiting queue) ⌝ }
 {
-    place_from(b, m, QueuePlace(0), ship, station)
+    place_from(queue, waiting, QueuePlace(0), ship, station)
 }
 
 // Where a ship stands that has no slot.
-fn waiting_at(k: Place) -> Standing
-    ensures { λ r. ⌜ standingView r ≡ standsAt none (placeView k) ⌝ }
+fn waiting_at(place: Place) -> Standing
+    ensures { λ r. ⌜ standingView r ≡ standsAt none (placeView place) ⌝ }
 {
-    match k {
-        Place::At(j) => Standing::Waits(j),
+    match place {
+        Place::At(k) => Standing::Waits(k),
         Place::Nothing => Standing::Nowhere,
     }
 }
 
 // Where a ship stands: its slot, or else its place in the queue.
 pub fn standing(
-    a: [Slot; SLOTS],
-    n: u8,
-    b: [Waiting; QUEUE_ROOM],
-    m: u8,
+    slots: [Slot; SLOTS],
+    count: u8,
+    queue: [Waiting; QUEUE_ROOM],
+    waiting: u8,
     ship: u32,
     station: u32,
 ) -> Standing
-    ensures { λ r. ⌜ standingView r ≡ standsAt (lowest (owns (partyOf ship station)) (viewed slotView n a)) (lowest (waitsFor (partyOf ship station)) (viewed waitingView m b)) ⌝ }
+    ensures { λ r. ⌜
+        standingView r ≡ standsAt
+        (lowest (owns (partyOf ship station)) (viewed slotView count slots))
+        (lowest (waitsFor (partyOf ship station)) (viewed waitingView waiting queue))
+        ⌝ }
 {
-    let k = place_of(b, m, ship, station);
-    let s = slot_from(a, n, SlotNumber(0), ship, station);
-    match s {
+    let place = place_of(queue, waiting, ship, station);
+    let found = slot_from(slots, count, SlotNumber(0), ship, station);
+    match found {
         Found::At(i) => Standing::Holds(i),
-        Found::Nothing => waiting_at(k),
+        Found::Nothing => waiting_at(place),
     }
 }

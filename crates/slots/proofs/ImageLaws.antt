@@ -97,7 +97,7 @@ module _ (c : Config) (m : R.Station) (f : Fits c m) where
   queue-there =
       let l = map waitingImage (m .queue) in
       let e : length l ≡ length (m .queue) = simp length-map in
-      ap (λ n. viewed waitingView n (padded blankWaiting 32 l)) (sym e) ∙ read-back waitingView blankWaiting 32 l (omega (arith, f .line)) ∙ queue-back (m .queue) (f .shortQueue)
+      ap (λ n. viewed waitingView n (padded blankWaiting 32 l)) (sym e) ∙ read-back waitingView blankWaiting 32 l (omega (arith, f .fewWait)) ∙ queue-back (m .queue) (f .shortQueue)
 
 -- ── laid out anew ──
 

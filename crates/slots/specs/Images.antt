@@ -72,6 +72,6 @@ ShortSlot s = ShortOr (keptIn s)
 pub record Fits (c : Config) (m : R.Station) : Type 0 where
   pub beside : length (c .channels) ≡ length (m .slots)
   pub few : length (m .slots) ≤ mostSlots
-  pub line : length (m .queue) ≤ queueRoom
+  pub fewWait : length (m .queue) ≤ queueRoom
   pub shortSlots : Each ShortSlot (m .slots)
   pub shortQueue : Each (λ w. Short (w .request)) (m .queue)

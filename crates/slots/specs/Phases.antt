@@ -7,7 +7,8 @@ use Rattle.units.specs.declared.Told.{Told}
 use Rattle.units.specs.declared.Told.the-variants.{Nothing}
 use Rattle.rules.specs.Rules.Words as W
 use Rattle.rules.specs.Rules.Station as R
-use Rattle.rules.specs.Rules.Station.{dealing, free, taken, pending, busy, held, offered, firstRing, secondRing, acknowledged, dialling, answered, kindWait, replyWait, holdWait}
+use Rattle.rules.specs.Rules.Station.{dealing, free, taken, pending, busy, held, offered, firstRing, secondRing, acknowledged}
+use Rattle.rules.specs.Rules.Station.{dialling, answered, kindWait, replyWait, holdWait}
 use Rattle.rules.specs.Rules.Sound.{fits}
 use Rattle.slots.specs.declared.Carrier.{Carrier}
 use Rattle.slots.specs.declared.Carrier.the-variants.{Present, Lost}

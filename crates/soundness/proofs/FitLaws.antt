@@ -52,7 +52,7 @@ module _ (c : Config) where
       record {
         beside = sym e;
         few = omega (arith, few-channels (s .config));
-        line = leb-true (length (m .queue)) 32 (s .room);
+        fewWait = leb-true (length (m .queue)) 32 (s .room);
         shortSlots = each-of (slotKeeps c) ShortSlot (short-slot c short) (m .slots) (s .slots-keep);
         shortQueue = each-of (waitingKeeps c) (λ w. Short (w .request)) (λ w k. short (w .request) k) (m .queue) (s .queue-keeps);
       }

@@ -6,9 +6,9 @@ use Rattle.rules.specs.Rules.Station.{setSlot, setQueue, setClock}
 use Rattle.outcomes.specs.declared.Outcome.{Outcome}
 use Rattle.outcomes.specs.declared.Turn.{Turn}
 use Rattle.outcomes.specs.declared.Turn.the-variants.{Stays, Own, Asked, Oldest}
-use Rattle.outcomes.specs.declared.Line.{Line}
-use Rattle.outcomes.specs.declared.Line.the-variants as L
-use Rattle.outcomes.specs.Does.{Scene, timeOf, turnOf, lineOf, turned, lined, applied}
+use Rattle.outcomes.specs.declared.QueueChange.{QueueChange}
+use Rattle.outcomes.specs.declared.QueueChange.the-variants as L
+use Rattle.outcomes.specs.Does.{Scene, timeOf, turnOf, queueChange, turned, requeued, applied}
 
 pub turned-queue : (sc : Scene) (w : Turn) (st : R.Station) → turned sc w st .queue ≡ st .queue
 unfolding turned setSlot
@@ -24,19 +24,19 @@ turned-clock sc (Own p) st = refl
 turned-clock sc (Asked p) st = refl
 turned-clock sc (Oldest p) st = refl
 
-lined-clock : (sc : Scene) (l : Line) (st : R.Station) → lined sc l st .clock ≡ st .clock
-unfolding lined setQueue
-lined-clock sc L.Same st = refl
-lined-clock sc (L.Leaves k) st = refl
-lined-clock sc (L.Joins d) st = refl
-lined-clock sc (L.Replaces k) st = refl
+requeued-clock : (sc : Scene) (l : QueueChange) (st : R.Station) → requeued sc l st .clock ≡ st .clock
+unfolding requeued setQueue
+requeued-clock sc L.Same st = refl
+requeued-clock sc (L.Leaves k) st = refl
+requeued-clock sc (L.Joins d) st = refl
+requeued-clock sc (L.Replaces k) st = refl
 
-pub lined-slots : (sc : Scene) (l : Line) (st : R.Station) → lined sc l st .slots ≡ st .slots
-unfolding lined setQueue
-lined-slots sc L.Same st = refl
-lined-slots sc (L.Leaves k) st = refl
-lined-slots sc (L.Joins d) st = refl
-lined-slots sc (L.Replaces k) st = refl
+pub requeued-slots : (sc : Scene) (l : QueueChange) (st : R.Station) → requeued sc l st .slots ≡ st .slots
+unfolding requeued setQueue
+requeued-slots sc L.Same st = refl
+requeued-slots sc (L.Leaves k) st = refl
+requeued-slots sc (L.Joins d) st = refl
+requeued-slots sc (L.Replaces k) st = refl
 
 pub clock-set : (t : ℕ) (st : R.Station) → st .clock ≡ t → setClock t st ≡ st
 unfolding setClock
@@ -50,8 +50,8 @@ same-station a b p q r =
 
 -- a station whose slots and queue are so changed
 pub moved-is : (sc : Scene) (o : Outcome) (st m : R.Station) → m .clock ≡ st .clock
-    → m .slots ≡ turned sc (turnOf (timeOf st) (sc .line) o) (lined sc (lineOf (timeOf st) (sc .line) o) st) .slots → m .queue ≡ lined sc (lineOf (timeOf st) (sc .line) o) st .queue
+    → m .slots ≡ turned sc (turnOf (timeOf st) (sc .waiting) o) (requeued sc (queueChange (timeOf st) (sc .waiting) o) st) .slots → m .queue ≡ requeued sc (queueChange (timeOf st) (sc .waiting) o) st .queue
     → m ≡ applied sc o st .next
 unfolding applied
 moved-is sc o st m a b c =
-    same-station m _ (a ∙ sym (turned-clock sc _ (lined sc _ st) ∙ lined-clock sc _ st)) b (c ∙ sym (turned-queue sc _ (lined sc _ st)))
+    same-station m _ (a ∙ sym (turned-clock sc _ (requeued sc _ st) ∙ requeued-clock sc _ st)) b (c ∙ sym (turned-queue sc _ (requeued sc _ st)))

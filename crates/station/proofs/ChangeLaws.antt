@@ -15,11 +15,11 @@ use Rattle.slots.specs.Views.{slotView, waitingView, channelOf, noSlot, noWaiti
 use Rattle.slots.proofs.QueueLaws.{dropAt-past, viewed-mod}
 use Rattle.outcomes.specs.declared.Turn.{Turn}
 use Rattle.outcomes.specs.declared.Turn.the-variants.{Stays, Own, Asked, Oldest}
-use Rattle.outcomes.specs.declared.Line.{Line}
-use Rattle.outcomes.specs.declared.Line.the-variants.{Same, Leaves, Joins, Replaces}
-use Rattle.outcomes.specs.Does.{turned, lined}
+use Rattle.outcomes.specs.declared.QueueChange.{QueueChange}
+use Rattle.outcomes.specs.declared.QueueChange.the-variants.{Same, Leaves, Joins, Replaces}
+use Rattle.outcomes.specs.Does.{turned, requeued}
 use Rattle.telling.specs.declared.Scene.{Scene}
-use Rattle.telling.specs.Told.{sceneView}
+use Rattle.telling.specs.Tells.{sceneView}
 use Rattle.station.specs.Changes.{slotTurned, leavingOf, entryPlace, lengthAfter}
 use Rattle.outcomes.specs.Does.{enteredOf}
 
@@ -54,33 +54,33 @@ module _ (sc : Scene) (n : ℕ) (a : List Slot) (st : R.Station) (seen : viewed 
 
 -- ── the queue ──
 
--- n are left of the line, in the array b
+-- n are left of the queue, in the array b
 module _ (sc : Scene) (n : ℕ) (b : List Waiting) (st : R.Station) (long : length b ≡ 32) where
-  abbrev Left : Line → Type 0
+  abbrev Left : QueueChange → Type 0
   Left l = viewed waitingView n b ≡ dropAt (leavingOf (length (st .queue)) l) (st .queue)
 
   all-left : viewed waitingView n b ≡ dropAt (length (st .queue)) (st .queue) → viewed waitingView n b ≡ st .queue
   all-left e = e ∙ sym (dropAt-past (length (st .queue)) (st .queue) (omega arith))
 
-  pub queue-written : (l : Line) → Left l → lengthAfter n l ≤ 32 → entryPlace n l < 32
-      → viewed waitingView (lengthAfter n l) (set b (entryPlace n l) (enteredOf (sc .asked) (getD b (entryPlace n l) noWaiting) l)) ≡ lined (sceneView sc) l st .queue
-  unfolding lined setQueue sceneView
+  pub queue-written : (l : QueueChange) → Left l → lengthAfter n l ≤ 32 → entryPlace n l < 32
+      → viewed waitingView (lengthAfter n l) (set b (entryPlace n l) (enteredOf (sc .asked) (getD b (entryPlace n l) noWaiting) l)) ≡ requeued (sceneView sc) l st .queue
+  unfolding requeued setQueue sceneView
   queue-written Same e f h = absurd (omega arith)
   queue-written (Leaves k) e f h = absurd (omega arith)
   queue-written (Joins d) e f h = viewed-push waitingView n b _ (omega arith) ∙ ap (λ z. z ++ record { request = requestOf (sc .asked); due = d .0 } ∷ []) (all-left e)
   queue-written (Replaces k) e f h = viewed-mod waitingView (λ w. record { request = requestOf (sc .asked); due = w .due }) n b (k .0) _ noWaiting refl ∙ ap (modAt _ (k .0)) (all-left e)
 
-  pub queue-kept : (l : Line) → Left l → lengthAfter n l ≤ 32 → 32 ≤ entryPlace n l → viewed waitingView (lengthAfter n l) b ≡ lined (sceneView sc) l st .queue
-  unfolding lined setQueue sceneView
+  pub queue-kept : (l : QueueChange) → Left l → lengthAfter n l ≤ 32 → 32 ≤ entryPlace n l → viewed waitingView (lengthAfter n l) b ≡ requeued (sceneView sc) l st .queue
+  unfolding requeued setQueue sceneView
   queue-kept Same e f h = all-left e
   queue-kept (Leaves k) e f h = e
   queue-kept (Joins d) e f h = absurd (omega arith)
   queue-kept (Replaces k) e f h = all-left e ∙ sym (modAt-past _ (k .0) (st .queue) (omega (arith, viewed-length waitingView n b, ap length (all-left e))))
 
-  -- how many are left and how many wait then, of a line that fits
-  pub line-fits : (l : Line) → Left l → n ≤ 32 → length (lined (sceneView sc) l st .queue) ≤ 32 → lengthAfter n l ≤ 32
-  unfolding lined setQueue sceneView
-  line-fits Same e k h = k
-  line-fits (Leaves j) e k h = k
-  line-fits (Joins d) e k h = omega (arith, viewed-length waitingView n b, ap length (all-left e), simp length-append at h)
-  line-fits (Replaces j) e k h = k
+  -- how many are left and how many wait then, of a queue that fits
+  pub queue-fits : (l : QueueChange) → Left l → n ≤ 32 → length (requeued (sceneView sc) l st .queue) ≤ 32 → lengthAfter n l ≤ 32
+  unfolding requeued setQueue sceneView
+  queue-fits Same e k h = k
+  queue-fits (Leaves j) e k h = k
+  queue-fits (Joins d) e k h = omega (arith, viewed-length waitingView n b, ap length (all-left e), simp length-append at h)
+  queue-fits (Replaces j) e k h = k

@@ -45,7 +45,7 @@ module _ {A : Type 0} (f : A → A) (b : A) where
       h ∙ ap (λ x. doneFrom f b n x 0) e ∙ all-done f b n (doneFrom f b n l n) ∙ rw (done-length f b n l n, k, done-view f n l)
 
 -- the station s, with its slots and its queue laid out anew
-module _ (s : Station) (few : s .count ≤ 16) (line : s .waiting ≤ 32) (wide : length (s .slots) ≡ 16) (long : length (s .queue) ≡ 32) where
+module _ (s : Station) (few : s .count ≤ 16) (fewWait : s .waiting ≤ 32) (wide : length (s .slots) ≡ 16) (long : length (s .queue) ≡ 32) where
   pub image-is : (r : Station) → r .clock ≡ s .clock → r .mast ≡ s .mast → r .count ≡ s .count → r .waiting ≡ s .waiting
       → r .slots ≡ padded blankSlot 16 (viewed tidySlot (s .count) (s .slots)) → r .queue ≡ padded blankWaiting 32 (viewed tidyWaiting (s .waiting) (s .queue))
       → r ≡ imageOf (configOf s) (modelOf s)

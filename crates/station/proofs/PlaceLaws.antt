@@ -51,6 +51,6 @@ module _ (s : Station) (long : length (s .queue) ≡ 32) where
   unfolding modelOf
   oldest-past h = sym (viewed-past waitingView (s .waiting) (s .queue) 0 (waitingView blankWaiting) (omega arith))
 
-  pub line-length : min (s .waiting) 32 ≡ length (modelOf s .queue)
+  pub queue-length : min (s .waiting) 32 ≡ length (modelOf s .queue)
   unfolding modelOf
-  line-length = omega (arith, viewed-length waitingView (s .waiting) (s .queue))
+  queue-length = omega (arith, viewed-length waitingView (s .waiting) (s .queue))

@@ -40,22 +40,22 @@ each-set P x p (suc i) (y ∷ l) h = (h .0, each-set P x p i l (h .1))
 -- a slot is freed, and what stands then fits as before
 freed-fits : (c : Config) (i : ℕ) (st : R.Station) → Fits c st → Fits c (freed i st .next)
 unfolding freed freedFor rungBack setSlot setQueue
-freed-fits c i st f = go (st .queue) (f .line) (f .shortQueue)
+freed-fits c i st f = go (st .queue) (f .fewWait) (f .shortQueue)
   where
     go : (q : List R.Waiting) → length q ≤ 32 → Each (λ w. Short (w .request)) q → Fits c (freedFor i st q .next)
-    go [] line short =
+    go [] fewWait short =
         record {
           beside = f .beside ∙ sym (modAt-length _ i (st .slots));
           few = rw (modAt-length (λ x. R.free) i (st .slots)) (f .few);
-          line = f .line;
+          fewWait = f .fewWait;
           shortSlots = each-set ShortSlot R.free tt i (st .slots) (f .shortSlots);
           shortQueue = f .shortQueue;
         }
-    go (w ∷ q) line short =
+    go (w ∷ q) fewWait short =
         record {
           beside = f .beside ∙ sym (modAt-length _ i (st .slots));
           few = rw (modAt-length _ i (st .slots)) (f .few);
-          line = omega arith;
+          fewWait = omega arith;
           shortSlots = each-set ShortSlot _ (short .0) i (st .slots) (f .shortSlots);
           shortQueue = short .1;
         }
@@ -104,7 +104,7 @@ module _ (s : Station) (t : Tenths) (i : SlotNumber) (q : Request) (o : Outcome)
     unfolding setClock
     clocked =
         let f = sound-fits (configOf s) (modelOf s) sounds in
-        record { beside = f .beside; few = f .few; line = f .line; shortSlots = f .shortSlots; shortQueue = f .shortQueue }
+        record { beside = f .beside; few = f .few; fewWait = f .fewWait; shortSlots = f .shortSlots; shortQueue = f .shortQueue }
 
     pub half-fits : Fits (configOf s) (outAt s t i q o .next)
     half-fits = rw frees (freed-fits (configOf s) (i .0) (setClock (t .0) (modelOf s)) clocked)

@@ -21,10 +21,10 @@ use Rattle.actions.specs.Sent.{sentBlock}
 use Rattle.blocks.specs.Laid.{Laid, laidFrom}
 use Rattle.outcomes.specs.declared.Outcome.{Outcome}
 use Rattle.outcomes.specs.Does as D
-use Rattle.outcomes.specs.Does.{outOf, sceneOf, actsOf, answerOf, lineOf, lined, applied}
+use Rattle.outcomes.specs.Does.{outOf, sceneOf, actsOf, answerOf, queueChange, requeued, applied}
 use Rattle.outcomes.proofs.PartLaws.{outcome-applied}
 use Rattle.telling.specs.declared.Scene.{Scene}
-use Rattle.telling.specs.Told.{sceneView, telling}
+use Rattle.telling.specs.Tells.{sceneView, telling}
 use Rattle.telling.proofs.TellLaws.{telling-sent}
 use Rattle.station.specs.declared.Station.{Station}
 use Rattle.station.specs.declared.Stepped.{Stepped}
@@ -46,10 +46,10 @@ Shows s t i q sc = (sceneView sc ≡ sceneOf (i .0) (ownOf s (i .0)) q (setClock
 -- from the slot's record and the oldest waiting ship's, where n wait
 pub shows : (s : Station) (t : Tenths) (i : SlotNumber) (q : Asked) (x : Slot) (w : Waiting) (n : ℕ) → x ≡ slotOf s (i .0)
     → waitingView w ≡ getD (modelOf s .queue) 0 (waitingView blankWaiting) → n ≡ length (modelOf s .queue)
-    → Shows s t i (requestOf q) (record { clock = t; slot = i; channel = x .channel; own = x .request; asked = q; oldest = w .request; line = n })
+    → Shows s t i (requestOf q) (record { clock = t; slot = i; channel = x .channel; own = x .request; asked = q; oldest = w .request; waiting = n })
 unfolding sceneOf sceneView ownOf setClock
-shows s t i q x w n at first line =
-    (rw (line, ap (λ (y : R.Waiting). y .request) first, at), (refl, ap (λ y. y .channel) at ∙ slot-channel s (i .0)))
+shows s t i q x w n at first waiting =
+    (rw (waiting, ap (λ (y : R.Waiting). y .request) first, at), (refl, ap (λ y. y .channel) at ∙ slot-channel s (i .0)))
 
 module _ (s : Station) (t : Tenths) (i : SlotNumber) (q : Request) (sc : Scene) (o : Outcome) (late : t .0 ≤ limit) (shows : Shows s t i q sc) where
   pub out-is : applied (sceneView sc) o (setClock (sc .clock .0) (modelOf s)) ≡ outAt s t i q o
@@ -59,9 +59,9 @@ module _ (s : Station) (t : Tenths) (i : SlotNumber) (q : Request) (sc : Scene) 
       ∙ scene-out s (t .0) (i .0) (ownOf s (i .0)) q late (sceneView sc) o (shows .0)
 
   -- the queue that the outcome leaves
-  pub line-is : outAt s t i q o .next .queue ≡ lined (sceneView sc) (lineOf (sc .clock) (sc .line) o) (setClock (sc .clock .0) (modelOf s)) .queue
+  pub queue-is : outAt s t i q o .next .queue ≡ requeued (sceneView sc) (queueChange (sc .clock) (sc .waiting) o) (setClock (sc .clock .0) (modelOf s)) .queue
   unfolding applied setClock sceneView
-  line-is = ap (λ (x : Out). x .next .queue) (sym out-is) ∙ turned-queue (sceneView sc) _ (lined (sceneView sc) _ (setClock (sc .clock .0) (modelOf s)))
+  queue-is = ap (λ (x : Out). x .next .queue) (sym out-is) ∙ turned-queue (sceneView sc) _ (requeued (sceneView sc) _ (setClock (sc .clock .0) (modelOf s)))
 
   pub told-is : (k : ℕ) (room : List ℕ) → telling sc (actsOf (sceneView sc) o) k room ≡ laidOf (configOf s) (outAt s t i q o .acts) k room
   unfolding laidOf applied

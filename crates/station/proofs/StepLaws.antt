@@ -59,8 +59,8 @@ module _ (s : Station) (room : List ℕ) (e : Event) (same : e .room ≡ length 
   bound = at-most-eight (configOf s) (modelOf s) e (passed s e h .sounds) .0
 
   -- the next station fits
-  pub line-fits : (o : Out) → o ≡ act (configOf s) (modelOf s) e → length (o .next .queue) ≤ 32
-  line-fits o q = rw q (sound-fits (configOf s) _ (stays-sound (configOf s) (modelOf s) e (passed s e h .judged)) .line)
+  pub queue-fits : (o : Out) → o ≡ act (configOf s) (modelOf s) e → length (o .next .queue) ≤ 32
+  queue-fits o q = rw q (sound-fits (configOf s) _ (stays-sound (configOf s) (modelOf s) e (passed s e h .judged)) .fewWait)
 
   laid-is : laidOf (configOf s) (act (configOf s) (modelOf s) e .acts) 0 room
       ≡ record { next = putCount (map (sentBlock (configOf s)) (act (configOf s) (modelOf s) e .acts)) (length room); room = putRoom (map (sentBlock (configOf s)) (act (configOf s) (modelOf s) e .acts)) room }

@@ -4,8 +4,8 @@ use Rattle.rules.specs.Rules.Sound.{queueRoom}
 use Rattle.slots.specs.declared.Slot.{Slot}
 use Rattle.outcomes.specs.declared.Turn.{Turn}
 use Rattle.outcomes.specs.declared.Turn.the-variants.{Stays, Own, Asked, Oldest}
-use Rattle.outcomes.specs.declared.Line.{Line}
-use Rattle.outcomes.specs.declared.Line.the-variants.{Same, Leaves, Joins, Replaces}
+use Rattle.outcomes.specs.declared.QueueChange.{QueueChange}
+use Rattle.outcomes.specs.declared.QueueChange.the-variants.{Same, Leaves, Joins, Replaces}
 use Rattle.telling.specs.declared.Scene.{Scene}
 
 abbrev pub slotTurned : Scene → Slot → Turn → Slot
@@ -15,21 +15,21 @@ slotTurned sc x (Asked p) = record { phase = p; channel = x .channel; request = 
 slotTurned sc x (Oldest p) = record { phase = p; channel = x .channel; request = sc .oldest }
 
 -- the place that is given up in a queue of n
-abbrev pub leavingOf : ℕ → Line → ℕ
+abbrev pub leavingOf : ℕ → QueueChange → ℕ
 leavingOf n Same = n
 leavingOf n (Leaves k) = k .0
 leavingOf n (Joins d) = n
 leavingOf n (Replaces k) = n
 
 -- the place that is written in a queue of n
-abbrev pub entryPlace : ℕ → Line → ℕ
+abbrev pub entryPlace : ℕ → QueueChange → ℕ
 entryPlace n Same = queueRoom
 entryPlace n (Leaves k) = queueRoom
 entryPlace n (Joins d) = n
 entryPlace n (Replaces k) = k .0
 
 -- how many of n wait then
-abbrev pub lengthAfter : ℕ → Line → ℕ
+abbrev pub lengthAfter : ℕ → QueueChange → ℕ
 lengthAfter n Same = n
 lengthAfter n (Leaves k) = n
 lengthAfter n (Joins d) = n + 1

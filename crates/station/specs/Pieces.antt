@@ -16,6 +16,7 @@ use Rattle.rules.specs.Rules.Requests.{Out}
 use Rattle.rules.specs.Rules.Calls.{barredHand}
 use Rattle.rules.specs.Rules.Actions.{Action}
 use Rattle.requests.specs.declared.Mode.{Mode}
+use Rattle.requests.specs.declared.Request.{Request}
 use Rattle.requests.specs.Views.{viewed, itself, requestOf}
 use Rattle.slots.specs.declared.Slot.{Slot}
 use Rattle.slots.specs.declared.Phase.{Phase}
@@ -36,6 +37,7 @@ use Rattle.outcomes.specs.Does.{outOf, wholeOf}
 use Rattle.deciding.specs.Decides.{bySignal, byHand, coastEndBy, workingBy, shipEndBy, mainDueBy}
 use Rattle.station.specs.declared.Station.{Station}
 use Rattle.station.specs.declared.Stepped.{Stepped}
+use Rattle.station.specs.declared.Choice.{Choice}
 use Rattle.station.specs.declared.Plain.{Plain}
 use Rattle.station.specs.declared.Plain.the-variants.{Signal, Hand}
 use Rattle.station.specs.Model.{modelOf, configOf, imageOf}
@@ -65,6 +67,13 @@ outAt s t i q o = outOf (i .0) (ownOf s (i .0)) q o (setClock (t .0) (modelOf s)
 unfoldable pub wholeAt : Station → Tenths → SlotNumber → W.Request → Outcome → Out
 wholeAt s t i q o = wholeOf (i .0) (ownOf s (i .0)) q o (setClock (t .0) (modelOf s))
 
+-- the station with the clock at t, and what is chosen for it then
+abbrev pub modelAt : Station → Tenths → R.Station
+modelAt s t = setClock (t .0) (modelOf s)
+
+abbrev pub chosenAt : Station → Tenths → Choice → Request → Out
+chosenAt s t c q = wholeAt s t (c .slot) (requestOf q) (c .outcome)
+
 -- the blocks of actions, laid from block number k on
 unfoldable pub laidOf : Config → List Action → ℕ → List ℕ → Laid
 laidOf c acts k room = laidFrom (map (sentBlock c) acts) k room
@@ -72,6 +81,13 @@ laidOf c acts k room = laidFrom (map (sentBlock c) acts) k room
 -- what is handed back once the blocks are laid
 unfoldable pub enacted : Config → Laid → Out → Stepped
 enacted c l o = record { answer = o .answer; count = l .next; due = dueImage (nextDue (o .next)); station = imageOf c (o .next) }
+
+-- an outcome with its actions laid from block number k on: what is handed back, and the room
+abbrev pub handedBack : Station → Out → ℕ → List ℕ → Stepped
+handedBack s out k room = enacted (configOf s) (laidOf (configOf s) (out .acts) k room) out
+
+abbrev pub roomLaid : Station → Out → ℕ → List ℕ → List ℕ
+roomLaid s out k room = laidOf (configOf s) (out .acts) k room .room
 
 -- ── which rule decides ───────────────────────────────────────────────────────
 

@@ -2,7 +2,7 @@
 ghost use mathlib.Core.Path.{_≡_};
 ghost use Prim.Native.Nat.{_<_};
 ghost use Rattle.station.specs.Changes.{slotTurned, leavingOf, entryPlace, lengthAfter};
-use outcomes::Line;
+use outcomes::QueueChange;
 use outcomes::Turn;
 use slots::MOST_WAITING;
 use slots::Slot;
@@ -37,38 +37,38 @@ pub(crate) fn slot_turned(x: Slot, turn: Turn, scene: Scene) -> Slot
 }
 
 // The place that is given up in a queue of n; its end where none is.
-pub(crate) fn leaving(line: Line, n: u8) -> u8
-    ensures { λ r. ⌜ r ≡ leavingOf n line ⌝ }
+pub(crate) fn leaving(change: QueueChange, n: u8) -> u8
+    ensures { λ r. ⌜ r ≡ leavingOf n change ⌝ }
 {
-    match line {
-        Line::Same => n,
-        Line::Leaves(k) => k.0,
-        Line::Joins(_) => n,
-        Line::Replaces(_) => n,
+    match change {
+        QueueChange::Same => n,
+        QueueChange::Leaves(k) => k.0,
+        QueueChange::Joins(_) => n,
+        QueueChange::Replaces(_) => n,
     }
 }
 
 // The place that is written in a queue of n; past the array where none is.
-pub(crate) fn entry_place(line: Line, n: u8) -> u8
-    ensures { λ r. ⌜ r ≡ entryPlace n line ⌝ }
+pub(crate) fn entry_place(change: QueueChange, n: u8) -> u8
+    ensures { λ r. ⌜ r ≡ entryPlace n change ⌝ }
 {
-    match line {
-        Line::Same => MOST_WAITING,
-        Line::Leaves(_) => MOST_WAITING,
-        Line::Joins(_) => n,
-        Line::Replaces(k) => k.0,
+    match change {
+        QueueChange::Same => MOST_WAITING,
+        QueueChange::Leaves(_) => MOST_WAITING,
+        QueueChange::Joins(_) => n,
+        QueueChange::Replaces(k) => k.0,
     }
 }
 
 // How many wait then.
-pub(crate) fn length_after(line: Line, n: u8) -> u8
-    requires { ⌜ lengthAfter n line < 256 ⌝ }
-    ensures { λ r. ⌜ r ≡ lengthAfter n line ⌝ }
+pub(crate) fn length_after(change: QueueChange, n: u8) -> u8
+    requires { ⌜ lengthAfter n change < 256 ⌝ }
+    ensures { λ r. ⌜ r ≡ lengthAfter n change ⌝ }
 {
-    match line {
-        Line::Same => n,
-        Line::Leaves(_) => n,
-        Line::Joins(_) => n + 1,
-        Line::Replaces(_) => n,
+    match change {
+        QueueChange::Same => n,
+        QueueChange::Leaves(_) => n,
+        QueueChange::Joins(_) => n + 1,
+        QueueChange::Replaces(_) => n,
     }
 }

@@ -15,7 +15,7 @@ ghost use Rattle.hearing.specs.Said.{heardOf};
 ghost use Rattle.outcomes.specs.Does.{outOf, goesOn, withoutSlot};
 ghost use Rattle.station.specs.Model.{modelOf, configOf};
 ghost use Rattle.station.specs.Step.{eventAt, steppedBy, roomAfter};
-ghost use Rattle.station.specs.Pieces.{wholeAt, laidOf, enacted};
+ghost use Rattle.station.specs.Pieces.{modelAt, chosenAt, handedBack, roomLaid};
 use crate::Choice;
 use crate::Station;
 use crate::Stepped;
@@ -41,37 +41,44 @@ use units::Tenths;
 impl Station {
     // e. "A slot is free: offer the lowest"; f. "The queue has room"; g. "Otherwise answer 104/102."
     fn newcomer(self) -> Choice
-        ensures { λ r. ⌜ ((t : ℕ) (own q : W.Request) → outOf (r .slot .0) own q (r .outcome) (setClock t (modelOf self)) ≡ Q.newcomer (setClock t (modelOf self)) q) ⌝ }
+        ensures { λ r. ⌜
+            ((t : ℕ) (own q : W.Request)
+            → outOf (r .slot .0) own q (r .outcome) (setClock t (modelOf self)) ≡ Q.newcomer (setClock t (modelOf self)) q)
+            ⌝ }
         ensures { λ r. ⌜ goesOn (r .outcome) ≡ false ⌝ }
     {
-        let a = self.slots;
-        let f = first_free(a, self.count);
-        let n = self.line();
-        match f {
-            Found::At(i) => {
-                let o = deciding::newcomer(true, n);
+        let slots = self.slots;
+        let free = first_free(slots, self.count);
+        let waiting = self.queue_length();
+        match free {
+            Found::At(slot) => {
+                let outcome = deciding::newcomer(true, waiting);
                 Choice {
-                    slot: i,
-                    outcome: o,
+                    slot: slot,
+                    outcome: outcome,
                 }
             }
             Found::Nothing => {
-                let o = deciding::newcomer(false, n);
+                let outcome = deciding::newcomer(false, waiting);
                 Choice {
                     slot: SlotNumber(0),
-                    outcome: o,
+                    outcome: outcome,
                 }
             }
         }
     }
 
     // d. "The ship waits in the queue"; or e to g: for a ship that has no slot.
-    fn without_slot(self, q: Request) -> Choice
-        ensures { λ r. ⌜ ((t : ℕ) (own : W.Request) → outOf (r .slot .0) own (requestOf q) (r .outcome) (setClock t (modelOf self)) ≡ withoutSlot (requestOf q) (setClock t (modelOf self))) ⌝ }
+    fn without_slot(self, request: Request) -> Choice
+        ensures { λ r. ⌜
+            ((t : ℕ) (own : W.Request)
+            → outOf (r .slot .0) own (requestOf request) (r .outcome) (setClock t (modelOf self))
+            ≡ withoutSlot (requestOf request) (setClock t (modelOf self)))
+            ⌝ }
     {
-        let b = self.queue;
-        let f = place_of(b, self.waiting, q.ship, q.station);
-        match f {
+        let queue = self.queue;
+        let place = place_of(queue, self.waiting, request.ship, request.station);
+        match place {
             Place::At(k) => Choice {
                 slot: SlotNumber(0),
                 outcome: Outcome::Replaces(k),
@@ -81,31 +88,41 @@ impl Station {
     }
 
     // b. or c.: the ship has the slot i.
-    fn asked_again(self, t: Tenths, i: SlotNumber, q: Request) -> Choice
-        ensures { λ r. ⌜ wholeAt self t (r .slot) (requestOf q) (r .outcome) ≡ requested (setClock (t .0) (modelOf self)) (requestOf q) (Q.holds (i .0)) ⌝ }
+    fn asked_again(self, time: Tenths, slot: SlotNumber, request: Request) -> Choice
+        ensures { λ r. ⌜ chosenAt self time r request ≡ requested (modelAt self time) (requestOf request) (Q.holds (slot .0)) ⌝ }
     {
-        let x = self.slot_at(i);
-        let p = x.phase;
-        let own = x.request;
-        let same = same_request(q, own);
-        let m = own.mode;
-        let o = deciding::asked_again(m, same, p);
+        let the_slot = self.slot_at(slot);
+        let phase = the_slot.phase;
+        let kept = the_slot.request;
+        let same = same_request(request, kept);
+        let mode = kept.mode;
+        let outcome = deciding::asked_again(mode, same, phase);
         Choice {
-            slot: i,
-            outcome: o,
+            slot: slot,
+            outcome: outcome,
         }
     }
 
     // The first rule that fits, by where the ship stands.
-    fn asked(self, t: Tenths, q: Request) -> Choice
-        ensures { λ r. ⌜ wholeAt self t (r .slot) (requestOf q) (r .outcome) ≡ requested (setClock (t .0) (modelOf self)) (requestOf q) (standing (setClock (t .0) (modelOf self)) (requestOf q .who)) ⌝ }
+    fn asked(self, time: Tenths, request: Request) -> Choice
+        ensures { λ r. ⌜
+            chosenAt self time r request
+            ≡ requested (modelAt self time) (requestOf request) (standing (modelAt self time) (requestOf request .who))
+            ⌝ }
     {
-        let a = self.slots;
-        let b = self.queue;
-        let w = standing(a, self.count, b, self.waiting, q.ship, q.station);
-        match w {
+        let slots = self.slots;
+        let queue = self.queue;
+        let stands = standing(
+            slots,
+            self.count,
+            queue,
+            self.waiting,
+            request.ship,
+            request.station,
+        );
+        match stands {
             Standing::Nowhere => self.newcomer(),
-            Standing::Holds(i) => self.asked_again(t, i, q),
+            Standing::Holds(slot) => self.asked_again(time, slot, request),
             Standing::Waits(k) => Choice {
                 slot: SlotNumber(0),
                 outcome: Outcome::Replaces(k),
@@ -114,35 +131,38 @@ impl Station {
     }
 
     // Ring-back acknowledged, on the slot i.
-    fn agreed(self, t: Tenths, i: SlotNumber, q: Request) -> Choice
-        requires { ⌜ t .0 ≤ limit ⌝ }
-        ensures { λ r. ⌜ wholeAt self t (r .slot) (requestOf q) (r .outcome) ≡ bqFor (i .0) (requestOf q .who) (setClock (t .0) (modelOf self)) (theSlot (modelOf self) (i .0)) ⌝ }
+    fn agreed(self, time: Tenths, slot: SlotNumber, request: Request) -> Choice
+        requires { ⌜ time .0 ≤ limit ⌝ }
+        ensures { λ r. ⌜
+            chosenAt self time r request
+            ≡ bqFor (slot .0) (requestOf request .who) (modelAt self time) (theSlot (modelOf self) (slot .0))
+            ⌝ }
     {
-        let x = self.slot_at(i);
-        let p = x.phase;
-        let held = x.request;
-        let own = is_by(held, q.ship, q.station);
-        let o = deciding::bq(own, t, p);
+        let the_slot = self.slot_at(slot);
+        let phase = the_slot.phase;
+        let kept = the_slot.request;
+        let own = is_by(kept, request.ship, request.station);
+        let outcome = deciding::bq(own, time, phase);
         Choice {
-            slot: i,
-            outcome: o,
+            slot: slot,
+            outcome: outcome,
         }
     }
 
     // What was heard, at the time t.
-    fn choice(self, t: Tenths, h: Heard) -> Choice
-        requires { ⌜ t .0 ≤ limit ⌝ }
-        ensures { λ r. ⌜ wholeAt self t (r .slot) (requestOf (h .request)) (r .outcome) ≡ heardOn70 (setClock (t .0) (modelOf self)) (heardOf h) ⌝ }
+    fn choice(self, time: Tenths, heard: Heard) -> Choice
+        requires { ⌜ time .0 ≤ limit ⌝ }
+        ensures { λ r. ⌜ chosenAt self time r (heard .request) ≡ heardOn70 (modelAt self time) (heardOf heard) ⌝ }
     {
-        let k = h.kind;
-        let q = h.request;
-        match k {
-            Kind::CallRequest => self.asked(t, q),
+        let kind = heard.kind;
+        let request = heard.request;
+        match kind {
+            Kind::CallRequest => self.asked(time, request),
             Kind::DataRequest => Choice {
                 slot: SlotNumber(0),
                 outcome: Outcome::Unable(109),
             },
-            Kind::Bq(i) => self.agreed(t, i, q),
+            Kind::Bq(slot) => self.agreed(time, slot, request),
             Kind::WorkingCall => Choice {
                 slot: SlotNumber(0),
                 outcome: Outcome::Ignored,
@@ -159,59 +179,62 @@ impl Station {
     }
 
     // c. ".. then d to g apply", to the station that the coast's end leaves.
-    fn go_on(self, t: Tenths, c: Choice, q: Request, room: &mut [u8]) -> Stepped
-        requires { ⌜ t .0 ≤ limit ⌝ }
+    fn go_on(self, time: Tenths, choice: Choice, request: Request, room: &mut [u8]) -> Stepped
+        requires { ⌜ time .0 ≤ limit ⌝ }
         requires { ⌜ sound (configOf self) (modelOf self) ≡ true ⌝ }
-        requires { ⌜ goesOn (c .outcome) ≡ true ⌝ }
-        requires { ⌜ length (wholeAt self t (c .slot) (requestOf q) (c .outcome) .next .queue) ≤ queueRoom ⌝ }
-        ensures { λ r. ⌜ r ≡ enacted (configOf self) (laidOf (configOf self) (wholeAt self t (c .slot) (requestOf q) (c .outcome) .acts) 0 (now (room .entry))) (wholeAt self t (c .slot) (requestOf q) (c .outcome)) ⌝ }
-        ensures { λ _. ⌜ now (room .exit) ≡ laidOf (configOf self) (wholeAt self t (c .slot) (requestOf q) (c .outcome) .acts) 0 (now (room .entry)) .room ⌝ }
+        requires { ⌜ goesOn (choice .outcome) ≡ true ⌝ }
+        requires { ⌜ length (chosenAt self time choice request .next .queue) ≤ queueRoom ⌝ }
+        ensures { λ r. ⌜ r ≡ handedBack self (chosenAt self time choice request) 0 (now (room .entry)) ⌝ }
+        ensures { λ _. ⌜ now (room .exit) ≡ roomLaid self (chosenAt self time choice request) 0 (now (room .entry)) ⌝ }
     {
-        let i = c.slot;
-        let o = c.outcome;
-        let ended = self.enact(t, i, o, q, 0, room);
-        let n = ended.count;
+        let slot = choice.slot;
+        let outcome = choice.outcome;
+        let ended = self.enact(time, slot, outcome, request, 0, room);
+        let count = ended.count;
         let next = ended.station;
-        let d = next.without_slot(q);
-        let j = d.slot;
-        let p = d.outcome;
-        next.enact(t, j, p, q, n, room)
+        let further = next.without_slot(request);
+        let next_slot = further.slot;
+        let next_outcome = further.outcome;
+        next.enact(time, next_slot, next_outcome, request, count, room)
     }
 
-    fn enact_whole(self, t: Tenths, c: Choice, q: Request, room: &mut [u8]) -> Stepped
-        requires { ⌜ t .0 ≤ limit ⌝ }
+    fn enact_whole(self, time: Tenths, choice: Choice, request: Request, room: &mut [u8]) -> Stepped
+        requires { ⌜ time .0 ≤ limit ⌝ }
         requires { ⌜ sound (configOf self) (modelOf self) ≡ true ⌝ }
-        requires { ⌜ length (wholeAt self t (c .slot) (requestOf q) (c .outcome) .next .queue) ≤ queueRoom ⌝ }
-        ensures { λ r. ⌜ r ≡ enacted (configOf self) (laidOf (configOf self) (wholeAt self t (c .slot) (requestOf q) (c .outcome) .acts) 0 (now (room .entry))) (wholeAt self t (c .slot) (requestOf q) (c .outcome)) ⌝ }
-        ensures { λ _. ⌜ now (room .exit) ≡ laidOf (configOf self) (wholeAt self t (c .slot) (requestOf q) (c .outcome) .acts) 0 (now (room .entry)) .room ⌝ }
+        requires { ⌜ length (chosenAt self time choice request .next .queue) ≤ queueRoom ⌝ }
+        ensures { λ r. ⌜ r ≡ handedBack self (chosenAt self time choice request) 0 (now (room .entry)) ⌝ }
+        ensures { λ _. ⌜ now (room .exit) ≡ roomLaid self (chosenAt self time choice request) 0 (now (room .entry)) ⌝ }
     {
-        let o = c.outcome;
-        if goes_on(o) {
-            return self.go_on(t, c, q, room);
+        let outcome = choice.outcome;
+        if goes_on(outcome) {
+            return self.go_on(time, choice, request, room);
         }
-        let i = c.slot;
-        self.enact(t, i, o, q, 0, room)
+        let slot = choice.slot;
+        self.enact(time, slot, outcome, request, 0, room)
     }
 
     // Symbols heard on channel 70.
     pub fn heard_on_channel_70(self, time: Tenths, symbols: &[u8], room: &mut [u8]) -> Stepped
         ensures { λ r. ⌜ r ≡ steppedBy self (eventAt (time .0) (onChannel70 (now (symbols .entry))) (now (room .entry))) ⌝ }
-        ensures { λ _. ⌜ now (room .exit) ≡ roomAfter self (now (room .entry)) (eventAt (time .0) (onChannel70 (now (symbols .entry))) (now (room .entry))) ⌝ }
+        ensures { λ _. ⌜
+            now (room .exit)
+            ≡ roomAfter self (now (room .entry)) (eventAt (time .0) (onChannel70 (now (symbols .entry))) (now (room .entry)))
+            ⌝ }
     {
         let said = read(symbols);
-        let a = said.answer;
-        let m = said.meaning;
+        let answer = said.answer;
+        let meaning = said.meaning;
         let look = self.looked();
         let first = look.due;
-        let v = look.judge_now(room.len(), time).and_read(a);
-        match v {
+        let verdict = look.judge_now(room.len(), time).and_read(answer);
+        match verdict {
             Verdict::Refused(n) => self.refused(n, first),
             Verdict::Accepted => {
-                let b = self.slots;
-                let h = told_by(self.mast, b, self.count, m);
-                let c = self.choice(time, h);
-                let q = h.request;
-                self.enact_whole(time, c, q, room)
+                let slots = self.slots;
+                let heard = told_by(self.mast, slots, self.count, meaning);
+                let choice = self.choice(time, heard);
+                let request = heard.request;
+                self.enact_whole(time, choice, request, room)
             }
         }
     }

@@ -8,7 +8,7 @@ ghost use Rattle.requests.specs.Views.{requestOf};
 ghost use Rattle.slots.specs.Views.{dueView};
 ghost use Rattle.station.specs.Model.{configOf};
 ghost use Rattle.station.specs.Step.{dueImage};
-ghost use Rattle.station.specs.Pieces.{outAt, laidOf, enacted};
+ghost use Rattle.station.specs.Pieces.{outAt, handedBack, roomLaid};
 use crate::Station;
 use crate::Stepped;
 use crate::applying::entry_place;
@@ -22,7 +22,7 @@ use due_times::sooner_of;
 use outcomes::Outcome;
 use outcomes::parts::answer_of;
 use outcomes::parts::entered;
-use outcomes::parts::line_of;
+use outcomes::parts::queue_change;
 use outcomes::parts::turn_of;
 use requests::Request;
 use requests::least;
@@ -52,8 +52,8 @@ impl Station {
     ) -> Stepped
         requires { ⌜ t .0 ≤ limit ⌝ }
         requires { ⌜ length (outAt self t i (requestOf q) o .next .queue) ≤ queueRoom ⌝ }
-        ensures { λ r. ⌜ r ≡ enacted (configOf self) (laidOf (configOf self) (outAt self t i (requestOf q) o .acts) k (now (room .entry))) (outAt self t i (requestOf q) o) ⌝ }
-        ensures { λ _. ⌜ now (room .exit) ≡ laidOf (configOf self) (outAt self t i (requestOf q) o .acts) k (now (room .entry)) .room ⌝ }
+        ensures { λ r. ⌜ r ≡ handedBack self (outAt self t i (requestOf q) o) k (now (room .entry)) ⌝ }
+        ensures { λ _. ⌜ now (room .exit) ≡ roomLaid self (outAt self t i (requestOf q) o) k (now (room .entry)) ⌝ }
     {
         let slots = least(self.count, MOST_SLOTS);
         let waiting = least(self.waiting, MOST_WAITING);
@@ -77,28 +77,28 @@ impl Station {
             own: own,
             asked: q,
             oldest: oldest,
-            line: waiting,
+            waiting: waiting,
         };
         let told = scene.tell(o, k, room);
-        let line = line_of(o, t, waiting);
+        let change = queue_change(o, t, waiting);
         let turn = turn_of(o, t, waiting);
         if i.0 < slots as u32 {
             self.slots[i.0 as usize] = slot_turned(x, turn, scene);
         }
         // who waits behind the place that is given up moves up
-        let mut j = leaving(line, waiting);
+        let mut j = leaving(change, waiting);
         while (j as usize) + 1 < waiting as usize {
             let next = self.queue[j as usize + 1];
             self.queue[j as usize] = next;
             j += 1;
         }
         let kept = least(j, waiting);
-        let place = entry_place(line, kept);
+        let place = entry_place(change, kept);
         if place < MOST_WAITING {
             let before = self.queue[place as usize];
-            self.queue[place as usize] = entered(line, before, q);
+            self.queue[place as usize] = entered(change, before, q);
         }
-        let after = length_after(line, kept);
+        let after = length_after(change, kept);
         self.clock = t;
         self.count = slots;
         self.waiting = after;

@@ -32,12 +32,12 @@ use units::SlotNumber;
 const SHIPS: usize = SLOTS + QUEUE_ROOM;
 
 // When a wait falls due: none, or tenths.
-pub(crate) fn due_time(d: Due) -> NextDue
-    ensures { λ r. ⌜ r ≡ dueImage (dueAt (dueView d)) ⌝ }
+pub(crate) fn due_time(due: Due) -> NextDue
+    ensures { λ r. ⌜ r ≡ dueImage (dueAt (dueView due)) ⌝ }
 {
-    match d {
+    match due {
         Due::Never => NextDue::Never,
-        Due::In(t, _) => NextDue::At(t),
+        Due::In(time, _) => NextDue::At(time),
     }
 }
 
@@ -115,16 +115,16 @@ impl Station {
     pub fn is_sound(self) -> bool
         ensures { λ r. ⌜ r ≡ (recordsKeep self && sound (configOf self) (modelOf self)) ⌝ }
     {
-        let l = self.looked();
-        l.sound
+        let look = self.looked();
+        look.sound
     }
 
     // The next due time: none, or tenths.
     pub fn next_due(self) -> NextDue
         ensures { λ r. ⌜ r ≡ dueImage (nextDue (modelOf self)) ⌝ }
     {
-        let l = self.looked();
-        let d = l.due;
-        due_time(d)
+        let look = self.looked();
+        let due = look.due;
+        due_time(due)
     }
 }

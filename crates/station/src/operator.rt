@@ -13,7 +13,9 @@ impl Station {
     // The operator takes a free slot.
     pub fn take(self, time: Tenths, slot: SlotNumber, room: &mut [u8]) -> Stepped
         ensures { λ r. ⌜ r ≡ steppedBy self (slotAt (time .0) (slot .0) takes (now (room .entry))) ⌝ }
-        ensures { λ _. ⌜ now (room .exit) ≡ roomAfter self (now (room .entry)) (slotAt (time .0) (slot .0) takes (now (room .entry))) ⌝ }
+        ensures { λ _. ⌜
+            now (room .exit) ≡ roomAfter self (now (room .entry)) (slotAt (time .0) (slot .0) takes (now (room .entry)))
+            ⌝ }
     {
         self.plainly(Plain::Hand(Hand::Takes), time, slot, room)
     }
@@ -21,7 +23,9 @@ impl Station {
     // The operator gives back a taken slot.
     pub fn give_back(self, time: Tenths, slot: SlotNumber, room: &mut [u8]) -> Stepped
         ensures { λ r. ⌜ r ≡ steppedBy self (slotAt (time .0) (slot .0) givesBack (now (room .entry))) ⌝ }
-        ensures { λ _. ⌜ now (room .exit) ≡ roomAfter self (now (room .entry)) (slotAt (time .0) (slot .0) givesBack (now (room .entry))) ⌝ }
+        ensures { λ _. ⌜
+            now (room .exit) ≡ roomAfter self (now (room .entry)) (slotAt (time .0) (slot .0) givesBack (now (room .entry)))
+            ⌝ }
     {
         self.plainly(Plain::Hand(Hand::GivesBack), time, slot, room)
     }

@@ -13,18 +13,18 @@ use units::SlotNumber;
 
 impl Station {
     // The slot i.
-    pub(crate) fn slot_at(self, i: SlotNumber) -> Slot
-        ensures { λ r. ⌜ r ≡ slotOf self (i .0) ⌝ }
+    pub(crate) fn slot_at(self, slot: SlotNumber) -> Slot
+        ensures { λ r. ⌜ r ≡ slotOf self (slot .0) ⌝ }
     {
-        let m = least(self.count, MOST_SLOTS) as u32;
-        if m <= i.0 {
+        let count = least(self.count, MOST_SLOTS) as u32;
+        if count <= slot.0 {
             return blank_slot();
         }
-        self.slots[i.0 as usize]
+        self.slots[slot.0 as usize]
     }
 
     // How many wait.
-    pub(crate) fn line(self) -> u8
+    pub(crate) fn queue_length(self) -> u8
         ensures { λ r. ⌜ r ≡ length (modelOf self .queue) ⌝ }
     {
         least(self.waiting, MOST_WAITING)

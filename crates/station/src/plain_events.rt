@@ -22,52 +22,54 @@ use units::SlotNumber;
 use units::Tenths;
 
 // The hand takes a free slot, and gives back a taken one.
-fn is_open(h: Hand, x: Slot) -> bool
-    ensures { λ r. ⌜ r ≡ not (barredHand (slotView x) (handView h)) ⌝ }
+fn is_open(hand: Hand, slot: Slot) -> bool
+    ensures { λ r. ⌜ r ≡ not (barredHand (slotView slot) (handView hand)) ⌝ }
 {
-    match h {
-        Hand::Takes => is_free(x),
-        Hand::GivesBack => is_taken(x),
+    match hand {
+        Hand::Takes => is_free(slot),
+        Hand::GivesBack => is_taken(slot),
     }
 }
 
-fn may_happen(w: Plain, x: Slot) -> bool
-    ensures { λ r. ⌜ r ≡ not (closedTo (slotView x) w) ⌝ }
+fn may_happen(what: Plain, slot: Slot) -> bool
+    ensures { λ r. ⌜ r ≡ not (closedTo (slotView slot) what) ⌝ }
 {
-    match w {
+    match what {
         Plain::Signal(_) => true,
-        Plain::Hand(h) => is_open(h, x),
+        Plain::Hand(hand) => is_open(hand, slot),
     }
 }
 
-fn by_plain(w: Plain, t: Tenths, m: Mode, p: Phase) -> Outcome
-    ensures { λ r. ⌜ r ≡ byPlain w t m p ⌝ }
+fn by_plain(what: Plain, time: Tenths, mode: Mode, phase: Phase) -> Outcome
+    ensures { λ r. ⌜ r ≡ byPlain what time mode phase ⌝ }
 {
-    match w {
-        Plain::Signal(g) => by_signal(g, t, m, p),
-        Plain::Hand(h) => by_hand(h, p),
+    match what {
+        Plain::Signal(signal) => by_signal(signal, time, mode, phase),
+        Plain::Hand(hand) => by_hand(hand, phase),
     }
 }
 
 impl Station {
     // Any of them.
-    pub fn plainly(self, w: Plain, time: Tenths, slot: SlotNumber, room: &mut [u8]) -> Stepped
-        ensures { λ r. ⌜ r ≡ steppedBy self (slotAt (time .0) (slot .0) (plainView w) (now (room .entry))) ⌝ }
-        ensures { λ _. ⌜ now (room .exit) ≡ roomAfter self (now (room .entry)) (slotAt (time .0) (slot .0) (plainView w) (now (room .entry))) ⌝ }
+    pub fn plainly(self, what: Plain, time: Tenths, slot: SlotNumber, room: &mut [u8]) -> Stepped
+        ensures { λ r. ⌜ r ≡ steppedBy self (slotAt (time .0) (slot .0) (plainView what) (now (room .entry))) ⌝ }
+        ensures { λ _. ⌜
+            now (room .exit) ≡ roomAfter self (now (room .entry)) (slotAt (time .0) (slot .0) (plainView what) (now (room .entry)))
+            ⌝ }
     {
         let look = self.looked();
         let first = look.due;
-        let x = self.slot_at(slot);
-        let v = look.judge_slot(room.len(), time, slot)
-            .and_then(may_happen(w, x), 35);
-        match v {
+        let the_slot = self.slot_at(slot);
+        let verdict = look.judge_slot(room.len(), time, slot)
+            .and_then(may_happen(what, the_slot), 35);
+        match verdict {
             Verdict::Refused(n) => self.refused(n, first),
             Verdict::Accepted => {
-                let q = x.request;
-                let m = q.mode;
-                let p = x.phase;
-                let o = by_plain(w, time, m, p);
-                self.enact(time, slot, o, q, 0, room)
+                let request = the_slot.request;
+                let mode = request.mode;
+                let phase = the_slot.phase;
+                let outcome = by_plain(what, time, mode, phase);
+                self.enact(time, slot, outcome, request, 0, room)
             }
         }
     }

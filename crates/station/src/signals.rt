@@ -13,7 +13,9 @@ impl Station {
     // Ashore the line is answered.
     pub fn off_hook(self, time: Tenths, slot: SlotNumber, room: &mut [u8]) -> Stepped
         ensures { λ r. ⌜ r ≡ steppedBy self (slotAt (time .0) (slot .0) offHook (now (room .entry))) ⌝ }
-        ensures { λ _. ⌜ now (room .exit) ≡ roomAfter self (now (room .entry)) (slotAt (time .0) (slot .0) offHook (now (room .entry))) ⌝ }
+        ensures { λ _. ⌜
+            now (room .exit) ≡ roomAfter self (now (room .entry)) (slotAt (time .0) (slot .0) offHook (now (room .entry)))
+            ⌝ }
     {
         self.plainly(Plain::Signal(Signal::LineLifted), time, slot, room)
     }
@@ -21,7 +23,9 @@ impl Station {
     // Ashore the line is put down.
     pub fn on_hook(self, time: Tenths, slot: SlotNumber, room: &mut [u8]) -> Stepped
         ensures { λ r. ⌜ r ≡ steppedBy self (slotAt (time .0) (slot .0) onHook (now (room .entry))) ⌝ }
-        ensures { λ _. ⌜ now (room .exit) ≡ roomAfter self (now (room .entry)) (slotAt (time .0) (slot .0) onHook (now (room .entry))) ⌝ }
+        ensures { λ _. ⌜
+            now (room .exit) ≡ roomAfter self (now (room .entry)) (slotAt (time .0) (slot .0) onHook (now (room .entry)))
+            ⌝ }
     {
         self.plainly(Plain::Signal(Signal::LineHung), time, slot, room)
     }
@@ -29,7 +33,9 @@ impl Station {
     // The ship's carrier is present again.
     pub fn carrier_up(self, time: Tenths, slot: SlotNumber, room: &mut [u8]) -> Stepped
         ensures { λ r. ⌜ r ≡ steppedBy self (slotAt (time .0) (slot .0) carrierUp (now (room .entry))) ⌝ }
-        ensures { λ _. ⌜ now (room .exit) ≡ roomAfter self (now (room .entry)) (slotAt (time .0) (slot .0) carrierUp (now (room .entry))) ⌝ }
+        ensures { λ _. ⌜
+            now (room .exit) ≡ roomAfter self (now (room .entry)) (slotAt (time .0) (slot .0) carrierUp (now (room .entry)))
+            ⌝ }
     {
         self.plainly(Plain::Signal(Signal::CarrierHeard), time, slot, room)
     }
@@ -37,7 +43,9 @@ impl Station {
     // The ship's carrier is lost.
     pub fn carrier_down(self, time: Tenths, slot: SlotNumber, room: &mut [u8]) -> Stepped
         ensures { λ r. ⌜ r ≡ steppedBy self (slotAt (time .0) (slot .0) carrierDown (now (room .entry))) ⌝ }
-        ensures { λ _. ⌜ now (room .exit) ≡ roomAfter self (now (room .entry)) (slotAt (time .0) (slot .0) carrierDown (now (room .entry))) ⌝ }
+        ensures { λ _. ⌜
+            now (room .exit) ≡ roomAfter self (now (room .entry)) (slotAt (time .0) (slot .0) carrierDown (now (room .entry)))
+            ⌝ }
     {
         self.plainly(Plain::Signal(Signal::CarrierLost), time, slot, room)
     }

@@ -15,52 +15,52 @@ use units::SlotNumber;
 use units::Tenths;
 
 // The slot whose wait it is; a queue entry has none.
-fn wait_slot(w: Wait) -> SlotNumber
-    ensures { λ r. ⌜ r ≡ waitSlot w ⌝ }
+fn wait_slot(wait: Wait) -> SlotNumber
+    ensures { λ r. ⌜ r ≡ waitSlot wait ⌝ }
 {
-    match w {
+    match wait {
         Wait::Entry(_) => SlotNumber(0),
-        Wait::Loss(i) => i,
-        Wait::Main(i) => i,
+        Wait::Loss(slot) => slot,
+        Wait::Main(slot) => slot,
     }
 }
 
-fn due_slot(d: Due) -> SlotNumber
-    ensures { λ r. ⌜ r ≡ dueSlot d ⌝ }
+fn due_slot(due: Due) -> SlotNumber
+    ensures { λ r. ⌜ r ≡ dueSlot due ⌝ }
 {
-    match d {
+    match due {
         Due::Never => SlotNumber(0),
-        Due::In(_, w) => wait_slot(w),
+        Due::In(_, wait) => wait_slot(wait),
     }
 }
 
 // "sets the clock to its due time; with none due the clock becomes t"
-fn moment(d: Due, t: Tenths) -> Tenths
-    ensures { λ r. ⌜ r ≡ moment d t ⌝ }
+fn moment(due: Due, time: Tenths) -> Tenths
+    ensures { λ r. ⌜ r ≡ moment due time ⌝ }
 {
-    match d {
-        Due::Never => t,
-        Due::In(u, _) => u,
+    match due {
+        Due::Never => time,
+        Due::In(when, _) => when,
     }
 }
 
 // "A queue entry due is dropped"; a carrier loss ends the call as the coast does.
-fn by_wait(w: Wait, p: Phase) -> Outcome
-    ensures { λ r. ⌜ r ≡ byWait w p ⌝ }
+fn by_wait(wait: Wait, phase: Phase) -> Outcome
+    ensures { λ r. ⌜ r ≡ byWait wait phase ⌝ }
 {
-    match w {
-        Wait::Entry(k) => Outcome::Drops(k),
-        Wait::Loss(_) => deciding::coast_end(p),
-        Wait::Main(_) => deciding::main_due(p),
+    match wait {
+        Wait::Entry(place) => Outcome::Drops(place),
+        Wait::Loss(_) => deciding::coast_end(phase),
+        Wait::Main(_) => deciding::main_due(phase),
     }
 }
 
-fn by_due(d: Due, p: Phase) -> Outcome
-    ensures { λ r. ⌜ r ≡ byDue d p ⌝ }
+fn by_due(due: Due, phase: Phase) -> Outcome
+    ensures { λ r. ⌜ r ≡ byDue due phase ⌝ }
 {
-    match d {
+    match due {
         Due::Never => Outcome::Passes,
-        Due::In(_, w) => by_wait(w, p),
+        Due::In(_, wait) => by_wait(wait, phase),
     }
 }
 
@@ -72,18 +72,18 @@ impl Station {
     {
         let look = self.looked();
         let first = look.due;
-        let v = look.judge(room.len(), time);
-        match v {
+        let verdict = look.judge(room.len(), time);
+        match verdict {
             Verdict::Refused(n) => self.refused(n, first),
             Verdict::Accepted => {
-                let d = due_by(first, time);
-                let t = moment(d, time);
-                let i = due_slot(d);
-                let x = self.slot_at(i);
-                let q = x.request;
-                let p = x.phase;
-                let o = by_due(d, p);
-                self.enact(t, i, o, q, 0, room)
+                let due = due_by(first, time);
+                let when = moment(due, time);
+                let slot = due_slot(due);
+                let the_slot = self.slot_at(slot);
+                let request = the_slot.request;
+                let phase = the_slot.phase;
+                let outcome = by_due(due, phase);
+                self.enact(when, slot, outcome, request, 0, room)
             }
         }
     }

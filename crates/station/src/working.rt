@@ -15,15 +15,15 @@ use slots::Phase;
 use units::SlotNumber;
 use units::Tenths;
 
-fn by_kind(k: Kind, own: bool, p: Phase) -> Outcome
-    ensures { λ r. ⌜ r ≡ byKind k own p ⌝ }
+fn by_kind(kind: Kind, own: bool, phase: Phase) -> Outcome
+    ensures { λ r. ⌜ r ≡ byKind kind own phase ⌝ }
 {
-    match k {
+    match kind {
         Kind::CallRequest => Outcome::Ignored,
         Kind::DataRequest => Outcome::Ignored,
         Kind::Bq(_) => Outcome::Ignored,
-        Kind::WorkingCall => deciding::working_call(own, p),
-        Kind::EndOfCall => deciding::ship_end(own, p),
+        Kind::WorkingCall => deciding::working_call(own, phase),
+        Kind::EndOfCall => deciding::ship_end(own, phase),
         Kind::Nothing => Outcome::Ignored,
     }
 }
@@ -38,27 +38,30 @@ impl Station {
         room: &mut [u8],
     ) -> Stepped
         ensures { λ r. ⌜ r ≡ steppedBy self (slotAt (time .0) (slot .0) (heard (now (symbols .entry))) (now (room .entry))) ⌝ }
-        ensures { λ _. ⌜ now (room .exit) ≡ roomAfter self (now (room .entry)) (slotAt (time .0) (slot .0) (heard (now (symbols .entry))) (now (room .entry))) ⌝ }
+        ensures { λ _. ⌜
+            now (room .exit)
+            ≡ roomAfter self (now (room .entry)) (slotAt (time .0) (slot .0) (heard (now (symbols .entry))) (now (room .entry)))
+            ⌝ }
     {
         let said = read(symbols);
-        let a = said.answer;
-        let m = said.meaning;
+        let answer = said.answer;
+        let meaning = said.meaning;
         let look = self.looked();
         let first = look.due;
-        let v = look.judge_slot(room.len(), time, slot).and_read(a);
-        match v {
+        let verdict = look.judge_slot(room.len(), time, slot).and_read(answer);
+        match verdict {
             Verdict::Refused(n) => self.refused(n, first),
             Verdict::Accepted => {
-                let b = self.slots;
-                let h = told_by(self.mast, b, self.count, m);
-                let q = h.request;
-                let x = self.slot_at(slot);
-                let y = x.request;
-                let p = x.phase;
-                let k = h.kind;
-                let own = is_by(y, q.ship, q.station);
-                let o = by_kind(k, own, p);
-                self.enact(time, slot, o, q, 0, room)
+                let slots = self.slots;
+                let heard = told_by(self.mast, slots, self.count, meaning);
+                let request = heard.request;
+                let the_slot = self.slot_at(slot);
+                let kept = the_slot.request;
+                let phase = the_slot.phase;
+                let kind = heard.kind;
+                let own = is_by(kept, request.ship, request.station);
+                let outcome = by_kind(kind, own, phase);
+                self.enact(time, slot, outcome, request, 0, room)
             }
         }
     }

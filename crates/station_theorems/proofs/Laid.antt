@@ -97,7 +97,7 @@ module _ (c : Config) (m : R.Station) (f : Fits c m) where
   records-keep =
       let a = slots-exact (c .channels) (m .slots) (f .shortSlots) in
       let b = queue-exact (m .queue) (f .shortQueue) in
-      rw (le-leb (length (m .slots)) 16 (f .few), le-leb (length (m .queue)) 32 (f .line), all-viewed slotExact blankSlot blank-slot (length (m .slots)) 16 (slotImages (c .channels) (m .slots)) a)
+      rw (le-leb (length (m .slots)) 16 (f .few), le-leb (length (m .queue)) 32 (f .fewWait), all-viewed slotExact blankSlot blank-slot (length (m .slots)) 16 (slotImages (c .channels) (m .slots)) a)
       (all-viewed waitingExact blankWaiting blank-waiting (length (m .queue)) 32 (map waitingImage (m .queue)) b)
 
   -- what is refused is what the rules refuse

@@ -23,7 +23,7 @@ use Rattle.outcomes.specs.Does.{sinceOf, ringActs, actsOf}
 use Rattle.telling.specs.declared.Scene.{Scene}
 use Rattle.telling.specs.declared.Say.the-variants.{Lifted}
 use Rattle.telling.specs.declared.Word.the-variants.{RingsOldest}
-use Rattle.telling.specs.Told.{sceneView, telling, freeSay, closeOf, sayOf, closeActs, sayActs}
+use Rattle.telling.specs.Tells.{sceneView, telling, freeSay, closeOf, sayOf, closeActs, sayActs}
 
 -- ── one after the other ──────────────────────────────────────────────────────
 
@@ -67,21 +67,21 @@ free-parts : (sc : D.Scene) (n : ℕ) → sayActs sc (freeSay n) ≡ ringActs (s
 free-parts sc zero = refl
 free-parts sc (suc n) = refl
 
-pub parts : (sc : D.Scene) (o : Outcome) → closeActs sc (closeOf o) ++ sayActs sc (sayOf (sc .line) o) ≡ actsOf sc o
+pub parts : (sc : D.Scene) (o : Outcome) → closeActs sc (closeOf o) ++ sayActs sc (sayOf (sc .waiting) o) ≡ actsOf sc o
 unfolding actsOf
 parts sc Ignored = refl
 parts sc Passes = refl
 parts sc (Turns p) = refl
 parts sc Dials = refl
 parts sc RingsAgain = refl
-parts sc Frees = free-parts sc (sc .line)
-parts sc Clears = ap (λ l. does (carrierOff (sc .slot)) ∷ l) (free-parts sc (sc .line))
-parts sc (CoastEnds k) = ap (λ l. endActs (sc .slot) theCoast (sc .own) (sinceOf k) (sc .clock) ++ l) (free-parts sc (sc .line))
+parts sc Frees = free-parts sc (sc .waiting)
+parts sc Clears = ap (λ l. does (carrierOff (sc .slot)) ∷ l) (free-parts sc (sc .waiting))
+parts sc (CoastEnds k) = ap (λ l. endActs (sc .slot) theCoast (sc .own) (sinceOf k) (sc .clock) ++ l) (free-parts sc (sc .waiting))
 parts sc (ShipEnds k) = append-nil (endActs (sc .slot) theShip (sc .own) (sinceOf k) (sc .clock))
 parts sc (SaysAgain n) = refl
 parts sc Repeats = refl
 parts sc Renews = refl
-parts sc (Redials k) = ap (λ l. endActs (sc .slot) theCoast (sc .own) (sinceOf k) (sc .clock) ++ l) (free-parts sc (sc .line))
+parts sc (Redials k) = ap (λ l. endActs (sc .slot) theCoast (sc .own) (sinceOf k) (sc .clock) ++ l) (free-parts sc (sc .waiting))
 parts sc Offers = refl
 parts sc Joins = refl
 parts sc (Replaces k) = refl
@@ -113,14 +113,14 @@ module _ (c : Config) where
   told-on sc (Turns p) = refl
   told-on sc Dials = refl
   told-on sc RingsAgain = refl
-  told-on sc Frees = ring-on (sc .slot) (sc .oldest) (sc .line)
-  told-on sc Clears = ap (λ l. sentOn (channelAt c (sc .slot)) (does (carrierOff (sc .slot))) ∷ l) (ring-on (sc .slot) (sc .oldest) (sc .line))
-  told-on sc (CoastEnds k) = both-on (channelAt c (sc .slot)) (endActs (sc .slot) theCoast (sc .own) (sinceOf k) (sc .clock)) (ringActs (sc .slot) (sc .oldest) (sc .line)) (end-on (sc .slot) theCoast (sc .own) k (sc .clock)) (ring-on (sc .slot) (sc .oldest) (sc .line))
+  told-on sc Frees = ring-on (sc .slot) (sc .oldest) (sc .waiting)
+  told-on sc Clears = ap (λ l. sentOn (channelAt c (sc .slot)) (does (carrierOff (sc .slot))) ∷ l) (ring-on (sc .slot) (sc .oldest) (sc .waiting))
+  told-on sc (CoastEnds k) = both-on (channelAt c (sc .slot)) (endActs (sc .slot) theCoast (sc .own) (sinceOf k) (sc .clock)) (ringActs (sc .slot) (sc .oldest) (sc .waiting)) (end-on (sc .slot) theCoast (sc .own) k (sc .clock)) (ring-on (sc .slot) (sc .oldest) (sc .waiting))
   told-on sc (ShipEnds k) = end-on (sc .slot) theShip (sc .own) k (sc .clock)
   told-on sc (SaysAgain n) = refl
   told-on sc Repeats = refl
   told-on sc Renews = refl
-  told-on sc (Redials k) = both-on (channelAt c (sc .slot)) (endActs (sc .slot) theCoast (sc .own) (sinceOf k) (sc .clock)) (ringActs (sc .slot) (sc .oldest) (sc .line)) (end-on (sc .slot) theCoast (sc .own) k (sc .clock)) (ring-on (sc .slot) (sc .oldest) (sc .line))
+  told-on sc (Redials k) = both-on (channelAt c (sc .slot)) (endActs (sc .slot) theCoast (sc .own) (sinceOf k) (sc .clock)) (ringActs (sc .slot) (sc .oldest) (sc .waiting)) (end-on (sc .slot) theCoast (sc .own) k (sc .clock)) (ring-on (sc .slot) (sc .oldest) (sc .waiting))
   told-on sc Offers = refl
   told-on sc Joins = refl
   told-on sc (Replaces k) = refl

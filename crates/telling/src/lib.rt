@@ -3,7 +3,8 @@ ghost use mathlib.Core.Path.{_≡_};
 ghost use Rattle.actions.specs.Blocks.{actionBlock};
 ghost use Rattle.actions.specs.Sent.{enderOf, sentOn};
 ghost use Rattle.outcomes.specs.Does.{actsOf};
-ghost use Rattle.telling.specs.Told.{sceneView, telling, closeOf, freeSay, sayOf, billActs, offActs, endedActs, againActs, closeActs, wordAct, sayActs};
+ghost use Rattle.telling.specs.Tells.{sceneView, telling, closeOf, freeSay, sayOf};
+ghost use Rattle.telling.specs.Tells.{billActs, offActs, endedActs, againActs, closeActs, wordAct, sayActs};
 use actions::Action;
 use actions::Ender;
 use actions::deeds::carrier_off;
@@ -33,7 +34,7 @@ pub struct Scene {
     pub own: Request, // the slot's
     pub asked: Request, // the event's
     pub oldest: Request, // the oldest waiting ship's, where one waits
-    pub line: u8, // how many wait
+    pub waiting: u8, // how many wait
 }
 
 // How the call of the slot is closed.
@@ -59,10 +60,10 @@ enum Say {
     Lifted(Word),
 }
 
-fn close_of(o: Outcome) -> Close
-    ensures { λ r. ⌜ r ≡ closeOf o ⌝ }
+fn close_of(outcome: Outcome) -> Close
+    ensures { λ r. ⌜ r ≡ closeOf outcome ⌝ }
 {
-    match o {
+    match outcome {
         Outcome::Clears => Close::CarrierOff,
         Outcome::CoastEnds(talk) => Close::Ends(Ender::Coast, talk),
         Outcome::ShipEnds(talk) => Close::Ends(Ender::Ship, talk),
@@ -73,23 +74,23 @@ fn close_of(o: Outcome) -> Close
 }
 
 // A slot is freed: the oldest of those that wait is rung back.
-fn free_say(line: u8) -> Say
-    ensures { λ r. ⌜ r ≡ freeSay line ⌝ }
+fn free_say(waiting: u8) -> Say
+    ensures { λ r. ⌜ r ≡ freeSay waiting ⌝ }
 {
-    if line == 0 {
+    if waiting == 0 {
         return Say::Nothing;
     }
     Say::Lifted(Word::RingsOldest)
 }
 
-fn say_of(o: Outcome, line: u8) -> Say
-    ensures { λ r. ⌜ r ≡ sayOf line o ⌝ }
+fn say_of(outcome: Outcome, waiting: u8) -> Say
+    ensures { λ r. ⌜ r ≡ sayOf waiting outcome ⌝ }
 {
-    match o {
+    match outcome {
         Outcome::Dials => Say::Plain(Word::Dials),
         Outcome::RingsAgain => Say::Plain(Word::RingsOwn),
         Outcome::Frees | Outcome::Clears | Outcome::CoastEnds(_) | Outcome::Redials(_) => free_say(
-            line,
+            waiting,
         ),
         Outcome::Repeats | Outcome::Renews => Say::Plain(Word::Acknowledges),
         Outcome::Offers => Say::Lifted(Word::Acknowledges),
@@ -155,13 +156,13 @@ impl Scene {
     fn word(self, w: Word) -> Action
         ensures { λ r. ⌜ actionBlock r ≡ sentOn (self .channel) (wordAct (sceneView self) w) ⌝ }
     {
-        let i = self.slot;
-        let c = self.channel;
+        let slot = self.slot;
+        let channel = self.channel;
         match w {
-            Word::Dials => dial(i, self.own.number),
-            Word::RingsOwn => ring_back(i, c, self.own),
-            Word::RingsOldest => ring_back(i, c, self.oldest),
-            Word::Acknowledges => acknowledgement(i, c, self.asked),
+            Word::Dials => dial(slot, self.own.number),
+            Word::RingsOwn => ring_back(slot, channel, self.own),
+            Word::RingsOldest => ring_back(slot, channel, self.oldest),
+            Word::Acknowledges => acknowledgement(slot, channel, self.asked),
             Word::Unable(n) => unable_to(n, self.asked),
         }
     }
@@ -185,13 +186,13 @@ impl Scene {
     }
 
     // Lays the blocks of an outcome's actions from block number k on, and returns the number of the next block.
-    pub fn tell(self, o: Outcome, k: u8, room: &mut [u8]) -> u8
-        ensures { λ r. ⌜ r ≡ telling self (actsOf (sceneView self) o) k (now (room .entry)) .next ⌝ }
-        ensures { λ _. ⌜ now (room .exit) ≡ telling self (actsOf (sceneView self) o) k (now (room .entry)) .room ⌝ }
+    pub fn tell(self, outcome: Outcome, k: u8, room: &mut [u8]) -> u8
+        ensures { λ r. ⌜ r ≡ telling self (actsOf (sceneView self) outcome) k (now (room .entry)) .next ⌝ }
+        ensures { λ _. ⌜ now (room .exit) ≡ telling self (actsOf (sceneView self) outcome) k (now (room .entry)) .room ⌝ }
     {
-        let c = close_of(o);
-        let s = say_of(o, self.line);
-        let n = self.close(c, k, room);
-        self.say(s, n, room)
+        let close = close_of(outcome);
+        let say = say_of(outcome, self.waiting);
+        let n = self.close(close, k, room);
+        self.say(say, n, room)
     }
 }

@@ -6,16 +6,16 @@ use Rattle.deciding.proofs.asked_again.Statement.{statement}
 use Rattle.deciding.proofs.asked_again.Tie as tie
 
 returns-3 : tie.Need-returns-3
-returns-3 c = phase-arm (2 ∷ 3 ∷ 4 ∷ []) _ (askedAgainBy (c .before .args .m) (c .before .args .same)) (search needs) (c .before .args .p) (c .match .keys2)
+returns-3 c = phase-arm (2 ∷ 3 ∷ 4 ∷ []) _ (askedAgainBy (c .before .args .mode) (c .before .args .same)) (search needs) (c .before .args .phase) (c .match .keys2)
 
 returns-4 : tie.Need-returns-4
-returns-4 c = rw (c .rule-c .ensures, c .before .before .p .given .1)
+returns-4 c = rw (c .rule-c .ensures, c .before .before .phase .given .1)
 
 returns-5 : tie.Need-returns-5
-returns-5 c = rw (c .rule-c2 .ensures, c .before .before .p2 .given .1)
+returns-5 c = rw (c .rule-c2 .ensures, c .before .before .phase2 .given .1)
 
 returns-6 : tie.Need-returns-6
-returns-6 c = phase-arm (0 ∷ 7 ∷ 8 ∷ []) _ (askedAgainBy (c .before .args .m) (c .before .args .same)) (search needs) (c .before .args .p) (c .match .keys5)
+returns-6 c = phase-arm (0 ∷ 7 ∷ 8 ∷ []) _ (askedAgainBy (c .before .args .mode) (c .before .args .same)) (search needs) (c .before .args .phase) (c .match .keys5)
 
 pub asked-again-spec : {M : Type 1} → statement M
 asked-again-spec =

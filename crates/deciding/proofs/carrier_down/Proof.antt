@@ -6,13 +6,13 @@ use Rattle.deciding.proofs.carrier_down.Statement.{statement}
 use Rattle.deciding.proofs.carrier_down.Tie as tie
 
 returns : tie.Need-returns
-returns c = rw (c .lost-from .ensures, c .before .before .p .given .1)
+returns c = rw (c .lost-from .ensures, c .before .before .phase .given .1)
 
 returns-2 : tie.Need-returns-2
-returns-2 c = rw (c .lost-from2 .ensures, c .before .before .p2 .given .1)
+returns-2 c = rw (c .lost-from2 .ensures, c .before .before .phase2 .given .1)
 
 returns-3 : tie.Need-returns-3
-returns-3 c = phase-arm (0 ∷ 1 ∷ 2 ∷ 3 ∷ 4 ∷ 7 ∷ 8 ∷ []) _ (downBy (c .before .args .t) (c .before .args .m)) (search needs) (c .before .args .p) (c .match .keys3)
+returns-3 c = phase-arm (0 ∷ 1 ∷ 2 ∷ 3 ∷ 4 ∷ 7 ∷ 8 ∷ []) _ (downBy (c .before .args .time) (c .before .args .mode)) (search needs) (c .before .args .phase) (c .match .keys3)
 
 pub carrier-down-spec : {M : Type 1} → statement M
 carrier-down-spec =

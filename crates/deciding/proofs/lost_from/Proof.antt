@@ -7,7 +7,7 @@ returns : tie.Need-returns
 returns c = rw (time-is _ _ (c .before .before .due-after .ensures), c .before .before .before .carrier-wait .ensures, c .enum-told .given .1)
 
 returns-2 : tie.Need-returns-2
-returns-2 c = rw (c .before .c .given .1)
+returns-2 c = rw (c .before .carrier .given .1)
 
 pub lost-from-spec : {M : Type 1} → statement M
 lost-from-spec =

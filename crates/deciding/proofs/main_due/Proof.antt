@@ -6,13 +6,13 @@ use Rattle.deciding.proofs.main_due.Statement.{statement}
 use Rattle.deciding.proofs.main_due.Tie as tie
 
 returns : tie.Need-returns
-returns c = phase-arm (1 ∷ 3 ∷ 4 ∷ []) _ mainDueBy (search needs) (c .before .args .p) (c .match .keys1)
+returns c = phase-arm (1 ∷ 3 ∷ 4 ∷ []) _ mainDueBy (search needs) (c .before .args .phase) (c .match .keys1)
 
 returns-3 : tie.Need-returns-3
 returns-3 c = rw (c .enum-told2 .given .1)
 
 returns-5 : tie.Need-returns-5
-returns-5 c = phase-arm (0 ∷ 6 ∷ 8 ∷ []) _ mainDueBy (search needs) (c .before .args .p) (c .match .keys5)
+returns-5 c = phase-arm (0 ∷ 6 ∷ 8 ∷ []) _ mainDueBy (search needs) (c .before .args .phase) (c .match .keys5)
 
 pub main-due-spec : {M : Type 1} → statement M
 main-due-spec =

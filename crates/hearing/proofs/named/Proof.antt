@@ -6,7 +6,7 @@ returns : tie.Need-returns
 returns c = λ mast. rw (c .enum-told .given .1)
 
 returns-2 : tie.Need-returns-2
-returns-2 c = λ mast. rw (c .before .before .f .given .1) (c .slot-named .ensures)
+returns-2 c = λ mast. rw (c .before .before .field .given .1) (c .slot-named .ensures)
 
 returns-3 : tie.Need-returns-3
 returns-3 c = λ mast. rw (c .enum-told2 .given .1)

@@ -8,7 +8,7 @@ use Rattle.searches.proofs.place_of.Statement.{statement}
 use Rattle.searches.proofs.place_of.Tie as tie
 
 returns : tie.Need-returns
-returns c = let x = c .before .args in c .place-from .ensures ∙ lowest-all (waitsFor (partyOf (x .ship) (x .station))) waitingView (x .m) (x .b)
+returns c = let x = c .before .args in c .place-from .ensures ∙ lowest-all (waitsFor (partyOf (x .ship) (x .station))) waitingView (x .waiting) (x .queue)
 
 pub place-of-spec : {M : Type 1} → statement M
 place-of-spec = tie.close (tie.spec (λ c κs. search needs) returns)

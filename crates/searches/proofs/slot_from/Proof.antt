@@ -21,16 +21,16 @@ loop-holds : tie.Need-loop-holds Inv-loop μ-loop
 loop-holds c = (search needs, c .least .ensures, refl)
 
 returns : tie.Need-returns Inv-loop μ-loop
-returns c = sym (c .before .before .before .before .loop .inv .2 ∙ lowest-hit slotView _ (c .before .before .before .before .before .before .args .n) (c .before .before .before .before .before .before .args .t1) (c .before .before .before .before .loop .i) noSlot (omega arith) (omega arith) (sym (c .before .is-of .ensures) ∙ c .if1 .taken))
+returns c = sym (c .before .before .before .before .loop .inv .2 ∙ lowest-hit slotView _ (c .before .before .before .before .before .before .args .count) (c .before .before .before .before .before .before .args .t1) (c .before .before .before .before .loop .i) noSlot (omega arith) (omega arith) (sym (c .before .is-of .ensures) ∙ c .if1 .taken))
 
 loop-less : tie.Need-loop-less Inv-loop μ-loop
 loop-less c = omega arith
 
 loop-again : tie.Need-loop-again Inv-loop μ-loop
-loop-again c = (search needs, c .before .before .before .before .loop .inv .1, c .before .before .before .before .loop .inv .2 ∙ lowest-miss slotView _ (c .before .before .before .before .before .before .args .n) (c .before .before .before .before .before .before .args .t1) (c .before .before .before .before .loop .i) noSlot (omega arith) (omega arith) (sym (c .before .is-of .ensures) ∙ c .if1 .left))
+loop-again c = (search needs, c .before .before .before .before .loop .inv .1, c .before .before .before .before .loop .inv .2 ∙ lowest-miss slotView _ (c .before .before .before .before .before .before .args .count) (c .before .before .before .before .before .before .args .t1) (c .before .before .before .before .loop .i) noSlot (omega arith) (omega arith) (sym (c .before .is-of .ensures) ∙ c .if1 .left))
 
 returns-2 : tie.Need-returns-2 Inv-loop μ-loop
-returns-2 c = sym (c .before .loop .inv .2 ∙ lowest-none slotView _ (c .before .before .before .args .n) (c .before .before .before .args .t1) (c .before .loop .i) (omega arith))
+returns-2 c = sym (c .before .loop .inv .2 ∙ lowest-none slotView _ (c .before .before .before .args .count) (c .before .before .before .args .t1) (c .before .loop .i) (omega arith))
 
 pub slot-from-spec : {M : Type 1} → statement M
 slot-from-spec =

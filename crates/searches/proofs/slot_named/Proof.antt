@@ -7,7 +7,7 @@ use Rattle.searches.proofs.slot_named.Statement.{statement}
 use Rattle.searches.proofs.slot_named.Tie as tie
 
 returns : tie.Need-returns
-returns c = let x = c .before .args in c .channel-from .ensures ∙ lowest-all (sameChannel (x .c)) channelOf (x .n) (x .a)
+returns c = let x = c .before .args in c .channel-from .ensures ∙ lowest-all (sameChannel (x .wanted)) channelOf (x .count) (x .slots)
 
 pub slot-named-spec : {M : Type 1} → statement M
 slot-named-spec = tie.close (tie.spec (λ c κs. search needs) returns)

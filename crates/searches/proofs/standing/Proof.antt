@@ -7,10 +7,10 @@ use Rattle.searches.proofs.standing.Statement.{statement}
 use Rattle.searches.proofs.standing.Tie as tie
 
 returns : tie.Need-returns
-returns c = let x = c .before .before .before .before .before .args in rw (← lowest-all (owns (partyOf (x .ship) (x .station))) slotView (x .n) (x .a), ← c .before .before .before .slot-from .ensures, c .before .s .given .1)
+returns c = let x = c .before .before .before .before .before .args in rw (← lowest-all (owns (partyOf (x .ship) (x .station))) slotView (x .count) (x .slots), ← c .before .before .before .slot-from .ensures, c .before .found .given .1)
 
 returns-2 : tie.Need-returns-2
-returns-2 c = let x = c .before .before .before .before .before .args in rw (← lowest-all (owns (partyOf (x .ship) (x .station))) slotView (x .n) (x .a), ← c .before .before .before .slot-from .ensures, c .before .enum-told .given .1, ← c .before .before .before .before .place-of .ensures, ← c .waiting-at .ensures)
+returns-2 c = let x = c .before .before .before .before .before .args in rw (← lowest-all (owns (partyOf (x .ship) (x .station))) slotView (x .count) (x .slots), ← c .before .before .before .slot-from .ensures, c .before .enum-told .given .1, ← c .before .before .before .before .place-of .ensures, ← c .waiting-at .ensures)
 
 pub standing-spec : {M : Type 1} → statement M
 standing-spec =

@@ -3,7 +3,7 @@ use Rattle.searches.proofs.waiting_at.Statement.{statement}
 use Rattle.searches.proofs.waiting_at.Tie as tie
 
 returns : tie.Need-returns
-returns c = rw (c .before .k .given .1)
+returns c = rw (c .before .place .given .1)
 
 returns-2 : tie.Need-returns-2
 returns-2 c = search needs

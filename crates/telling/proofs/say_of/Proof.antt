@@ -1,7 +1,7 @@
 use borrow.Author.Needs.{needs}
 use mathlib.Core.List.{[], _∷_}
 use Rattle.outcomes.proofs.ArmLaws.{outcome-arm}
-use Rattle.telling.specs.Told.{sayOf}
+use Rattle.telling.specs.Tells.{sayOf}
 use Rattle.telling.proofs.say_of.Statement.{statement}
 use Rattle.telling.proofs.say_of.Tie as tie
 
@@ -12,22 +12,22 @@ returns-2 : tie.Need-returns-2
 returns-2 c = rw (c .enum-told2 .given .1)
 
 returns-3 : tie.Need-returns-3
-returns-3 c = rw (c .free-say .ensures) (outcome-arm (5 ∷ 6 ∷ 7 ∷ 12 ∷ []) _ (sayOf (c .before .before .args .line)) (search needs) (c .before .before .args .o) (c .before .match .keys3))
+returns-3 c = rw (c .free-say .ensures) (outcome-arm (5 ∷ 6 ∷ 7 ∷ 12 ∷ []) _ (sayOf (c .before .before .args .waiting)) (search needs) (c .before .before .args .outcome) (c .before .match .keys3))
 
 returns-4 : tie.Need-returns-4
-returns-4 c = outcome-arm (10 ∷ 11 ∷ []) _ (sayOf (c .before .args .line)) (search needs) (c .before .args .o) (c .match .keys4)
+returns-4 c = outcome-arm (10 ∷ 11 ∷ []) _ (sayOf (c .before .args .waiting)) (search needs) (c .before .args .outcome) (c .match .keys4)
 
 returns-5 : tie.Need-returns-5
 returns-5 c = rw (c .enum-told3 .given .1)
 
 returns-6 : tie.Need-returns-6
-returns-6 c = outcome-arm (14 ∷ 15 ∷ []) _ (sayOf (c .before .args .line)) (search needs) (c .before .args .o) (c .match .keys6)
+returns-6 c = outcome-arm (14 ∷ 15 ∷ []) _ (sayOf (c .before .args .waiting)) (search needs) (c .before .args .outcome) (c .match .keys6)
 
 returns-7 : tie.Need-returns-7
-returns-7 c = rw (c .before .o .given .1)
+returns-7 c = rw (c .before .outcome .given .1)
 
 returns-8 : tie.Need-returns-8
-returns-8 c = outcome-arm (0 ∷ 1 ∷ 2 ∷ 8 ∷ 9 ∷ 17 ∷ []) _ (sayOf (c .before .args .line)) (search needs) (c .before .args .o) (c .match .keys8)
+returns-8 c = outcome-arm (0 ∷ 1 ∷ 2 ∷ 8 ∷ 9 ∷ 17 ∷ []) _ (sayOf (c .before .args .waiting)) (search needs) (c .before .args .outcome) (c .match .keys8)
 
 pub say-of-spec : {M : Type 1} → statement M
 say-of-spec =

@@ -3,7 +3,7 @@ use Rattle.outcomes.proofs.parts.entered.Statement.{statement}
 use Rattle.outcomes.proofs.parts.entered.Tie as tie
 
 returns-3 : tie.Need-returns-3
-returns-3 c = rw (c .before .line .given .1)
+returns-3 c = rw (c .before .change .given .1)
 
 returns-4 : tie.Need-returns-4
 returns-4 c = rw (c .before .enum-told3 .given .1) (c .asking .ensures)

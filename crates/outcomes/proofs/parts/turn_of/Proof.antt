@@ -7,7 +7,7 @@ use Rattle.outcomes.proofs.parts.turn_of.Statement.{statement}
 use Rattle.outcomes.proofs.parts.turn_of.Tie as tie
 
 returns : tie.Need-returns
-returns c = rw (c .before .o .given .1)
+returns c = rw (c .before .outcome .given .1)
 
 returns-2 : tie.Need-returns-2
 returns-2 c = rw (time-is _ _ (c .due-after .ensures), c .before .enum-told .given .1)
@@ -16,16 +16,16 @@ returns-3 : tie.Need-returns-3
 returns-3 c = rw (time-is _ _ (c .due-after2 .ensures), c .before .enum-told2 .given .1)
 
 returns-4 : tie.Need-returns-4
-returns-4 c = rw (time-is _ _ (c .due-after3 .ensures), c .before .told-of .ensures, c .before .before .before .o2 .given .1)
+returns-4 c = rw (time-is _ _ (c .due-after3 .ensures), c .before .told-of .ensures, c .before .before .before .outcome2 .given .1)
 
 returns-5 : tie.Need-returns-5
-returns-5 c = rw (time-is _ _ (c .due-after4 .ensures)) (outcome-arm (11 ∷ 13 ∷ []) _ (turnOf (c .before .before .args .t) (c .before .before .args .line)) (search needs) (c .before .before .args .o) (c .before .match .keys5))
+returns-5 c = rw (time-is _ _ (c .due-after4 .ensures)) (outcome-arm (11 ∷ 13 ∷ []) _ (turnOf (c .before .before .args .time) (c .before .before .args .waiting)) (search needs) (c .before .before .args .outcome) (c .before .match .keys5))
 
 returns-6 : tie.Need-returns-6
-returns-6 c = rw (c .free-turn .ensures) (outcome-arm (5 ∷ 6 ∷ 7 ∷ 12 ∷ []) _ (turnOf (c .before .before .args .t) (c .before .before .args .line)) (search needs) (c .before .before .args .o) (c .before .match .keys6))
+returns-6 c = rw (c .free-turn .ensures) (outcome-arm (5 ∷ 6 ∷ 7 ∷ 12 ∷ []) _ (turnOf (c .before .before .args .time) (c .before .before .args .waiting)) (search needs) (c .before .before .args .outcome) (c .before .match .keys6))
 
 returns-7 : tie.Need-returns-7
-returns-7 c = outcome-arm (0 ∷ 1 ∷ 9 ∷ 10 ∷ 14 ∷ 15 ∷ 16 ∷ 17 ∷ []) _ (turnOf (c .before .args .t) (c .before .args .line)) (search needs) (c .before .args .o) (c .match .keys7)
+returns-7 c = outcome-arm (0 ∷ 1 ∷ 9 ∷ 10 ∷ 14 ∷ 15 ∷ 16 ∷ 17 ∷ []) _ (turnOf (c .before .args .time) (c .before .args .waiting)) (search needs) (c .before .args .outcome) (c .match .keys7)
 
 pub turn-of-spec : {M : Type 1} → statement M
 turn-of-spec =

@@ -18,13 +18,13 @@ unfolding wholeAt ownOf setClock requestOf
 returns c =
     let z = c .before .before .before .before in
     let x = z .args in
-    let i = x .i .0 in
+    let i = x .slot .0 in
     let y = slotOf (x .self) i in
     let r = requestOf (y .request) in
-    let q = requestOf (x .q) in
-    let st : R.Station = setClock (x .t .0) (modelOf (x .self)) in
+    let q = requestOf (x .request) in
+    let st : R.Station = setClock (x .time .0) (modelOf (x .self)) in
     rw (c .bq .ensures, c .before .is-by .ensures, c .before .before .before .slot-at .ensures)
-    (ends-there i r q _ st (bq-ends (is (q .who) (r .who)) (x .t) (y .phase))
+    (ends-there i r q _ st (bq-ends (is (q .who) (r .who)) (x .time) (y .phase))
     ∙ bq-is i st r q (q .who) (is (q .who) (r .who)) refl (z .pre) (y .phase)
     ∙ ap (bqFor i (q .who) st) (slot-view (x .self) i))
 

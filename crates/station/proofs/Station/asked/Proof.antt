@@ -15,25 +15,25 @@ returns : tie.Need-returns
 unfolding modelOf setClock requestOf standing requested wholeAt
 returns c =
     let x = c .before .before .before .before .before .before .args in
-    let st : R.Station = setClock (x .t .0) (modelOf (x .self)) in
+    let st : R.Station = setClock (x .time .0) (modelOf (x .self)) in
     let h = rw (c .before .enum-told .given .1) at (c .before .before .before .standing .ensures) in
-    ends-there _ _ _ _ st (c .newcomer .ensures .1) ∙ c .newcomer .ensures .0 (x .t .0) _ _ ∙ ap (requested st (requestOf (x .q))) h
+    ends-there _ _ _ _ st (c .newcomer .ensures .1) ∙ c .newcomer .ensures .0 (x .time .0) _ _ ∙ ap (requested st (requestOf (x .request))) h
 
 returns-2 : tie.Need-returns-2
 unfolding modelOf setClock requestOf standing
 returns-2 c =
     let x = c .before .before .before .before .before .before .before .args in
-    let st : R.Station = setClock (x .t .0) (modelOf (x .self)) in
-    let h = rw (c .before .before .w .given .1) at (c .before .before .before .before .standing .ensures) in
-    c .asked-again .ensures ∙ ap (requested st (requestOf (x .q))) h
+    let st : R.Station = setClock (x .time .0) (modelOf (x .self)) in
+    let h = rw (c .before .before .stands .given .1) at (c .before .before .before .before .standing .ensures) in
+    c .asked-again .ensures ∙ ap (requested st (requestOf (x .request))) h
 
 returns-3 : tie.Need-returns-3
 unfolding modelOf setClock requestOf standing requested wholeAt wholeOf outOf
 returns-3 c =
     let x = c .before .before .before .before .before .before .args in
-    let st : R.Station = setClock (x .t .0) (modelOf (x .self)) in
-    let h = rw (c .before .w2 .given .1) at (c .before .before .before .standing .ensures) in
-    ap (requested st (requestOf (x .q))) h
+    let st : R.Station = setClock (x .time .0) (modelOf (x .self)) in
+    let h = rw (c .before .stands2 .given .1) at (c .before .before .before .standing .ensures) in
+    ap (requested st (requestOf (x .request))) h
 
 pub asked-spec : {M : Type 1} → statement M
 asked-spec =

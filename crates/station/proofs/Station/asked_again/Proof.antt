@@ -15,12 +15,12 @@ returns : tie.Need-returns
 unfolding wholeAt ownOf requested setClock requestOf
 returns c =
     let x = c .before .before .before .before .args in
-    let i = x .i .0 in
+    let i = x .slot .0 in
     let y = slotOf (x .self) i in
-    let st : R.Station = setClock (x .t .0) (modelOf (x .self)) in
+    let st : R.Station = setClock (x .time .0) (modelOf (x .self)) in
     rw (c .asked-again .ensures, c .before .same-request .ensures, c .before .before .before .slot-at .ensures)
-    (asked-again-is i st (requestOf (y .request)) (requestOf (x .q)) (y .request .mode) refl (same (requestOf (x .q)) (requestOf (y .request))) refl (y .phase)
-    ∙ ap (λ z. bOrC i z st (requestOf (x .q))) (slot-view (x .self) i))
+    (asked-again-is i st (requestOf (y .request)) (requestOf (x .request)) (y .request .mode) refl (same (requestOf (x .request)) (requestOf (y .request))) refl (y .phase)
+    ∙ ap (λ z. bOrC i z st (requestOf (x .request))) (slot-view (x .self) i))
 
 pub asked-again-spec : {M : Type 1} → statement M
 asked-again-spec = tie.close (tie.spec (λ c κs. search needs) (λ c κs. search needs) (λ c κs. search needs) returns)

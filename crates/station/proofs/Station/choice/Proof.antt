@@ -21,7 +21,7 @@ returns-2 c = rw (c .enum-told2 .given .1) refl
 
 returns-3 : tie.Need-returns-3
 unfolding heardOn70 setClock
-returns-3 c = rw (c .before .before .k .given .1) (c .agreed .ensures)
+returns-3 c = rw (c .before .before .kind .given .1) (c .agreed .ensures)
 
 returns-4 : tie.Need-returns-4
 unfolding wholeAt wholeOf outOf heardOn70

@@ -19,22 +19,22 @@ use Rattle.slots.proofs.QueueLaws.{gap-moves, gap-last}
 use Rattle.slots.proofs.TidyLaws.{doneFrom, none-done, done-length, done-at, done-used, done-unused}
 use Rattle.due_times.specs.Joins.{joinDue, queueJoined}
 use Rattle.due_times.proofs.DueLaws.{slots-down, slots-none, queue-down, queue-none}
-use Rattle.outcomes.specs.declared.Line.{Line}
+use Rattle.outcomes.specs.declared.QueueChange.{QueueChange}
 use Rattle.outcomes.specs.declared.Turn.{Turn}
-use Rattle.outcomes.specs.Does.{turnOf, lined, turned, applied}
+use Rattle.outcomes.specs.Does.{turnOf, requeued, turned, applied}
 use Rattle.telling.specs.declared.Scene.{Scene}
-use Rattle.telling.specs.Told.{sceneView}
+use Rattle.telling.specs.Tells.{sceneView}
 use Rattle.station.specs.declared.Station.{Station}
 use Rattle.station.specs.Model.{modelOf, configOf}
 use Rattle.station.specs.Pieces.{slotOf}
 use Rattle.station.specs.Changes.{slotTurned, leavingOf, lengthAfter}
 use Rattle.outcomes.specs.Does.{enteredOf}
 use Rattle.station.proofs.Longs.{slots-long, queue-long}
-use Rattle.station.proofs.PlaceLaws.{slot-in, slot-past, oldest-in, oldest-past, line-length}
-use Rattle.station.proofs.ApplyLaws.{lined-slots, moved-is}
-use Rattle.station.proofs.ChangeLaws.{slots-written, channels-written, slots-kept, queue-written, queue-kept, line-fits}
+use Rattle.station.proofs.PlaceLaws.{slot-in, slot-past, oldest-in, oldest-past, queue-length}
+use Rattle.station.proofs.ApplyLaws.{requeued-slots, moved-is}
+use Rattle.station.proofs.ChangeLaws.{slots-written, channels-written, slots-kept, queue-written, queue-kept, queue-fits}
 use Rattle.station.proofs.FinishLaws.{done-again, done-whole, image-is, due-is}
-use Rattle.station.proofs.SceneLaws.{Shows, shows, line-is, enacts}
+use Rattle.station.proofs.SceneLaws.{Shows, shows, queue-is, enacts}
 use borrow.Author.Needs.{needs}
 use Rattle.station.proofs.Station.enact.Statement.{statement}
 use Rattle.station.proofs.Station.enact.Tie as tie
@@ -43,12 +43,12 @@ use Rattle.station.proofs.Station.enact.Tie as tie
 
 -- the gap moves to the end of the queue
 abbrev Inv-loop : tie.InvT-loop
-Inv-loop t o q k room self₀ slots waiting blank nobody told line j₀ self j =
+Inv-loop t o q k room self₀ slots waiting blank nobody told change j₀ self j =
     (self .mast ≡ self₀ .mast) × (self .slots ≡ self₀ .slots) × (length (self .queue) ≡ 32) × (waiting ≤ 32) × (j < 256)
     × (dropAt j (viewed waitingView waiting (self .queue)) ≡ dropAt j₀ (viewed waitingView waiting (self₀ .queue)))
 
 abbrev μ-loop : tie.MeasureT-loop
-μ-loop t o q k room self₀ slots waiting blank nobody told line j₀ self j = waiting - j
+μ-loop t o q k room self₀ slots waiting blank nobody told change j₀ self j = waiting - j
 
 -- the slots laid out anew from n on, first the unused ones
 abbrev Inv-loop2 : tie.InvT-loop2
@@ -103,8 +103,8 @@ Closing = tie.At-loop Inv-loop μ-loop Inv-loop2 μ-loop2 Inv-loop3 μ-loop3 Inv
 abbrev Closed : Type 0
 Closed = tie.After-loop Inv-loop μ-loop Inv-loop2 μ-loop2 Inv-loop3 μ-loop3 Inv-loop4 μ-loop4 Inv-loop5 μ-loop5
 
-abbrev Lined : Type 0
-Lined = tie.Joined4 Inv-loop μ-loop Inv-loop2 μ-loop2 Inv-loop3 μ-loop3 Inv-loop4 μ-loop4 Inv-loop5 μ-loop5
+abbrev Requeued : Type 0
+Requeued = tie.Joined4 Inv-loop μ-loop Inv-loop2 μ-loop2 Inv-loop3 μ-loop3 Inv-loop4 μ-loop4 Inv-loop5 μ-loop5
 
 abbrev Blanking : Type 0
 Blanking = tie.At-loop2 Inv-loop μ-loop Inv-loop2 μ-loop2 Inv-loop3 μ-loop3 Inv-loop4 μ-loop4 Inv-loop5 μ-loop5
@@ -118,11 +118,11 @@ read c = c .before .before .before .before .before .before .before .before .befo
 abbrev turned′ : Closed → Turned
 turned′ c = c .before .before .before
 
-abbrev closed : Lined → Closed
+abbrev closed : Requeued → Closed
 closed c = c .before .before .before
 
-abbrev lined′ : Blanking → Lined
-lined′ c = c .before .before
+abbrev requeued′ : Blanking → Requeued
+requeued′ c = c .before .before
 
 -- ── what is read ──
 
@@ -170,11 +170,11 @@ scene c =
       own = c .before .if1 .x .request;
       asked = start c .args .q;
       oldest = c .if2 .w .request;
-      line = waiting c;
+      waiting = waiting c;
     }
 
 shown : (c : Read) → Shows (own c) (start c .args .t) (start c .args .i) (requestOf (start c .args .q)) (scene c)
-shown c = shows (own c) (start c .args .t) (start c .args .i) (start c .args .q) (c .before .if1 .x) (c .if2 .w) (waiting c) (slot-is c) (oldest-is c) (waiting-is c ∙ line-length (own c) (long c))
+shown c = shows (own c) (start c .args .t) (start c .args .i) (start c .args .q) (c .before .if1 .x) (c .if2 .w) (waiting c) (slot-is c) (oldest-is c) (waiting-is c ∙ queue-length (own c) (long c))
 
 -- the model at the event's time
 abbrev before′ : Read → R.Station
@@ -182,14 +182,14 @@ before′ c = setClock (start c .args .t .0) (modelOf (own c))
 
 -- ── the slot ──
 
-abbrev line : Turned → Line
-line c = c .before .before .before .line-of .result
+abbrev change : Turned → QueueChange
+change c = c .before .before .before .queue-change .result
 
 abbrev turn : Turned → Turn
 turn c = c .before .before .turn-of .result
 
 abbrev during : Turned → R.Station
-during c = lined (sceneView (scene (read c))) (line c) (before′ (read c))
+during c = requeued (sceneView (scene (read c))) (change c) (before′ (read c))
 
 slots-seen : (c : Turned) → viewed slotView (slots (read c)) (own (read c) .slots) ≡ during c .slots
 unfolding modelOf setClock
@@ -197,7 +197,7 @@ slots-seen c =
     let r = read c in
     let s = own r in
     let n : slots r ≡ min (s .count) (length (s .slots)) = omega (arith, slots-is r, wide r) in
-    ap (λ z. viewed slotView z (s .slots)) n ∙ viewed-min slotView (s .count) (s .slots) ∙ sym (lined-slots (sceneView (scene r)) (line c) (before′ r))
+    ap (λ z. viewed slotView z (s .slots)) n ∙ viewed-min slotView (s .count) (s .slots) ∙ sym (requeued-slots (sceneView (scene r)) (change c) (before′ r))
 
 slot-there : (c : Turned) → start (read c) .args .i .0 < slots (read c) → c .before .before .before .before .before .before .before .before .before .before .before .before .if1 .x ≡ getD (own (read c) .slots) (start (read c) .args .i .0) noSlot
 slot-there c h = let r = read c in slot-is r ∙ sym (slot-in (own r) (wide r) (start r .args .i .0) (omega (arith, slots-is r)))
@@ -235,15 +235,15 @@ turned-channels c =
 
 -- ── the queue ──
 
-abbrev kept : Lined → ℕ
+abbrev kept : Requeued → ℕ
 kept c = c .before .before .least3 .result
 
-abbrev left-in : Lined → Station
+abbrev left-in : Requeued → Station
 left-in c = closed c .before .loop .self
 
-line-left : (c : Lined) → viewed waitingView (kept c) (left-in c .queue) ≡ dropAt (leavingOf (length (before′ (read (turned′ (closed c))) .queue)) (line (turned′ (closed c)))) (before′ (read (turned′ (closed c))) .queue)
+queue-left : (c : Requeued) → viewed waitingView (kept c) (left-in c .queue) ≡ dropAt (leavingOf (length (before′ (read (turned′ (closed c))) .queue)) (change (turned′ (closed c)))) (before′ (read (turned′ (closed c))) .queue)
 unfolding modelOf setClock
-line-left c =
+queue-left c =
     let t = turned′ (closed c) in
     let r = read t in
     let s = own r in
@@ -253,11 +253,11 @@ line-left c =
     ∙ gap-last waitingView (waiting r) (l .self .queue) (l .j) (closed c .loop-test .left)
     ∙ l .inv .5
     ∙ ap (λ z. dropAt z (viewed waitingView (waiting r) (t .if3 .self .queue))) (closed c .before .before .leaving .ensures)
-    ∙ ap (λ z. dropAt (leavingOf (waiting r) (line t)) (viewed waitingView (waiting r) z)) (turned-queue t)
-    ∙ ap (λ z. dropAt (leavingOf (waiting r) (line t)) z) (ap (λ z. viewed waitingView z (s .queue)) m ∙ viewed-min waitingView (s .waiting) (s .queue))
-    ∙ ap (λ z. dropAt (leavingOf z (line t)) (viewed waitingView (s .waiting) (s .queue))) (waiting-is r ∙ line-length s (long r))
+    ∙ ap (λ z. dropAt (leavingOf (waiting r) (change t)) (viewed waitingView (waiting r) z)) (turned-queue t)
+    ∙ ap (λ z. dropAt (leavingOf (waiting r) (change t)) z) (ap (λ z. viewed waitingView z (s .queue)) m ∙ viewed-min waitingView (s .waiting) (s .queue))
+    ∙ ap (λ z. dropAt (leavingOf z (change t)) (viewed waitingView (s .waiting) (s .queue))) (waiting-is r ∙ queue-length s (long r))
 
-fits : (c : Lined) → lengthAfter (kept c) (line (turned′ (closed c))) ≤ 32
+fits : (c : Requeued) → lengthAfter (kept c) (change (turned′ (closed c))) ≤ 32
 fits c =
     let t = turned′ (closed c) in
     let r = read t in
@@ -265,48 +265,48 @@ fits c =
     let x = z .args in
     let l = closed c .before .loop in
     let k : kept c ≤ 32 = omega (arith, c .before .before .least3 .ensures, l .inv .3) in
-    let e = line-is (own r) (x .t) (x .i) (requestOf (x .q)) (scene r) (x .o) (z .pre .0) (shown r) in
-    line-fits (scene r) (kept c) (l .self .queue) (before′ r) (l .inv .2) (line t) (line-left c) k
-    (rw (e ∙ ap (λ y. lined (sceneView (scene r)) y (before′ r) .queue) (sym (t .before .before .before .line-of .ensures))) at (z .pre .1))
+    let e = queue-is (own r) (x .t) (x .i) (requestOf (x .q)) (scene r) (x .o) (z .pre .0) (shown r) in
+    queue-fits (scene r) (kept c) (l .self .queue) (before′ r) (l .inv .2) (change t) (queue-left c) k
+    (rw (e ∙ ap (λ y. requeued (sceneView (scene r)) y (before′ r) .queue) (sym (t .before .before .before .queue-change .ensures))) at (z .pre .1))
 
-lined-mast : (c : Lined) → c .if4 .self .mast ≡ own (read (turned′ (closed c))) .mast
-lined-mast c =
+requeued-mast : (c : Requeued) → c .if4 .self .mast ≡ own (read (turned′ (closed c))) .mast
+requeued-mast c =
     ⊎-elim (λ v. ap (λ (z : Station). z .mast) (v .3)) (λ v. ap (λ (z : Station). z .mast) (v .1)) (c .if4 .came)
     ∙ closed c .before .loop .inv .0
     ∙ turned-mast (turned′ (closed c))
 
-lined-slots-are : (c : Lined) → c .if4 .self .slots ≡ turned′ (closed c) .if3 .self .slots
-lined-slots-are c =
+requeued-slots-are : (c : Requeued) → c .if4 .self .slots ≡ turned′ (closed c) .if3 .self .slots
+requeued-slots-are c =
     ⊎-elim (λ v. ap (λ (z : Station). z .slots) (v .3)) (λ v. ap (λ (z : Station). z .slots) (v .1)) (c .if4 .came) ∙ closed c .before .loop .inv .1
 
-lined-long : (c : Lined) → length (c .if4 .self .queue) ≡ 32
-lined-long c =
+requeued-long : (c : Requeued) → length (c .if4 .self .queue) ≡ 32
+requeued-long c =
     let h = closed c .before .loop .inv .2 in
     ⊎-elim
     (λ v. ap (λ (z : Station). length (z .queue)) (v .3) ∙ length-set (left-in c .queue) (c .before .entry-place .result) (v .2 .result) ∙ h)
     (λ v. ap (λ (z : Station). length (z .queue)) (v .1) ∙ h)
     (c .if4 .came)
 
-lined-queue : (c : Lined) → viewed waitingView (lengthAfter (kept c) (line (turned′ (closed c)))) (c .if4 .self .queue) ≡ during (turned′ (closed c)) .queue
-lined-queue c =
+requeued-queue : (c : Requeued) → viewed waitingView (lengthAfter (kept c) (change (turned′ (closed c)))) (c .if4 .self .queue) ≡ during (turned′ (closed c)) .queue
+requeued-queue c =
     let t = turned′ (closed c) in
     let r = read t in
     let l = closed c .before .loop in
-    let n = lengthAfter (kept c) (line t) in
+    let n = lengthAfter (kept c) (change t) in
     let p = c .before .entry-place .ensures in
     ⊎-elim
     (λ v.
     ap (λ (z : Station). viewed waitingView n (z .queue)) (v .3)
     ∙ ap (λ z. viewed waitingView n (set (l .self .queue) (c .before .entry-place .result) z)) (v .2 .ensures)
-    ∙ ap (λ z. viewed waitingView n (set (l .self .queue) z (enteredOf (start r .args .q) (getD (l .self .queue) z noWaiting) (line t)))) p
-    ∙ queue-written (scene r) (kept c) (l .self .queue) (before′ r) (l .inv .2) (line t) (line-left c) (fits c) (rw p at (v .0 .taken)))
-    (λ v. ap (λ (z : Station). viewed waitingView n (z .queue)) (v .1) ∙ queue-kept (scene r) (kept c) (l .self .queue) (before′ r) (l .inv .2) (line t) (line-left c) (fits c) (rw p at (v .0 .left)))
+    ∙ ap (λ z. viewed waitingView n (set (l .self .queue) z (enteredOf (start r .args .q) (getD (l .self .queue) z noWaiting) (change t)))) p
+    ∙ queue-written (scene r) (kept c) (l .self .queue) (before′ r) (l .inv .2) (change t) (queue-left c) (fits c) (rw p at (v .0 .taken)))
+    (λ v. ap (λ (z : Station). viewed waitingView n (z .queue)) (v .1) ∙ queue-kept (scene r) (kept c) (l .self .queue) (before′ r) (l .inv .2) (change t) (queue-left c) (fits c) (rw p at (v .0 .left)))
     (c .if4 .came)
 
 -- ── the station that is laid out anew ──
 
 abbrev from : Blanking → Read
-from c = read (turned′ (closed (lined′ c)))
+from c = read (turned′ (closed (requeued′ c)))
 
 abbrev after : Blanking → ℕ
 after c = c .before .length-after .result
@@ -315,44 +315,44 @@ abbrev next : Blanking → Station
 next c =
     record {
       clock = start (from c) .args .t;
-      mast = lined′ c .if4 .self .mast;
+      mast = requeued′ c .if4 .self .mast;
       count = slots (from c);
       waiting = after c;
-      slots = lined′ c .if4 .self .slots;
-      queue = lined′ c .if4 .self .queue;
+      slots = requeued′ c .if4 .self .slots;
+      queue = requeued′ c .if4 .self .queue;
     }
 
 few : (c : Blanking) → slots (from c) ≤ 16
 few c = omega (arith, slots-is (from c))
 
 after-fits : (c : Blanking) → after c ≤ 32
-after-fits c = rw (c .before .length-after .ensures) (fits (lined′ c))
+after-fits c = rw (c .before .length-after .ensures) (fits (requeued′ c))
 
-next-wide : (c : Blanking) → length (lined′ c .if4 .self .slots) ≡ 16
-next-wide c = ap length (lined-slots-are (lined′ c)) ∙ turned-wide (turned′ (closed (lined′ c)))
+next-wide : (c : Blanking) → length (requeued′ c .if4 .self .slots) ≡ 16
+next-wide c = ap length (requeued-slots-are (requeued′ c)) ∙ turned-wide (turned′ (closed (requeued′ c)))
 
 moved : (c : Blanking) → modelOf (next c) ≡ applied (sceneView (scene (from c))) (start (from c) .args .o) (before′ (from c)) .next
 unfolding modelOf setClock sceneView
 moved c =
-    let l = lined′ c in
+    let l = requeued′ c in
     let t = turned′ (closed l) in
     let r = from c in
     moved-is (sceneView (scene r)) (start r .args .o) (before′ r) (modelOf (next c)) refl
-    (ap (viewed slotView (slots r)) (lined-slots-are l) ∙ turned-slots t
+    (ap (viewed slotView (slots r)) (requeued-slots-are l) ∙ turned-slots t
     ∙ ap (λ y. turned (sceneView (scene r)) y (during t) .slots) (t .before .before .turn-of .ensures)
-    ∙ ap (λ y. turned (sceneView (scene r)) (turnOf (start r .args .t) (waiting r) (start r .args .o)) (lined (sceneView (scene r)) y (before′ r)) .slots) (t .before .before .before .line-of .ensures))
-    (ap (λ n. viewed waitingView n (l .if4 .self .queue)) (c .before .length-after .ensures) ∙ lined-queue l
-    ∙ ap (λ y. lined (sceneView (scene r)) y (before′ r) .queue) (t .before .before .before .line-of .ensures))
+    ∙ ap (λ y. turned (sceneView (scene r)) (turnOf (start r .args .t) (waiting r) (start r .args .o)) (requeued (sceneView (scene r)) y (before′ r)) .slots) (t .before .before .before .queue-change .ensures))
+    (ap (λ n. viewed waitingView n (l .if4 .self .queue)) (c .before .length-after .ensures) ∙ requeued-queue l
+    ∙ ap (λ y. requeued (sceneView (scene r)) y (before′ r) .queue) (t .before .before .before .queue-change .ensures))
 
 kept-config : (c : Blanking) → configOf (next c) ≡ configOf (own (from c))
 unfolding configOf
 kept-config c =
-    let l = lined′ c in
+    let l = requeued′ c in
     let r = from c in
     let s = own r in
     let n : slots r ≡ min (s .count) (length (s .slots)) = omega (arith, slots-is r, wide r) in
-    ap (λ z. onMast z (viewed channelOf (slots r) (l .if4 .self .slots))) (lined-mast l)
-    ∙ ap (onMast (s .mast)) (ap (viewed channelOf (slots r)) (lined-slots-are l) ∙ turned-channels (turned′ (closed l)) ∙ ap (λ z. viewed channelOf z (s .slots)) n ∙ viewed-min channelOf (s .count) (s .slots))
+    ap (λ z. onMast z (viewed channelOf (slots r) (l .if4 .self .slots))) (requeued-mast l)
+    ∙ ap (onMast (s .mast)) (ap (viewed channelOf (slots r)) (requeued-slots-are l) ∙ turned-channels (turned′ (closed l)) ∙ ap (λ z. viewed channelOf z (s .slots)) n ∙ viewed-min channelOf (s .count) (s .slots))
 
 -- ── the indices ──
 
@@ -438,7 +438,7 @@ loop2-holds : tie.Need-loop2-holds Inv-loop μ-loop Inv-loop2 μ-loop2 Inv-loop3
 loop2-holds c =
     let l = c .before in
     let r = read (turned′ (closed l)) in
-    let w = ap length (lined-slots-are l) ∙ turned-wide (turned′ (closed l)) in
+    let w = ap length (requeued-slots-are l) ∙ turned-wide (turned′ (closed l)) in
     (refl, refl, refl, refl, refl, omega (arith, slots-is r), omega arith, none-done tidySlot blankSlot (slots r) (l .if4 .self .slots) 16 (omega (arith, w)))
 
 loop2-less : tie.Need-loop2-less Inv-loop μ-loop Inv-loop2 μ-loop2 Inv-loop3 μ-loop3 Inv-loop4 μ-loop4 Inv-loop5 μ-loop5
@@ -524,7 +524,7 @@ seen-queue : (c : Seen) → c .before .loop3 .self .queue ≡ next (c .before .b
 seen-queue c = c .before .loop3 .inv .4 ∙ c .before .before .before .loop2 .inv .4
 
 seen-long : (c : Seen) → length (c .before .loop3 .self .queue) ≡ 32
-seen-long c = ap length (seen-queue c) ∙ lined-long (lined′ (c .before .before .before))
+seen-long c = ap length (seen-queue c) ∙ requeued-long (requeued′ (c .before .before .before))
 
 loop4-holds : tie.Need-loop4-holds Inv-loop μ-loop Inv-loop2 μ-loop2 Inv-loop3 μ-loop3 Inv-loop4 μ-loop4 Inv-loop5 μ-loop5
 loop4-holds c =
@@ -568,7 +568,7 @@ emptied-queue c =
     ∙ ap (λ z. doneFrom tidyWaiting blankWaiting (after (blanking c)) z (after (blanking c))) (seen-queue (c .before .before))
 
 emptied-long : (c : Emptied) → length (c .before .loop4 .self .queue) ≡ 32
-emptied-long c = ap length (emptied-queue c) ∙ done-length tidyWaiting blankWaiting _ _ _ ∙ lined-long (lined′ (blanking c))
+emptied-long c = ap length (emptied-queue c) ∙ done-length tidyWaiting blankWaiting _ _ _ ∙ requeued-long (requeued′ (blanking c))
 
 loop5-holds : tie.Need-loop5-holds Inv-loop μ-loop Inv-loop2 μ-loop2 Inv-loop3 μ-loop3 Inv-loop4 μ-loop4 Inv-loop5 μ-loop5
 loop5-holds c =
@@ -618,7 +618,7 @@ loop5-again c =
     )
 
 same-length : tie.Need-same-length Inv-loop μ-loop Inv-loop2 μ-loop2 Inv-loop3 μ-loop3 Inv-loop4 μ-loop4 Inv-loop5 μ-loop5
-same-length c = let h = turned′ (closed (lined′ (blanking (c .before .before .before .before)))) .before .before .before .before .before .room .given in search needs
+same-length c = let h = turned′ (closed (requeued′ (blanking (c .before .before .before .before)))) .before .before .before .before .before .room .given in search needs
 
 returns : tie.Need-returns Inv-loop μ-loop Inv-loop2 μ-loop2 Inv-loop3 μ-loop3 Inv-loop4 μ-loop4 Inv-loop5 μ-loop5
 returns c =
@@ -637,12 +637,12 @@ returns c =
     let d3 : l3 .n ≡ 0 = omega (arith, e .before .before .loop3-test .left) in
     let slots-done = l4 .inv .4 ∙ l3 .inv .8 ∙ ap (doneFrom tidySlot blankSlot (slots r) (l2 .self .slots)) d3 in
     let queue-done = l5 .inv .8 ∙ ap (doneFrom tidyWaiting blankWaiting (after b) (l4 .self .queue)) d5 in
-    let image = image-is n (few b) (after-fits b) (next-wide b) (lined-long (lined′ b)) (l5 .self) (l5 .inv .0 ∙ l4 .inv .0 ∙ l3 .inv .0 ∙ l2 .inv .0) (l5 .inv .1 ∙ l4 .inv .1 ∙ l3 .inv .1 ∙ l2 .inv .1) (l5 .inv .2 ∙ l4 .inv .2 ∙ l3 .inv .2 ∙ l2 .inv .2) (l5 .inv .3 ∙ l4 .inv .3 ∙ l3 .inv .3 ∙ l2 .inv .3)
+    let image = image-is n (few b) (after-fits b) (next-wide b) (requeued-long (requeued′ b)) (l5 .self) (l5 .inv .0 ∙ l4 .inv .0 ∙ l3 .inv .0 ∙ l2 .inv .0) (l5 .inv .1 ∙ l4 .inv .1 ∙ l3 .inv .1 ∙ l2 .inv .1) (l5 .inv .2 ∙ l4 .inv .2 ∙ l3 .inv .2 ∙ l2 .inv .2) (l5 .inv .3 ∙ l4 .inv .3 ∙ l3 .inv .3 ∙ l2 .inv .3)
     (done-whole tidySlot blankSlot (slots r) 16 (n .slots) (l2 .self .slots) (l5 .self .slots) (blanked-slots bl) (l5 .inv .4 ∙ slots-done) (next-wide b))
-    (done-whole tidyWaiting blankWaiting (after b) 32 (n .queue) (l4 .self .queue) (l5 .self .queue) (emptied-queue e) queue-done (lined-long (lined′ b))) in
-    let due = due-is n (few b) (after-fits b) (next-wide b) (lined-long (lined′ b)) (l2 .self .slots) (l4 .self .queue) (l3 .d) (l5 .d) (blanked-slots bl) (emptied-queue e)
+    (done-whole tidyWaiting blankWaiting (after b) 32 (n .queue) (l4 .self .queue) (l5 .self .queue) (emptied-queue e) queue-done (requeued-long (requeued′ b))) in
+    let due = due-is n (few b) (after-fits b) (next-wide b) (requeued-long (requeued′ b)) (l2 .self .slots) (l4 .self .queue) (l3 .d) (l5 .d) (blanked-slots bl) (emptied-queue e)
     (rw d3 at (l3 .inv .9)) (rw d5 at (l5 .inv .9)) in
-    enacts (own r) (x .t) (x .i) (requestOf (x .q)) (scene r) (x .o) (z .pre .0) (shown r) n (moved b, kept-config b) (x .k) _ (now (x .room)) _ (turned′ (closed (lined′ b)) .before .before .before .before .before .before .tell .ensures) _ (c .before .answer-of .ensures) _
+    enacts (own r) (x .t) (x .i) (requestOf (x .q)) (scene r) (x .o) (z .pre .0) (shown r) n (moved b, kept-config b) (x .k) _ (now (x .room)) _ (turned′ (closed (requeued′ b)) .before .before .before .before .before .before .tell .ensures) _ (c .before .answer-of .ensures) _
     (rw (c .due-time .ensures ∙ due, image))
 
 cast-before : tie.Need-cast-before Inv-loop μ-loop Inv-loop2 μ-loop2 Inv-loop3 μ-loop3 Inv-loop4 μ-loop4 Inv-loop5 μ-loop5

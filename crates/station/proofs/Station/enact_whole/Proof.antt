@@ -13,8 +13,8 @@ go-on-requires c κs =
 
 -- nothing goes on
 alone : (b : tie.After-enact-arg)
-    → wholeAt (b .before .before .before .before .before .args .self) (b .before .before .before .before .before .args .t) (b .before .before .before .before .before .args .c .slot) (requestOf (b .before .before .before .before .before .args .q)) (b .before .before .before .before .before .args .c .outcome)
-    ≡ outAt (b .before .before .before .before .before .args .self) (b .before .before .before .before .before .args .t) (b .before .before .before .before .before .args .c .slot) (requestOf (b .before .before .before .before .before .args .q)) (b .before .before .before .before .before .args .c .outcome)
+    → wholeAt (b .before .before .before .before .before .args .self) (b .before .before .before .before .before .args .time) (b .before .before .before .before .before .args .choice .slot) (requestOf (b .before .before .before .before .before .args .request)) (b .before .before .before .before .before .args .choice .outcome)
+    ≡ outAt (b .before .before .before .before .before .args .self) (b .before .before .before .before .before .args .time) (b .before .before .before .before .before .args .choice .slot) (requestOf (b .before .before .before .before .before .args .request)) (b .before .before .before .before .before .args .choice .outcome)
 alone b = ended _ _ _ _ _ (sym (b .before .before .before .goes-on .ensures) ∙ b .before .before .if1 .left)
 
 enact-requires : tie.Need-enact-requires

@@ -9,7 +9,7 @@ use Rattle.station.specs.Model.{modelOf, configOf}
 use Rattle.station.specs.Step.{eventAt, refusal}
 use Rattle.station.specs.Pieces.{wholeAt}
 use Rattle.station.proofs.GateLaws.{passed, asked-now, one-more-now}
-use Rattle.station.proofs.StepLaws.{refused-is, line-fits, accepted-is}
+use Rattle.station.proofs.StepLaws.{refused-is, queue-fits, accepted-is}
 use Rattle.station.proofs.EventLaws.{heard-is}
 use borrow.Author.Needs.{needs}
 use Rattle.station.proofs.Station.heard_on_channel_70.Statement.{statement}
@@ -50,7 +50,7 @@ enact-whole-requires c κs =
     let b = told c in
     let x = start b .args in
     let p = passed (x .self) (event (start b)) (accepted b) in
-    (p .time, (p .sounds, line-fits (x .self) (x .room .now) (event (start b)) refl (accepted b) _ (decided c)))
+    (p .time, (p .sounds, queue-fits (x .self) (x .room .now) (event (start b)) refl (accepted b) _ (decided c)))
 
 returns : tie.Need-returns
 returns c =
@@ -58,7 +58,7 @@ returns c =
     let sees = c .before .before .before .before .before .before .looked .ensures in
     rw (c .refused .ensures)
     (refused-is _ _ sees _ (event z) _
-    ((rw (c .before .before .v .given .1, c .before .before .before .before .before .judge-now .ensures, c .before .before .before .before .before .before .before .before .read .ensures) at (c .before .before .before .before .and-read .ensures))
+    ((rw (c .before .before .verdict .given .1, c .before .before .before .before .before .judge-now .ensures, c .before .before .before .before .before .before .before .before .read .ensures) at (c .before .before .before .before .and-read .ensures))
     ∙ one-more-now _ _ sees (length (z .args .room .now)) (z .args .time .0) _ _
     ∙ asked-now _ _ sees (length (z .args .room .now)) (z .args .time .0) (onChannel70 (z .args .symbols .now)) refl))
 

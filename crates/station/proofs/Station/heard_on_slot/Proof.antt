@@ -29,7 +29,7 @@ use Rattle.station.specs.Step.{slotAt, refusal}
 use Rattle.station.specs.Pieces.{slotOf, ownOf, outAt, byKind}
 use Rattle.station.proofs.PlaceLaws.{slot-view}
 use Rattle.station.proofs.GateLaws.{passed, asked-on-slot, one-more-on-slot}
-use Rattle.station.proofs.StepLaws.{refused-is, line-fits, accepted-is, slot-acts}
+use Rattle.station.proofs.StepLaws.{refused-is, queue-fits, accepted-is, slot-acts}
 use Rattle.station.proofs.EventLaws.{heard-is}
 use borrow.Author.Needs.{needs}
 use Rattle.station.proofs.Station.heard_on_slot.Statement.{statement}
@@ -85,7 +85,7 @@ decided b =
 enact-requires : tie.Need-enact-requires
 enact-requires c κs =
     let x = start c .args in
-    (passed (x .self) (event (start c)) (accepted c) .time, line-fits (x .self) (x .room .now) (event (start c)) refl (accepted c) _ (decided c))
+    (passed (x .self) (event (start c)) (accepted c) .time, queue-fits (x .self) (x .room .now) (event (start c)) refl (accepted c) _ (decided c))
 
 returns : tie.Need-returns
 returns c =
@@ -93,7 +93,7 @@ returns c =
     let sees = c .before .before .before .before .before .before .looked .ensures in
     rw (c .refused .ensures)
     (refused-is _ _ sees _ (event z) _
-    ((rw (c .before .before .v .given .1, c .before .before .before .before .before .judge-slot .ensures, c .before .before .before .before .before .before .before .before .read .ensures) at (c .before .before .before .before .and-read .ensures))
+    ((rw (c .before .before .verdict .given .1, c .before .before .before .before .before .judge-slot .ensures, c .before .before .before .before .before .before .before .before .read .ensures) at (c .before .before .before .before .and-read .ensures))
     ∙ one-more-on-slot _ _ sees (length (z .args .room .now)) (z .args .time .0) (z .args .slot .0) _ _
     ∙ asked-on-slot _ _ sees (length (z .args .room .now)) (z .args .time .0) (z .args .slot .0) (heard (z .args .symbols .now))))
 

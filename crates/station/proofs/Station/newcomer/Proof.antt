@@ -13,7 +13,7 @@ returns : tie.Need-returns
 unfolding modelOf setClock
 returns c =
     let s = c .before .before .before .before .before .before .before .args .self in
-    let h = rw (c .before .before .f .given .1) at (c .before .before .before .before .before .first-free .ensures) in
+    let h = rw (c .before .before .free .given .1) at (c .before .before .before .before .before .first-free .ensures) in
     rw (c .newcomer .ensures) (λ t own q. offers-is _ (setClock t (modelOf s)) own q 0 h, refl)
 
 returns-2 : tie.Need-returns-2
@@ -21,7 +21,7 @@ unfolding modelOf setClock
 returns-2 c =
     let s = c .before .before .before .before .before .before .args .self in
     let h = rw (c .before .enum-told .given .1) at (c .before .before .before .before .first-free .ensures) in
-    rw (c .newcomer2 .ensures, c .before .before .before .line .ensures) (λ t own q. joins-is 0 (setClock t (modelOf s)) own q h, newcomer-ends false (length (modelOf s .queue)))
+    rw (c .newcomer2 .ensures, c .before .before .before .queue-length .ensures) (λ t own q. joins-is 0 (setClock t (modelOf s)) own q h, newcomer-ends false (length (modelOf s .queue)))
 
 pub newcomer-spec : {M : Type 1} → statement M
 newcomer-spec =

@@ -9,7 +9,7 @@ use Rattle.station.specs.Step.{slotAt, refusal}
 use Rattle.station.specs.Pieces.{outAt, plainView}
 use Rattle.station.proofs.PlaceLaws.{slot-view}
 use Rattle.station.proofs.GateLaws.{passed, asked-plainly, one-more-on-slot}
-use Rattle.station.proofs.StepLaws.{refused-is, line-fits, accepted-is}
+use Rattle.station.proofs.StepLaws.{refused-is, queue-fits, accepted-is}
 use Rattle.station.proofs.EventLaws.{plain-acts}
 use borrow.Author.Needs.{needs}
 use Rattle.station.proofs.Station.plainly.Statement.{statement}
@@ -19,7 +19,7 @@ abbrev start : tie.After-enact-arg → tie.Start
 start b = b .before .before .before .before .before .before .before .before .before .before .before
 
 abbrev event : tie.Start → Event
-event z = slotAt (z .args .time .0) (z .args .slot .0) (plainView (z .args .w)) (z .args .room .now)
+event z = slotAt (z .args .time .0) (z .args .slot .0) (plainView (z .args .what)) (z .args .room .now)
 
 accepted : (b : tie.After-enact-arg) → none ≡ refusal (start b .args .self) (event (start b))
 accepted b =
@@ -27,17 +27,17 @@ accepted b =
     let sees = b .before .before .before .before .before .before .before .before .before .looked .ensures in
     (rw (b .before .before .before .enum-told .given .1, b .before .before .before .before .before .before .may-happen .ensures, b .before .before .before .before .before .before .before .judge-slot .ensures, b .before .before .before .before .before .before .before .before .slot-at .ensures, slot-view (start b .args .self) (start b .args .slot .0)) at (b .before .before .before .before .before .and-then .ensures))
     ∙ one-more-on-slot _ _ sees (length (x .room .now)) (x .time .0) (x .slot .0) _ _
-    ∙ asked-plainly _ _ sees (length (x .room .now)) (x .time .0) (x .slot .0) (x .w)
+    ∙ asked-plainly _ _ sees (length (x .room .now)) (x .time .0) (x .slot .0) (x .what)
 
 decided : (b : tie.After-enact-arg) → outAt (start b .args .self) (start b .args .time) (start b .args .slot) (requestOf (b .before .before .before .before .before .before .before .before .slot-at .result .request)) (b .before .by-plain .result) ≡ act (configOf (start b .args .self)) (modelOf (start b .args .self)) (event (start b))
 decided b =
     let x = start b .args in
-    plain-acts (x .self) (x .time) (length (x .room .now)) (x .slot) _ (b .before .before .before .before .before .before .before .before .slot-at .ensures) _ (passed (x .self) (event (start b)) (accepted b) .time) _ (x .w) (b .before .by-plain .ensures)
+    plain-acts (x .self) (x .time) (length (x .room .now)) (x .slot) _ (b .before .before .before .before .before .before .before .before .slot-at .ensures) _ (passed (x .self) (event (start b)) (accepted b) .time) _ (x .what) (b .before .by-plain .ensures)
 
 enact-requires : tie.Need-enact-requires
 enact-requires c κs =
     let x = start c .args in
-    (passed (x .self) (event (start c)) (accepted c) .time, line-fits (x .self) (x .room .now) (event (start c)) refl (accepted c) _ (decided c))
+    (passed (x .self) (event (start c)) (accepted c) .time, queue-fits (x .self) (x .room .now) (event (start c)) refl (accepted c) _ (decided c))
 
 returns : tie.Need-returns
 returns c =
@@ -45,9 +45,9 @@ returns c =
     let sees = c .before .before .before .before .before .before .before .before .looked .ensures in
     rw (c .refused .ensures)
     (refused-is _ _ sees _ (event z) _
-    ((rw (c .before .before .v .given .1, c .before .before .before .before .before .may-happen .ensures, c .before .before .before .before .before .before .judge-slot .ensures, c .before .before .before .before .before .before .before .slot-at .ensures, slot-view (z .args .self) (z .args .slot .0)) at (c .before .before .before .before .and-then .ensures))
+    ((rw (c .before .before .verdict .given .1, c .before .before .before .before .before .may-happen .ensures, c .before .before .before .before .before .before .judge-slot .ensures, c .before .before .before .before .before .before .before .slot-at .ensures, slot-view (z .args .self) (z .args .slot .0)) at (c .before .before .before .before .and-then .ensures))
     ∙ one-more-on-slot _ _ sees (length (z .args .room .now)) (z .args .time .0) (z .args .slot .0) _ _
-    ∙ asked-plainly _ _ sees (length (z .args .room .now)) (z .args .time .0) (z .args .slot .0) (z .args .w)))
+    ∙ asked-plainly _ _ sees (length (z .args .room .now)) (z .args .time .0) (z .args .slot .0) (z .args .what)))
 
 returns-2 : tie.Need-returns-2
 returns-2 c =

@@ -9,12 +9,12 @@ use Rattle.station.proofs.Station.slot_at.Tie as tie
 returns : tie.Need-returns
 returns c =
     let z = c .before .before .before .before in
-    c .blank-slot .ensures ∙ slot-past (z .args .t1) (slots-long (z .args .t1) (z .good .0)) (z .args .i .0) (omega arith)
+    c .blank-slot .ensures ∙ slot-past (z .args .t1) (slots-long (z .args .t1) (z .good .0)) (z .args .slot .0) (omega arith)
 
 returns-2 : tie.Need-returns-2
 returns-2 c =
     let z = c .before .before .before .before .before in
-    slot-in (z .args .t1) (slots-long (z .args .t1) (z .good .0)) (z .args .i .0) (omega arith)
+    slot-in (z .args .t1) (slots-long (z .args .t1) (z .good .0)) (z .args .slot .0) (omega arith)
 
 pub slot-at-spec : {M : Type 1} → statement M
 slot-at-spec =

@@ -32,7 +32,7 @@ use Rattle.station.specs.Step.{eventAt, refusal}
 use Rattle.station.specs.Pieces.{slotOf, ownOf, outAt, waitSlot, dueSlot, moment, byWait, byDue}
 use Rattle.station.proofs.PlaceLaws.{slot-view}
 use Rattle.station.proofs.GateLaws.{passed, asked-always}
-use Rattle.station.proofs.StepLaws.{refused-is, line-fits, accepted-is}
+use Rattle.station.proofs.StepLaws.{refused-is, queue-fits, accepted-is}
 use borrow.Author.Needs.{needs}
 use Rattle.station.proofs.Station.tick.Statement.{statement}
 use Rattle.station.proofs.Station.tick.Tie as tie
@@ -95,13 +95,13 @@ enact-requires : tie.Need-enact-requires
 enact-requires c κs =
     let x = start c .args in (
       rw (c .before .before .before .before .before .moment .ensures) (omega (arith, moment-due (c .before .before .before .before .before .before .due-by .result) (x .time) (dueView (c .before .before .before .before .before .before .before .before .before .before .looked .result .due)) (c .before .before .before .before .before .before .due-by .ensures), passed (x .self) (event (start c)) (accepted c) .time)),
-      line-fits (x .self) (x .room .now) (event (start c)) refl (accepted c) _ (decided c),
+      queue-fits (x .self) (x .room .now) (event (start c)) refl (accepted c) _ (decided c),
     )
 
 returns : tie.Need-returns
 returns c =
     let sees = c .before .before .before .before .before .looked .ensures in
-    rw (c .refused .ensures) (refused-is _ _ sees _ (event (c .before .before .before .before .before .before .before)) _ ((rw (c .before .before .v .given .1) at (c .before .before .before .before .judge .ensures)) ∙ asked-always _ _ sees _ _ tick refl))
+    rw (c .refused .ensures) (refused-is _ _ sees _ (event (c .before .before .before .before .before .before .before)) _ ((rw (c .before .before .verdict .given .1) at (c .before .before .before .before .judge .ensures)) ∙ asked-always _ _ sees _ _ tick refl))
 
 returns-2 : tie.Need-returns-2
 returns-2 c =

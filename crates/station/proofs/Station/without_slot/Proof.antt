@@ -11,15 +11,15 @@ returns : tie.Need-returns
 unfolding modelOf setClock requestOf
 returns c =
     let x = c .before .before .before .before .before .args in
-    let h = rw (c .before .f .given .1) at (c .before .before .before .place-of .ensures) in
-    λ t own. replaces-is 0 (setClock t (modelOf (x .self))) own (requestOf (x .q)) _ h
+    let h = rw (c .before .place .given .1) at (c .before .before .before .place-of .ensures) in
+    λ t own. replaces-is 0 (setClock t (modelOf (x .self))) own (requestOf (x .request)) _ h
 
 returns-2 : tie.Need-returns-2
 unfolding modelOf setClock requestOf
 returns-2 c =
     let x = c .before .before .before .before .before .args in
     let h = rw (c .before .enum-told .given .1) at (c .before .before .before .place-of .ensures) in
-    λ t own. c .newcomer .ensures .0 t own (requestOf (x .q)) ∙ newcomer-is 0 (setClock t (modelOf (x .self))) own (requestOf (x .q)) h
+    λ t own. c .newcomer .ensures .0 t own (requestOf (x .request)) ∙ newcomer-is 0 (setClock t (modelOf (x .self))) own (requestOf (x .request)) h
 
 pub without-slot-spec : {M : Type 1} → statement M
 without-slot-spec = tie.close (tie.spec (λ c κs. search needs) (λ c. search needs) (λ c. search needs) (λ c κs. search needs) returns returns-2)

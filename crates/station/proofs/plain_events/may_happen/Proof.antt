@@ -7,7 +7,7 @@ returns : tie.Need-returns
 returns c = rw (c .enum-told .given .1) refl
 
 returns-2 : tie.Need-returns-2
-returns-2 c = rw (c .before .before .w .given .1) (c .is-open .ensures)
+returns-2 c = rw (c .before .before .what .given .1) (c .is-open .ensures)
 
 pub may-happen-spec : {M : Type 1} → statement M
 may-happen-spec =

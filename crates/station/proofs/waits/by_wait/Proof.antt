@@ -3,7 +3,7 @@ use Rattle.station.proofs.waits.by_wait.Statement.{statement}
 use Rattle.station.proofs.waits.by_wait.Tie as tie
 
 returns : tie.Need-returns
-returns c = rw (c .before .w .given .1)
+returns c = rw (c .before .wait .given .1)
 
 returns-2 : tie.Need-returns-2
 returns-2 c = rw (c .before .enum-told .given .1) (c .coast-end .ensures)

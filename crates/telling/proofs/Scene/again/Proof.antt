@@ -3,7 +3,7 @@ use Rattle.rules.specs.Rules.Words.{carrierOn}
 use Rattle.rules.specs.Rules.Actions.{does}
 use Rattle.actions.specs.Sent.{sentPayload, sentOn}
 use borrow.Author.Needs.{needs}
-use Rattle.telling.specs.Told.{sceneView}
+use Rattle.telling.specs.Tells.{sceneView}
 use Rattle.telling.proofs.TellLaws.{tells-more}
 use Rattle.telling.proofs.Scene.again.Statement.{statement}
 use Rattle.telling.proofs.Scene.again.Tie as tie

@@ -3,7 +3,7 @@ use Rattle.rules.specs.Rules.Actions.{charge}
 use Rattle.requests.specs.Views.{requestOf}
 use Rattle.actions.specs.Sent.{sentPayload, sentOn}
 use borrow.Author.Needs.{needs}
-use Rattle.telling.specs.Told.{sceneView}
+use Rattle.telling.specs.Tells.{sceneView}
 use Rattle.telling.proofs.TellLaws.{tells-none, tells-one}
 use Rattle.telling.proofs.Scene.bill.Statement.{statement}
 use Rattle.telling.proofs.Scene.bill.Tie as tie

@@ -4,7 +4,7 @@ use Rattle.rules.specs.Rules.Actions.{does}
 use Rattle.requests.specs.Views.{requestOf}
 use Rattle.actions.specs.Sent.{sentPayload, sentOn}
 use borrow.Author.Needs.{needs}
-use Rattle.telling.specs.Told.{sceneView}
+use Rattle.telling.specs.Tells.{sceneView}
 use Rattle.telling.proofs.TellLaws.{tells-none, tells-one}
 use Rattle.telling.proofs.Scene.close.Statement.{statement}
 use Rattle.telling.proofs.Scene.close.Tie as tie

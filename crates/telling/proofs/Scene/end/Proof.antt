@@ -5,7 +5,7 @@ use Rattle.rules.specs.Rules.Actions.{does}
 use Rattle.actions.specs.Sent.{enderOf, sentPayload, sentOn}
 use Rattle.outcomes.specs.Does.{toldOf}
 use borrow.Author.Needs.{needs}
-use Rattle.telling.specs.Told.{sceneView, billActs, offActs}
+use Rattle.telling.specs.Tells.{sceneView, billActs, offActs}
 use Rattle.telling.proofs.TellLaws.{tells-more, tells-append}
 use Rattle.telling.proofs.Scene.end.Statement.{statement}
 use Rattle.telling.proofs.Scene.end.Tie as tie

@@ -4,7 +4,7 @@ use Rattle.rules.specs.Rules.Actions.{does, over}
 use Rattle.requests.specs.Views.{requestOf}
 use Rattle.actions.specs.Sent.{enderOf, sentPayload, sentOn}
 use borrow.Author.Needs.{needs}
-use Rattle.telling.specs.Told.{sceneView}
+use Rattle.telling.specs.Tells.{sceneView}
 use Rattle.telling.proofs.TellLaws.{tells-one, tells-more}
 use Rattle.telling.proofs.Scene.sign_off.Statement.{statement}
 use Rattle.telling.proofs.Scene.sign_off.Tie as tie

@@ -1,7 +1,7 @@
 use Rattle.requests.specs.Views.{requestOf}
 use Rattle.actions.specs.Sent.{sentPayload, sentOn}
 use borrow.Author.Needs.{needs}
-use Rattle.telling.specs.Told.{sceneView}
+use Rattle.telling.specs.Tells.{sceneView}
 use Rattle.telling.proofs.Scene.word.Statement.{statement}
 use Rattle.telling.proofs.Scene.word.Tie as tie
 

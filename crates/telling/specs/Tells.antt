@@ -31,7 +31,7 @@ sceneView s =
       own = requestOf (s .own);
       asked = requestOf (s .asked);
       oldest = requestOf (s .oldest);
-      line = s .line;
+      waiting = s .waiting;
     }
 
 -- actions about its slot, from block number k on
@@ -68,24 +68,24 @@ freeSay (suc n) = Lifted RingsOldest
 
 -- what is then sent or dialled
 abbrev pub sayOf : ℕ → Outcome → Say
-sayOf line O.Ignored = Nothing
-sayOf line O.Passes = Nothing
-sayOf line (O.Turns p) = Nothing
-sayOf line O.Dials = Plain Dials
-sayOf line O.RingsAgain = Plain RingsOwn
-sayOf line O.Frees = freeSay line
-sayOf line O.Clears = freeSay line
-sayOf line (O.CoastEnds k) = freeSay line
-sayOf line (O.ShipEnds k) = Nothing
-sayOf line (O.SaysAgain n) = Nothing
-sayOf line O.Repeats = Plain Acknowledges
-sayOf line O.Renews = Plain Acknowledges
-sayOf line (O.Redials k) = freeSay line
-sayOf line O.Offers = Lifted Acknowledges
-sayOf line O.Joins = Plain (Unable 103)
-sayOf line (O.Replaces k) = Plain (Unable 103)
-sayOf line (O.Unable n) = Plain (Unable n)
-sayOf line (O.Drops k) = Nothing
+sayOf waiting O.Ignored = Nothing
+sayOf waiting O.Passes = Nothing
+sayOf waiting (O.Turns p) = Nothing
+sayOf waiting O.Dials = Plain Dials
+sayOf waiting O.RingsAgain = Plain RingsOwn
+sayOf waiting O.Frees = freeSay waiting
+sayOf waiting O.Clears = freeSay waiting
+sayOf waiting (O.CoastEnds k) = freeSay waiting
+sayOf waiting (O.ShipEnds k) = Nothing
+sayOf waiting (O.SaysAgain n) = Nothing
+sayOf waiting O.Repeats = Plain Acknowledges
+sayOf waiting O.Renews = Plain Acknowledges
+sayOf waiting (O.Redials k) = freeSay waiting
+sayOf waiting O.Offers = Lifted Acknowledges
+sayOf waiting O.Joins = Plain (Unable 103)
+sayOf waiting (O.Replaces k) = Plain (Unable 103)
+sayOf waiting (O.Unable n) = Plain (Unable n)
+sayOf waiting (O.Drops k) = Nothing
 
 -- "charge if answered"
 abbrev pub billActs : D.Scene → Talk → List Action
