@@ -102,9 +102,9 @@ uint32_t coast_read_sequence(const uint8_t *symbols, size_t count, uint8_t *mean
  * `room_size` bytes at `room`.
  * Returns an answer and a count in one number: coast_answer and coast_count take them apart. The answer is 0 and the
  * count, 21 to 28, is that of the symbols written at the front of the room; or the answer is the first of 21, 22, 15, 17,
- * 18, 19, 20 that fits, in this order, and the count is 0. (18 is given too for a kind of field over 2, and for a byte of
- * the field that its kind does not use and that is not 0.) Bytes of the room after the sequence stay as they were. The room
- * must have 28 bytes even where the sequence is shorter. */
+ * 18, 19, 20 that fits, in this order, and the count is 0. (The field is refused, 18, also where its kind is over 2, or where
+ * a byte of it that its kind does not use is not 0.) Bytes of the room after the sequence stay as they were. The room must
+ * have 28 bytes even where the sequence is shorter. */
 uint32_t coast_write_sequence(const uint8_t *meaning, size_t size, uint8_t *room, size_t room_size);
 
 /* A station lives in 1723 bytes that the host lends; nobody but the library needs to look inside. Numbers stand low byte
@@ -130,17 +130,18 @@ uint32_t coast_write_sequence(const uint8_t *meaning, size_t size, uint8_t *room
  *          0 past the count
  *
  * What the library leaves is 0 wherever nothing is named: in slots and waiting ships past the counts, and in the parts that
- * a phase does not use. What stands there in bytes that are handed in is not looked at. A phase over 8, and a carrier, a
- * duration's mark or a mode over 1 where it is looked at, is 29, and so is a digit past its count that is not 0.
+ * a phase does not use. What stands there in bytes that are handed in is not looked at. A station is not sound, 29, with a
+ * phase over 8; with a carrier, a duration's mark or a mode over 1 where it is looked at; or with a digit past its count that
+ * is not 0.
  *
  * A station is sound if document 01 allows it: its identity, channels and stored requests keep the rules, no ship stands
  * twice, no call was answered after the clock, and each due time lies from the clock to the clock plus its wait and a tenth.
  * All that the library leaves is sound. */
 #define COAST_STATION_SIZE 1723
 
-/* The version moves whenever the layout does, and stands at byte 0 in every layout. A station of another version is 29 to every
- * entry but coast_set_up, which does not look at the bytes that it fills; and no entry turns it into one of this version. So a
- * rack is upgraded to a library of another version when its calls are over. With calls in hand, a host
+/* The version moves whenever the layout does, and stands at byte 0 in every layout. Every entry refuses a station of
+ * another version, 29, but coast_set_up, which does not look at the bytes that it fills; and no entry turns it into one of
+ * this version. So a rack is upgraded to a library of another version when its calls are over. With calls in hand, a host
  *   - hands in, to the old library, an on-hook on every slot, and does the actions: a call that is dialled or answered ends,
  *     and is charged if it was answered; on any other slot the on-hook is ignored. A slot so freed may ring back a waiting ship;
  *   - switches off the carrier of every slot. Ships that waited, or had a slot without a call yet, lose it, and call again;
@@ -189,7 +190,7 @@ uint64_t coast_next_due(const uint8_t *station, size_t size);
  * and before it does the first action, the station and the actions together, whole in a file of another name, which it syncs
  * and then renames to the old one's. When it comes back, it
  *   - refuses a file that is damaged, by a check of its own: bytes that were changed may still be a sound station. Where
- *     coast_clock answers 29, they are none, or one of another version;
+ *     coast_clock answers 29, they are no sound station, or one of another version;
  *   - does the actions that were saved, but for those that it knows to be done. A charge that is so done twice has the same
  *     ship, start and stop;
  *   - counts its time on from the clock, and adds what has passed meanwhile where it knows that;
