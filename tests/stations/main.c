@@ -53,13 +53,13 @@ static bool try_sound(void) {
     draw_any_station();
     note_drawn();
     second_lay(bytes, &stage.station);
-    return events_agree(3, STATION_BYTES, true) && (!one_in(4) || clocks_agree(STATION_BYTES)) &&
+    return events_agree(3, STATION_BYTES, true) && clocks_agree(STATION_BYTES) &&
            (!one_in(4) || next_dues_agree(STATION_BYTES, &returned));
 }
 
 static bool moved_agree(void) {
     uint64_t returned;
-    if (!next_dues_agree(STATION_BYTES, &returned) || (one_in(4) && !clocks_agree(STATION_BYTES)))
+    if (!next_dues_agree(STATION_BYTES, &returned) || !clocks_agree(STATION_BYTES))
         return false;
     note_moved((returned & 255u) == DONE);
     return !one_in(2) || events_agree(1, STATION_BYTES, false);
@@ -100,7 +100,7 @@ static bool try_garbage(void) {
     second_lay(bytes, &stage.station);
     if (size == STATION_BYTES)
         spoil_bytes();
-    return next_dues_agree(size, &returned) && (!one_in(4) || clocks_agree(size)) && events_agree(1, size, false);
+    return next_dues_agree(size, &returned) && clocks_agree(size) && events_agree(1, size, false);
 }
 
 static bool try_set_up(void) {
