@@ -18,7 +18,7 @@ use Rattle.rules.specs.Rules.Requests.{Out, rungBack, freedFor, freed, lasted, 
 use Rattle.rules.specs.ListAlone.Book.{Stop, Column}
 use Rattle.rules.specs.ListAlone.ThreeWords.{Word}
 use Rattle.rules.proofs.PlaceLaws.{each-append, lowest-there}
-use Rattle.rules.proofs.Outcome.{Next, stays, becomes, frees, Move, to-dial, to-agree, to-ring, to-drop, to-answer, to-lose, to-regain, to-hold, to-end, to-repeat, to-run-out, to-take, to-give, Outcome, passed, moved}
+use Rattle.rules.proofs.Outcome.{Next, stays, becomes, frees, Move, to-dial, to-agree, to-ring, to-drop, to-stage, to-lose, to-regain, to-hold, to-end, to-repeat, to-run-out, to-take, to-give, Outcome, passed, moved}
 use Rattle.rules.proofs.Ruling.{Ruling, passes, repeats, renews, redials, bOrC-ruling}
 use Rattle.rules.proofs.Stored.{Stored, stored-closed, lasted-keeps}
 use Rattle.rules.proofs.Base.{slot-all, slot-there}
@@ -116,7 +116,7 @@ module _ (c : Config) (good : configKeeps c ≡ true) where
   move-says i t _ _ _ (to-agree k r d) h e = tt
   move-says i t _ _ _ (to-ring r d) h e = (ringBack-speaks c good (r .request) e i (h refl), tt)
   move-says i t _ _ _ (to-drop k r d) h e = ((refl, small c good i (h refl)), tt)
-  move-says i t _ _ _ (to-answer r d l) h e = tt
+  move-says i t _ _ _ (to-stage r n q l z) h e = tt
   move-says i t _ _ _ (to-lose r g l) h e = tt
   move-says i t _ _ _ (to-regain r g l) h e = tt
   move-says i t _ _ _ (to-hold r g l) h e = end-says i (h refl) theShip (r .request) (answeredAt g) t e

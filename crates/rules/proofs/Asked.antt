@@ -16,15 +16,14 @@ use Rattle.rules.specs.Rules.Requests.{Out, rungBack, freedFor, freed, c
 use Rattle.rules.specs.ListAlone.Book.{Stop, Column, Book, blank, atColumn, Call}
 use Rattle.rules.specs.ListAlone.Reading.{again, tell, letGo, hush, reads, stopOf, askedAgain, stopsAgain}
 use Rattle.rules.proofs.PlaceLaws.{or-false, and-true, shift-none}
-use Rattle.rules.proofs.Base.{callIn, view, seen, is-true, atLine², stay, moves, Calling, no-call, a-call, calling, slot-mapped, slot-lowest}
+use Rattle.rules.proofs.Base.{by-stage, callIn, view, seen, is-true, atLine², stay, moves, Calling, no-call, a-call, calling, slot-mapped, slot-lowest}
 use Rattle.rules.proofs.Ruling.{againOf, Ruling, passes, repeats, renews, redials, bOrC-ruling}
 use Rattle.rules.proofs.Pieces.{Good, good-also, coastEnd-good, newcomer-good, ruleD-good}
 
 -- ── no ship twice ────────────────────────────────────────────────────────────
 
-asked-other : (x : Party) (r : Request) (b c : Option ℕ) → is x (r .who) ≡ false → askedAgain x (callIn r b) c ≡ false
-asked-other x r none c h = refl
-asked-other x r (some b) c h = rw h refl
+asked-other : (x : Party) (r : Request) (g : Stage) (c : Option ℕ) → is x (r .who) ≡ false → askedAgain x (callIn r g) c ≡ false
+asked-other x r g c h = by-stage (λ s. askedAgain x (callIn r s) c ≡ false) (λ d. refl) (λ d. refl) (λ b. rw h refl) g
 
 -- a slot that is not the ship's is not stopped by its request
 others : (x : Party) (s : Slot) → owns x s ≡ false → askedAgain x (view s .call) (view s .gone) ≡ false
@@ -32,7 +31,7 @@ others x s h = go s (view s .call) (calling s) h
   where
     go : (s : Slot) (k : Call) → Calling s k → owns x s ≡ false → askedAgain x k (lossDue s) ≡ false
     go _ _ (no-call s n) h = refl
-    go _ _ (a-call r g c) h = asked-other x (r .request) (answeredAt g) c h
+    go _ _ (a-call r g c) h = asked-other x (r .request) g c h
 
 pub elem-none : (x : Party) (ss : List Slot) (q : List Party) → elem is x (owners ss q) ≡ false → lowest (owns x) ss ≡ none
 elem-none x [] q h = refl
@@ -109,14 +108,14 @@ module _ (i : ℕ) (st : Station) (r : Request) where
   coastEnd-clock o b = freedFor-clock (st .queue)
 
   redial-good : (o : Dealing) (g : Stage) (c : Option ℕ) → theSlot st i ≡ busy o g c → hush (letGo (again (r .who) (view (busy o g c)))) ≡ blank
-      → Good (st .clock) B (stopOf (st .clock) i (callIn (o .request) (answeredAt g))) (redial i (o .request) (answeredAt g) st r)
+      → Good (st .clock) B (stopOf (st .clock) i (callIn (o .request) g)) (redial i (o .request) (answeredAt g) st r)
   unfolding B redial
   redial-good o g c e h =
-      let w = coastEnd-good i (o .request) (answeredAt g) st (busy o g c) e (again (r .who)) h in
+      let w = coastEnd-good i (o .request) g st (busy o g c) e (again (r .who)) h in
       let n = coastEnd i (o .request) (answeredAt g) st .next in
       let y = placeOf (r .who) n in
       let a : Good (st .clock) (seen n) [] (dToG n r y) = rw (coastEnd-clock (o .request) (answeredAt g)) at (dToG-good n r y refl) in
-      rw (← (append-nil (stopOf (st .clock) i (callIn (o .request) (answeredAt g))))) (good-also (st .clock) (atColumn i (again (r .who)) (seen st)) (seen n) (stopOf (st .clock) i (callIn (o .request) (answeredAt g))) [] (coastEnd i (o .request) (answeredAt g) st .acts) (dToG n r y) (w .reading) (w .charging) a)
+      rw (← (append-nil (stopOf (st .clock) i (callIn (o .request) g)))) (good-also (st .clock) (atColumn i (again (r .who)) (seen st)) (seen n) (stopOf (st .clock) i (callIn (o .request) g)) [] (coastEnd i (o .request) (answeredAt g) st .acts) (dToG n r y) (w .reading) (w .charging) a)
 
   ruling-good : (cs : List Stop) (p : Slot) (x : Out) → Ruling i st r cs p x → theSlot st i ≡ p → owns (r .who) p ≡ true → Good (st .clock) B cs x
   unfolding B repeated afresh reads

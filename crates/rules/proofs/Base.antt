@@ -1,5 +1,5 @@
 -- The station as the list shows it, and the laws by which one piece of a step is read.
-use mathlib.Core.Path.{_≡_, refl, ap, _∙_}
+use mathlib.Core.Path.{_≡_, refl, ap, sym, _∙_}
 use mathlib.Core.Option.{Option, none, some}
 use mathlib.Core.List.{List, [], _∷_, _++_, map}
 use mathlib.Core.Bool.{Bool, true, false, _&&_}
@@ -10,7 +10,7 @@ use borrow.Author.Tests.{eq-eqb, eqb-true, leb-true, le-leb}
 use Rattle.units.specs.declared.Told.{Told}
 use Rattle.rules.specs.Rules.Words.{Party, is, Mode, simplex, duplex, Request, Deed, Config}
 use Rattle.rules.specs.Rules.Actions.{Action, does, over, charge}
-use Rattle.rules.specs.Rules.Station.{bySlot, shipOf, Kind, offered, firstRing, secondRing, acknowledged, Slot, free, taken, pending, busy, held, Waiting, Station, theSlot, setSlot, carrierWait, lossDue, mainDue, slotTable, table, fires, answeredAt, answeredIn, Dealing, Stage, dialling, answered, fresh, dueAfter, kindWait, replyWait, holdWait, isFree, offerOf, ringOf, rungAgain, agreedAt}
+use Rattle.rules.specs.Rules.Station.{bySlot, shipOf, Kind, offered, firstRing, secondRing, acknowledged, Slot, free, taken, pending, busy, held, Waiting, Station, theSlot, setSlot, carrierWait, lossDue, stageDue, mainDue, slotTable, table, fires, answeredAt, answeredIn, Dealing, Stage, dialling, dialledOut, answered, fresh, dueAfter, kindWait, diallingWait, replyWait, holdWait, isFree, offerOf, ringOf, rungAgain, agreedAt}
 use Rattle.rules.specs.Rules.Requests.{sameMode, sameNumber, same}
 use Rattle.rules.specs.ListAlone.Book.{silence, alikeMode, alikeDigits, alike, Said, silent, toldBQ, toldRQ, settled, Call, quiet, dialled, talking, Column, Place, Book, atColumn, column, columnTable, falls}
 use Rattle.rules.specs.ListAlone.Reading.{read, reads}
@@ -36,9 +36,10 @@ by-kind P a b c d firstRing = b
 by-kind P a b c d secondRing = c
 by-kind P a b c d acknowledged = d
 
-pub by-stage : (P : Stage → Type 0) → ((d : ℕ) → P (dialling d)) → ((b : ℕ) → P (answered b)) → (g : Stage) → P g
-by-stage P f g (dialling d) = f d
-by-stage P f g (answered b) = g b
+pub by-stage : (P : Stage → Type 0) → ((d : ℕ) → P (dialling d)) → ((d : ℕ) → P (dialledOut d)) → ((b : ℕ) → P (answered b)) → (g : Stage) → P g
+by-stage P f g h (dialling d) = f d
+by-stage P f g h (dialledOut d) = g d
+by-stage P f g h (answered b) = h b
 
 -- ── what the list shows of a slot ────────────────────────────────────────────
 
@@ -48,22 +49,23 @@ saidOf firstRing r = toldRQ r
 saidOf secondRing r = toldRQ r
 saidOf acknowledged r = settled r
 
-abbrev pub callIn : Request → Option ℕ → Call
-callIn r none = dialled (r .who) (r .mode)
-callIn r (some b) = talking (r .who) (r .mode) b
+abbrev pub callIn : Request → Stage → Call
+callIn r (dialling d) = dialled (r .who) (r .mode) false
+callIn r (dialledOut d) = dialled (r .who) (r .mode) true
+callIn r (answered b) = talking (r .who) (r .mode) b
 
 abbrev pub view : Slot → Column
 view s = record {
   said = bySlot silent (λ k r. saidOf k (r .request)) (λ r g c. silent) s;
   wait = mainDue s;
-  call = bySlot quiet (λ k r. quiet) (λ r g c. callIn (r .request) (answeredAt g)) s;
+  call = bySlot quiet (λ k r. quiet) (λ r g c. callIn (r .request) g) s;
   gone = lossDue s;
 }
 
 -- the call of a slot: none, or that of its request
 pub data Calling : Slot → Call → Type 0 where
   no-call : (s : Slot) → answeredIn s ≡ none → Calling s quiet
-  a-call : (r : Dealing) (g : Stage) (c : Option ℕ) → Calling (busy r g c) (callIn (r .request) (answeredAt g))
+  a-call : (r : Dealing) (g : Stage) (c : Option ℕ) → Calling (busy r g c) (callIn (r .request) g)
 
 pub calling : (s : Slot) → Calling s (view s .call)
 calling = by-slot (λ s. Calling s (view s .call)) (no-call _ refl) (no-call _ refl) (λ k r d. no-call _ refl) a-call (λ r n d. no-call _ refl)
@@ -271,13 +273,19 @@ module _ (c : ℕ) where
   loss-later m none h t k f = refl
   loss-later m (some d) h t k f = within-later c t (carrierWait m) d k (f d refl) h
 
-  busy-fitting : (r : Dealing) (g : Stage) (l : Option ℕ) → stageFits c g ≡ true → lossFits c (r .request .mode) l ≡ true → Fitting c (busy r g l)
-  busy-fitting r (dialling d) l h k = record {
-    started = refl;
-    main-from = due-from replyWait d h;
+  -- a call that is not answered, which waits w and falls due at d
+  waiting-fitting : (r : Dealing) (g : Stage) (l : Option ℕ) (w d : ℕ) → answeredAt g ≡ none → stageDue g ≡ some d → ((t : ℕ) → stageFits t g ≡ fits t w d)
+      → fits c w d ≡ true → lossFits c (r .request .mode) l ≡ true → Fitting c (busy r g l)
+  waiting-fitting r g l w d a b s h k = record {
+    started = rw a refl;
+    main-from = λ u e. due-from w d h u (sym b ∙ e);
     loss-from = loss-due (r .request .mode) l k;
-    later = λ t u f g. rw (within-later c t replyWait d u (g d refl) h) (loss-later (r .request .mode) l k t u f);
+    later = λ t u f m. rw (s t, within-later c t w d u (m d b) h) (loss-later (r .request .mode) l k t u f);
   }
+
+  busy-fitting : (r : Dealing) (g : Stage) (l : Option ℕ) → stageFits c g ≡ true → lossFits c (r .request .mode) l ≡ true → Fitting c (busy r g l)
+  busy-fitting r (dialling d) l h k = waiting-fitting r (dialling d) l diallingWait d refl refl (λ t. refl) h k
+  busy-fitting r (dialledOut d) l h k = waiting-fitting r (dialledOut d) l replyWait d refl refl (λ t. refl) h k
   busy-fitting r (answered b) l h k = record {
     started = h;
     main-from = λ d e. cc;

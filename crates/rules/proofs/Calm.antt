@@ -17,7 +17,7 @@ use Rattle.rules.specs.ListAlone.ThreeWords.{Word}
 use Rattle.rules.specs.Statement.{deedsOf}
 use Rattle.rules.proofs.PlaceLaws.{each-set, each-dropped, each-append}
 use Rattle.rules.proofs.Base.{rungOnce, view, deeds-append, slot-each, slot-mapped}
-use Rattle.rules.proofs.Outcome.{Next, stays, becomes, frees, Move, to-dial, to-agree, to-ring, to-drop, to-answer, to-lose, to-regain, to-hold, to-end, to-repeat, to-run-out, to-take, to-give, played, Outcome, passed, moved}
+use Rattle.rules.proofs.Outcome.{Next, stays, becomes, frees, Move, to-dial, to-agree, to-ring, to-drop, to-stage, to-lose, to-regain, to-hold, to-end, to-repeat, to-run-out, to-take, to-give, played, Outcome, passed, moved}
 use Rattle.rules.proofs.Laws.{there}
 
 -- ── what a station knows: a is what each ship last asked for that was told to wait ──
@@ -142,7 +142,7 @@ module _ (h : Heard) (a : Party → Heard) where
     move-calm i t _ _ _ (to-agree k r d) g s = (no-deed, λ u o x. cc)
     move-calm i t _ _ _ (to-ring r d) g s = (record { repeats = (g r refl, tt); fits = λ u on. ((rw s refl, tt), tt); untold = λ x. refl }, λ u o x. cc)
     move-calm i t _ _ _ (to-drop k r d) g s = (record { repeats = (tt, tt); fits = λ u on. ((tt, tt), tt); untold = λ x. refl }, λ u. hushed i b)
-    move-calm i t _ _ _ (to-answer r d c) g s = (no-deed, λ u o x. cc)
+    move-calm i t _ _ _ (to-stage r n q c z) g s = (no-deed, λ u o x. cc)
     move-calm i t _ _ _ (to-lose r g c) k s = (no-deed, λ u o x. cc)
     move-calm i t _ _ _ (to-regain r g c) k s = (no-deed, λ u o x. cc)
     move-calm i t _ _ _ (to-hold r g c) k s = (end-mild i theShip (r .request) (answeredAt g) t, λ u o x. cc)

@@ -2,7 +2,7 @@
 use mathlib.Core.Path.{_≡_, refl}
 use mathlib.Core.Bool.{Bool, true}
 use mathlib.Core.List.{List, [], _∷_, map}
-use mathlib.Core.Option.{Option, none, some}
+use mathlib.Core.Option.{none}
 use Prim.Native.Nat.{ℕ, _≤_}
 use native.Mathlib.Omega.{arith}
 use lib.Dec.{leb}
@@ -10,7 +10,7 @@ use borrow.Author.Tests.{leb-true}
 use Rattle.sequence.specs.Identity.{isShip}
 use Rattle.rules.specs.Rules.Places.{all, Each}
 use Rattle.rules.specs.Rules.Words.{Request, Config, Event}
-use Rattle.rules.specs.Rules.Station.{Slot, Station, answeredAt}
+use Rattle.rules.specs.Rules.Station.{Stage, Slot, Station}
 use Rattle.rules.specs.Rules.Sound.{requestKeeps, slotKeeps, limit}
 use Rattle.rules.specs.Rules.Calls.{act}
 use Rattle.rules.specs.Rules.Verdict.{verdict}
@@ -18,7 +18,7 @@ use Rattle.rules.specs.ListAlone.Book.{Stop, Call, quiet, dialled, talki
 use Rattle.rules.specs.ListAlone.Reading.{stopsIn, falling, moment, stopOf}
 use Rattle.rules.specs.Statement.{owed, InOrder, ChargesFit, FourBytes, EndsAt}
 use Rattle.rules.proofs.PlaceLaws.{and-true}
-use Rattle.rules.proofs.Base.{callIn, view, seen, Calling, no-call, a-call, calling}
+use Rattle.rules.proofs.Base.{by-stage, callIn, view, seen, Calling, no-call, a-call, calling}
 use Rattle.rules.proofs.Accepted.{accepted, sounds}
 use Rattle.rules.proofs.Run.{noteOf, stops-are}
 use Rattle.rules.proofs.Stopped.{each-stop}
@@ -29,23 +29,22 @@ use Rattle.rules.proofs.Kept.{stays-sound}
 
 abbrev aShips : Call → Bool
 aShips quiet = true
-aShips (dialled x m) = true
+aShips (dialled x m o) = true
 aShips (talking x m b) = leb (x .ship) 799999999
 
 ship-known : (c : Config) (r : Request) → requestKeeps c r ≡ true → leb (r .who .ship) 799999999 ≡ true
 unfolding requestKeeps isShip
 ship-known c r k = and-true (leb 200000000 (r .who .ship)) _ (and-true (isShip (r .who .ship)) _ k .0) .1
 
-call-known : (c : Config) (r : Request) (b : Option ℕ) → requestKeeps c r ≡ true → aShips (callIn r b) ≡ true
-call-known c r none k = refl
-call-known c r (some b) k = ship-known c r k
+call-known : (c : Config) (r : Request) (g : Stage) → requestKeeps c r ≡ true → aShips (callIn r g) ≡ true
+call-known c r g k = by-stage (λ s. aShips (callIn r s) ≡ true) (λ d. refl) (λ d. refl) (λ b. ship-known c r k) g
 
 slot-known : (c : Config) (s : Slot) → slotKeeps c s ≡ true → aShips (view s .call) ≡ true
 slot-known c s k = go s (view s .call) (calling s) k
   where
     go : (s : Slot) (k : Call) → Calling s k → slotKeeps c s ≡ true → aShips k ≡ true
     go _ _ (no-call s n) h = refl
-    go _ _ (a-call r g l) h = call-known c (r .request) (answeredAt g) h
+    go _ _ (a-call r g l) h = call-known c (r .request) g h
 
 all-known : (c : Config) (ss : List Slot) → all (slotKeeps c) ss ≡ true → all (λ l. aShips (l .call)) (map view ss) ≡ true
 all-known c [] k = refl
@@ -56,7 +55,7 @@ FromShip s = s .ship ≤ 799999999
 
 one-known : (t i : ℕ) (k : Call) → aShips k ≡ true → Each FromShip (stopOf t i k)
 one-known t i quiet e = tt
-one-known t i (dialled x m) e = tt
+one-known t i (dialled x m o) e = tt
 one-known t i (talking x m b) e = (leb-true (x .ship) 799999999 e, tt)
 
 stops-known : (c : Config) (st : Station) (e : Event) → verdict c st e ≡ none → Each FromShip (stopsIn c (seen st) (noteOf e (act c st e .acts)))

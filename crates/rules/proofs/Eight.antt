@@ -19,7 +19,7 @@ use Rattle.rules.specs.ListAlone.Book.{Stop, Column, Book}
 use Rattle.rules.specs.ListAlone.ThreeWords.{Word}
 use Rattle.rules.specs.Statement.{AtMostEight}
 use Rattle.rules.proofs.PlaceLaws.{each-append}
-use Rattle.rules.proofs.Outcome.{Next, stays, becomes, frees, Move, to-dial, to-agree, to-ring, to-drop, to-answer, to-lose, to-regain, to-hold, to-end, to-repeat, to-run-out, to-take, to-give, played, Outcome, passed, moved}
+use Rattle.rules.proofs.Outcome.{Next, stays, becomes, frees, Move, to-dial, to-agree, to-ring, to-drop, to-stage, to-lose, to-regain, to-hold, to-end, to-repeat, to-run-out, to-take, to-give, played, Outcome, passed, moved}
 use Rattle.rules.proofs.Ruling.{Ruling, passes, repeats, renews, redials, bOrC-ruling}
 use Rattle.rules.proofs.Accepted.{sounds}
 use Rattle.rules.proofs.Payloads.{Slim, on-slim, off-slim, release-slim, acknowledge-slim, ringBack-slim, unable-slim, over-slim, bill-slim, dial-slim}
@@ -124,7 +124,7 @@ module _ (cfg : Config) where
   move-slim i t _ _ _ (to-agree k r d) h = (omega arith, tt)
   move-slim i t _ _ _ (to-ring r d) h = (omega arith, (ringBack-slim cfg i (r .request), tt))
   move-slim i t _ _ _ (to-drop k r d) h = (omega arith, (off-slim cfg i, tt))
-  move-slim i t _ _ _ (to-answer r d c) h = (omega arith, tt)
+  move-slim i t _ _ _ (to-stage r n q c z) h = (omega arith, tt)
   move-slim i t _ _ _ (to-lose r g c) h = (omega arith, tt)
   move-slim i t _ _ _ (to-regain r g c) h = (omega arith, tt)
   move-slim i t _ _ _ (to-hold r g c) h = (end-few i theShip (r .request) (answeredAt g) t, end-slim i theShip (r .request) (answeredAt g) t)

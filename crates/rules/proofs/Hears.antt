@@ -6,10 +6,10 @@ use mathlib.Core.Option.{Option, none, some}
 use Prim.Native.Nat.{ℕ}
 use lib.Dec.{eqb}
 use Rattle.rules.specs.Rules.Places.{modAt, dropAt}
-use Rattle.rules.specs.Rules.Words.{Party, is, Mode, Request, Config, lineLifted, lineHung, carrierHeard, carrierLost, Happened, heard, signal, operator, answeringOn, What, onSlot, Deed, carrierOn, carrierOff, acknowledge, ringBack, unable, dial, releaseLine, tick, onChannel70}
+use Rattle.rules.specs.Rules.Words.{Party, is, Mode, Request, Config, lineDialledOut, lineLifted, lineHung, carrierHeard, carrierLost, Happened, heard, signal, operator, answeringOn, What, onSlot, Deed, carrierOn, carrierOff, acknowledge, ringBack, unable, dial, releaseLine, tick, onChannel70}
 use Rattle.rules.specs.Rules.Heard.{Heard, callRequest, dataRequest, bq, workingCall, endOfCall, nothing, meaning}
 use Rattle.rules.specs.ListAlone.Book.{Stop, after, offerTime, alike, Said, silent, toldBQ, toldRQ, settled, Call, quiet, dialled, talking, Column, Book, atPlaces, Place, column}
-use Rattle.rules.specs.ListAlone.Reading.{close, withGone, pickUp, lose, signOff, hearSaid, hearColumn, settle, told, tell, rungUp, beginCall, dialUp, letGo, hush, join, queued, read, withWait, again, hearHeard, hearDue, hear, setNow, stopOf, callOf, stopsSaid, stopsOn, stopsDue, stopsAgain, stopsHeard, stopsAt}
+use Rattle.rules.specs.ListAlone.Reading.{close, withGone, dialOut, pickUp, lose, signOff, hearSaid, hearColumn, settle, told, tell, rungUp, beginCall, dialUp, letGo, hush, join, queued, read, withWait, again, hearHeard, hearDue, hear, setNow, stopOf, callOf, stopsSaid, stopsOn, stopsDue, stopsAgain, stopsHeard, stopsAt}
 use Rattle.rules.specs.Rules.Waits.{Wait, ofQueue, loss, main, Due}
 
 abbrev pub column-of : Said → Option ℕ → Call → Option ℕ → Column
@@ -18,12 +18,12 @@ column-of s w c g = record { said = s; wait = w; call = c; gone = g }
 -- the answered part of a call
 abbrev pub talk : Call → Call
 talk quiet = quiet
-talk (dialled x m) = quiet
+talk (dialled x m o) = quiet
 talk (talking x m b) = talking x m b
 
 pub talk-is : (c : Call) (x : Party) (m : Mode) (t : ℕ) → talk c ≡ talking x m t → c ≡ talking x m t
 talk-is quiet x m t h = cc
-talk-is (dialled y k) x m t h = cc
+talk-is (dialled y k o) x m t h = cc
 talk-is (talking y k b) x m t h = h
 
 -- ── what leaves the answered part alone ──────────────────────────────────────
@@ -46,7 +46,7 @@ tell-same u r l = go (l .said)
 
 begin-same : (r : Request) (c : Call) → talk (beginCall r c) ≡ talk c
 begin-same r quiet = refl
-begin-same r (dialled x m) = refl
+begin-same r (dialled x m o) = refl
 begin-same r (talking x m b) = refl
 
 dial-same : (u : ℕ) → Same (dialUp u)
@@ -63,7 +63,7 @@ release-same l = go (l .call)
   where
     go : (c : Call) → talk (letGo (column-of (l .said) (l .wait) c (l .gone)) .call) ≡ talk c
     go quiet = refl
-    go (dialled x m) = refl
+    go (dialled x m o) = refl
     go (talking x m b) = refl
 
 lose-same : (u : ℕ) → Same (lose u)
@@ -71,7 +71,16 @@ lose-same u l = go (l .call)
   where
     go : (c : Call) → talk (lose u (column-of (l .said) (l .wait) c (l .gone)) .call) ≡ talk c
     go quiet = refl
-    go (dialled x m) = refl
+    go (dialled x m o) = refl
+    go (talking x m b) = refl
+
+dial-out-same : (u : ℕ) → Same (dialOut u)
+dial-out-same u l = go (l .call)
+  where
+    go : (c : Call) → talk (dialOut u (column-of (l .said) (l .wait) c (l .gone)) .call) ≡ talk c
+    go quiet = refl
+    go (dialled x m false) = refl
+    go (dialled x m true) = refl
     go (talking x m b) = refl
 
 settle-same : (u : ℕ) (x : Party) → Same (settle u x)
@@ -125,6 +134,7 @@ said-hears u i e nothing = says-nothing (λ l. l) (λ l. refl)
 
 column-hears : (cfg : Config) (u i : ℕ) (h : Happened) → Hears u i (onSlot i h) (hearColumn cfg u h) (λ k. stopsOn cfg u i k h)
 column-hears cfg u i (heard m) = said-hears u i (onSlot i (heard m)) (meaning cfg m)
+column-hears cfg u i (signal lineDialledOut) = says-nothing (dialOut u) (dial-out-same u)
 column-hears cfg u i (signal lineLifted) = says-begun refl
 column-hears cfg u i (signal lineHung) = says-over
 column-hears cfg u i (signal carrierHeard) = says-nothing (withGone none) (λ l. refl)

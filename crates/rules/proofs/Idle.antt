@@ -16,7 +16,7 @@ use Rattle.rules.specs.Rules.Verdict.{verdict, final}
 use Rattle.rules.specs.Statement.{NoChannelIdle}
 use Rattle.rules.proofs.PlaceLaws.{shift-none}
 use Rattle.rules.proofs.Run.{final-on, final-past}
-use Rattle.rules.proofs.Outcome.{becomes, Move, to-dial, to-agree, to-ring, to-answer, to-lose, to-regain, to-hold, to-take}
+use Rattle.rules.proofs.Outcome.{becomes, Move, to-dial, to-agree, to-ring, to-stage, to-lose, to-regain, to-hold, to-take}
 use Rattle.rules.proofs.Walk.{Closed, act-kept}
 
 -- nobody waits, or no slot is free
@@ -53,7 +53,7 @@ turned-busy : (i t : ℕ) (p q : Slot) (acts : List Action) → Move i t p (beco
 turned-busy i t _ _ _ (to-dial k r d z) = refl
 turned-busy i t _ _ _ (to-agree k r d) = refl
 turned-busy i t _ _ _ (to-ring r d) = refl
-turned-busy i t _ _ _ (to-answer r d c) = refl
+turned-busy i t _ _ _ (to-stage r n q c z) = refl
 turned-busy i t _ _ _ (to-lose r g c) = refl
 turned-busy i t _ _ _ (to-regain r g c) = refl
 turned-busy i t _ _ _ (to-hold r g c) = refl

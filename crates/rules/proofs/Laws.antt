@@ -15,7 +15,7 @@ use Rattle.rules.specs.Rules.Words.{Party, is, Mode, Config, answeringOn
 use Rattle.rules.specs.Rules.Waits.{Due}
 use Rattle.rules.specs.ListAlone.Book.{Note, Stop, after, holdTime, Said, Call, quiet, dialled, talking, Column, Book, blank, column}
 use Rattle.rules.specs.ListAlone.Reading.{closed, close, pickUp, signOff, again, hear, read, reads, setNow, turn, stopsIn, falling, moment, stopOf, callOf, lost, askedAgain, stopsAgain, stopsAt}
-use Rattle.rules.specs.ListAlone.ReadingLaws.{In, stopAt, Begins, Lifts, Ends}
+use Rattle.rules.specs.ListAlone.ReadingLaws.{In, stopAt, IsDialled, Begins, Lifts, Ends}
 use Rattle.rules.proofs.Hears.{column-of, talk, talk-is, Same, Leaves, elsewhere, at-column, read-leaves, Hears, says-nothing, says-begun, says-over, says-end, Hearing, no-column, one-column, all-columns, event-hearing}
 
 -- ── no deed begins or stops an answered call ─────────────────────────────────
@@ -44,7 +44,7 @@ reads-same u j (d ∷ ds) b = reads-same u j ds (read u d b) ∙ read-same u j d
 -- the call c of column j is, after the entry, the call k
 data After (e : What) (u j : ℕ) (cs : List Stop) (c k : Call) : Type 0 where
   goes-on : talk k ≡ talk c → After e u j cs c k
-  starts : (x : Party) (m : Mode) → e ≡ answeringOn j → c ≡ dialled x m → k ≡ talking x m u → After e u j cs c k
+  starts : (x : Party) (m : Mode) (o : Bool) → e ≡ answeringOn j → c ≡ dialled x m o → k ≡ talking x m u → After e u j cs c k
   stopped : (x : Party) (m : Mode) (t : ℕ) → c ≡ talking x m t → talk k ≡ quiet → In (stopAt j x t u) cs → After e u j cs c k
 
 aside : (f : Column → Column) (i j : ℕ) (ls : List Column) → (j ≡ i) ⊎ (getD (modAt f i ls) j blank ≡ getD ls j blank)
@@ -75,14 +75,14 @@ module _ (e : What) (u i j : ℕ) (cs : List Stop) (f : Column → Column) (fb :
 
 close-after : (e : What) (u i : ℕ) (c : Call) → After e u i (stopOf u i c) c (closed c)
 close-after e u i quiet = goes-on refl
-close-after e u i (dialled x m) = goes-on refl
+close-after e u i (dialled x m o) = goes-on refl
 close-after e u i (talking x m t) = stopped x m t refl refl (inl refl)
 
 signOff-after : (e : What) (u : ℕ) (x : Party) (i : ℕ) (s : Said) (w : Option ℕ) (c : Call) (g : Option ℕ) → After e u i (cond (callOf x c) (stopOf u i c) []) c (signOff u x (column-of s w c g) .call)
 signOff-after e u x i s w quiet g = goes-on refl
-signOff-after e u x i s w (dialled y m) g = go (is x y)
+signOff-after e u x i s w (dialled y m o) g = go (is x y)
   where
-    go : (b : Bool) → After e u i (cond b [] []) (dialled y m) (cond b (column-of s (some (after u holdTime)) quiet none) (column-of s w (dialled y m) g) .call)
+    go : (b : Bool) → After e u i (cond b [] []) (dialled y m o) (cond b (column-of s (some (after u holdTime)) quiet none) (column-of s w (dialled y m o) g) .call)
     go true = goes-on refl
     go false = goes-on refl
 signOff-after e u x i s w (talking y m t) g = go (is x y)
@@ -93,7 +93,7 @@ signOff-after e u x i s w (talking y m t) g = go (is x y)
 
 pickUp-after : (e : What) (u i : ℕ) (cs : List Stop) → e ≡ answeringOn i → (s : Said) (w : Option ℕ) (c : Call) (g : Option ℕ) → After e u i cs c (pickUp u (column-of s w c g) .call)
 pickUp-after e u i cs h s w quiet g = goes-on refl
-pickUp-after e u i cs h s w (dialled x m) g = starts x m h refl refl
+pickUp-after e u i cs h s w (dialled x m o) g = starts x m o h refl refl
 pickUp-after e u i cs h s w (talking x m b) g = goes-on refl
 
 in-append : (c : Stop) (a b : List Stop) → In c b → In c (a ++ b)
@@ -115,13 +115,13 @@ again-after e u x k zero (l ∷ ls) = rw (add-zero k) (go (l .call) (l .gone))
 
     go : (c : Call) (g : Option ℕ) → After e u k (cond (askedAgain x c g) (stopOf u k c) [] ++ stopsAgain u x (suc k) ls) c (again x (column-of (l .said) (l .wait) c g) .call)
     go quiet g = goes-on refl
-    go (dialled y m) g = goes-on refl
+    go (dialled y m o) g = goes-on refl
     go (talking y m t) g = pick ((is x y) && (lost m g)) y m t g
 again-after e u x k (suc j) (l ∷ ls) = rw (add-suc k j, ← (suc-add k j)) (more (again-after e u x (suc k) j ls))
   where
     more : {c d : Call} → After e u (suc k + j) (stopsAgain u x (suc k) ls) c d → After e u (suc k + j) (stopsAgain u x k (l ∷ ls)) c d
     more (goes-on p) = goes-on p
-    more (starts y m p q r) = starts y m p q r
+    more (starts y m o p q r) = starts y m o p q r
     more (stopped y m t p q r) = stopped y m t p q (in-append _ (cond (askedAgain x (l .call) (l .gone)) (stopOf u k (l .call)) []) _ r)
 
 hears-after : (u i j : ℕ) (e : What) (f : Column → Column) (s : Call → List Stop) → Hears u i e f s → (ls : List Column) → After e u j (s (getD ls i blank .call)) (getD ls j blank .call) (getD (modAt f i ls) j blank .call)
@@ -148,6 +148,10 @@ turn-mid : (cfg : Config) (b : Book) (n : Note) (j : ℕ) → talk (column (turn
 unfolding turn mid
 turn-mid cfg b n j = reads-same (moment b (n .event)) j (n .deeds) (hear cfg (moment b (n .event)) (falling b (n .event)) (n .event .what) (setNow (moment b (n .event)) b))
 
+is-dialled : (x : Party) (m : Mode) (o : Bool) (c : Call) → c ≡ dialled x m o → IsDialled x m c
+is-dialled x m false c h = inl h
+is-dialled x m true c h = inr h
+
 pub begins : Begins
 unfolding Begins mid
 begins cfg b n j x m t h = go (hear-after cfg b (moment b (n .event)) (falling b (n .event)) (n .event .what) j)
@@ -155,14 +159,14 @@ begins cfg b n j x m t h = go (hear-after cfg b (moment b (n .event)) (falling b
     now-talks : mid cfg b n j ≡ talking x m t
     now-talks = talk-is (mid cfg b n j) x m t (sym (turn-mid cfg b n j) ∙ ap talk h)
 
-    go : After (n .event .what) (moment b (n .event)) j (stopsAt cfg (moment b (n .event)) b (falling b (n .event)) (n .event .what)) (column b j .call) (mid cfg b n j) → (column b j .call ≡ talking x m t) ⊎ ((n .event .what ≡ answeringOn j) × ((moment b (n .event) ≡ t) × (column b j .call ≡ dialled x m)))
+    go : After (n .event .what) (moment b (n .event)) j (stopsAt cfg (moment b (n .event)) b (falling b (n .event)) (n .event .what)) (column b j .call) (mid cfg b n j) → (column b j .call ≡ talking x m t) ⊎ ((n .event .what ≡ answeringOn j) × ((moment b (n .event) ≡ t) × IsDialled x m (column b j .call)))
     go (goes-on p) = inl (talk-is (column b j .call) x m t (sym p ∙ ap talk now-talks))
-    go (starts y k p q r) =
+    go (starts y k o p q r) =
         let s : talking y k (moment b (n .event)) ≡ talking x m t = sym r ∙ now-talks in
         let sx : y ≡ x = cc in
         let sm : k ≡ m = cc in
         let st : moment b (n .event) ≡ t = cc in
-        inr (p, (st, rw (sx, sm) at q))
+        inr (p, (st, is-dialled x m o _ (rw (sx, sm) at q)))
     go (stopped y k v p q r) = let z : quiet ≡ talking x m t = sym q ∙ ap talk now-talks in let w : _≡_ {A = ℕ} 0 1 = cc in absurd (omega arith)
 
 pub ends : Ends
@@ -171,7 +175,7 @@ ends cfg b n j x m t h = go (hear-after cfg b (moment b (n .event)) (falling b (
   where
     go : After (n .event .what) (moment b (n .event)) j (stopsAt cfg (moment b (n .event)) b (falling b (n .event)) (n .event .what)) (column b j .call) (mid cfg b n j) → (column (turn cfg b n) j .call ≡ talking x m t) ⊎ In (stopAt j x t (moment b (n .event))) (stopsIn cfg b n)
     go (goes-on p) = inl (talk-is (column (turn cfg b n) j .call) x m t (turn-mid cfg b n j ∙ p ∙ ap talk h))
-    go (starts y k p q r) = let z : dialled y k ≡ talking x m t = sym q ∙ h in let w : _≡_ {A = ℕ} 0 1 = cc in absurd (omega arith)
+    go (starts y k o p q r) = let z : dialled y k o ≡ talking x m t = sym q ∙ h in let w : _≡_ {A = ℕ} 0 1 = cc in absurd (omega arith)
     go (stopped y k v p q r) =
         let s : talking y k v ≡ talking x m t = sym p ∙ h in
         let sx : y ≡ x = cc in
@@ -183,5 +187,6 @@ pub lifts : Lifts
 unfolding Lifts mid
 lifts cfg t n ds b j x m h = talk-is _ x m t (turn-mid cfg b (record { event = record { time = t; room = n; what = answeringOn j }; deeds = ds }) j ∙ ap (λ (l : Column). talk (l .call)) (there (pickUp t) refl j (b .columns)) ∙ go (column b j) h)
   where
-    go : (l : Column) → l .call ≡ dialled x m → talk (pickUp t l .call) ≡ talking x m t
-    go l e = rw e refl
+    go : (l : Column) → IsDialled x m (l .call) → talk (pickUp t l .call) ≡ talking x m t
+    go l (inl e) = rw e refl
+    go l (inr e) = rw e refl

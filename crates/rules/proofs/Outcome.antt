@@ -6,18 +6,18 @@ use mathlib.Core.Option.{Option, none, some}
 use Prim.Native.Nat.{ℕ}
 use Rattle.units.specs.declared.Told.{Told}
 use Rattle.rules.specs.Rules.Places.{Each}
-use Rattle.rules.specs.Rules.Words.{Party, is, Request, Config, lineLifted, lineHung, carrierHeard, carrierLost, handTakes, handGives, Happened, heard, signal, operator, offHook, Deed, carrierOn, carrierOff, acknowledge, ringBack, unable, dial, releaseLine, Mode, isAnswering}
+use Rattle.rules.specs.Rules.Words.{Party, is, Request, Config, lineDialledOut, lineLifted, lineHung, carrierHeard, carrierLost, handTakes, handGives, Happened, heard, signal, operator, offHook, Deed, carrierOn, carrierOff, acknowledge, ringBack, unable, dial, releaseLine, Mode, isAnswering}
 use Rattle.rules.specs.Rules.Heard.{Heard, callRequest, dataRequest, bq, workingCall, endOfCall, nothing, meaning}
 use Rattle.rules.specs.Rules.Actions.{Action, does, over, Ender, theShip, theCoast}
-use Rattle.rules.specs.Rules.Station.{Kind, firstRing, rungAgain, agreedAt, Stage, answeredAt, dialling, answered, Dealing, Slot, free, taken, pending, busy, held, Station, setSlot, dueAfter, replyWait, holdWait, carrierWait}
+use Rattle.rules.specs.Rules.Station.{Kind, firstRing, rungAgain, agreedAt, Stage, answeredAt, dialling, dialledOut, answered, Dealing, Slot, free, taken, pending, busy, held, Station, setSlot, dueAfter, diallingWait, replyWait, holdWait, carrierWait}
 use Rattle.rules.specs.Rules.Requests.{Out, ignored, also, freed, lasted, endActs, coastEnd}
-use Rattle.rules.specs.Rules.Calls.{dialNow, workingKind, workingOn, agreed, bqKind, bqFor, offHookStage, offHookOn, startLoss, downOn, upOn, shipEnd, sayAgain, shipEndOn, endOn, takeOn, giveOn, offerDue, ringAgain, pendingDue, replyDue, mainOn, heardOn, happenedOn}
+use Rattle.rules.specs.Rules.Calls.{dialNow, workingKind, workingOn, agreed, bqKind, bqFor, dialledOutStage, dialledOutOn, offHookStage, offHookOn, startLoss, downOn, upOn, shipEnd, sayAgain, shipEndOn, endOn, takeOn, giveOn, offerDue, ringAgain, pendingDue, replyDue, mainOn, heardOn, happenedOn}
 use Rattle.rules.specs.ListAlone.Book.{Stop, Column, Place}
-use Rattle.rules.specs.ListAlone.Reading.{close, withWait, withGone, pickUp, lose, signOff, hearSaid, hearColumn, settle, tell, rungUp, dialUp, letGo, hush, leave, stopOf, callOf, stopsSaid, stopsOn}
+use Rattle.rules.specs.ListAlone.Reading.{close, withWait, withGone, dialOut, pickUp, lose, signOff, hearSaid, hearColumn, settle, tell, rungUp, dialUp, letGo, hush, leave, stopOf, callOf, stopsSaid, stopsOn}
 use Rattle.rules.specs.ListAlone.Repeated.{Dials}
 use Rattle.rules.specs.ListAlone.ThreeWords.{Word, idle, ringing, answer, wordOf}
 use Rattle.rules.specs.Statement.{deedsOf, chargesOf, owed}
-use Rattle.rules.specs.Rules.Sound.{fits, stageFits, lossFits, slotFits}
+use Rattle.rules.specs.Rules.Sound.{stageFits, lossFits, slotFits}
 use Rattle.rules.proofs.Base.{by-kind, saidOf, view, silence-is, new-wait, again-fits, agreed-fits}
 use Rattle.rules.proofs.PlaceLaws.{and-true}
 use borrow.Author.Tests.{le-leb}
@@ -34,14 +34,14 @@ pub data Next : Type 0 where
 pub data Move (i t : ℕ) : Slot → Next → List Action → Type 0 where
   -- before its line is dialled: the number is the one named on channel 70
   to-dial : (k : Kind) (r : Dealing) (d : ℕ) → Dials (r .request .number) (saidOf k (r .request))
-      → Move i t (pending k r d) (becomes (busy r (dialling (dueAfter t replyWait)) none)) (does (dial i (r .request .number)) ∷ [])
+      → Move i t (pending k r d) (becomes (busy r (dialling (dueAfter t diallingWait)) none)) (does (dial i (r .request .number)) ∷ [])
   to-agree : (k : Kind) (r : Dealing) (d : ℕ)
       → Move i t (pending k r d) (becomes (agreedAt r t)) []
   to-ring : (r : Dealing) (d : ℕ)
       → Move i t (pending firstRing r d) (becomes (rungAgain r t)) (does (ringBack i (r .request)) ∷ [])
   to-drop : (k : Kind) (r : Dealing) (d : ℕ) → Move i t (pending k r d) frees (does (carrierOff i) ∷ [])
   -- dialling or answered
-  to-answer : (r : Dealing) (d : ℕ) (c : Option ℕ) → Move i t (busy r (dialling d) c) (becomes (busy r (answered t) c)) []
+  to-stage : (r : Dealing) (g q : Stage) (c : Option ℕ) → stageFits t q ≡ true → Move i t (busy r g c) (becomes (busy r q c)) []
   to-lose : (r : Dealing) (g : Stage) (c : Option ℕ) → Move i t (busy r g c) (becomes (busy r g (startLoss t (r .request .mode) c))) []
   to-regain : (r : Dealing) (g : Stage) (c : Option ℕ) → Move i t (busy r g c) (becomes (busy r g none)) []
   to-hold : (r : Dealing) (g : Stage) (c : Option ℕ)
@@ -127,7 +127,7 @@ move-about ps i t _ _ _ (to-dial k r d z) h = (refl, tt)
 move-about ps i t _ _ _ (to-agree k r d) h = tt
 move-about ps i t _ _ _ (to-ring r d) h = ((refl, h firstRing r d refl), tt)
 move-about ps i t _ _ _ (to-drop k r d) h = (refl, tt)
-move-about ps i t _ _ _ (to-answer r d c) h = tt
+move-about ps i t _ _ _ (to-stage r n q c z) h = tt
 move-about ps i t _ _ _ (to-lose r g c) h = tt
 move-about ps i t _ _ _ (to-regain r g c) h = tt
 move-about ps i t _ _ _ (to-hold r g c) h = end-about i ps theShip (r .request) (answeredAt g) t
@@ -143,10 +143,10 @@ down-fits t g m (some d) h k = rw h k
 
 -- what the slot becomes fits the clock
 pub turned-fits : (i t : ℕ) (p q : Slot) (acts : List Action) → Move i t p (becomes q) acts → slotFits t p ≡ true → slotFits t q ≡ true
-turned-fits i t _ _ _ (to-dial k r d z) h = rw (new-wait t replyWait) refl
+turned-fits i t _ _ _ (to-dial k r d z) h = rw (new-wait t diallingWait) refl
 turned-fits i t _ _ _ (to-agree k r d) h = agreed-fits r t
 turned-fits i t _ _ _ (to-ring r d) h = again-fits r t
-turned-fits i t _ _ _ (to-answer r d c) h = rw (le-leb t t (omega arith)) (and-true (fits t replyWait d) (lossFits t (r .request .mode) c) h .1)
+turned-fits i t _ _ _ (to-stage r g q c z) h = rw z (and-true (stageFits t g) (lossFits t (r .request .mode) c) h .1)
 turned-fits i t _ _ _ (to-lose r g c) h = let f = and-true (stageFits t g) (lossFits t (r .request .mode) c) h in down-fits t g (r .request .mode) c (f .0) (f .1)
 turned-fits i t _ _ _ (to-regain r g c) h = rw (and-true (stageFits t g) (lossFits t (r .request .mode) c) h .0) refl
 turned-fits i t _ _ _ (to-hold r g c) h = new-wait t holdWait
@@ -167,13 +167,25 @@ module _ (i : ℕ) (st : Station) where
   outcome-if true x y g h = g refl
   outcome-if false x y g h = h refl
 
+  -- ── dialling ended ──
+  dialled-out-outcome : (p : Slot) → Outcome i st (dialOut (st .clock)) (λ w. w) [] p (dialledOutOn i st p)
+  unfolding dialledOutOn dialledOutStage
+  dialled-out-outcome free = passed refl refl refl
+  dialled-out-outcome taken = passed refl refl refl
+  dialled-out-outcome (pending k r d) = passed refl refl refl
+  dialled-out-outcome (busy r (dialling d) c) = moved (to-stage r _ (dialledOut (dueAfter (st .clock) replyWait)) c (new-wait (st .clock) replyWait)) refl refl refl
+  dialled-out-outcome (busy r (dialledOut d) c) = passed refl refl refl
+  dialled-out-outcome (busy r (answered b) c) = passed refl refl refl
+  dialled-out-outcome (held r n d) = passed refl refl refl
+
   -- ── off-hook, carrier ──
   offHook-outcome : (p : Slot) → Outcome i st (pickUp (st .clock)) (lifted (st .clock) offHook) [] p (offHookOn i st p)
   unfolding offHookOn offHookStage
   offHook-outcome free = passed refl refl refl
   offHook-outcome taken = passed refl refl refl
   offHook-outcome (pending k r d) = passed refl refl refl
-  offHook-outcome (busy r (dialling d) c) = moved (to-answer r d c) refl refl refl
+  offHook-outcome (busy r (dialling d) c) = moved (to-stage r _ (answered (st .clock)) c (le-leb (st .clock) (st .clock) (omega arith))) refl refl refl
+  offHook-outcome (busy r (dialledOut d) c) = moved (to-stage r _ (answered (st .clock)) c (le-leb (st .clock) (st .clock) (omega arith))) refl refl refl
   offHook-outcome (busy r (answered b) c) = passed refl refl refl
   offHook-outcome (held r n d) = passed refl refl refl
 
@@ -192,6 +204,8 @@ module _ (i : ℕ) (st : Station) where
   down-outcome (pending k r d) = passed refl refl refl
   down-outcome (busy r (dialling d) none) = moved (to-lose r (dialling d) none) (rw (silence-is (r .request .mode)) refl) refl refl
   down-outcome (busy r (dialling d) (some u)) = moved (to-lose r (dialling d) (some u)) refl refl refl
+  down-outcome (busy r (dialledOut d) none) = moved (to-lose r (dialledOut d) none) (rw (silence-is (r .request .mode)) refl) refl refl
+  down-outcome (busy r (dialledOut d) (some u)) = moved (to-lose r (dialledOut d) (some u)) refl refl refl
   down-outcome (busy r (answered b) none) = moved (to-lose r (answered b) none) (rw (silence-is (r .request .mode)) refl) refl refl
   down-outcome (busy r (answered b) (some u)) = moved (to-lose r (answered b) (some u)) refl refl refl
   down-outcome (held r n d) = passed refl refl refl
@@ -203,6 +217,7 @@ module _ (i : ℕ) (st : Station) where
   end-outcome taken = passed refl refl refl
   end-outcome (pending k r d) = passed refl refl refl
   end-outcome (busy r (dialling d) c) = moved (to-end r (dialling d) c) refl refl refl
+  end-outcome (busy r (dialledOut d) c) = moved (to-end r (dialledOut d) c) refl refl refl
   end-outcome (busy r (answered b) c) = moved (to-end r (answered b) c) refl refl refl
   end-outcome (held r n d) = passed refl refl refl
 
@@ -213,6 +228,7 @@ module _ (i : ℕ) (st : Station) where
   shipEnd-outcome x taken = passed refl refl refl
   shipEnd-outcome x (pending k r d) = passed refl refl refl
   shipEnd-outcome x (busy r (dialling d) c) = outcome-if (is x (r .request .who)) (shipEnd i r none st) (ignored st) (λ h. moved (to-hold r (dialling d) c) (rw h refl) refl (rw h refl)) (λ h. passed (rw h refl) refl (rw h refl))
+  shipEnd-outcome x (busy r (dialledOut d) c) = outcome-if (is x (r .request .who)) (shipEnd i r none st) (ignored st) (λ h. moved (to-hold r (dialledOut d) c) (rw h refl) refl (rw h refl)) (λ h. passed (rw h refl) refl (rw h refl))
   shipEnd-outcome x (busy r (answered b) c) = outcome-if (is x (r .request .who)) (shipEnd i r (some b) st) (ignored st) (λ h. moved (to-hold r (answered b) c) (rw h refl) refl (rw h refl)) (λ h. passed (rw h refl) refl (rw h refl))
   shipEnd-outcome x (held r n d) = outcome-if (is x (r .request .who)) (sayAgain i (r .request) n st) (ignored st) (λ h. moved (to-repeat r n d) refl refl refl) (λ h. passed refl refl refl)
 
@@ -262,6 +278,7 @@ module _ (i : ℕ) (st : Station) where
   main-outcome taken = passed refl refl refl
   main-outcome (pending k r d) = by-kind (λ z. Outcome i st (withWait none) (λ w. w) [] (pending z r d) (pendingDue i z r st)) (moved (to-drop _ r d) refl refl refl) (moved (to-ring r d) refl refl refl) (moved (to-drop _ r d) refl refl refl) (moved (to-drop _ r d) refl refl refl) k
   main-outcome (busy r (dialling d) c) = moved (to-end r (dialling d) c) refl refl refl
+  main-outcome (busy r (dialledOut d) c) = moved (to-end r (dialledOut d) c) refl refl refl
   main-outcome (busy r (answered b) c) = passed refl refl refl
   main-outcome (held r n d) = moved (to-run-out r n d) refl refl refl
 
@@ -278,6 +295,7 @@ module _ (i : ℕ) (st : Station) where
   pub happened-outcome : (cfg : Config) (p : Slot) (h : Happened) → Outcome i st (hearColumn cfg (st .clock) h) (lifted (st .clock) h) (stopsOn cfg (st .clock) i (view p .call) h) p (happenedOn cfg i st p h)
   unfolding happenedOn
   happened-outcome cfg p (heard m) = said-outcome p (meaning cfg m)
+  happened-outcome cfg p (signal lineDialledOut) = dialled-out-outcome p
   happened-outcome cfg p (signal lineLifted) = offHook-outcome p
   happened-outcome cfg p (signal lineHung) = end-outcome p
   happened-outcome cfg p (signal carrierHeard) = up-outcome p

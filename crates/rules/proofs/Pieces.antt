@@ -10,13 +10,13 @@ use native.Mathlib.Omega.{arith}
 use Rattle.rules.specs.Rules.Places.{modAt, shift, lowest}
 use Rattle.rules.specs.Rules.Words.{Party, is, Request}
 use Rattle.rules.specs.Rules.Actions.{theCoast, Action}
-use Rattle.rules.specs.Rules.Station.{Slot, Waiting, Station, theSlot, setSlot, setQueue, dueAfter, queueWait, isFree, ringOf, offerOf}
+use Rattle.rules.specs.Rules.Station.{Stage, answered, answeredAt, Slot, Waiting, Station, theSlot, setSlot, setQueue, dueAfter, queueWait, isFree, ringOf, offerOf}
 use Rattle.rules.specs.Rules.Requests.{Out, done, also, rungBack, freedFor, freed, endActs, coastEnd, waitsFor, afresh, ruleD, offer, ruleF, ruleG, eToG, newcomer}
 use Rattle.rules.specs.ListAlone.Book.{Stop, Column, Place, Book, blank, atColumn}
 use Rattle.rules.specs.ListAlone.Reading.{tell, rungUp, letGo, hush, leave, join, reads, stopOf}
 use Rattle.rules.specs.Statement.{deedsOf, chargesOf, owed}
 use Rattle.rules.proofs.PlaceLaws.{modAt-modAt, shift-some, shift-none}
-use Rattle.rules.proofs.Base.{callIn, view, place, seen, is-same, is-true, deeds-append, charges-append, reads-append, atLine², moves, free-is, slot-set, slot-lowest}
+use Rattle.rules.proofs.Base.{by-stage, callIn, view, place, seen, is-same, is-true, deeds-append, charges-append, reads-append, atLine², moves, free-is, slot-set, slot-lowest}
 use Rattle.rules.specs.Rules.Sound.{queueRoom}
 
 -- ── what is shown of a piece ─────────────────────────────────────────────────
@@ -75,11 +75,19 @@ freed-good i st p e f h = freedFor-good i st p e (st .queue) refl f h
 
 -- ── the coast's end ──────────────────────────────────────────────────────────
 
-pub coastEnd-good : (i : ℕ) (r : Request) (g : Option ℕ) (st : Station) (p : Slot) → theSlot st i ≡ p → (f : Column → Column) → hush (letGo (f (view p))) ≡ blank
-    → Good (st .clock) (atColumn i f (seen st)) (stopOf (st .clock) i (callIn r g)) (coastEnd i r g st)
+pub coastEnd-good : (i : ℕ) (r : Request) (g : Stage) (st : Station) (p : Slot) → theSlot st i ≡ p → (f : Column → Column) → hush (letGo (f (view p))) ≡ blank
+    → Good (st .clock) (atColumn i f (seen st)) (stopOf (st .clock) i (callIn r g)) (coastEnd i r (answeredAt g) st)
 unfolding coastEnd reads
-coastEnd-good i r none st p e f h = good-also (st .clock) (atColumn i f (seen st)) (atColumn i (λ l. hush (letGo (f l))) (seen st)) [] [] (endActs i theCoast r none (st .clock)) (freed i st) (atLine³ i f letGo hush (seen st)) refl (freed-good i st p e (λ l. hush (letGo (f l))) h)
-coastEnd-good i r (some b) st p e f h = good-also (st .clock) (atColumn i f (seen st)) (atColumn i (λ l. hush (letGo (f l))) (seen st)) (stopOf (st .clock) i (callIn r (some b))) [] (endActs i theCoast r (some b) (st .clock)) (freed i st) (atLine³ i f letGo hush (seen st)) refl (freed-good i st p e (λ l. hush (letGo (f l))) h)
+coastEnd-good i r g st p e f h = by-stage (λ s. Good (st .clock) (atColumn i f (seen st)) (stopOf (st .clock) i (callIn r s)) (coastEnd i r (answeredAt s) st)) (λ d. unanswered) (λ d. unanswered) talked g
+  where
+    idle : Good (st .clock) (atColumn i (λ l. hush (letGo (f l))) (seen st)) [] (freed i st)
+    idle = freed-good i st p e (λ l. hush (letGo (f l))) h
+
+    unanswered : Good (st .clock) (atColumn i f (seen st)) [] (coastEnd i r none st)
+    unanswered = good-also (st .clock) (atColumn i f (seen st)) (atColumn i (λ l. hush (letGo (f l))) (seen st)) [] [] (endActs i theCoast r none (st .clock)) (freed i st) (atLine³ i f letGo hush (seen st)) refl idle
+
+    talked : (b : ℕ) → Good (st .clock) (atColumn i f (seen st)) (stopOf (st .clock) i (callIn r (answered b))) (coastEnd i r (some b) st)
+    talked b = good-also (st .clock) (atColumn i f (seen st)) (atColumn i (λ l. hush (letGo (f l))) (seen st)) (stopOf (st .clock) i (callIn r (answered b))) [] (endActs i theCoast r (some b) (st .clock)) (freed i st) (atLine³ i f letGo hush (seen st)) refl idle
 
 -- ── rules d to g ─────────────────────────────────────────────────────────────
 

@@ -25,7 +25,7 @@ pub data Ruling (i : ℕ) (st : Station) (r : Request) (cs : List Stop) : Slot �
   renews : (k : Kind) (o : Dealing) (d : ℕ) → tell (st .clock) r (again (r .who) (view (pending k o d))) ≡ view (offerOf r st) → [] ≡ map owed cs
       → Ruling i st r cs (pending k o d) (afresh i st r)
   redials : (o : Dealing) (g : Stage) (c : Option ℕ)
-      → (owns (r .who) (busy o g c) ≡ true → (hush (letGo (again (r .who) (view (busy o g c)))) ≡ blank) × (cs ≡ stopOf (st .clock) i (callIn (o .request) (answeredAt g))))
+      → (owns (r .who) (busy o g c) ≡ true → (hush (letGo (again (r .who) (view (busy o g c)))) ≡ blank) × (cs ≡ stopOf (st .clock) i (callIn (o .request) g)))
       → Ruling i st r cs (busy o g c) (redial i (o .request) (answeredAt g) st r)
 
 module _ (i : ℕ) (st : Station) (r : Request) where
@@ -38,9 +38,9 @@ module _ (i : ℕ) (st : Station) (r : Request) where
 
   ruleC-ruling : (o : Dealing) (g : Stage) (m : Mode) (c : Option ℕ) → o .request .mode ≡ m → RuledC o m c g
   unfolding ruleC
-  ruleC-ruling o g duplex c e = by-stage (RuledC o duplex c) (λ d. passes _ (λ h. (refl, refl))) (λ b. passes _ (λ h. (rw (h, e) refl, rw (h, e) refl))) g
-  ruleC-ruling o g simplex none e = by-stage (RuledC o simplex none) (λ d. passes _ (λ h. (refl, refl))) (λ b. passes _ (λ h. (rw (h, e) refl, rw (h, e) refl))) g
-  ruleC-ruling o g simplex (some u) e = by-stage (RuledC o simplex (some u)) (λ d. redials o _ (some u) (λ h. (refl, refl))) (λ b. redials o _ (some u) (λ h. (rw (h, e) refl, rw (h, e) refl))) g
+  ruleC-ruling o g duplex c e = by-stage (RuledC o duplex c) (λ d. passes _ (λ h. (refl, refl))) (λ d. passes _ (λ h. (refl, refl))) (λ b. passes _ (λ h. (rw (h, e) refl, rw (h, e) refl))) g
+  ruleC-ruling o g simplex none e = by-stage (RuledC o simplex none) (λ d. passes _ (λ h. (refl, refl))) (λ d. passes _ (λ h. (refl, refl))) (λ b. passes _ (λ h. (rw (h, e) refl, rw (h, e) refl))) g
+  ruleC-ruling o g simplex (some u) e = by-stage (RuledC o simplex (some u)) (λ d. redials o _ (some u) (λ h. (refl, refl))) (λ d. redials o _ (some u) (λ h. (refl, refl))) (λ b. redials o _ (some u) (λ h. (rw (h, e) refl, rw (h, e) refl))) g
 
   abbrev Ruled : Slot → Type 0
   Ruled p = Ruling i st r (againOf (st .clock) (r .who) i (view p)) p (bOrC i p st r)

@@ -19,7 +19,7 @@ use Rattle.rules.specs.Rules.Station.{Slot, Waiting, Station, theSlot, s
 use Rattle.rules.specs.Rules.Sound.{requestKeeps, durationKeeps, slotKeeps, waitingKeeps}
 use Rattle.rules.specs.Rules.Requests.{rungBack, freedFor, freed, lasted, ruleD, ruleF}
 use Rattle.rules.proofs.PlaceLaws.{and-true, modAt-length, all-set, all-end, all-dropped}
-use Rattle.rules.proofs.Outcome.{becomes, Move, to-dial, to-agree, to-ring, to-answer, to-lose, to-regain, to-hold, to-take}
+use Rattle.rules.proofs.Outcome.{becomes, Move, to-dial, to-agree, to-ring, to-stage, to-lose, to-regain, to-hold, to-take}
 use Rattle.rules.proofs.Walk.{Closed}
 use Rattle.rules.proofs.Base.{slot-all}
 
@@ -67,7 +67,7 @@ module _ (cfg : Config) where
   turned-keeps i t _ _ _ (to-dial k r d z) h = h
   turned-keeps i t _ _ _ (to-agree k r d) h = h
   turned-keeps i t _ _ _ (to-ring r d) h = h
-  turned-keeps i t _ _ _ (to-answer r d c) h = h
+  turned-keeps i t _ _ _ (to-stage r n q c z) h = h
   turned-keeps i t _ _ _ (to-lose r g c) h = h
   turned-keeps i t _ _ _ (to-regain r g c) h = h
   turned-keeps i t _ _ _ (to-hold r g c) h = rw (h, lasted-keeps (answeredAt g) t) refl

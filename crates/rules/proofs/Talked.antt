@@ -20,7 +20,7 @@ sum (c ∷ cs) = (c .stop .0 - c .start .0) + sum cs
 
 talked-talk : (t : ℕ) (c : Call) → talked t (talk c) ≡ talked t c
 talked-talk t quiet = refl
-talked-talk t (dialled x m) = refl
+talked-talk t (dialled x m o) = refl
 talked-talk t (talking x m b) = refl
 
 -- what leaves every answered call alone leaves what they have talked
@@ -51,7 +51,7 @@ close-takes t zero k (l ∷ ls) = go (l .call)
   where
     go : (c : Call) → sum (stopOf t k c) + (talked t (closed c) + talkedBy t ls) ≡ talked t c + talkedBy t ls
     go quiet = omega arith
-    go (dialled x m) = omega arith
+    go (dialled x m o) = omega arith
     go (talking x m b) = omega arith
 close-takes t (suc i) k (l ∷ ls) = omega (arith, close-takes t i k ls)
 
@@ -63,13 +63,13 @@ signOff-takes t u x zero k (l ∷ ls) = go (l .call)
     pick true y m c = omega arith
     pick false y m c = omega arith
 
-    pick0 : (b : Bool) (y : Party) (m : Mode) → sum (cond b (stopOf t k (dialled y m)) []) + (talked t (cond b (column-of (l .said) (some (after u holdTime)) quiet none) (column-of (l .said) (l .wait) (dialled y m) (l .gone)) .call) + talkedBy t ls) ≡ 0 + talkedBy t ls
-    pick0 true y m = omega arith
-    pick0 false y m = omega arith
+    pick0 : (b : Bool) (y : Party) (m : Mode) (o : Bool) → sum (cond b (stopOf t k (dialled y m o)) []) + (talked t (cond b (column-of (l .said) (some (after u holdTime)) quiet none) (column-of (l .said) (l .wait) (dialled y m o) (l .gone)) .call) + talkedBy t ls) ≡ 0 + talkedBy t ls
+    pick0 true y m o = omega arith
+    pick0 false y m o = omega arith
 
     go : (c : Call) → sum (cond (callOf x c) (stopOf t k c) []) + (talked t (signOff u x (column-of (l .said) (l .wait) c (l .gone)) .call) + talkedBy t ls) ≡ talked t c + talkedBy t ls
     go quiet = omega arith
-    go (dialled y m) = pick0 (is x y) y m
+    go (dialled y m o) = pick0 (is x y) y m o
     go (talking y m b) = pick (is x y) y m b
 signOff-takes t u x (suc i) k (l ∷ ls) = omega (arith, signOff-takes t u x i k ls)
 
@@ -83,7 +83,7 @@ again-takes t x k (l ∷ ls) = go (askedAgain x (l .call) (l .gone)) (l .call) (
 
     pick : (c : Call) → sum (stopOf t k c) + talked t (closed c) ≡ talked t c
     pick quiet = refl
-    pick (dialled y m) = refl
+    pick (dialled y m o) = refl
     pick (talking y m b) = omega arith
 
     go : (b : Bool) (c : Call) → sum (stopsAgain t x (suc k) ls) + talkedBy t (map (again x) ls) ≡ talkedBy t ls
@@ -97,7 +97,7 @@ pickUp-takes t zero (l ∷ ls) = go (l .call)
   where
     go : (c : Call) → talked t (pickUp t (column-of (l .said) (l .wait) c (l .gone)) .call) + talkedBy t ls ≡ talked t c + talkedBy t ls
     go quiet = refl
-    go (dialled x m) = omega arith
+    go (dialled x m o) = omega arith
     go (talking x m b) = refl
 pickUp-takes t (suc i) (l ∷ ls) = ap (λ n. talked t (l .call) + n) (pickUp-takes t i ls)
 

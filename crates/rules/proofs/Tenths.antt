@@ -11,14 +11,14 @@ use borrow.Author.Tests.{leb-true}
 use Rattle.rules.specs.Rules.Places.{all}
 use Rattle.rules.specs.Rules.Words.{Party, Request, Config, What, Event, Deed, carrierOn, carrierOff, acknowledge, ringBack, unable, dial, releaseLine}
 use Rattle.rules.specs.Rules.Actions.{Charge}
-use Rattle.rules.specs.Rules.Station.{Slot, Station, fresh, answeredAt, answeredIn}
+use Rattle.rules.specs.Rules.Station.{Stage, Slot, Station, fresh, answeredAt, answeredIn}
 use Rattle.rules.specs.Rules.Calls.{act}
 use Rattle.rules.specs.Rules.Verdict.{verdict, play, final}
 use Rattle.rules.specs.ListAlone.Book.{Note, Stop, after, Call, quiet, dialled, talking, Book, atPlaces, blank}
 use Rattle.rules.specs.ListAlone.Reading.{join, read, reads, turn, stopsIn, Numbered, numbered, isTalking, talkers, counted, talked, talkedBy, falling, moment}
 use Rattle.rules.specs.Statement.{notes, charged, owed, tenthsIn, unchargedFrom, unchargedSlot, unchargedSlots, unchargedTenths, TenthsAgree}
 use Rattle.rules.proofs.PlaceLaws.{and-true}
-use Rattle.rules.proofs.Base.{callIn, view, seen, Calling, no-call, a-call, calling, fresh-mapped, begun, begunBy}
+use Rattle.rules.proofs.Base.{by-stage, callIn, view, seen, Calling, no-call, a-call, calling, fresh-mapped, begun, begunBy}
 use Rattle.rules.proofs.Accepted.{accepted, sounds, begun-all}
 use Rattle.rules.proofs.Run.{noteOf, turn-is, stops-are, play-on, play-past, final-on, final-past, fresh-seen}
 use Rattle.rules.proofs.Talked.{sum, turn-takes}
@@ -30,29 +30,28 @@ use Rattle.rules.proofs.Hears.{Hearing, no-column, one-column, all-colu
 -- since when a call is answered, if it is
 abbrev answeredOf : Call → Option ℕ
 answeredOf quiet = none
-answeredOf (dialled x m) = none
+answeredOf (dialled x m o) = none
 answeredOf (talking x m b) = some b
 
 abbrev pub since : ℕ → Call → Bool
 since t k = begun t (answeredOf k)
 
-call-answered : (r : Request) (b : Option ℕ) → answeredOf (callIn r b) ≡ b
-call-answered r none = refl
-call-answered r (some b) = refl
+call-answered : (r : Request) (g : Stage) → answeredOf (callIn r g) ≡ answeredAt g
+call-answered r = by-stage (λ s. answeredOf (callIn r s) ≡ answeredAt s) (λ d. refl) (λ d. refl) (λ b. refl)
 
 slot-answered : (s : Slot) → answeredOf (view s .call) ≡ answeredIn s
 slot-answered s = go s (view s .call) (calling s)
   where
     go : (s : Slot) (k : Call) → Calling s k → answeredOf k ≡ answeredIn s
     go _ _ (no-call s n) = sym n
-    go _ _ (a-call r g c) = call-answered (r .request) (answeredAt g)
+    go _ _ (a-call r g c) = call-answered (r .request) g
 
 pub since-slot : (t : ℕ) (s : Slot) → since t (view s .call) ≡ begunBy t s
 since-slot t s = ap (begun t) (slot-answered s)
 
 talked-from : (t : ℕ) (k : Call) → talked t k ≡ unchargedFrom t (answeredOf k)
 talked-from t quiet = refl
-talked-from t (dialled x m) = refl
+talked-from t (dialled x m o) = refl
 talked-from t (talking x m b) = refl
 
 uncharged-slot : (t : ℕ) (s : Slot) → talked t (view s .call) ≡ unchargedSlot t s
@@ -64,7 +63,7 @@ uncharged-slots t (s ∷ ss) = rw (uncharged-slot t s, uncharged-slots t ss) ref
 
 advance-one : (c t : ℕ) → c ≤ t → (k : Call) → since c k ≡ true → talked t k ≡ talked c k + (t - c) * isTalking k
 advance-one c t h quiet e = omega arith
-advance-one c t h (dialled x m) e = omega arith
+advance-one c t h (dialled x m o) e = omega arith
 advance-one c t h (talking x m b) e = omega (arith, leb-true b c e)
 
 add-both : (d x y p q a b : ℕ) → a ≡ x + d * p → b ≡ y + d * q → a + b ≡ x + y + d * (p + q)

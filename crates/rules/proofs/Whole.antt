@@ -18,7 +18,7 @@ use Rattle.rules.proofs.PlaceLaws.{and-true, lowest-is, all-set, all-en
 use Rattle.rules.proofs.Base.{is-true, slot-all, offer-fits, ring-fits, new-wait}
 use Rattle.rules.proofs.Accepted.{Sound}
 use Rattle.rules.proofs.Once.{bit, countS, countQ, Once, distinct-once, count-set, waiting-count}
-use Rattle.rules.proofs.Outcome.{becomes, Move, to-dial, to-agree, to-ring, to-answer, to-lose, to-regain, to-hold, to-take, turned-fits}
+use Rattle.rules.proofs.Outcome.{becomes, Move, to-dial, to-agree, to-ring, to-stage, to-lose, to-regain, to-hold, to-take, turned-fits}
 use Rattle.rules.proofs.Walk.{Closed}
 
 pub record Whole (st : Station) : Type 0 where
@@ -57,7 +57,7 @@ turned-owner : (i t : ℕ) (p q : Slot) (acts : List Action) → Move i t p (bec
 turned-owner i t _ _ _ (to-dial k r d z) x = omega arith
 turned-owner i t _ _ _ (to-agree k r d) x = omega arith
 turned-owner i t _ _ _ (to-ring r d) x = omega arith
-turned-owner i t _ _ _ (to-answer r d c) x = omega arith
+turned-owner i t _ _ _ (to-stage r n q c z) x = omega arith
 turned-owner i t _ _ _ (to-lose r g c) x = omega arith
 turned-owner i t _ _ _ (to-regain r g c) x = omega arith
 turned-owner i t _ _ _ (to-hold r g c) x = omega arith

@@ -40,6 +40,9 @@ offerTime = 16
 abbrev pub ringTime : ℕ
 ringTime = 5
 
+abbrev pub diallingTime : ℕ
+diallingTime = 60
+
 abbrev pub replyTime : ℕ
 replyTime = 60
 
@@ -77,7 +80,7 @@ pub data Said : Type 0 where
 -- the call on it: dialled and not released; answered and not stopped
 pub data Call : Type 0 where
   quiet : Call
-  dialled : Party → Mode → Call
+  dialled : Party → Mode → Bool → Call  -- whether its dialling has ended
   talking : Party → Mode → ℕ → Call  -- since when
 
 pub record Column : Type 0 where

@@ -7,13 +7,13 @@ use Prim.Native.Nat.{ℕ, suc, _+_, _-_, _*_}
 use lib.Dec.{eqb}
 use Rattle.rules.specs.Rules.Places.{dropAt}
 use Rattle.rules.specs.Rules.Words.{Party, is, Mode, simplex, duplex, Request, Config}
-use Rattle.rules.specs.Rules.Words.{Signal, lineLifted, lineHung, carrierHeard, carrierLost, Happened, heard, signal, operator}
-use Rattle.rules.specs.Rules.Words.{What, tick, onChannel70, onSlot, Event}
+use Rattle.rules.specs.Rules.Words.{Signal, lineDialledOut, lineLifted, lineHung, carrierHeard, carrierLost}
+use Rattle.rules.specs.Rules.Words.{Happened, heard, signal, operator, What, tick, onChannel70, onSlot, Event}
 use Rattle.rules.specs.Rules.Words.{Deed, carrierOn, carrierOff, acknowledge, ringBack, unable, dial, releaseLine}
 use Rattle.rules.specs.Rules.Waits.{ofQueue, loss, main, Due}
 use Rattle.rules.specs.Rules.Heard.{Heard, callRequest, dataRequest, bq, workingCall, endOfCall, nothing, meaning}
-use Rattle.rules.specs.ListAlone.Book.{Note, Stop, after, silence, offerTime, ringTime, replyTime, holdTime, queueTime}
-use Rattle.rules.specs.ListAlone.Book.{Said, silent, toldBQ, toldRQ, settled, Call, quiet, dialled, talking}
+use Rattle.rules.specs.ListAlone.Book.{Note, Stop, after, silence, offerTime, ringTime, diallingTime, replyTime, holdTime}
+use Rattle.rules.specs.ListAlone.Book.{queueTime, Said, silent, toldBQ, toldRQ, settled, Call, quiet, dialled, talking}
 use Rattle.rules.specs.ListAlone.Book.{Column, Place, Book, atColumn, atPlaces, column, falls}
 unfoldable use Rattle.rules.specs.ListAlone.Book.{alike}
 
@@ -40,12 +40,12 @@ moment b e = momentOf (e .time) (falling b e)
 
 abbrev pub stopOf : ℕ → ℕ → Call → List Stop
 stopOf t i quiet = []
-stopOf t i (dialled x m) = []
+stopOf t i (dialled x m ended) = []
 stopOf t i (talking x m b) = record { slot = i; ship = x .ship; start = record { 0 = b }; stop = record { 0 = t } } ∷ []
 
 abbrev pub callOf : Party → Call → Bool
 callOf x quiet = false
-callOf x (dialled y m) = is x y
+callOf x (dialled y m ended) = is x y
 callOf x (talking y m b) = is x y
 
 -- "its ship's end of call on that slot"
@@ -59,6 +59,7 @@ stopsSaid t i k nothing = []
 
 -- and "on-hook"
 abbrev pub stopsSignal : ℕ → ℕ → Call → Signal → List Stop
+stopsSignal t i k lineDialledOut = []
 stopsSignal t i k lineLifted = []
 stopsSignal t i k lineHung = stopOf t i k
 stopsSignal t i k carrierHeard = []
@@ -82,7 +83,7 @@ lost duplex g = false
 -- "rule c": the ship of an answered simplex call asks again while its carrier is absent
 abbrev pub askedAgain : Party → Call → Option ℕ → Bool
 askedAgain x quiet g = false
-askedAgain x (dialled y m) g = false
+askedAgain x (dialled y m ended) g = false
 askedAgain x (talking y m b) g = is x y && lost m g
 
 abbrev pub stopsAgain : ℕ → Party → ℕ → List Column → List Stop
@@ -108,12 +109,12 @@ stopsAt c t b f (onSlot i h) = stopsOn c t i (column b i .call) h
 -- an answered call has stopped
 abbrev pub goneAfter : Call → Option ℕ → Option ℕ
 goneAfter quiet g = g
-goneAfter (dialled x m) g = g
+goneAfter (dialled x m ended) g = g
 goneAfter (talking x m b) g = none
 
 abbrev pub closed : Call → Call
 closed quiet = quiet
-closed (dialled x m) = dialled x m
+closed (dialled x m ended) = dialled x m ended
 closed (talking x m b) = quiet
 
 abbrev pub close : Column → Column
@@ -125,10 +126,20 @@ withWait w l = record { said = l .said; wait = w; call = l .call; gone = l .gone
 abbrev pub withGone : Option ℕ → Column → Column
 withGone g l = record { said = l .said; wait = l .wait; call = l .call; gone = g }
 
--- off-hook on a dialled line: it talks from then on, and the reply wait ends
+-- the exchange has dialled: the called person's minute begins, once in a call
+abbrev pub dialOutCall : ℕ → Call → Column → Column
+dialOutCall t quiet l = l
+dialOutCall t (dialled x m false) l = record { said = l .said; wait = some (after t replyTime); call = dialled x m true; gone = l .gone }
+dialOutCall t (dialled x m true) l = l
+dialOutCall t (talking x m b) l = l
+
+abbrev pub dialOut : ℕ → Column → Column
+dialOut t l = dialOutCall t (l .call) l
+
+-- off-hook on a dialled line: it talks from then on, and its wait ends
 abbrev pub pickUpCall : ℕ → Call → Column → Column
 pickUpCall t quiet l = l
-pickUpCall t (dialled x m) l = record { said = l .said; wait = none; call = talking x m t; gone = l .gone }
+pickUpCall t (dialled x m ended) l = record { said = l .said; wait = none; call = talking x m t; gone = l .gone }
 pickUpCall t (talking x m b) l = l
 
 abbrev pub pickUp : ℕ → Column → Column
@@ -141,7 +152,7 @@ absentFrom t m (some d) = some d
 
 abbrev pub loseCall : ℕ → Call → Column → Column
 loseCall t quiet l = l
-loseCall t (dialled x m) l = withGone (absentFrom t m (l .gone)) l
+loseCall t (dialled x m ended) l = withGone (absentFrom t m (l .gone)) l
 loseCall t (talking x m b) l = withGone (absentFrom t m (l .gone)) l
 
 abbrev pub lose : ℕ → Column → Column
@@ -160,6 +171,7 @@ hearSaid t (endOfCall x) l = signOff t x l
 hearSaid t nothing l = l
 
 abbrev pub hearSignal : ℕ → Signal → Column → Column
+hearSignal t lineDialledOut l = dialOut t l
 hearSignal t lineLifted l = pickUp t l
 hearSignal t lineHung l = close l
 hearSignal t carrierHeard l = withGone none l
@@ -230,13 +242,13 @@ abbrev pub rungUp : ℕ → Request → Column → Column
 rungUp t r l = record { said = toldRQ r; wait = some (after t ringTime); call = l .call; gone = l .gone }
 
 abbrev pub beginCall : Request → Call → Call
-beginCall r quiet = dialled (r .who) (r .mode)
-beginCall r (dialled x m) = dialled (r .who) (r .mode)
+beginCall r quiet = dialled (r .who) (r .mode) false
+beginCall r (dialled x m ended) = dialled (r .who) (r .mode) false
 beginCall r (talking x m b) = talking x m b
 
--- "Carrier counts as present"; the called person has a minute
+-- "Carrier counts as present"; the exchange has a minute to dial
 abbrev pub dialReq : ℕ → Request → Column → Column
-dialReq t r l = record { said = silent; wait = some (after t replyTime); call = beginCall r (l .call); gone = none }
+dialReq t r l = record { said = silent; wait = some (after t diallingTime); call = beginCall r (l .call); gone = none }
 
 -- dialled for the ship and in the mode that channel 70 last named
 abbrev pub dialSaid : ℕ → Said → Column → Column
@@ -250,7 +262,7 @@ dialUp t l = dialSaid t (l .said) l
 
 abbrev pub letGoCall : Call → Column → Column
 letGoCall quiet l = l
-letGoCall (dialled x m) l = record { said = l .said; wait = none; call = quiet; gone = none }
+letGoCall (dialled x m ended) l = record { said = l .said; wait = none; call = quiet; gone = none }
 letGoCall (talking x m b) l = l
 
 -- the line is released; a call that is answered goes on to one of its stops
@@ -321,7 +333,7 @@ readAll c (n ∷ ns) b = readAll c ns (turn c b n)
 
 abbrev pub isTalking : Call → ℕ
 isTalking quiet = 0
-isTalking (dialled x m) = 0
+isTalking (dialled x m ended) = 0
 isTalking (talking x m b) = 1
 
 abbrev pub talkers : List Column → ℕ
@@ -336,7 +348,7 @@ counted c (n ∷ ns) b = (moment b (n .event) - b .now) * talkers (b .columns) +
 -- by calls: what a call has talked up to t, if it is answered and not stopped
 abbrev pub talked : ℕ → Call → ℕ
 talked t quiet = 0
-talked t (dialled x m) = 0
+talked t (dialled x m ended) = 0
 talked t (talking x m b) = t - b
 
 abbrev pub talkedBy : ℕ → List Column → ℕ

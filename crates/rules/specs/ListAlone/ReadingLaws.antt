@@ -3,12 +3,13 @@ use mathlib.Core.Path.{_≡_}
 use mathlib.Core.Logic.{_⊎_}
 use mathlib.Core.List.{List, [], _∷_, _++_}
 use mathlib.Core.Option.{none, some}
+use mathlib.Core.Bool.{true, false}
 use Prim.Native.Nat.{ℕ, _≤_, _<_}
 use lib.ListN.{getD, length}
 use Rattle.rules.specs.Rules.Places.{Each}
 use Rattle.rules.specs.Rules.Words.{Party, Mode, Config, answeringOn, Deed}
 use Rattle.rules.specs.Rules.Waits.{ofQueue, Due, queueTable}
-use Rattle.rules.specs.ListAlone.Book.{Note, Stop, dialled, talking, Book, column, waitsIn, falls}
+use Rattle.rules.specs.ListAlone.Book.{Note, Stop, Call, dialled, talking, Book, column, waitsIn, falls}
 use Rattle.rules.specs.ListAlone.Reading.{turn, stopsIn, moment}
 
 -- ── 01's order of waits, without the function that finds the earliest ─────────
@@ -43,15 +44,19 @@ In s (r ∷ l) = (s ≡ r) ⊎ In s l
 abbrev pub stopAt : ℕ → Party → ℕ → ℕ → Stop
 stopAt i x b t = record { slot = i; ship = x .ship; start = record { 0 = b }; stop = record { 0 = t } }
 
+-- dialled and not released, whether its dialling has ended or not
+abbrev pub IsDialled : Party → Mode → Call → Type 0
+IsDialled x m k = (k ≡ dialled x m false) ⊎ (k ≡ dialled x m true)
+
 -- a slot talks after an entry only if it talked before, or the entry answers it while it was dialled
 unfoldable pub Begins : Type 0
 Begins = (c : Config) (b : Book) (n : Note) (i : ℕ) (x : Party) (m : Mode) (t : ℕ) → column (turn c b n) i .call ≡ talking x m t
     → (column b i .call ≡ talking x m t)
-    ⊎ ((n .event .what ≡ answeringOn i) × ((moment b (n .event) ≡ t) × (column b i .call ≡ dialled x m)))
+    ⊎ ((n .event .what ≡ answeringOn i) × ((moment b (n .event) ≡ t) × IsDialled x m (column b i .call)))
 
 -- a dialled slot that is answered talks since that time
 unfoldable pub Lifts : Type 0
-Lifts = (c : Config) (t room : ℕ) (ds : List Deed) (b : Book) (i : ℕ) (x : Party) (m : Mode) → column b i .call ≡ dialled x m
+Lifts = (c : Config) (t room : ℕ) (ds : List Deed) (b : Book) (i : ℕ) (x : Party) (m : Mode) → IsDialled x m (column b i .call)
     → column (turn c b (record { event = record { time = t; room = room; what = answeringOn i }; deeds = ds })) i .call ≡ talking x m t
 
 -- a slot that talked talks on, or the entry holds its stop, with its beginning and the entry's moment

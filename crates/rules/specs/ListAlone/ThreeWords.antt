@@ -42,5 +42,5 @@ wordAfter i (n ∷ ns) w = wordAfter i ns (wordsDone i (n .deeds) (wordHeard i (
 -- what the book's column says, in the same three words
 abbrev pub wordOf : Call → Word
 wordOf quiet = idle
-wordOf (dialled x m) = ringing
+wordOf (dialled x m ended) = ringing
 wordOf (talking x m b) = since b

@@ -1,21 +1,23 @@
--- What each other event does: working call, ring-back acknowledged, off-hook, carrier, both ends, operator, and a wait that falls due.
--- One function for an event, a clause for each phase of the slot.
+-- What each other event does: working call, ring-back acknowledged, dialling ended, off-hook, carrier, both ends, operator, and a wait
+-- that falls due. One function for an event, a clause for each phase of the slot.
 use mathlib.Core.List.{[], _∷_}
 use mathlib.Core.Bool.{Bool, cond, not}
 use mathlib.Core.Option.{Option, none, some}
 use Prim.Native.Nat.{ℕ}
 use Rattle.units.specs.declared.Told.{Told}
 use Rattle.rules.specs.Rules.Places.{dropAt}
-use Rattle.rules.specs.Rules.Words.{Party, is, Mode, Request, Config, Signal, lineLifted, lineHung, carrierHeard, carrierLost}
+use Rattle.rules.specs.Rules.Words.{Party, is, Mode, Request, Config}
+use Rattle.rules.specs.Rules.Words.{Signal, lineDialledOut, lineLifted, lineHung, carrierHeard, carrierLost}
 use Rattle.rules.specs.Rules.Words.{Hand, handTakes, handGives, Happened, heard, signal, operator}
 use Rattle.rules.specs.Rules.Words.{What, tick, onChannel70, onSlot, Event, carrierOn, carrierOff, ringBack, dial}
 use Rattle.rules.specs.Rules.Waits.{Wait, ofQueue, loss, main, Due}
 use Rattle.rules.specs.Rules.Heard.{Heard, callRequest, dataRequest, bq, workingCall, endOfCall, nothing, kindOf, addressed, meaning}
 use Rattle.rules.specs.Rules.Actions.{does, over, theShip}
 use Rattle.rules.specs.Rules.Station.{isFree, isTaken, Kind, offered, firstRing, secondRing, acknowledged}
-use Rattle.rules.specs.Rules.Station.{Stage, dialling, answered, answeredAt, Dealing, Slot, free, taken, pending, busy, held}
+use Rattle.rules.specs.Rules.Station.{Stage, dialling, dialledOut, answered, answeredAt, Dealing}
+use Rattle.rules.specs.Rules.Station.{Slot, free, taken, pending, busy, held}
 use Rattle.rules.specs.Rules.Station.{Station, theSlot, fresh, setSlot, setClock, setQueue, dueAfter, rungAgain}
-use Rattle.rules.specs.Rules.Station.{agreedAt, carrierWait, replyWait, holdWait, table, fires, nextDue}
+use Rattle.rules.specs.Rules.Station.{agreedAt, carrierWait, diallingWait, replyWait, holdWait, table, fires, nextDue}
 use Rattle.rules.specs.Rules.Requests.{Out, done, ignored, also, rungBack, freedFor, freed, lasted, endActs}
 use Rattle.rules.specs.Rules.Requests.{coastEnd, standing, ruleA, repeated, afresh, same, ruleB, ruleD, offer}
 use Rattle.rules.specs.Rules.Requests.{ruleF, ruleG, eToG, newcomer, dToG, redial, ruleC, bOrC, requested}
@@ -23,12 +25,12 @@ use Rattle.rules.specs.Rules.Requests.{ruleF, ruleG, eToG, newcomer, dTo
 -- ── working call ─────────────────────────────────────────────────────────────
 
 -- "dial the stored request's number .. Carrier counts as present; wait 600 for a reply"
--- (house: from the start of dialling, and in the stored mode)
+-- (house: in the stored mode; 02, no. 1: the 600 are "for dialling itself")
 unfoldable pub dialNow : ℕ → Dealing → Station → Out
 dialNow i r st =
     record {
       answer = 0;
-      next = setSlot i (busy r (dialling (dueAfter (st .clock) replyWait)) none) st;
+      next = setSlot i (busy r (dialling (dueAfter (st .clock) diallingWait)) none) st;
       acts = does (dial i (r .request .number)) ∷ [];
     }
 
@@ -67,11 +69,27 @@ bqFor i x st (pending k r d) = cond (is x (r .request .who)) (bqKind i k r st) (
 bqFor i x st (busy r g c) = ignored st
 bqFor i x st (held r n d) = ignored st
 
+-- ── 02, no. 1: dialling ended ────────────────────────────────────────────────
+
+-- "at it a new wait of 600 begins. A second P in a call, or one after the answer, is ignored"
+unfoldable pub dialledOutStage : ℕ → Dealing → Option ℕ → Station → Stage → Out
+dialledOutStage i r c st (dialling d) = done (setSlot i (busy r (dialledOut (dueAfter (st .clock) replyWait)) c) st)
+dialledOutStage i r c st (dialledOut d) = ignored st
+dialledOutStage i r c st (answered b) = ignored st
+
+unfoldable pub dialledOutOn : ℕ → Station → Slot → Out
+dialledOutOn i st free = ignored st
+dialledOutOn i st taken = ignored st
+dialledOutOn i st (pending k r d) = ignored st
+dialledOutOn i st (busy r g c) = dialledOutStage i r c st g
+dialledOutOn i st (held r n d) = ignored st
+
 -- ── off-hook, carrier down, carrier up ───────────────────────────────────────
 
--- "while dialling: answered, the reply wait ends, a carrier wait runs on"
+-- "while dialling: answered, the reply wait ends, a carrier wait runs on"; 02, no. 1: "off-hook answers in either wait"
 unfoldable pub offHookStage : ℕ → Dealing → Option ℕ → Station → Stage → Out
 offHookStage i r c st (dialling d) = done (setSlot i (busy r (answered (st .clock)) c) st)
+offHookStage i r c st (dialledOut d) = done (setSlot i (busy r (answered (st .clock)) c) st)
 offHookStage i r c st (answered b) = ignored st
 
 unfoldable pub offHookOn : ℕ → Station → Slot → Out
@@ -184,9 +202,10 @@ pendingDue i firstRing r st = ringAgain i r st
 pendingDue i secondRing r st = offerDue i st
 pendingDue i acknowledged r st = offerDue i st
 
--- no reply
+-- no reply, in either wait
 unfoldable pub replyDue : ℕ → Request → Station → Stage → Out
 replyDue i r st (dialling d) = coastEnd i r none st
+replyDue i r st (dialledOut d) = coastEnd i r none st
 replyDue i r st (answered b) = ignored st
 
 -- the hold: "Then freed."
@@ -229,6 +248,7 @@ heardOn i st s (endOfCall x) = shipEndOn i x st s
 heardOn i st s nothing = ignored st
 
 abbrev pub signalOn : ℕ → Station → Slot → Signal → Out
+signalOn i st s lineDialledOut = dialledOutOn i st s
 signalOn i st s lineLifted = offHookOn i st s
 signalOn i st s lineHung = endOn i st s
 signalOn i st s carrierHeard = upOn i st s
@@ -256,6 +276,6 @@ act c st e = actAt c st (e .time) (e .what)
 unfoldable pub rulesOpen : Unit {0}
 unfolding is kindOf addressed meaning fresh setSlot setClock setQueue table fires nextDue rungBack freedFor freed coastEnd standing
     ruleA repeated afresh same ruleB ruleD offer ruleF ruleG eToG newcomer dToG redial ruleC bOrC requested dialNow workingKind
-    workingOn agreed bqKind bqFor offHookStage offHookOn downOn upOn shipEnd sayAgain shipEndOn endOn takeOn giveOn offerDue
-    ringAgain pendingDue replyDue mainOn fire ticked heardOn70 heardOn happenedOn actAt
+    workingOn agreed bqKind bqFor dialledOutStage dialledOutOn offHookStage offHookOn downOn upOn shipEnd sayAgain shipEndOn endOn
+    takeOn giveOn offerDue ringAgain pendingDue replyDue mainOn fire ticked heardOn70 heardOn happenedOn actAt
 rulesOpen = tt

@@ -15,8 +15,8 @@ use Rattle.sequence.specs.Field.{channelOk, durationOk}
 use Rattle.rules.specs.Rules.Places.{all, distinct}
 use Rattle.rules.specs.Rules.Words.{Party, is, Mode, Request, Config, ours}
 use Rattle.rules.specs.Rules.Heard.{sameChannel}
-use Rattle.rules.specs.Rules.Station.{Stage, dialling, answered, Slot, free, taken, pending, busy, held, shipOf}
-use Rattle.rules.specs.Rules.Station.{Waiting, Station, dueAfter, kindWait, carrierWait, replyWait, holdWait, queueWait}
+use Rattle.rules.specs.Rules.Station.{Stage, dialling, dialledOut, answered, Slot, free, taken, pending, busy, held, shipOf}
+use Rattle.rules.specs.Rules.Station.{Waiting, Station, dueAfter, kindWait, carrierWait, diallingWait, replyWait, holdWait, queueWait}
 
 -- "its identity": a coast station's
 unfoldable pub identityKeeps : Config → Bool
@@ -75,7 +75,7 @@ abbrev pub listed : Option Party → List Party → List Party
 listed none r = r
 listed (some x) r = x ∷ r
 
--- the ship of an offered, ring-back, acknowledged, dialling or answered slot
+-- the ship of an offered, ring-back, acknowledged, dialling, dialled out or answered slot
 abbrev pub owner : Slot → List Party → List Party
 owner s r = listed (shipOf s) r
 
@@ -93,7 +93,8 @@ fits c p d = within c (dueAfter c p) d
 
 -- "no answered start is after the clock"
 abbrev pub stageFits : ℕ → Stage → Bool
-stageFits c (dialling d) = fits c replyWait d
+stageFits c (dialling d) = fits c diallingWait d
+stageFits c (dialledOut d) = fits c replyWait d
 stageFits c (answered b) = leb b c
 
 abbrev pub lossFits : ℕ → Mode → Option ℕ → Bool

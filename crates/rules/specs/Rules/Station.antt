@@ -22,12 +22,14 @@ isOffer secondRing = false
 isOffer acknowledged = false
 
 pub data Stage : Type 0 where
-  dialling : ℕ → Stage  -- the due time of the reply wait
+  dialling : ℕ → Stage  -- the due time of the wait for its dialling
+  dialledOut : ℕ → Stage  -- its dialling has ended: the due time of the reply wait
   answered : ℕ → Stage  -- since when
 
 -- since when the call is answered, if it is
 abbrev pub answeredAt : Stage → Option ℕ
 answeredAt (dialling d) = none
+answeredAt (dialledOut d) = none
 answeredAt (answered b) = some b
 
 -- what a slot keeps of its call
@@ -136,10 +138,15 @@ abbrev pub carrierWait : Mode → ℕ
 carrierWait simplex = 450
 carrierWait duplex = 50
 
--- working call; ship's end of call; rule f
+-- 02, no. 1: "the wait is 600 for dialling itself"
+abbrev pub diallingWait : ℕ
+diallingWait = 600
+
+-- "at it a new wait of 600 begins"
 abbrev pub replyWait : ℕ
 replyWait = 600
 
+-- ship's end of call; rule f
 abbrev pub holdWait : ℕ
 holdWait = 40
 
@@ -151,6 +158,7 @@ lossDue s = bySlot none (λ k r. none) (λ r g c. c) s
 
 abbrev pub stageDue : Stage → Option ℕ
 stageDue (dialling d) = some d
+stageDue (dialledOut d) = some d
 stageDue (answered b) = none
 
 abbrev pub mainDue : Slot → Option ℕ

@@ -50,7 +50,8 @@ Ours c n = n ≡ c .identity
 
 -- from the line and from the receiver
 pub data Signal : Type 0 where
-  lineLifted lineHung : Signal  -- ashore
+  lineDialledOut : Signal  -- ashore: the exchange has dialled the number
+  lineLifted lineHung : Signal  -- ashore: the handset
   carrierHeard carrierLost : Signal
 
 -- the operator's
@@ -62,7 +63,10 @@ pub data Happened : Type 0 where
   signal : Signal → Happened
   operator : Hand → Happened
 
--- their names in 01
+-- their names in the documents
+abbrev pub diallingEnded : Happened
+diallingEnded = signal lineDialledOut
+
 abbrev pub offHook : Happened
 offHook = signal lineLifted
 
@@ -84,6 +88,7 @@ givesBack = operator handGives
 -- the called person answers
 abbrev pub isAnswering : Happened → Bool
 isAnswering (heard m) = false
+isAnswering (signal lineDialledOut) = false
 isAnswering (signal lineLifted) = true
 isAnswering (signal lineHung) = false
 isAnswering (signal carrierHeard) = false
