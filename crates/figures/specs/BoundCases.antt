@@ -15,7 +15,7 @@ use Rattle.rules.specs.Rules.Verdict.{step}
 use Rattle.rules.specs.Rules.Bytes.{numberOf, ableSaid, unableSaid, overSaid, blocks}
 use Rattle.rules.specs.Rules.Printed.{lines}
 use Rattle.rules.specs.Tables.Runs.{channel, station, seven, eight, nine, sends, usual, callsFor, calls, accepts, works, ends, ticks}
-use Rattle.rules.specs.Tables.Runs.{paid, says, saysOn, picksUp, hangs, regains, loses, reserves, restores, ticksIn, stationOf}
+use Rattle.rules.specs.Tables.Runs.{paid, says, saysOn, dialsOut, picksUp, hangs, regains, loses, reserves, restores, ticksIn, stationOf}
 use Rattle.rules.specs.Tables.Cases.{Row}
 use Rattle.rules.specs.Tables.Scripts.{gives, waits, waitingShips, charges, ackEight26, ackSeven26, ackSeven26Again}
 use Rattle.rules.specs.Tables.Scripts.{ackSeven26Simplex, ackSeven27, overSeven, overSevenByCoast, ringEight26}
@@ -71,6 +71,10 @@ unable103Nine = 123 ∷ 20 ∷ 0 ∷ 0 ∷ 0 ∷ 90 ∷ 100 ∷ 0 ∷ 20 ∷ 1 �
 -- end of call to seven, BQ, 0 0 4, number 42
 abbrev pub overSeven4Of42 : List ℕ
 overSeven4Of42 = 123 ∷ 20 ∷ 0 ∷ 0 ∷ 0 ∷ 70 ∷ 100 ∷ 0 ∷ 20 ∷ 1 ∷ 23 ∷ 40 ∷ 105 ∷ 126 ∷ 0 ∷ 0 ∷ 4 ∷ 106 ∷ 42 ∷ 122 ∷ 78 ∷ []
+
+-- end of call to seven, BQ, 0 0 2
+abbrev pub overSeven2 : List ℕ
+overSeven2 = 123 ∷ 20 ∷ 0 ∷ 0 ∷ 0 ∷ 70 ∷ 100 ∷ 0 ∷ 20 ∷ 1 ∷ 23 ∷ 40 ∷ 105 ∷ 126 ∷ 0 ∷ 0 ∷ 2 ∷ 105 ∷ 5 ∷ 55 ∷ 12 ∷ 34 ∷ 122 ∷ 125 ∷ []
 
 -- ring-back, channel 27, eight
 abbrev pub ringEight27 : List ℕ
@@ -291,6 +295,40 @@ secondSlotQueued = record {
       (0 ∷ 590 ∷ 3 ∷ []) ∷ (6 ∷ 1 ∷ []) ∷ (4 ∷ 1 ∷ overNineByCoast) ∷ (2 ∷ 1 ∷ []) ∷ [];
 }
 
+-- the same slot, its dialling ended: twice, silent and heard again, no reply; silent, answered, ended by its ship; in every other phase
+abbrev pub secondSlotDialledScript : List Event
+secondSlotDialledScript =
+    reserves 50 0 ∷ calls 100 seven duplex ∷ dialsOut 105 1 ∷ works 110 1 seven ∷ dialsOut 700 1 ∷ dialsOut 705 1 ∷
+    loses 710 1 ∷ regains 720 1 ∷ ticks 1301 ∷ calls 1310 seven simplex ∷ works 1320 1 seven ∷ loses 1325 1 ∷
+    dialsOut 1330 1 ∷ dialsOut 1335 1 ∷ picksUp 1340 1 ∷ dialsOut 1345 1 ∷ ends 1360 1 seven ∷ dialsOut 1370 1 ∷
+    ticks 1401 ∷ dialsOut 1410 1 ∷ []
+
+abbrev pub secondSlotDialled : Row
+secondSlotDialled = record {
+  computed = tells 2 secondSlotDialledScript;
+  expected =
+      (0 ∷ 50 ∷ 0 ∷ []) ∷
+      (0 ∷ 100 ∷ 2 ∷ 261 ∷ []) ∷ (1 ∷ 1 ∷ []) ∷ (3 ∷ 1 ∷ ackSeven27) ∷
+      (1 ∷ 105 ∷ 0 ∷ 261 ∷ []) ∷
+      (0 ∷ 110 ∷ 1 ∷ 711 ∷ []) ∷ (5 ∷ 1 ∷ usual) ∷
+      (0 ∷ 700 ∷ 0 ∷ 1301 ∷ []) ∷
+      (1 ∷ 705 ∷ 0 ∷ 1301 ∷ []) ∷
+      (0 ∷ 710 ∷ 0 ∷ 761 ∷ []) ∷
+      (0 ∷ 720 ∷ 0 ∷ 1301 ∷ []) ∷
+      (0 ∷ 1301 ∷ 3 ∷ []) ∷ (6 ∷ 1 ∷ []) ∷ (4 ∷ 1 ∷ overSevenByCoast) ∷ (2 ∷ 1 ∷ []) ∷
+      (0 ∷ 1310 ∷ 2 ∷ 1471 ∷ []) ∷ (1 ∷ 1 ∷ []) ∷ (3 ∷ 1 ∷ ackSeven27Simplex) ∷
+      (0 ∷ 1320 ∷ 1 ∷ 1921 ∷ []) ∷ (5 ∷ 1 ∷ usual) ∷
+      (0 ∷ 1325 ∷ 0 ∷ 1776 ∷ []) ∷
+      (0 ∷ 1330 ∷ 0 ∷ 1776 ∷ []) ∷
+      (1 ∷ 1335 ∷ 0 ∷ 1776 ∷ []) ∷
+      (0 ∷ 1340 ∷ 0 ∷ 1776 ∷ []) ∷
+      (1 ∷ 1345 ∷ 0 ∷ 1776 ∷ []) ∷
+      (0 ∷ 1360 ∷ 4 ∷ 1401 ∷ []) ∷ charges 1 seven 1340 1360 2 ∷ (6 ∷ 1 ∷ []) ∷ (4 ∷ 1 ∷ overSeven2) ∷ (2 ∷ 1 ∷ []) ∷
+      (1 ∷ 1370 ∷ 0 ∷ 1401 ∷ []) ∷
+      (0 ∷ 1401 ∷ 0 ∷ []) ∷
+      (1 ∷ 1410 ∷ 0 ∷ []) ∷ [];
+}
+
 -- two slots taken: the third is offered, and its waits are its own
 abbrev pub thirdSlotScript : List Event
 thirdSlotScript =
@@ -498,6 +536,21 @@ ruleCDialledDuplex = record {
   expected = (1 ∷ 310 ∷ 0 ∷ 351 ∷ []) ∷ [];
 }
 
+-- c. simplex, dialled out, carrier absent: the same as while dialling
+abbrev pub ruleCDialledOut : Row
+ruleCDialledOut = record {
+  computed = gives 1 (calls 100 seven simplex ∷ works 200 0 seven ∷ dialsOut 290 0 ∷ loses 300 0 ∷ calls 310 seven simplex ∷ []);
+  expected = (0 ∷ 310 ∷ 5 ∷ 471 ∷ []) ∷ (6 ∷ 0 ∷ []) ∷ (4 ∷ 0 ∷ overSevenByCoast) ∷ (2 ∷ 0 ∷ []) ∷ (1 ∷ 0 ∷ []) ∷
+      (3 ∷ 0 ∷ ackSeven26Simplex) ∷ [];
+}
+
+-- c. simplex, dialled out, carrier present: ignored
+abbrev pub ruleCDialledOutPresent : Row
+ruleCDialledOutPresent = record {
+  computed = gives 1 (calls 100 seven simplex ∷ works 200 0 seven ∷ dialsOut 290 0 ∷ calls 310 seven simplex ∷ []);
+  expected = (1 ∷ 310 ∷ 0 ∷ 891 ∷ []) ∷ [];
+}
+
 -- a ship in its hold asks again: the held slot is not its own, and it waits
 abbrev pub holdAsked : Row
 holdAsked = record {
@@ -619,6 +672,13 @@ replyBeforeLoss = record {
   expected = (0 ∷ 801 ∷ 3 ∷ []) ∷ (6 ∷ 0 ∷ []) ∷ (4 ∷ 0 ∷ overSevenByCoast) ∷ (2 ∷ 0 ∷ []) ∷ [];
 }
 
+-- the same once its dialling has ended
+abbrev pub dialledOutBeforeLoss : Row
+dialledOutBeforeLoss = record {
+  computed = gives 1 (calls 100 seven simplex ∷ works 200 0 seven ∷ dialsOut 300 0 ∷ loses 890 0 ∷ ticks 1400 ∷ []);
+  expected = (0 ∷ 901 ∷ 3 ∷ []) ∷ (6 ∷ 0 ∷ []) ∷ (4 ∷ 0 ∷ overSevenByCoast) ∷ (2 ∷ 0 ∷ []) ∷ [];
+}
+
 -- a tick one tenth before the due time fires nothing
 abbrev pub oneTenthEarlier : Row
 oneTenthEarlier = record {
@@ -691,6 +751,13 @@ abbrev pub accepted33 : Row
 accepted33 = record {
   computed = gives 1 (calls 100 seven duplex ∷ calls 260 eight duplex ∷ []);
   expected = (0 ∷ 260 ∷ 1 ∷ 261 ∷ []) ∷ (3 ∷ 255 ∷ unable103Eight) ∷ [];
+}
+
+-- 34: dialling ended on no such slot
+abbrev pub refused34DialsOut : Row
+refused34DialsOut = record {
+  computed = gives 2 (dialsOut 100 2 ∷ []);
+  expected = (34 ∷ 0 ∷ 0 ∷ []) ∷ [];
 }
 
 -- 34: off-hook on no such slot
@@ -767,14 +834,15 @@ sentValid = record {
 
 abbrev pub boundCases : List Row
 boundCases =
-    secondSlot ∷ secondSlotAgain ∷ secondSlotQueued ∷ thirdSlot ∷ places ∷ oldestFirst ∷ secondKept ∷ otherStation ∷
-    secondDiffers ∷ secondLower ∷ secondSame ∷ simplexRepeated ∷ simplexThenDuplex ∷ numberLonger ∷ numberShorter ∷
-    firstDigitHigher ∷ lastDigitLower ∷ ringBackTwiceAsked ∷ sameShip ∷ ruleCDialled ∷ ruleCDialledPresent ∷
-    ruleCDialledDuplex ∷ holdAsked ∷ requestWithChannel ∷ bqSimplex ∷ bqData ∷ bqAsRq ∷ bqAs127 ∷ bqUnnamed ∷ bqInSecondRing ∷
-    bqOnSlot ∷ blankBqOnSlot ∷ workingSimplex ∷ workingData ∷ endAs127 ∷ endAsBq ∷ addressedBelow ∷ replyBeforeLoss ∷
-    oneTenthEarlier ∷ slotBeforeQueue ∷ lowestFirst ∷ thirdDueFirst ∷ firstDueFirst ∷ oneTenthApart ∷ queueOf31 ∷ queueOf32 ∷
-    refused33Heard ∷ accepted33 ∷ refused34PicksUp ∷ refused34Regains ∷ refused34Loses ∷ refused34Takes ∷
-    refused34Restores ∷ refused11OnSlot ∷ order29 ∷ blocksShown ∷ sentValid ∷ []
+    secondSlot ∷ secondSlotAgain ∷ secondSlotQueued ∷ secondSlotDialled ∷ thirdSlot ∷ places ∷ oldestFirst ∷ secondKept ∷
+    otherStation ∷ secondDiffers ∷ secondLower ∷ secondSame ∷ simplexRepeated ∷ simplexThenDuplex ∷ numberLonger ∷
+    numberShorter ∷ firstDigitHigher ∷ lastDigitLower ∷ ringBackTwiceAsked ∷ sameShip ∷ ruleCDialled ∷ ruleCDialledPresent ∷
+    ruleCDialledDuplex ∷ ruleCDialledOut ∷ ruleCDialledOutPresent ∷ holdAsked ∷ requestWithChannel ∷ bqSimplex ∷ bqData ∷
+    bqAsRq ∷ bqAs127 ∷ bqUnnamed ∷ bqInSecondRing ∷ bqOnSlot ∷ blankBqOnSlot ∷ workingSimplex ∷ workingData ∷ endAs127 ∷
+    endAsBq ∷ addressedBelow ∷ replyBeforeLoss ∷ dialledOutBeforeLoss ∷ oneTenthEarlier ∷ slotBeforeQueue ∷ lowestFirst ∷
+    thirdDueFirst ∷ firstDueFirst ∷ oneTenthApart ∷ queueOf31 ∷ queueOf32 ∷ refused33Heard ∷ accepted33 ∷
+    refused34DialsOut ∷ refused34PicksUp ∷ refused34Regains ∷ refused34Loses ∷ refused34Takes ∷ refused34Restores ∷
+    refused11OnSlot ∷ order29 ∷ blocksShown ∷ sentValid ∷ []
 
 -- ── soundness and set-up ─────────────────────────────────────────────────────
 
@@ -833,4 +901,4 @@ boundSounds =
     -- of each kind: a request to another station
     ∷ map (λ k. unsound (with (pending k (asking seven 2001235 duplex 126 usual) 1051))) kinds
     -- a ship that waits and has a slot, from its offer to its answered call
-    ++ map (λ p. unsound (asked (station 2) (holding (free ∷ p .slot ∷ []) (waits seven 2000 ∷ [])))) (take 9 (drop 2 phases))
+    ++ map (λ p. unsound (asked (station 2) (holding (free ∷ p .slot ∷ []) (waits seven 2000 ∷ [])))) (take 12 (drop 2 phases))

@@ -1,6 +1,6 @@
 -- What the list alone tells after each entry: its book, its three words, its stops and its tenths.
 use mathlib.Core.List.{List, [], _∷_, _++_, map}
-use mathlib.Core.Bool.{Bool}
+use mathlib.Core.Bool.{Bool, true, false}
 use mathlib.Core.Option.{Option, none, some}
 use Prim.Native.Nat.{ℕ, _+_}
 use lib.ListN.{length, getD, take}
@@ -17,12 +17,12 @@ use Rattle.rules.specs.ListAlone.ThreeWords.{Word, idle, ringing, since, wordHe
 use Rattle.rules.specs.Statement.{deedsOf, chargesOf, charged, runOf, stationAfter, listOf, stopsOf, tenthsIn, unchargedTenths, eventsOf}
 use Rattle.rules.specs.ListAlone.Repeated.{toldToWait, lastAsked, switchedOn}
 use Rattle.rules.specs.Tables.Runs.{station, seven, eight, nine, sends, usual, callsFor, calls, accepts, works, ends, ticks, paid}
-use Rattle.rules.specs.Tables.Runs.{Run, says, picksUp, hangs, regains, loses, reserves, restores}
+use Rattle.rules.specs.Tables.Runs.{Run, says, dialsOut, picksUp, hangs, regains, loses, reserves, restores}
 use Rattle.rules.specs.Tables.Cases.{Row}
 use Rattle.rules.specs.Rules.Requests.{same}
 use Rattle.rules.specs.Tables.SoundCases.{asking, from}
 use Rattle.rules.specs.Tables.Phases.{phases}
-use Rattle.figures.specs.BoundCases.{told, callsAs}
+use Rattle.figures.specs.BoundCases.{told, callsAs, secondSlotDialledScript}
 
 -- ── a book as numbers ────────────────────────────────────────────────────────
 
@@ -40,9 +40,10 @@ said (toldBQ r) = 1 ∷ request r
 said (toldRQ r) = 2 ∷ request r
 said (settled r) = 3 ∷ request r
 
+-- a line that is dialled: ship, mode, whether its dialling has ended
 abbrev pub call : Call → List ℕ
 call quiet = 0 ∷ []
-call (dialled x m) = 1 ∷ x .ship ∷ modeNumber m ∷ []
+call (dialled x m e) = 1 ∷ x .ship ∷ modeNumber m ∷ told e ∷ []
 call (talking x m b) = 2 ∷ x .ship ∷ modeNumber m ∷ b ∷ []
 
 abbrev pub column : Column → List ℕ
@@ -116,12 +117,12 @@ onSecondPages = record {
       (125 ∷ []) ∷ still ∷ (1 ∷ seven ∷ 101 ∷ 126 ∷ 2 ∷ 1 ∷ 281 ∷ 0 ∷ 0 ∷ []) ∷ [] ∷
       (126 ∷ []) ∷ still ∷ (1 ∷ seven ∷ 101 ∷ 126 ∷ 2 ∷ 1 ∷ 281 ∷ 0 ∷ 0 ∷ []) ∷ [] ∷
       (127 ∷ []) ∷ still ∷ (1 ∷ seven ∷ 101 ∷ 126 ∷ 2 ∷ 1 ∷ 281 ∷ 0 ∷ 0 ∷ []) ∷ [] ∷
-      (130 ∷ []) ∷ still ∷ (0 ∷ 1 ∷ 731 ∷ 1 ∷ seven ∷ 101 ∷ 0 ∷ []) ∷ [] ∷
-      (135 ∷ []) ∷ still ∷ (0 ∷ 1 ∷ 731 ∷ 1 ∷ seven ∷ 101 ∷ 0 ∷ []) ∷ [] ∷
-      (140 ∷ []) ∷ still ∷ (0 ∷ 1 ∷ 731 ∷ 1 ∷ seven ∷ 101 ∷ 1 ∷ 191 ∷ []) ∷ [] ∷
-      (145 ∷ []) ∷ still ∷ (0 ∷ 1 ∷ 731 ∷ 1 ∷ seven ∷ 101 ∷ 1 ∷ 191 ∷ []) ∷ [] ∷
-      (150 ∷ []) ∷ still ∷ (0 ∷ 1 ∷ 731 ∷ 1 ∷ seven ∷ 101 ∷ 0 ∷ []) ∷ [] ∷
-      (155 ∷ []) ∷ still ∷ (0 ∷ 1 ∷ 731 ∷ 1 ∷ seven ∷ 101 ∷ 1 ∷ 206 ∷ []) ∷ [] ∷
+      (130 ∷ []) ∷ still ∷ (0 ∷ 1 ∷ 731 ∷ 1 ∷ seven ∷ 101 ∷ 0 ∷ 0 ∷ []) ∷ [] ∷
+      (135 ∷ []) ∷ still ∷ (0 ∷ 1 ∷ 731 ∷ 1 ∷ seven ∷ 101 ∷ 0 ∷ 0 ∷ []) ∷ [] ∷
+      (140 ∷ []) ∷ still ∷ (0 ∷ 1 ∷ 731 ∷ 1 ∷ seven ∷ 101 ∷ 0 ∷ 1 ∷ 191 ∷ []) ∷ [] ∷
+      (145 ∷ []) ∷ still ∷ (0 ∷ 1 ∷ 731 ∷ 1 ∷ seven ∷ 101 ∷ 0 ∷ 1 ∷ 191 ∷ []) ∷ [] ∷
+      (150 ∷ []) ∷ still ∷ (0 ∷ 1 ∷ 731 ∷ 1 ∷ seven ∷ 101 ∷ 0 ∷ 0 ∷ []) ∷ [] ∷
+      (155 ∷ []) ∷ still ∷ (0 ∷ 1 ∷ 731 ∷ 1 ∷ seven ∷ 101 ∷ 0 ∷ 1 ∷ 206 ∷ []) ∷ [] ∷
       (160 ∷ []) ∷ still ∷ (0 ∷ 0 ∷ 2 ∷ seven ∷ 101 ∷ 160 ∷ 1 ∷ 206 ∷ []) ∷ [] ∷
       (165 ∷ []) ∷ still ∷ (0 ∷ 0 ∷ 2 ∷ seven ∷ 101 ∷ 160 ∷ 1 ∷ 206 ∷ []) ∷ [] ∷
       (168 ∷ []) ∷ still ∷ (0 ∷ 0 ∷ 2 ∷ seven ∷ 101 ∷ 160 ∷ 1 ∷ 206 ∷ []) ∷ [] ∷
@@ -139,7 +140,7 @@ onSecondPages = record {
       (299 ∷ []) ∷ still ∷ (2 ∷ eight ∷ 100 ∷ 126 ∷ 7 ∷ 1 ∷ 343 ∷ 0 ∷ 0 ∷ []) ∷ (nine ∷ 9191 ∷ []) ∷
       (300 ∷ []) ∷ still ∷ (3 ∷ eight ∷ 100 ∷ 126 ∷ 7 ∷ 1 ∷ 461 ∷ 0 ∷ 0 ∷ []) ∷ (nine ∷ 9191 ∷ []) ∷
       (301 ∷ []) ∷ still ∷ (3 ∷ eight ∷ 100 ∷ 126 ∷ 7 ∷ 1 ∷ 461 ∷ 0 ∷ 0 ∷ []) ∷ (nine ∷ 9191 ∷ []) ∷
-      (310 ∷ []) ∷ still ∷ (0 ∷ 1 ∷ 911 ∷ 1 ∷ eight ∷ 100 ∷ 0 ∷ []) ∷ (nine ∷ 9191 ∷ []) ∷
+      (310 ∷ []) ∷ still ∷ (0 ∷ 1 ∷ 911 ∷ 1 ∷ eight ∷ 100 ∷ 0 ∷ 0 ∷ []) ∷ (nine ∷ 9191 ∷ []) ∷
       (320 ∷ []) ∷ still ∷ (2 ∷ nine ∷ 100 ∷ 126 ∷ 7 ∷ 1 ∷ 371 ∷ 0 ∷ 0 ∷ []) ∷ [] ∷
       (330 ∷ []) ∷ still ∷ (1 ∷ nine ∷ 100 ∷ 126 ∷ 7 ∷ 1 ∷ 491 ∷ 0 ∷ 0 ∷ []) ∷ [] ∷
       (491 ∷ []) ∷ still ∷ still ∷ [] ∷ [];
@@ -187,37 +188,37 @@ againPages = record {
   expected =
       (50 ∷ []) ∷ still ∷ still ∷ [] ∷
       (100 ∷ []) ∷ still ∷ (1 ∷ seven ∷ 100 ∷ 126 ∷ 7 ∷ 1 ∷ 261 ∷ 0 ∷ 0 ∷ []) ∷ [] ∷
-      (110 ∷ []) ∷ still ∷ (0 ∷ 1 ∷ 711 ∷ 1 ∷ seven ∷ 100 ∷ 0 ∷ []) ∷ [] ∷
+      (110 ∷ []) ∷ still ∷ (0 ∷ 1 ∷ 711 ∷ 1 ∷ seven ∷ 100 ∷ 0 ∷ 0 ∷ []) ∷ [] ∷
       (120 ∷ []) ∷ still ∷ (0 ∷ 0 ∷ 2 ∷ seven ∷ 100 ∷ 120 ∷ 0 ∷ []) ∷ [] ∷
       (130 ∷ []) ∷ still ∷ (0 ∷ 0 ∷ 2 ∷ seven ∷ 100 ∷ 120 ∷ 1 ∷ 581 ∷ []) ∷ [] ∷
       (135 ∷ []) ∷ still ∷ (0 ∷ 0 ∷ 2 ∷ seven ∷ 100 ∷ 120 ∷ 1 ∷ 581 ∷ []) ∷ (eight ∷ 9136 ∷ []) ∷
       (140 ∷ []) ∷ still ∷ (2 ∷ eight ∷ 100 ∷ 126 ∷ 7 ∷ 1 ∷ 191 ∷ 0 ∷ 0 ∷ []) ∷ (seven ∷ 9141 ∷ []) ∷
       (191 ∷ []) ∷ still ∷ (2 ∷ eight ∷ 100 ∷ 126 ∷ 7 ∷ 1 ∷ 242 ∷ 0 ∷ 0 ∷ []) ∷ (seven ∷ 9141 ∷ []) ∷
       (200 ∷ []) ∷ still ∷ (3 ∷ eight ∷ 100 ∷ 126 ∷ 7 ∷ 1 ∷ 361 ∷ 0 ∷ 0 ∷ []) ∷ (seven ∷ 9141 ∷ []) ∷
-      (210 ∷ []) ∷ still ∷ (0 ∷ 1 ∷ 811 ∷ 1 ∷ eight ∷ 100 ∷ 0 ∷ []) ∷ (seven ∷ 9141 ∷ []) ∷
-      (220 ∷ []) ∷ still ∷ (0 ∷ 1 ∷ 811 ∷ 1 ∷ eight ∷ 100 ∷ 1 ∷ 671 ∷ []) ∷ (seven ∷ 9141 ∷ []) ∷
+      (210 ∷ []) ∷ still ∷ (0 ∷ 1 ∷ 811 ∷ 1 ∷ eight ∷ 100 ∷ 0 ∷ 0 ∷ []) ∷ (seven ∷ 9141 ∷ []) ∷
+      (220 ∷ []) ∷ still ∷ (0 ∷ 1 ∷ 811 ∷ 1 ∷ eight ∷ 100 ∷ 0 ∷ 1 ∷ 671 ∷ []) ∷ (seven ∷ 9141 ∷ []) ∷
       (230 ∷ []) ∷ still ∷ (2 ∷ seven ∷ 100 ∷ 126 ∷ 7 ∷ 1 ∷ 281 ∷ 0 ∷ 0 ∷ []) ∷ (eight ∷ 9231 ∷ []) ∷
       (240 ∷ []) ∷ still ∷ (3 ∷ seven ∷ 100 ∷ 126 ∷ 7 ∷ 1 ∷ 401 ∷ 0 ∷ 0 ∷ []) ∷ (eight ∷ 9231 ∷ []) ∷
-      (245 ∷ []) ∷ still ∷ (0 ∷ 1 ∷ 846 ∷ 1 ∷ seven ∷ 100 ∷ 0 ∷ []) ∷ (eight ∷ 9231 ∷ []) ∷
+      (245 ∷ []) ∷ still ∷ (0 ∷ 1 ∷ 846 ∷ 1 ∷ seven ∷ 100 ∷ 0 ∷ 0 ∷ []) ∷ (eight ∷ 9231 ∷ []) ∷
       (846 ∷ []) ∷ still ∷ (2 ∷ eight ∷ 100 ∷ 126 ∷ 7 ∷ 1 ∷ 897 ∷ 0 ∷ 0 ∷ []) ∷ [] ∷
       (897 ∷ []) ∷ still ∷ (2 ∷ eight ∷ 100 ∷ 126 ∷ 7 ∷ 1 ∷ 948 ∷ 0 ∷ 0 ∷ []) ∷ [] ∷
       (948 ∷ []) ∷ still ∷ still ∷ [] ∷
       (960 ∷ []) ∷ still ∷ (1 ∷ eight ∷ 101 ∷ 126 ∷ 7 ∷ 1 ∷ 1121 ∷ 0 ∷ 0 ∷ []) ∷ [] ∷
-      (970 ∷ []) ∷ still ∷ (0 ∷ 1 ∷ 1571 ∷ 1 ∷ eight ∷ 101 ∷ 0 ∷ []) ∷ [] ∷
+      (970 ∷ []) ∷ still ∷ (0 ∷ 1 ∷ 1571 ∷ 1 ∷ eight ∷ 101 ∷ 0 ∷ 0 ∷ []) ∷ [] ∷
       (980 ∷ []) ∷ still ∷ (0 ∷ 0 ∷ 2 ∷ eight ∷ 101 ∷ 980 ∷ 0 ∷ []) ∷ [] ∷
       (990 ∷ []) ∷ still ∷ (0 ∷ 0 ∷ 2 ∷ eight ∷ 101 ∷ 980 ∷ 1 ∷ 1041 ∷ []) ∷ [] ∷
       (1000 ∷ []) ∷ still ∷ (0 ∷ 0 ∷ 2 ∷ eight ∷ 101 ∷ 980 ∷ 1 ∷ 1041 ∷ []) ∷ [] ∷
       (1041 ∷ []) ∷ still ∷ still ∷ [] ∷
       (1110 ∷ []) ∷ still ∷ (1 ∷ seven ∷ 100 ∷ 126 ∷ 7 ∷ 1 ∷ 1271 ∷ 0 ∷ 0 ∷ []) ∷ [] ∷
-      (1120 ∷ []) ∷ still ∷ (0 ∷ 1 ∷ 1721 ∷ 1 ∷ seven ∷ 100 ∷ 0 ∷ []) ∷ [] ∷
-      (1125 ∷ []) ∷ still ∷ (0 ∷ 1 ∷ 1721 ∷ 1 ∷ seven ∷ 100 ∷ 0 ∷ []) ∷ [] ∷
+      (1120 ∷ []) ∷ still ∷ (0 ∷ 1 ∷ 1721 ∷ 1 ∷ seven ∷ 100 ∷ 0 ∷ 0 ∷ []) ∷ [] ∷
+      (1125 ∷ []) ∷ still ∷ (0 ∷ 1 ∷ 1721 ∷ 1 ∷ seven ∷ 100 ∷ 0 ∷ 0 ∷ []) ∷ [] ∷
       (1130 ∷ []) ∷ still ∷ (0 ∷ 0 ∷ 2 ∷ seven ∷ 100 ∷ 1130 ∷ 0 ∷ []) ∷ [] ∷
       (1135 ∷ []) ∷ still ∷ (0 ∷ 0 ∷ 2 ∷ seven ∷ 100 ∷ 1130 ∷ 0 ∷ []) ∷ [] ∷
       (1140 ∷ []) ∷ still ∷ (0 ∷ 0 ∷ 2 ∷ seven ∷ 100 ∷ 1130 ∷ 1 ∷ 1591 ∷ []) ∷ [] ∷
       (1591 ∷ []) ∷ still ∷ still ∷ [] ∷
       (1610 ∷ []) ∷ still ∷ (1 ∷ nine ∷ 101 ∷ 126 ∷ 7 ∷ 1 ∷ 1771 ∷ 0 ∷ 0 ∷ []) ∷ [] ∷
-      (1620 ∷ []) ∷ still ∷ (0 ∷ 1 ∷ 2221 ∷ 1 ∷ nine ∷ 101 ∷ 0 ∷ []) ∷ [] ∷
-      (1630 ∷ []) ∷ still ∷ (0 ∷ 1 ∷ 2221 ∷ 1 ∷ nine ∷ 101 ∷ 1 ∷ 1681 ∷ []) ∷ [] ∷
+      (1620 ∷ []) ∷ still ∷ (0 ∷ 1 ∷ 2221 ∷ 1 ∷ nine ∷ 101 ∷ 0 ∷ 0 ∷ []) ∷ [] ∷
+      (1630 ∷ []) ∷ still ∷ (0 ∷ 1 ∷ 2221 ∷ 1 ∷ nine ∷ 101 ∷ 0 ∷ 1 ∷ 1681 ∷ []) ∷ [] ∷
       (1640 ∷ []) ∷ still ∷ (0 ∷ 1 ∷ 1681 ∷ 0 ∷ 0 ∷ []) ∷ [] ∷
       (1681 ∷ []) ∷ still ∷ still ∷ [] ∷ [];
 }
@@ -242,6 +243,55 @@ againRun = record {
   slots = 2;
   events = again;
   owing = paid 6 1 seven 120 140 2 ∷ paid 22 1 eight 980 1041 6 ∷ paid 29 1 seven 1130 1591 46 ∷ [];
+}
+
+-- ── the second slot, its dialling ended ───────────────────────────────────────
+
+abbrev pub dialledPages : Row
+dialledPages = record {
+  computed = pages 2 secondSlotDialledScript;
+  expected =
+      (50 ∷ []) ∷ still ∷ still ∷ [] ∷
+      (100 ∷ []) ∷ still ∷ (1 ∷ seven ∷ 101 ∷ 126 ∷ 7 ∷ 1 ∷ 261 ∷ 0 ∷ 0 ∷ []) ∷ [] ∷
+      (105 ∷ []) ∷ still ∷ (1 ∷ seven ∷ 101 ∷ 126 ∷ 7 ∷ 1 ∷ 261 ∷ 0 ∷ 0 ∷ []) ∷ [] ∷
+      (110 ∷ []) ∷ still ∷ (0 ∷ 1 ∷ 711 ∷ 1 ∷ seven ∷ 101 ∷ 0 ∷ 0 ∷ []) ∷ [] ∷
+      (700 ∷ []) ∷ still ∷ (0 ∷ 1 ∷ 1301 ∷ 1 ∷ seven ∷ 101 ∷ 1 ∷ 0 ∷ []) ∷ [] ∷
+      (705 ∷ []) ∷ still ∷ (0 ∷ 1 ∷ 1301 ∷ 1 ∷ seven ∷ 101 ∷ 1 ∷ 0 ∷ []) ∷ [] ∷
+      (710 ∷ []) ∷ still ∷ (0 ∷ 1 ∷ 1301 ∷ 1 ∷ seven ∷ 101 ∷ 1 ∷ 1 ∷ 761 ∷ []) ∷ [] ∷
+      (720 ∷ []) ∷ still ∷ (0 ∷ 1 ∷ 1301 ∷ 1 ∷ seven ∷ 101 ∷ 1 ∷ 0 ∷ []) ∷ [] ∷
+      (1301 ∷ []) ∷ still ∷ still ∷ [] ∷
+      (1310 ∷ []) ∷ still ∷ (1 ∷ seven ∷ 100 ∷ 126 ∷ 7 ∷ 1 ∷ 1471 ∷ 0 ∷ 0 ∷ []) ∷ [] ∷
+      (1320 ∷ []) ∷ still ∷ (0 ∷ 1 ∷ 1921 ∷ 1 ∷ seven ∷ 100 ∷ 0 ∷ 0 ∷ []) ∷ [] ∷
+      (1325 ∷ []) ∷ still ∷ (0 ∷ 1 ∷ 1921 ∷ 1 ∷ seven ∷ 100 ∷ 0 ∷ 1 ∷ 1776 ∷ []) ∷ [] ∷
+      (1330 ∷ []) ∷ still ∷ (0 ∷ 1 ∷ 1931 ∷ 1 ∷ seven ∷ 100 ∷ 1 ∷ 1 ∷ 1776 ∷ []) ∷ [] ∷
+      (1335 ∷ []) ∷ still ∷ (0 ∷ 1 ∷ 1931 ∷ 1 ∷ seven ∷ 100 ∷ 1 ∷ 1 ∷ 1776 ∷ []) ∷ [] ∷
+      (1340 ∷ []) ∷ still ∷ (0 ∷ 0 ∷ 2 ∷ seven ∷ 100 ∷ 1340 ∷ 1 ∷ 1776 ∷ []) ∷ [] ∷
+      (1345 ∷ []) ∷ still ∷ (0 ∷ 0 ∷ 2 ∷ seven ∷ 100 ∷ 1340 ∷ 1 ∷ 1776 ∷ []) ∷ [] ∷
+      (1360 ∷ []) ∷ still ∷ (0 ∷ 1 ∷ 1401 ∷ 0 ∷ 0 ∷ []) ∷ [] ∷
+      (1370 ∷ []) ∷ still ∷ (0 ∷ 1 ∷ 1401 ∷ 0 ∷ 0 ∷ []) ∷ [] ∷
+      (1401 ∷ []) ∷ still ∷ still ∷ [] ∷
+      (1410 ∷ []) ∷ still ∷ still ∷ [] ∷ [];
+}
+
+abbrev pub dialledWords : Row
+dialledWords = record {
+  computed = words 2 1 secondSlotDialledScript;
+  expected = (0 ∷ []) ∷ (0 ∷ []) ∷ (0 ∷ []) ∷ (1 ∷ []) ∷ (1 ∷ []) ∷ (1 ∷ []) ∷ (1 ∷ []) ∷ (1 ∷ []) ∷ (0 ∷ []) ∷ (0 ∷ []) ∷
+      (1 ∷ []) ∷ (1 ∷ []) ∷ (1 ∷ []) ∷ (1 ∷ []) ∷ (2 ∷ 1340 ∷ []) ∷ (2 ∷ 1340 ∷ []) ∷ (0 ∷ []) ∷ (0 ∷ []) ∷ (0 ∷ []) ∷
+      (0 ∷ []) ∷ [];
+}
+
+abbrev pub dialledTenths : Row
+dialledTenths = record {
+  computed = tenths 2 secondSlotDialledScript ∷ [];
+  expected = (20 ∷ 20 ∷ 20 ∷ []) ∷ [];
+}
+
+abbrev pub dialledRun : Run
+dialledRun = record {
+  slots = 2;
+  events = secondSlotDialledScript;
+  owing = paid 16 1 seven 1340 1360 2 ∷ [];
 }
 
 -- ── the queue ─────────────────────────────────────────────────────────────────
@@ -307,16 +357,16 @@ twoCallsPages = record {
   expected =
       (100 ∷ []) ∷ (1 ∷ seven ∷ 100 ∷ 126 ∷ 7 ∷ 1 ∷ 261 ∷ 0 ∷ 0 ∷ []) ∷ still ∷ [] ∷
       (101 ∷ []) ∷ (1 ∷ seven ∷ 100 ∷ 126 ∷ 7 ∷ 1 ∷ 261 ∷ 0 ∷ 0 ∷ []) ∷ (1 ∷ eight ∷ 101 ∷ 126 ∷ 7 ∷ 1 ∷ 262 ∷ 0 ∷ 0 ∷ []) ∷ [] ∷
-      (110 ∷ []) ∷ (0 ∷ 1 ∷ 711 ∷ 1 ∷ seven ∷ 100 ∷ 0 ∷ []) ∷ (1 ∷ eight ∷ 101 ∷ 126 ∷ 7 ∷ 1 ∷ 262 ∷ 0 ∷ 0 ∷ []) ∷ [] ∷
-      (120 ∷ []) ∷ (0 ∷ 1 ∷ 711 ∷ 1 ∷ seven ∷ 100 ∷ 0 ∷ []) ∷ (0 ∷ 1 ∷ 721 ∷ 1 ∷ eight ∷ 101 ∷ 0 ∷ []) ∷ [] ∷
-      (130 ∷ []) ∷ (0 ∷ 0 ∷ 2 ∷ seven ∷ 100 ∷ 130 ∷ 0 ∷ []) ∷ (0 ∷ 1 ∷ 721 ∷ 1 ∷ eight ∷ 101 ∷ 0 ∷ []) ∷ [] ∷
+      (110 ∷ []) ∷ (0 ∷ 1 ∷ 711 ∷ 1 ∷ seven ∷ 100 ∷ 0 ∷ 0 ∷ []) ∷ (1 ∷ eight ∷ 101 ∷ 126 ∷ 7 ∷ 1 ∷ 262 ∷ 0 ∷ 0 ∷ []) ∷ [] ∷
+      (120 ∷ []) ∷ (0 ∷ 1 ∷ 711 ∷ 1 ∷ seven ∷ 100 ∷ 0 ∷ 0 ∷ []) ∷ (0 ∷ 1 ∷ 721 ∷ 1 ∷ eight ∷ 101 ∷ 0 ∷ 0 ∷ []) ∷ [] ∷
+      (130 ∷ []) ∷ (0 ∷ 0 ∷ 2 ∷ seven ∷ 100 ∷ 130 ∷ 0 ∷ []) ∷ (0 ∷ 1 ∷ 721 ∷ 1 ∷ eight ∷ 101 ∷ 0 ∷ 0 ∷ []) ∷ [] ∷
       (140 ∷ []) ∷ (0 ∷ 0 ∷ 2 ∷ seven ∷ 100 ∷ 130 ∷ 0 ∷ []) ∷ (0 ∷ 0 ∷ 2 ∷ eight ∷ 101 ∷ 140 ∷ 0 ∷ []) ∷ [] ∷
       (150 ∷ []) ∷ (0 ∷ 0 ∷ 2 ∷ seven ∷ 100 ∷ 130 ∷ 1 ∷ 601 ∷ []) ∷ (0 ∷ 0 ∷ 2 ∷ eight ∷ 101 ∷ 140 ∷ 0 ∷ []) ∷ [] ∷
       (160 ∷ []) ∷ (0 ∷ 0 ∷ 2 ∷ seven ∷ 100 ∷ 130 ∷ 1 ∷ 601 ∷ []) ∷ (0 ∷ 0 ∷ 2 ∷ eight ∷ 101 ∷ 140 ∷ 1 ∷ 211 ∷ []) ∷ [] ∷
       (165 ∷ []) ∷ (0 ∷ 0 ∷ 2 ∷ seven ∷ 100 ∷ 130 ∷ 1 ∷ 601 ∷ []) ∷ (0 ∷ 0 ∷ 2 ∷ eight ∷ 101 ∷ 140 ∷ 1 ∷ 211 ∷ []) ∷ [] ∷
       (211 ∷ []) ∷ (0 ∷ 0 ∷ 2 ∷ seven ∷ 100 ∷ 130 ∷ 1 ∷ 601 ∷ []) ∷ still ∷ [] ∷
       (310 ∷ []) ∷ (0 ∷ 0 ∷ 2 ∷ seven ∷ 100 ∷ 130 ∷ 1 ∷ 601 ∷ []) ∷ (1 ∷ eight ∷ 101 ∷ 126 ∷ 7 ∷ 1 ∷ 471 ∷ 0 ∷ 0 ∷ []) ∷ [] ∷
-      (320 ∷ []) ∷ (0 ∷ 0 ∷ 2 ∷ seven ∷ 100 ∷ 130 ∷ 1 ∷ 601 ∷ []) ∷ (0 ∷ 1 ∷ 921 ∷ 1 ∷ eight ∷ 101 ∷ 0 ∷ []) ∷ [] ∷
+      (320 ∷ []) ∷ (0 ∷ 0 ∷ 2 ∷ seven ∷ 100 ∷ 130 ∷ 1 ∷ 601 ∷ []) ∷ (0 ∷ 1 ∷ 921 ∷ 1 ∷ eight ∷ 101 ∷ 0 ∷ 0 ∷ []) ∷ [] ∷
       (330 ∷ []) ∷ (0 ∷ 0 ∷ 2 ∷ seven ∷ 100 ∷ 130 ∷ 1 ∷ 601 ∷ []) ∷ (0 ∷ 0 ∷ 2 ∷ eight ∷ 101 ∷ 330 ∷ 0 ∷ []) ∷ [] ∷
       (340 ∷ []) ∷ still ∷ (0 ∷ 0 ∷ 2 ∷ eight ∷ 101 ∷ 330 ∷ 0 ∷ []) ∷ [] ∷
       (350 ∷ []) ∷ still ∷ still ∷ [] ∷ [];
@@ -369,31 +419,31 @@ onThirdPages = record {
       (50 ∷ []) ∷ still ∷ still ∷ still ∷ [] ∷
       (51 ∷ []) ∷ still ∷ still ∷ still ∷ [] ∷
       (100 ∷ []) ∷ still ∷ still ∷ (1 ∷ seven ∷ 100 ∷ 126 ∷ 7 ∷ 1 ∷ 261 ∷ 0 ∷ 0 ∷ []) ∷ [] ∷
-      (110 ∷ []) ∷ still ∷ still ∷ (0 ∷ 1 ∷ 711 ∷ 1 ∷ seven ∷ 100 ∷ 0 ∷ []) ∷ [] ∷
+      (110 ∷ []) ∷ still ∷ still ∷ (0 ∷ 1 ∷ 711 ∷ 1 ∷ seven ∷ 100 ∷ 0 ∷ 0 ∷ []) ∷ [] ∷
       (120 ∷ []) ∷ still ∷ still ∷ (0 ∷ 1 ∷ 161 ∷ 0 ∷ 0 ∷ []) ∷ [] ∷
       (161 ∷ []) ∷ still ∷ still ∷ still ∷ [] ∷
       (170 ∷ []) ∷ still ∷ still ∷ (1 ∷ seven ∷ 100 ∷ 126 ∷ 7 ∷ 1 ∷ 331 ∷ 0 ∷ 0 ∷ []) ∷ [] ∷
-      (180 ∷ []) ∷ still ∷ still ∷ (0 ∷ 1 ∷ 781 ∷ 1 ∷ seven ∷ 100 ∷ 0 ∷ []) ∷ [] ∷
+      (180 ∷ []) ∷ still ∷ still ∷ (0 ∷ 1 ∷ 781 ∷ 1 ∷ seven ∷ 100 ∷ 0 ∷ 0 ∷ []) ∷ [] ∷
       (190 ∷ []) ∷ still ∷ still ∷ (0 ∷ 0 ∷ 2 ∷ seven ∷ 100 ∷ 190 ∷ 0 ∷ []) ∷ [] ∷
       (200 ∷ []) ∷ still ∷ still ∷ (0 ∷ 0 ∷ 2 ∷ seven ∷ 100 ∷ 190 ∷ 1 ∷ 651 ∷ []) ∷ [] ∷
       (210 ∷ []) ∷ still ∷ still ∷ (1 ∷ seven ∷ 100 ∷ 126 ∷ 7 ∷ 1 ∷ 371 ∷ 0 ∷ 0 ∷ []) ∷ [] ∷
-      (220 ∷ []) ∷ still ∷ still ∷ (0 ∷ 1 ∷ 821 ∷ 1 ∷ seven ∷ 100 ∷ 0 ∷ []) ∷ [] ∷
+      (220 ∷ []) ∷ still ∷ still ∷ (0 ∷ 1 ∷ 821 ∷ 1 ∷ seven ∷ 100 ∷ 0 ∷ 0 ∷ []) ∷ [] ∷
       (230 ∷ []) ∷ still ∷ still ∷ (0 ∷ 0 ∷ 2 ∷ seven ∷ 100 ∷ 230 ∷ 0 ∷ []) ∷ [] ∷
       (250 ∷ []) ∷ still ∷ still ∷ still ∷ [] ∷
       (260 ∷ []) ∷ still ∷ still ∷ (1 ∷ eight ∷ 101 ∷ 126 ∷ 7 ∷ 1 ∷ 421 ∷ 0 ∷ 0 ∷ []) ∷ [] ∷
-      (270 ∷ []) ∷ still ∷ still ∷ (0 ∷ 1 ∷ 871 ∷ 1 ∷ eight ∷ 101 ∷ 0 ∷ []) ∷ [] ∷
-      (275 ∷ []) ∷ still ∷ still ∷ (0 ∷ 1 ∷ 871 ∷ 1 ∷ eight ∷ 101 ∷ 1 ∷ 326 ∷ []) ∷ [] ∷
+      (270 ∷ []) ∷ still ∷ still ∷ (0 ∷ 1 ∷ 871 ∷ 1 ∷ eight ∷ 101 ∷ 0 ∷ 0 ∷ []) ∷ [] ∷
+      (275 ∷ []) ∷ still ∷ still ∷ (0 ∷ 1 ∷ 871 ∷ 1 ∷ eight ∷ 101 ∷ 0 ∷ 1 ∷ 326 ∷ []) ∷ [] ∷
       (280 ∷ []) ∷ still ∷ still ∷ still ∷ [] ∷
       (290 ∷ []) ∷ still ∷ still ∷ (1 ∷ eight ∷ 101 ∷ 126 ∷ 7 ∷ 1 ∷ 451 ∷ 0 ∷ 0 ∷ []) ∷ [] ∷
-      (300 ∷ []) ∷ still ∷ still ∷ (0 ∷ 1 ∷ 901 ∷ 1 ∷ eight ∷ 101 ∷ 0 ∷ []) ∷ [] ∷
-      (310 ∷ []) ∷ still ∷ still ∷ (0 ∷ 1 ∷ 901 ∷ 1 ∷ eight ∷ 101 ∷ 1 ∷ 361 ∷ []) ∷ [] ∷
+      (300 ∷ []) ∷ still ∷ still ∷ (0 ∷ 1 ∷ 901 ∷ 1 ∷ eight ∷ 101 ∷ 0 ∷ 0 ∷ []) ∷ [] ∷
+      (310 ∷ []) ∷ still ∷ still ∷ (0 ∷ 1 ∷ 901 ∷ 1 ∷ eight ∷ 101 ∷ 0 ∷ 1 ∷ 361 ∷ []) ∷ [] ∷
       (361 ∷ []) ∷ still ∷ still ∷ still ∷ [] ∷
       (370 ∷ []) ∷ still ∷ still ∷ (1 ∷ nine ∷ 100 ∷ 126 ∷ 7 ∷ 1 ∷ 531 ∷ 0 ∷ 0 ∷ []) ∷ [] ∷
-      (380 ∷ []) ∷ still ∷ still ∷ (0 ∷ 1 ∷ 981 ∷ 1 ∷ nine ∷ 100 ∷ 0 ∷ []) ∷ [] ∷
-      (900 ∷ []) ∷ still ∷ still ∷ (0 ∷ 1 ∷ 981 ∷ 1 ∷ nine ∷ 100 ∷ 1 ∷ 1351 ∷ []) ∷ [] ∷
+      (380 ∷ []) ∷ still ∷ still ∷ (0 ∷ 1 ∷ 981 ∷ 1 ∷ nine ∷ 100 ∷ 0 ∷ 0 ∷ []) ∷ [] ∷
+      (900 ∷ []) ∷ still ∷ still ∷ (0 ∷ 1 ∷ 981 ∷ 1 ∷ nine ∷ 100 ∷ 0 ∷ 1 ∷ 1351 ∷ []) ∷ [] ∷
       (981 ∷ []) ∷ still ∷ still ∷ still ∷ [] ∷
       (990 ∷ []) ∷ still ∷ still ∷ (1 ∷ nine ∷ 100 ∷ 126 ∷ 7 ∷ 1 ∷ 1151 ∷ 0 ∷ 0 ∷ []) ∷ [] ∷
-      (995 ∷ []) ∷ still ∷ still ∷ (0 ∷ 1 ∷ 1596 ∷ 1 ∷ nine ∷ 100 ∷ 0 ∷ []) ∷ [] ∷
+      (995 ∷ []) ∷ still ∷ still ∷ (0 ∷ 1 ∷ 1596 ∷ 1 ∷ nine ∷ 100 ∷ 0 ∷ 0 ∷ []) ∷ [] ∷
       (1000 ∷ []) ∷ still ∷ still ∷ still ∷ [] ∷
       (1010 ∷ []) ∷ still ∷ still ∷ still ∷ [] ∷ [];
 }
@@ -438,9 +488,10 @@ talkingOn = record {
 -- what the book says of a call, in the three words
 abbrev pub wordsOf : Row
 wordsOf = record {
-  computed = word (wordOf quiet) ∷ word (wordOf (dialled party simplex)) ∷ word (wordOf (dialled party duplex)) ∷
+  computed = word (wordOf quiet) ∷ word (wordOf (dialled party simplex false)) ∷ word (wordOf (dialled party duplex false)) ∷
+      word (wordOf (dialled party simplex true)) ∷ word (wordOf (dialled party duplex true)) ∷
       word (wordOf (talking party simplex 300)) ∷ word (wordOf (talking party duplex 300)) ∷ [];
-  expected = (0 ∷ []) ∷ (1 ∷ []) ∷ (1 ∷ []) ∷ (2 ∷ 300 ∷ []) ∷ (2 ∷ 300 ∷ []) ∷ [];
+  expected = (0 ∷ []) ∷ (1 ∷ []) ∷ (1 ∷ []) ∷ (1 ∷ []) ∷ (1 ∷ []) ∷ (2 ∷ 300 ∷ []) ∷ (2 ∷ 300 ∷ []) ∷ [];
 }
 
 -- before the first entry
@@ -522,7 +573,14 @@ abbrev pub afterDeed : Deed → Book → List ℕ
 afterDeed d b = getD (map column (turn (station 1) b (record { event = ticks 200; deeds = d ∷ [] }) .columns)) 0 []
 
 abbrev pub ringsEight : Call
-ringsEight = dialled (from eight simplex .who) simplex
+ringsEight = dialled (from eight simplex .who) simplex false
+
+-- once its dialling has ended, in either mode
+abbrev pub ringsOut : Call
+ringsOut = dialled (from eight simplex .who) simplex true
+
+abbrev pub ringsOutDuplex : Call
+ringsOutDuplex = dialled (from eight duplex .who) duplex true
 
 abbrev pub talksEight : Call
 talksEight = talking (from eight duplex .who) duplex 150
@@ -532,7 +590,7 @@ abbrev pub eventsAlone : Row
 eventsAlone = record {
   computed =
       afterEvent (hangs 200 0) (filled (toldBQ (from seven duplex)) ringsEight) ∷
-      afterEvent (hangs 200 0) (filled (toldBQ (from seven duplex)) (dialled (from eight duplex .who) duplex)) ∷
+      afterEvent (hangs 200 0) (filled (toldBQ (from seven duplex)) (dialled (from eight duplex .who) duplex false)) ∷
       afterEvent (hangs 200 0) (filled (toldBQ (from seven duplex)) talksEight) ∷
       afterEvent (hangs 200 0) (filled (toldBQ (from seven duplex)) (talking (from eight simplex .who) simplex 150)) ∷
       afterEvent (picksUp 200 0) (filled (toldBQ (from seven duplex)) ringsEight) ∷
@@ -541,15 +599,54 @@ eventsAlone = record {
       afterEvent (accepts 200 26 seven) (filled (toldRQ (from seven duplex)) talksEight) ∷
       afterEvent (ticks 5000) (filled (toldBQ (from seven duplex)) ringsEight) ∷ [];
   expected =
-      (1 ∷ seven ∷ 101 ∷ 126 ∷ 7 ∷ 1 ∷ 5000 ∷ 1 ∷ eight ∷ 100 ∷ 1 ∷ 6000 ∷ []) ∷
-      (1 ∷ seven ∷ 101 ∷ 126 ∷ 7 ∷ 1 ∷ 5000 ∷ 1 ∷ eight ∷ 101 ∷ 1 ∷ 6000 ∷ []) ∷
+      (1 ∷ seven ∷ 101 ∷ 126 ∷ 7 ∷ 1 ∷ 5000 ∷ 1 ∷ eight ∷ 100 ∷ 0 ∷ 1 ∷ 6000 ∷ []) ∷
+      (1 ∷ seven ∷ 101 ∷ 126 ∷ 7 ∷ 1 ∷ 5000 ∷ 1 ∷ eight ∷ 101 ∷ 0 ∷ 1 ∷ 6000 ∷ []) ∷
       (1 ∷ seven ∷ 101 ∷ 126 ∷ 7 ∷ 1 ∷ 5000 ∷ 0 ∷ 0 ∷ []) ∷
       (1 ∷ seven ∷ 101 ∷ 126 ∷ 7 ∷ 1 ∷ 5000 ∷ 0 ∷ 0 ∷ []) ∷
       (1 ∷ seven ∷ 101 ∷ 126 ∷ 7 ∷ 0 ∷ 2 ∷ eight ∷ 100 ∷ 200 ∷ 1 ∷ 6000 ∷ []) ∷
       (1 ∷ seven ∷ 101 ∷ 126 ∷ 7 ∷ 1 ∷ 241 ∷ 0 ∷ 0 ∷ []) ∷
-      (1 ∷ seven ∷ 101 ∷ 126 ∷ 7 ∷ 1 ∷ 5000 ∷ 1 ∷ eight ∷ 100 ∷ 0 ∷ []) ∷
+      (1 ∷ seven ∷ 101 ∷ 126 ∷ 7 ∷ 1 ∷ 5000 ∷ 1 ∷ eight ∷ 100 ∷ 0 ∷ 0 ∷ []) ∷
       (3 ∷ seven ∷ 101 ∷ 126 ∷ 7 ∷ 1 ∷ 361 ∷ 2 ∷ eight ∷ 101 ∷ 150 ∷ 1 ∷ 6000 ∷ []) ∷
-      (1 ∷ seven ∷ 101 ∷ 126 ∷ 7 ∷ 0 ∷ 1 ∷ eight ∷ 100 ∷ 1 ∷ 6000 ∷ []) ∷ [];
+      (1 ∷ seven ∷ 101 ∷ 126 ∷ 7 ∷ 0 ∷ 1 ∷ eight ∷ 100 ∷ 0 ∷ 1 ∷ 6000 ∷ []) ∷ [];
+}
+
+-- an end of dialling begins the minute, the first time and on a line that rings; then what else happens on a line dialled out
+abbrev pub diallingAlone : Row
+diallingAlone = record {
+  computed =
+      afterEvent (dialsOut 200 0) (filled (toldBQ (from seven duplex)) ringsEight) ∷
+      afterEvent (dialsOut 200 0) (filled (toldBQ (from seven duplex)) (dialled (from eight duplex .who) duplex false)) ∷
+      afterEvent (dialsOut 200 0) (filled (toldBQ (from seven duplex)) ringsOut) ∷
+      afterEvent (dialsOut 200 0) (filled (toldBQ (from seven duplex)) ringsOutDuplex) ∷
+      afterEvent (dialsOut 200 0) (filled (toldBQ (from seven duplex)) talksEight) ∷
+      afterEvent (dialsOut 200 0) (filled (toldBQ (from seven duplex)) (talking (from eight simplex .who) simplex 150)) ∷
+      afterEvent (dialsOut 200 0) (filled (toldBQ (from seven duplex)) quiet) ∷
+      afterEvent (picksUp 200 0) (filled (toldBQ (from seven duplex)) ringsOut) ∷
+      afterEvent (hangs 200 0) (filled (toldBQ (from seven duplex)) ringsOut) ∷
+      afterEvent (hangs 200 0) (filled (toldBQ (from seven duplex)) ringsOutDuplex) ∷
+      afterEvent (loses 200 0) (heardWell (toldBQ (from seven duplex)) ringsOut) ∷
+      afterEvent (loses 200 0) (heardWell (toldBQ (from seven duplex)) ringsOutDuplex) ∷
+      afterEvent (ends 200 0 eight) (filled (toldBQ (from seven duplex)) ringsOut) ∷
+      afterEvent (ticks 5000) (filled (toldBQ (from seven duplex)) ringsOut) ∷
+      afterDeed (dial 0 usual) (filled (toldBQ (from seven duplex)) ringsOut) ∷
+      afterDeed (releaseLine 0) (filled (toldBQ (from seven duplex)) ringsOut) ∷ [];
+  expected =
+      (1 ∷ seven ∷ 101 ∷ 126 ∷ 7 ∷ 1 ∷ 801 ∷ 1 ∷ eight ∷ 100 ∷ 1 ∷ 1 ∷ 6000 ∷ []) ∷
+      (1 ∷ seven ∷ 101 ∷ 126 ∷ 7 ∷ 1 ∷ 801 ∷ 1 ∷ eight ∷ 101 ∷ 1 ∷ 1 ∷ 6000 ∷ []) ∷
+      (1 ∷ seven ∷ 101 ∷ 126 ∷ 7 ∷ 1 ∷ 5000 ∷ 1 ∷ eight ∷ 100 ∷ 1 ∷ 1 ∷ 6000 ∷ []) ∷
+      (1 ∷ seven ∷ 101 ∷ 126 ∷ 7 ∷ 1 ∷ 5000 ∷ 1 ∷ eight ∷ 101 ∷ 1 ∷ 1 ∷ 6000 ∷ []) ∷
+      (1 ∷ seven ∷ 101 ∷ 126 ∷ 7 ∷ 1 ∷ 5000 ∷ 2 ∷ eight ∷ 101 ∷ 150 ∷ 1 ∷ 6000 ∷ []) ∷
+      (1 ∷ seven ∷ 101 ∷ 126 ∷ 7 ∷ 1 ∷ 5000 ∷ 2 ∷ eight ∷ 100 ∷ 150 ∷ 1 ∷ 6000 ∷ []) ∷
+      (1 ∷ seven ∷ 101 ∷ 126 ∷ 7 ∷ 1 ∷ 5000 ∷ 0 ∷ 1 ∷ 6000 ∷ []) ∷
+      (1 ∷ seven ∷ 101 ∷ 126 ∷ 7 ∷ 0 ∷ 2 ∷ eight ∷ 100 ∷ 200 ∷ 1 ∷ 6000 ∷ []) ∷
+      (1 ∷ seven ∷ 101 ∷ 126 ∷ 7 ∷ 1 ∷ 5000 ∷ 1 ∷ eight ∷ 100 ∷ 1 ∷ 1 ∷ 6000 ∷ []) ∷
+      (1 ∷ seven ∷ 101 ∷ 126 ∷ 7 ∷ 1 ∷ 5000 ∷ 1 ∷ eight ∷ 101 ∷ 1 ∷ 1 ∷ 6000 ∷ []) ∷
+      (1 ∷ seven ∷ 101 ∷ 126 ∷ 7 ∷ 1 ∷ 5000 ∷ 1 ∷ eight ∷ 100 ∷ 1 ∷ 1 ∷ 651 ∷ []) ∷
+      (1 ∷ seven ∷ 101 ∷ 126 ∷ 7 ∷ 1 ∷ 5000 ∷ 1 ∷ eight ∷ 101 ∷ 1 ∷ 1 ∷ 251 ∷ []) ∷
+      (1 ∷ seven ∷ 101 ∷ 126 ∷ 7 ∷ 1 ∷ 241 ∷ 0 ∷ 0 ∷ []) ∷
+      (1 ∷ seven ∷ 101 ∷ 126 ∷ 7 ∷ 0 ∷ 1 ∷ eight ∷ 100 ∷ 1 ∷ 1 ∷ 6000 ∷ []) ∷
+      (0 ∷ 1 ∷ 801 ∷ 1 ∷ seven ∷ 101 ∷ 0 ∷ 0 ∷ []) ∷
+      (1 ∷ seven ∷ 101 ∷ 126 ∷ 7 ∷ 0 ∷ 0 ∷ 0 ∷ []) ∷ [];
 }
 
 -- so does a deed
@@ -568,12 +665,12 @@ deedsAlone = record {
       afterDeed (releaseLine 0) (filled (toldBQ (from seven duplex)) talksEight) ∷
       afterDeed (releaseLine 0) (filled (toldBQ (from seven duplex)) (talking (from eight simplex .who) simplex 150)) ∷ [];
   expected =
-      (1 ∷ nine ∷ 101 ∷ 126 ∷ 7 ∷ 1 ∷ 361 ∷ 1 ∷ eight ∷ 100 ∷ 1 ∷ 6000 ∷ []) ∷
-      (2 ∷ nine ∷ 101 ∷ 126 ∷ 7 ∷ 1 ∷ 251 ∷ 1 ∷ eight ∷ 100 ∷ 1 ∷ 6000 ∷ []) ∷
-      (0 ∷ 1 ∷ 5000 ∷ 1 ∷ eight ∷ 100 ∷ 1 ∷ 6000 ∷ []) ∷
-      (1 ∷ seven ∷ 101 ∷ 126 ∷ 7 ∷ 1 ∷ 5000 ∷ 1 ∷ eight ∷ 100 ∷ 1 ∷ 6000 ∷ []) ∷
-      (0 ∷ 1 ∷ 801 ∷ 1 ∷ seven ∷ 101 ∷ 0 ∷ []) ∷
-      (0 ∷ 1 ∷ 801 ∷ 1 ∷ seven ∷ 100 ∷ 0 ∷ []) ∷
+      (1 ∷ nine ∷ 101 ∷ 126 ∷ 7 ∷ 1 ∷ 361 ∷ 1 ∷ eight ∷ 100 ∷ 0 ∷ 1 ∷ 6000 ∷ []) ∷
+      (2 ∷ nine ∷ 101 ∷ 126 ∷ 7 ∷ 1 ∷ 251 ∷ 1 ∷ eight ∷ 100 ∷ 0 ∷ 1 ∷ 6000 ∷ []) ∷
+      (0 ∷ 1 ∷ 5000 ∷ 1 ∷ eight ∷ 100 ∷ 0 ∷ 1 ∷ 6000 ∷ []) ∷
+      (1 ∷ seven ∷ 101 ∷ 126 ∷ 7 ∷ 1 ∷ 5000 ∷ 1 ∷ eight ∷ 100 ∷ 0 ∷ 1 ∷ 6000 ∷ []) ∷
+      (0 ∷ 1 ∷ 801 ∷ 1 ∷ seven ∷ 101 ∷ 0 ∷ 0 ∷ []) ∷
+      (0 ∷ 1 ∷ 801 ∷ 1 ∷ seven ∷ 100 ∷ 0 ∷ 0 ∷ []) ∷
       (0 ∷ 1 ∷ 801 ∷ 2 ∷ eight ∷ 101 ∷ 150 ∷ 0 ∷ []) ∷
       (0 ∷ 1 ∷ 801 ∷ 2 ∷ eight ∷ 100 ∷ 150 ∷ 0 ∷ []) ∷
       (1 ∷ seven ∷ 101 ∷ 126 ∷ 7 ∷ 0 ∷ 0 ∷ 0 ∷ []) ∷
@@ -687,11 +784,12 @@ alikeShown = record {
 
 abbrev pub pageCases : List Row
 pageCases =
-    onSecondPages ∷ onSecondWords ∷ onSecondTenths ∷ againPages ∷ againWords ∷ againTenths ∷ inQueuePages ∷ inQueueWords ∷
-    inQueueTenths ∷ twoCallsPages ∷ twoCallsWords ∷ twoCallsWordsOfFirst ∷ twoCallsTenths ∷ onThirdPages ∷ onThirdWords ∷
-    onThirdTenths ∷ dialledOnly ∷ unchargedShown ∷ stopsNumbered ∷ eventsShown ∷ wordsByDeeds ∷ wordsPickedUp ∷ wordsAtOnce ∷
-    eventsAlone ∷ deedsAlone ∷ wordsAlone ∷ toldToWaitShown ∷ switchedOnShown ∷ lastAskedShown ∷ lastAskedNever ∷ chargesFound ∷ talkingOn ∷
-    wordsOf ∷ blankPage ∷ told102 ∷ sameShown ∷ alikeShown ∷ []
+    onSecondPages ∷ onSecondWords ∷ onSecondTenths ∷ againPages ∷ againWords ∷ againTenths ∷ dialledPages ∷ dialledWords ∷
+    dialledTenths ∷ inQueuePages ∷ inQueueWords ∷ inQueueTenths ∷ twoCallsPages ∷ twoCallsWords ∷ twoCallsWordsOfFirst ∷
+    twoCallsTenths ∷ onThirdPages ∷ onThirdWords ∷ onThirdTenths ∷ dialledOnly ∷ unchargedShown ∷ stopsNumbered ∷
+    eventsShown ∷ wordsByDeeds ∷ wordsPickedUp ∷ wordsAtOnce ∷ eventsAlone ∷ diallingAlone ∷ deedsAlone ∷ wordsAlone ∷
+    toldToWaitShown ∷ switchedOnShown ∷ lastAskedShown ∷ lastAskedNever ∷ chargesFound ∷ talkingOn ∷ wordsOf ∷ blankPage ∷
+    told102 ∷ sameShown ∷ alikeShown ∷ []
 
 abbrev pub pageRuns : List Run
-pageRuns = onSecondRun ∷ againRun ∷ inQueueRun ∷ twoCallsRun ∷ onThirdRun ∷ []
+pageRuns = onSecondRun ∷ againRun ∷ dialledRun ∷ inQueueRun ∷ twoCallsRun ∷ onThirdRun ∷ []

@@ -5,7 +5,7 @@ use Rattle.rules.specs.Rules.Words.{simplex, duplex, carrierOn, dial}
 use Rattle.rules.specs.Rules.Actions.{does, charge, chargeOf}
 use Rattle.rules.specs.Rules.Bytes.{payloadOf, blockOf}
 use Rattle.rules.specs.Tables.Runs.{station, seven, eight, usual, calls, works, ends, ticks}
-use Rattle.rules.specs.Tables.Runs.{saysOn, picksUp, hangs, regains, loses, reserves, restores}
+use Rattle.rules.specs.Tables.Runs.{saysOn, dialsOut, picksUp, hangs, regains, loses, reserves, restores}
 use Rattle.rules.specs.Tables.Cases.{Row}
 use Rattle.rules.specs.Tables.Phases.{waitingWith}
 use Rattle.rules.specs.Tables.Scripts.{gives, ninety, fieldTold, charges, waits, overSevenByCoast15}
@@ -14,7 +14,7 @@ use Rattle.rules.specs.Tables.Scripts.{overSevenByCoast411, overSevenByC
 
 -- ── off-hook and carrier ──────────────────────────────────────────────────────
 
--- off-hook while dialling: the reply wait ends, a carrier wait runs on
+-- off-hook while dialling: that wait ends, a carrier wait runs on
 abbrev pub picksUpAnswers : Row
 picksUpAnswers = record {
   computed = gives 1 (calls 100 seven simplex ∷ works 200 0 seven ∷ loses 300 0 ∷ picksUp 310 0 ∷ []);
@@ -54,6 +54,107 @@ abbrev pub carrierElsewhere : Row
 carrierElsewhere = record {
   computed = gives 1 (calls 100 seven duplex ∷ loses 110 0 ∷ []);
   expected = (1 ∷ 110 ∷ 0 ∷ 261 ∷ []) ∷ [];
+}
+
+-- ── dialling ended (02, no. 1) ────────────────────────────────────────────────
+
+-- while dialling: a new wait of 600 begins
+abbrev pub diallingEndedDialling : Row
+diallingEndedDialling = record {
+  computed = gives 1 (calls 100 seven duplex ∷ works 200 0 seven ∷ dialsOut 700 0 ∷ []);
+  expected = (0 ∷ 700 ∷ 0 ∷ 1301 ∷ []) ∷ [];
+}
+
+-- a carrier wait runs on
+abbrev pub diallingEndedCarrier : Row
+diallingEndedCarrier = record {
+  computed = gives 1 (calls 100 seven simplex ∷ works 200 0 seven ∷ loses 300 0 ∷ dialsOut 310 0 ∷ []);
+  expected = (0 ∷ 310 ∷ 0 ∷ 751 ∷ []) ∷ [];
+}
+
+-- a second one in a call: ignored, the wait unchanged
+abbrev pub diallingEndedTwice : Row
+diallingEndedTwice = record {
+  computed = gives 1 (calls 100 seven duplex ∷ works 200 0 seven ∷ dialsOut 300 0 ∷ dialsOut 310 0 ∷ []);
+  expected = (1 ∷ 310 ∷ 0 ∷ 901 ∷ []) ∷ [];
+}
+
+-- in the next call on that slot it is the first again
+abbrev pub diallingEndedNextCall : Row
+diallingEndedNextCall = record {
+  computed = gives 1 (calls 100 seven duplex ∷ works 200 0 seven ∷ dialsOut 300 0 ∷ hangs 310 0 ∷ calls 320 seven duplex
+      ∷ works 330 0 seven ∷ dialsOut 340 0 ∷ []);
+  expected = (0 ∷ 340 ∷ 0 ∷ 941 ∷ []) ∷ [];
+}
+
+-- after the answer: ignored
+abbrev pub diallingEndedAnswered : Row
+diallingEndedAnswered = record {
+  computed = gives 1 (calls 100 seven duplex ∷ works 200 0 seven ∷ picksUp 300 0 ∷ dialsOut 310 0 ∷ []);
+  expected = (1 ∷ 310 ∷ 0 ∷ []) ∷ [];
+}
+
+-- a second one after the answer: ignored
+abbrev pub diallingEndedBothSides : Row
+diallingEndedBothSides = record {
+  computed = gives 1 (calls 100 seven duplex ∷ works 200 0 seven ∷ dialsOut 250 0 ∷ picksUp 300 0 ∷ dialsOut 310 0 ∷ []);
+  expected = (1 ∷ 310 ∷ 0 ∷ []) ∷ [];
+}
+
+-- on an offered slot: ignored
+abbrev pub diallingEndedElsewhere : Row
+diallingEndedElsewhere = record {
+  computed = gives 1 (calls 100 seven duplex ∷ dialsOut 110 0 ∷ []);
+  expected = (1 ∷ 110 ∷ 0 ∷ 261 ∷ []) ∷ [];
+}
+
+-- in the last tenth of the 600 for dialling itself
+abbrev pub diallingEndedLate : Row
+diallingEndedLate = record {
+  computed = gives 1 (calls 100 seven duplex ∷ works 200 0 seven ∷ dialsOut 800 0 ∷ []);
+  expected = (0 ∷ 800 ∷ 0 ∷ 1401 ∷ []) ∷ [];
+}
+
+-- one tenth later that wait is due
+abbrev pub diallingEndedTooLate : Row
+diallingEndedTooLate = record {
+  computed = gives 1 (calls 100 seven duplex ∷ works 200 0 seven ∷ dialsOut 801 0 ∷ []);
+  expected = (33 ∷ 200 ∷ 0 ∷ 801 ∷ []) ∷ [];
+}
+
+-- off-hook in the last tenth of the new wait, long after the working call: answered, and a carrier wait runs on
+abbrev pub picksUpDialledOut : Row
+picksUpDialledOut = record {
+  computed = gives 1 (calls 100 seven simplex ∷ works 200 0 seven ∷ dialsOut 700 0 ∷ loses 1000 0 ∷ picksUp 1300 0 ∷ []);
+  expected = (0 ∷ 1300 ∷ 0 ∷ 1451 ∷ []) ∷ [];
+}
+
+-- carrier down and up in it: the reply is due as before
+abbrev pub upDialledOut : Row
+upDialledOut = record {
+  computed = gives 1 (calls 100 seven duplex ∷ works 200 0 seven ∷ dialsOut 700 0 ∷ loses 1000 0 ∷ regains 1010 0 ∷ []);
+  expected = (0 ∷ 1010 ∷ 0 ∷ 1301 ∷ []) ∷ [];
+}
+
+-- no reply in it: as no reply before, 126s and no charge, at the due time
+abbrev pub noReplyDialledOut : Row
+noReplyDialledOut = record {
+  computed = gives 1 (calls 100 seven duplex ∷ works 200 0 seven ∷ dialsOut 700 0 ∷ ticks 1301 ∷ []);
+  expected = (0 ∷ 1301 ∷ 3 ∷ []) ∷ (6 ∷ 0 ∷ []) ∷ (4 ∷ 0 ∷ overSevenByCoast) ∷ (2 ∷ 0 ∷ []) ∷ [];
+}
+
+-- one tenth before it nothing is due
+abbrev pub tickDialledOut : Row
+tickDialledOut = record {
+  computed = gives 1 (calls 100 seven duplex ∷ works 200 0 seven ∷ dialsOut 700 0 ∷ ticks 1300 ∷ []);
+  expected = (0 ∷ 1300 ∷ 0 ∷ 1301 ∷ []) ∷ [];
+}
+
+-- its ship's end: no charge, 126s, and the hold
+abbrev pub shipEndDialledOut : Row
+shipEndDialledOut = record {
+  computed = gives 1 (calls 100 seven duplex ∷ works 200 0 seven ∷ dialsOut 300 0 ∷ ends 310 0 seven ∷ []);
+  expected = (0 ∷ 310 ∷ 3 ∷ 351 ∷ []) ∷ (6 ∷ 0 ∷ []) ∷ (4 ∷ 0 ∷ overSeven) ∷ (2 ∷ 0 ∷ []) ∷ [];
 }
 
 -- ── ship's end of call ────────────────────────────────────────────────────────
@@ -130,7 +231,7 @@ hangsDialling = record {
   expected = (0 ∷ 300 ∷ 3 ∷ []) ∷ (6 ∷ 0 ∷ []) ∷ (4 ∷ 0 ∷ overSevenByCoast) ∷ (2 ∷ 0 ∷ []) ∷ [];
 }
 
--- no reply within 600: the same, at the due time
+-- no reply and no end of dialling within 600: the same, at the due time
 abbrev pub noReplyDue : Row
 noReplyDue = record {
   computed = gives 1 (calls 100 seven duplex ∷ works 200 0 seven ∷ ticks 9999 ∷ []);
@@ -230,7 +331,10 @@ fourShown = record {
 
 abbrev pub callCases : List Row
 callCases =
-    picksUpAnswers ∷ picksUpSecond ∷ downSecond ∷ upEnds ∷ upUnneeded ∷ carrierElsewhere ∷ shipEndAnswered
-    ∷ shipEndUnanswered ∷ shipEndStranger ∷ ninetyHours ∷ holdRepeats ∷ holdStranger ∷ holdNotGiven ∷ holdThenFreed
-    ∷ hangsAnswered ∷ hangsDialling ∷ noReplyDue ∷ carrierLossDue ∷ secondUnderOne ∷ operatorTook ∷ operatorReserves
-    ∷ operatorRestores ∷ idleTicks ∷ oneWaitDue ∷ youngerDue ∷ lossBeforeReply ∷ blockShown ∷ fourShown ∷ []
+    picksUpAnswers ∷ picksUpSecond ∷ downSecond ∷ upEnds ∷ upUnneeded ∷ carrierElsewhere ∷ diallingEndedDialling
+    ∷ diallingEndedCarrier ∷ diallingEndedTwice ∷ diallingEndedNextCall ∷ diallingEndedAnswered ∷ diallingEndedBothSides
+    ∷ diallingEndedElsewhere ∷ diallingEndedLate ∷ diallingEndedTooLate ∷ picksUpDialledOut ∷ upDialledOut
+    ∷ noReplyDialledOut ∷ tickDialledOut ∷ shipEndDialledOut ∷ shipEndAnswered ∷ shipEndUnanswered ∷ shipEndStranger
+    ∷ ninetyHours ∷ holdRepeats ∷ holdStranger ∷ holdNotGiven ∷ holdThenFreed ∷ hangsAnswered ∷ hangsDialling ∷ noReplyDue
+    ∷ carrierLossDue ∷ secondUnderOne ∷ operatorTook ∷ operatorReserves ∷ operatorRestores ∷ idleTicks ∷ oneWaitDue
+    ∷ youngerDue ∷ lossBeforeReply ∷ blockShown ∷ fourShown ∷ []

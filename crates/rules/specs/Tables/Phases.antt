@@ -4,9 +4,9 @@ use mathlib.Core.Option.{none, some}
 use Prim.Native.Nat.{ℕ}
 use Rattle.units.specs.declared.Told.the-variants.{Nothing}
 use Rattle.sequence.specs.declared.Field.the-variants.{Blank, Channel}
-use Rattle.rules.specs.Rules.Words.{simplex, duplex, Request, heard, offHook, onHook, carrierUp, carrierDown, takes, givesBack}
-use Rattle.rules.specs.Rules.Words.{What, tick, onChannel70, onSlot, Event}
-use Rattle.rules.specs.Rules.Station.{offered, firstRing, secondRing, acknowledged, dialling, answered}
+use Rattle.rules.specs.Rules.Words.{simplex, duplex, Request, heard, diallingEnded, offHook, onHook, carrierUp, carrierDown}
+use Rattle.rules.specs.Rules.Words.{takes, givesBack, What, tick, onChannel70, onSlot, Event}
+use Rattle.rules.specs.Rules.Station.{offered, firstRing, secondRing, acknowledged, dialling, dialledOut, answered}
 use Rattle.rules.specs.Rules.Station.{Slot, free, taken, Waiting, Station}
 use Rattle.rules.specs.Rules.Slots.{pending, busy, held}
 use Rattle.rules.specs.Rules.Requests.{Out}
@@ -42,6 +42,8 @@ happenings =
     onSlot 0 (heard (sends seven 101 127 Blank usual))
     -- its end of call
     ∷ onSlot 0 (heard (sends seven 105 117 Blank usual))
+    -- dialling ended
+    ∷ onSlot 0 diallingEnded
     -- off-hook
     ∷ onSlot 0 offHook
     -- on-hook
@@ -78,7 +80,7 @@ pub record Phase : Type 0 where
   pub slot : Slot
   pub gives : List (List ℕ)
 
--- on five lines: the tick, the ship's working call and end; the four signals; the operator's hand; its request, BQ and data;
+-- on five lines: the tick, the ship's working call and end; the five signals; the operator's hand; its request, BQ and data;
 -- another ship's three, and none of these.
 -- 0 done, 1 ignored, 35 refused; then 1 carrier on, 2 carrier off, 3 channel 70, 4 working channel, 5 dial, 6 release, 7 charge
 abbrev pub phases : List Phase
@@ -87,7 +89,7 @@ phases =
     record {
       slot = free;
       gives = (0 ∷ []) ∷ (1 ∷ []) ∷ (1 ∷ [])
-          ∷ (1 ∷ []) ∷ (1 ∷ []) ∷ (1 ∷ []) ∷ (1 ∷ [])
+          ∷ (1 ∷ []) ∷ (1 ∷ []) ∷ (1 ∷ []) ∷ (1 ∷ []) ∷ (1 ∷ [])
           ∷ (0 ∷ []) ∷ (35 ∷ [])
           ∷ (0 ∷ 1 ∷ 3 ∷ []) ∷ (1 ∷ []) ∷ (0 ∷ 3 ∷ [])
           ∷ (1 ∷ []) ∷ (1 ∷ []) ∷ (1 ∷ []) ∷ (1 ∷ []) ∷ [];
@@ -96,7 +98,7 @@ phases =
     ∷ record {
       slot = taken;
       gives = (0 ∷ []) ∷ (1 ∷ []) ∷ (1 ∷ [])
-          ∷ (1 ∷ []) ∷ (1 ∷ []) ∷ (1 ∷ []) ∷ (1 ∷ [])
+          ∷ (1 ∷ []) ∷ (1 ∷ []) ∷ (1 ∷ []) ∷ (1 ∷ []) ∷ (1 ∷ [])
           ∷ (35 ∷ []) ∷ (0 ∷ [])
           ∷ (0 ∷ 3 ∷ []) ∷ (1 ∷ []) ∷ (0 ∷ 3 ∷ [])
           ∷ (1 ∷ []) ∷ (1 ∷ []) ∷ (1 ∷ []) ∷ (1 ∷ []) ∷ [];
@@ -105,7 +107,7 @@ phases =
     ∷ record {
       slot = pending offered asked 1020;
       gives = (0 ∷ 2 ∷ []) ∷ (0 ∷ 5 ∷ []) ∷ (1 ∷ [])
-          ∷ (1 ∷ []) ∷ (1 ∷ []) ∷ (1 ∷ []) ∷ (1 ∷ [])
+          ∷ (1 ∷ []) ∷ (1 ∷ []) ∷ (1 ∷ []) ∷ (1 ∷ []) ∷ (1 ∷ [])
           ∷ (35 ∷ []) ∷ (35 ∷ [])
           ∷ (0 ∷ 3 ∷ []) ∷ (1 ∷ []) ∷ (0 ∷ 3 ∷ [])
           ∷ (1 ∷ []) ∷ (1 ∷ []) ∷ (1 ∷ []) ∷ (1 ∷ []) ∷ [];
@@ -114,7 +116,7 @@ phases =
     ∷ record {
       slot = pending firstRing asked 1020;
       gives = (0 ∷ 3 ∷ []) ∷ (1 ∷ []) ∷ (1 ∷ [])
-          ∷ (1 ∷ []) ∷ (1 ∷ []) ∷ (1 ∷ []) ∷ (1 ∷ [])
+          ∷ (1 ∷ []) ∷ (1 ∷ []) ∷ (1 ∷ []) ∷ (1 ∷ []) ∷ (1 ∷ [])
           ∷ (35 ∷ []) ∷ (35 ∷ [])
           ∷ (0 ∷ 3 ∷ []) ∷ (0 ∷ []) ∷ (0 ∷ 3 ∷ [])
           ∷ (1 ∷ []) ∷ (1 ∷ []) ∷ (1 ∷ []) ∷ (1 ∷ []) ∷ [];
@@ -123,7 +125,7 @@ phases =
     ∷ record {
       slot = pending secondRing asked 1020;
       gives = (0 ∷ 2 ∷ []) ∷ (1 ∷ []) ∷ (1 ∷ [])
-          ∷ (1 ∷ []) ∷ (1 ∷ []) ∷ (1 ∷ []) ∷ (1 ∷ [])
+          ∷ (1 ∷ []) ∷ (1 ∷ []) ∷ (1 ∷ []) ∷ (1 ∷ []) ∷ (1 ∷ [])
           ∷ (35 ∷ []) ∷ (35 ∷ [])
           ∷ (0 ∷ 3 ∷ []) ∷ (0 ∷ []) ∷ (0 ∷ 3 ∷ [])
           ∷ (1 ∷ []) ∷ (1 ∷ []) ∷ (1 ∷ []) ∷ (1 ∷ []) ∷ [];
@@ -132,7 +134,7 @@ phases =
     ∷ record {
       slot = pending acknowledged asked 1020;
       gives = (0 ∷ 2 ∷ []) ∷ (0 ∷ 5 ∷ []) ∷ (1 ∷ [])
-          ∷ (1 ∷ []) ∷ (1 ∷ []) ∷ (1 ∷ []) ∷ (1 ∷ [])
+          ∷ (1 ∷ []) ∷ (1 ∷ []) ∷ (1 ∷ []) ∷ (1 ∷ []) ∷ (1 ∷ [])
           ∷ (35 ∷ []) ∷ (35 ∷ [])
           ∷ (0 ∷ 3 ∷ []) ∷ (1 ∷ []) ∷ (0 ∷ 3 ∷ [])
           ∷ (1 ∷ []) ∷ (1 ∷ []) ∷ (1 ∷ []) ∷ (1 ∷ []) ∷ [];
@@ -141,7 +143,7 @@ phases =
     ∷ record {
       slot = busy asked (dialling 1020) none;
       gives = (0 ∷ 6 ∷ 4 ∷ 2 ∷ []) ∷ (1 ∷ []) ∷ (0 ∷ 6 ∷ 4 ∷ 2 ∷ [])
-          ∷ (0 ∷ []) ∷ (0 ∷ 6 ∷ 4 ∷ 2 ∷ []) ∷ (0 ∷ []) ∷ (0 ∷ [])
+          ∷ (0 ∷ []) ∷ (0 ∷ []) ∷ (0 ∷ 6 ∷ 4 ∷ 2 ∷ []) ∷ (0 ∷ []) ∷ (0 ∷ [])
           ∷ (35 ∷ []) ∷ (35 ∷ [])
           ∷ (1 ∷ []) ∷ (1 ∷ []) ∷ (0 ∷ 3 ∷ [])
           ∷ (1 ∷ []) ∷ (1 ∷ []) ∷ (1 ∷ []) ∷ (1 ∷ []) ∷ [];
@@ -150,16 +152,43 @@ phases =
     ∷ record {
       slot = busy asked (dialling 1030) (some 1020);
       gives = (0 ∷ 6 ∷ 4 ∷ 2 ∷ []) ∷ (1 ∷ []) ∷ (0 ∷ 6 ∷ 4 ∷ 2 ∷ [])
-          ∷ (0 ∷ []) ∷ (0 ∷ 6 ∷ 4 ∷ 2 ∷ []) ∷ (0 ∷ []) ∷ (0 ∷ [])
+          ∷ (0 ∷ []) ∷ (0 ∷ []) ∷ (0 ∷ 6 ∷ 4 ∷ 2 ∷ []) ∷ (0 ∷ []) ∷ (0 ∷ [])
           ∷ (35 ∷ []) ∷ (35 ∷ [])
           ∷ (1 ∷ []) ∷ (1 ∷ []) ∷ (0 ∷ 3 ∷ [])
+          ∷ (1 ∷ []) ∷ (1 ∷ []) ∷ (1 ∷ []) ∷ (1 ∷ []) ∷ [];
+    }
+    -- dialled out
+    ∷ record {
+      slot = busy asked (dialledOut 1020) none;
+      gives = (0 ∷ 6 ∷ 4 ∷ 2 ∷ []) ∷ (1 ∷ []) ∷ (0 ∷ 6 ∷ 4 ∷ 2 ∷ [])
+          ∷ (1 ∷ []) ∷ (0 ∷ []) ∷ (0 ∷ 6 ∷ 4 ∷ 2 ∷ []) ∷ (0 ∷ []) ∷ (0 ∷ [])
+          ∷ (35 ∷ []) ∷ (35 ∷ [])
+          ∷ (1 ∷ []) ∷ (1 ∷ []) ∷ (0 ∷ 3 ∷ [])
+          ∷ (1 ∷ []) ∷ (1 ∷ []) ∷ (1 ∷ []) ∷ (1 ∷ []) ∷ [];
+    }
+    -- dialled out, carrier absent
+    ∷ record {
+      slot = busy asked (dialledOut 1030) (some 1020);
+      gives = (0 ∷ 6 ∷ 4 ∷ 2 ∷ []) ∷ (1 ∷ []) ∷ (0 ∷ 6 ∷ 4 ∷ 2 ∷ [])
+          ∷ (1 ∷ []) ∷ (0 ∷ []) ∷ (0 ∷ 6 ∷ 4 ∷ 2 ∷ []) ∷ (0 ∷ []) ∷ (0 ∷ [])
+          ∷ (35 ∷ []) ∷ (35 ∷ [])
+          ∷ (1 ∷ []) ∷ (1 ∷ []) ∷ (0 ∷ 3 ∷ [])
+          ∷ (1 ∷ []) ∷ (1 ∷ []) ∷ (1 ∷ []) ∷ (1 ∷ []) ∷ [];
+    }
+    -- dialled out in simplex, carrier absent
+    ∷ record {
+      slot = busy simply (dialledOut 1030) (some 1020);
+      gives = (0 ∷ 6 ∷ 4 ∷ 2 ∷ []) ∷ (1 ∷ []) ∷ (0 ∷ 6 ∷ 4 ∷ 2 ∷ [])
+          ∷ (1 ∷ []) ∷ (0 ∷ []) ∷ (0 ∷ 6 ∷ 4 ∷ 2 ∷ []) ∷ (0 ∷ []) ∷ (0 ∷ [])
+          ∷ (35 ∷ []) ∷ (35 ∷ [])
+          ∷ (0 ∷ 6 ∷ 4 ∷ 2 ∷ 1 ∷ 3 ∷ []) ∷ (1 ∷ []) ∷ (0 ∷ 3 ∷ [])
           ∷ (1 ∷ []) ∷ (1 ∷ []) ∷ (1 ∷ []) ∷ (1 ∷ []) ∷ [];
     }
     -- answered
     ∷ record {
       slot = busy asked (answered 900) none;
       gives = (0 ∷ []) ∷ (1 ∷ []) ∷ (0 ∷ 7 ∷ 6 ∷ 4 ∷ 2 ∷ [])
-          ∷ (1 ∷ []) ∷ (0 ∷ 7 ∷ 6 ∷ 4 ∷ 2 ∷ []) ∷ (0 ∷ []) ∷ (0 ∷ [])
+          ∷ (1 ∷ []) ∷ (1 ∷ []) ∷ (0 ∷ 7 ∷ 6 ∷ 4 ∷ 2 ∷ []) ∷ (0 ∷ []) ∷ (0 ∷ [])
           ∷ (35 ∷ []) ∷ (35 ∷ [])
           ∷ (1 ∷ []) ∷ (1 ∷ []) ∷ (0 ∷ 3 ∷ [])
           ∷ (1 ∷ []) ∷ (1 ∷ []) ∷ (1 ∷ []) ∷ (1 ∷ []) ∷ [];
@@ -168,7 +197,7 @@ phases =
     ∷ record {
       slot = busy asked (answered 900) (some 1020);
       gives = (0 ∷ 7 ∷ 6 ∷ 4 ∷ 2 ∷ []) ∷ (1 ∷ []) ∷ (0 ∷ 7 ∷ 6 ∷ 4 ∷ 2 ∷ [])
-          ∷ (1 ∷ []) ∷ (0 ∷ 7 ∷ 6 ∷ 4 ∷ 2 ∷ []) ∷ (0 ∷ []) ∷ (0 ∷ [])
+          ∷ (1 ∷ []) ∷ (1 ∷ []) ∷ (0 ∷ 7 ∷ 6 ∷ 4 ∷ 2 ∷ []) ∷ (0 ∷ []) ∷ (0 ∷ [])
           ∷ (35 ∷ []) ∷ (35 ∷ [])
           ∷ (1 ∷ []) ∷ (1 ∷ []) ∷ (0 ∷ 3 ∷ [])
           ∷ (1 ∷ []) ∷ (1 ∷ []) ∷ (1 ∷ []) ∷ (1 ∷ []) ∷ [];
@@ -177,7 +206,7 @@ phases =
     ∷ record {
       slot = busy simply (answered 900) (some 1020);
       gives = (0 ∷ 7 ∷ 6 ∷ 4 ∷ 2 ∷ []) ∷ (1 ∷ []) ∷ (0 ∷ 7 ∷ 6 ∷ 4 ∷ 2 ∷ [])
-          ∷ (1 ∷ []) ∷ (0 ∷ 7 ∷ 6 ∷ 4 ∷ 2 ∷ []) ∷ (0 ∷ []) ∷ (0 ∷ [])
+          ∷ (1 ∷ []) ∷ (1 ∷ []) ∷ (0 ∷ 7 ∷ 6 ∷ 4 ∷ 2 ∷ []) ∷ (0 ∷ []) ∷ (0 ∷ [])
           ∷ (35 ∷ []) ∷ (35 ∷ [])
           ∷ (0 ∷ 7 ∷ 6 ∷ 4 ∷ 2 ∷ 1 ∷ 3 ∷ []) ∷ (1 ∷ []) ∷ (0 ∷ 3 ∷ [])
           ∷ (1 ∷ []) ∷ (1 ∷ []) ∷ (1 ∷ []) ∷ (1 ∷ []) ∷ [];
@@ -186,7 +215,7 @@ phases =
     ∷ record {
       slot = held asked Nothing 1020;
       gives = (0 ∷ []) ∷ (1 ∷ []) ∷ (0 ∷ 1 ∷ 4 ∷ 2 ∷ [])
-          ∷ (1 ∷ []) ∷ (1 ∷ []) ∷ (1 ∷ []) ∷ (1 ∷ [])
+          ∷ (1 ∷ []) ∷ (1 ∷ []) ∷ (1 ∷ []) ∷ (1 ∷ []) ∷ (1 ∷ [])
           ∷ (35 ∷ []) ∷ (35 ∷ [])
           ∷ (0 ∷ 3 ∷ []) ∷ (1 ∷ []) ∷ (0 ∷ 3 ∷ [])
           ∷ (1 ∷ []) ∷ (1 ∷ []) ∷ (1 ∷ []) ∷ (1 ∷ []) ∷ [];

@@ -6,7 +6,7 @@ use Rattle.units.specs.declared.Channel.{Channel as ChannelNumber}
 use Rattle.sequence.specs.declared.Field.{Field}
 use Rattle.sequence.specs.declared.Field.the-variants.{Blank, Channel}
 use Rattle.sequence.specs.Layout.{layout}
-use Rattle.rules.specs.Rules.Words.{Mode, simplex, duplex, modeNumber, Config, Happened, heard, offHook, onHook}
+use Rattle.rules.specs.Rules.Words.{Mode, simplex, duplex, modeNumber, Config, Happened, heard, diallingEnded, offHook, onHook}
 use Rattle.rules.specs.Rules.Words.{carrierUp, carrierDown, takes, givesBack, tick, onChannel70, onSlot, What, Event}
 use Rattle.rules.specs.Rules.Actions.{Charge, chargeOf}
 use Rattle.rules.specs.Rules.Bytes.{numberOf}
@@ -73,6 +73,9 @@ on t i h = at t (onSlot i h)
 
 abbrev pub saysOn : ℕ → ℕ → List ℕ → Event
 saysOn t i m = on t i (heard m)
+
+abbrev pub dialsOut : ℕ → ℕ → Event
+dialsOut t i = on t i diallingEnded
 
 abbrev pub picksUp : ℕ → ℕ → Event
 picksUp t i = on t i offHook
@@ -160,6 +163,17 @@ redialled = record {
   owing = paid 5 0 seven 300 450 15 ∷ paid 9 0 eight 480 600 12 ∷ [];
 }
 
+-- ── dialling ended (02, no. 1) ───────────────────────────────────────────────
+
+-- a slow exchange dials for 590 tenths; the called person answers in the last tenth of the minute after it: charged from then
+abbrev pub slowExchange : Run
+slowExchange = record {
+  slots = 1;
+  events = calls 100 seven duplex ∷ works 200 0 seven ∷ dialsOut 790 0 ∷ dialsOut 800 0 ∷ picksUp 1390 0 ∷ dialsOut 1400 0
+      ∷ hangs 1500 0 ∷ [];
+  owing = paid 6 0 seven 1390 1500 11 ∷ [];
+}
+
 -- ── late ticks, and waits due together ────────────────────────────────────────
 
 -- the carrier of a duplex ship goes at 2000, and the tick comes late
@@ -242,13 +256,22 @@ holding = record {
   owing = paid 7 0 seven 121 200 7 ∷ paid 9 1 eight 120 246 12 ∷ [];
 }
 
--- the reply
+-- the reply, its dialling never ended
 abbrev pub replying : Run
 replying = record {
   slots = 2;
   events = calls 100 seven duplex ∷ calls 101 eight duplex ∷ works 200 0 seven ∷ works 201 1 eight ∷ picksUp 210 1
       ∷ loses 755 1 ∷ ticks 900 ∷ ticks 900 ∷ [];
   owing = paid 7 1 eight 210 806 59 ∷ [];
+}
+
+-- the reply, 600 from the first end of dialling and not from the second
+abbrev pub dialledReplying : Run
+dialledReplying = record {
+  slots = 2;
+  events = calls 100 seven duplex ∷ calls 101 eight duplex ∷ works 200 0 seven ∷ works 201 1 eight ∷ picksUp 210 1
+      ∷ dialsOut 300 0 ∷ dialsOut 310 0 ∷ loses 855 1 ∷ ticks 1000 ∷ ticks 1000 ∷ [];
+  owing = paid 9 1 eight 210 906 69 ∷ [];
 }
 
 -- the quarter hour
@@ -281,5 +304,5 @@ hundredHours = record {
 
 abbrev pub runs : List Run
 runs =
-    shipEnded ∷ hungUp ∷ silent ∷ redialled ∷ late ∷ anewSimplex ∷ anewDuplex ∷ together ∷ hurried ∷ unanswered
-    ∷ repeated ∷ renumbered ∷ holding ∷ replying ∷ queueing ∷ ringing ∷ hundredHours ∷ []
+    shipEnded ∷ hungUp ∷ silent ∷ redialled ∷ slowExchange ∷ late ∷ anewSimplex ∷ anewDuplex ∷ together ∷ hurried
+    ∷ unanswered ∷ repeated ∷ renumbered ∷ holding ∷ replying ∷ dialledReplying ∷ queueing ∷ ringing ∷ hundredHours ∷ []

@@ -6,7 +6,7 @@ use lib.ListN.{replicate}
 use Rattle.units.specs.declared.Told.{Told}
 use Rattle.units.specs.declared.Told.the-variants.{Nothing, Lasting}
 use Rattle.rules.specs.Rules.Words.{Mode, simplex, duplex, Request, Config}
-use Rattle.rules.specs.Rules.Station.{Kind, offered, firstRing, secondRing, acknowledged, dialling, answered}
+use Rattle.rules.specs.Rules.Station.{Kind, offered, firstRing, secondRing, acknowledged, dialling, dialledOut, answered}
 use Rattle.rules.specs.Rules.Station.{Slot, free, Waiting, Station}
 use Rattle.rules.specs.Rules.Slots.{pending, busy, held}
 use Rattle.rules.specs.Rules.Verdict.{verdict, setUpVerdict}
@@ -146,6 +146,9 @@ countCases =
     -- a ship has two slots
     ∷ unsound (asked (station 2)
     (holding (pending firstRing (from seven duplex) 1051 ∷ busy (from seven duplex) (answered 900) none ∷ []) []))
+    -- one of them dialled out
+    ∷ unsound (asked (station 2)
+    (holding (busy (from seven duplex) (dialledOut 1601) none ∷ pending offered (from seven duplex) 1161 ∷ []) []))
     -- a ship in its hold may wait, and may have a slot
     ∷ sounds (asked (station 2) (holding (held (from seven duplex) Nothing 1041 ∷ pending offered (from seven duplex) 1161 ∷ []) []))
     ∷ []
@@ -189,7 +192,7 @@ timeCases =
     ∷ sounds (with (pending acknowledged (from seven duplex) 1161))
     -- one tenth further
     ∷ unsound (with (pending acknowledged (from seven duplex) 1162))
-    -- a reply, from the clock
+    -- a line being dialled, from the clock
     ∷ sounds (with (busy (from seven duplex) (dialling 1000) none))
     -- before it
     ∷ unsound (with (busy (from seven duplex) (dialling 999) none))
@@ -197,6 +200,14 @@ timeCases =
     ∷ sounds (with (busy (from seven duplex) (dialling 1601) none))
     -- one tenth further
     ∷ unsound (with (busy (from seven duplex) (dialling 1602) none))
+    -- a line dialled out, from the clock
+    ∷ sounds (with (busy (from seven duplex) (dialledOut 1000) none))
+    -- before it
+    ∷ unsound (with (busy (from seven duplex) (dialledOut 999) none))
+    -- to the clock plus its wait and 1
+    ∷ sounds (with (busy (from seven duplex) (dialledOut 1601) none))
+    -- one tenth further
+    ∷ unsound (with (busy (from seven duplex) (dialledOut 1602) none))
     -- a carrier wait, duplex, from the clock
     ∷ sounds (with (busy (from seven duplex) (answered 900) (some 1000)))
     -- before it
