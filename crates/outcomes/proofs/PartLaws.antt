@@ -6,7 +6,7 @@ use native.Mathlib.Omega.{arith}
 use Rattle.rules.specs.Rules.Words.{Request, carrierOff}
 use Rattle.rules.specs.Rules.Actions.{Action, does, theCoast}
 use Rattle.rules.specs.Rules.Station as R
-use Rattle.rules.specs.Rules.Station.{kindWait, replyWait, holdWait, queueWait}
+use Rattle.rules.specs.Rules.Station.{kindWait, diallingWait, holdWait, queueWait}
 use Rattle.rules.specs.Rules.Sound.{limit}
 use Rattle.rules.specs.Rules.Requests.{also, rungBack, freedFor, freed, endActs, coastEnd, repeated, afresh, ruleD, offer, ruleF}
 use Rattle.rules.specs.Rules.Calls.{dialNow, shipEnd, sayAgain, offerDue, ringAgain, fire}
@@ -44,7 +44,7 @@ module _ (i : ℕ) (own asked : Request) (st : R.Station) (h : st .clock ≤ lim
   outcome-applied Ignored = refl
   outcome-applied Passes = refl
   outcome-applied (Turns p) = refl
-  outcome-applied Dials = rw (wait-fits (st .clock) replyWait h (omega arith)) refl
+  outcome-applied Dials = rw (wait-fits (st .clock) diallingWait h (omega arith)) refl
   outcome-applied RingsAgain = rw (wait-fits (st .clock) (kindWait R.secondRing) h (omega arith)) refl
   outcome-applied Frees = frees-applied (st .queue) refl
   outcome-applied Clears = clears-applied

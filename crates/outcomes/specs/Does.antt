@@ -11,7 +11,7 @@ use Rattle.rules.specs.Rules.Words.{Request, carrierOn, carrierOff, acknowledge
 use Rattle.rules.specs.Rules.Actions.{Action, does, over, theShip, theCoast}
 use Rattle.rules.specs.Rules.Station as R
 use Rattle.rules.specs.Rules.Station.{dealing, offered, firstRing, secondRing, setSlot, setQueue}
-use Rattle.rules.specs.Rules.Station.{dueAfter, kindWait, replyWait, holdWait, queueWait}
+use Rattle.rules.specs.Rules.Station.{dueAfter, kindWait, diallingWait, holdWait, queueWait}
 use Rattle.rules.specs.Rules.Requests.{Out, done, ignored, saying, also, freed, lasted, endActs, coastEnd}
 use Rattle.rules.specs.Rules.Requests.{placeOf, repeated, afresh, ruleD, offer, ruleF, dToG}
 use Rattle.rules.specs.Rules.Calls.{dialNow, shipEnd, sayAgain, offerDue, ringAgain, fire}
@@ -191,7 +191,7 @@ abbrev pub turnOf : Tenths → ℕ → Outcome → Turn
 turnOf t waiting Ignored = Stays
 turnOf t waiting Passes = Stays
 turnOf t waiting (Turns p) = Own p
-turnOf t waiting Dials = Own (Dialling (waitFrom t replyWait) Present)
+turnOf t waiting Dials = Own (Dialling (waitFrom t diallingWait) Present)
 turnOf t waiting RingsAgain = Own (RingAgain (waitFrom t (kindWait secondRing)))
 turnOf t waiting Frees = freeTurn t waiting
 turnOf t waiting Clears = freeTurn t waiting

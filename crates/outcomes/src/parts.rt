@@ -10,11 +10,11 @@ use due_times::QUEUE_WAIT;
 use due_times::due_after;
 use requests::Request;
 use slots::Carrier;
+use slots::DIALLING_WAIT;
 use slots::HOLD_WAIT;
 use slots::OFFER_WAIT;
 use slots::Phase;
 use slots::QueuePlace;
-use slots::REPLY_WAIT;
 use slots::RING_WAIT;
 use slots::Waiting;
 use units::Tenths;
@@ -68,7 +68,7 @@ pub fn turn_of(outcome: Outcome, time: Tenths, waiting: u8) -> Turn
     match outcome {
         Outcome::Turns(phase) => Turn::Own(phase),
         Outcome::Dials => {
-            let due = due_after(time, REPLY_WAIT);
+            let due = due_after(time, DIALLING_WAIT);
             Turn::Own(Phase::Dialling(due, Carrier::Present))
         }
         Outcome::RingsAgain => {

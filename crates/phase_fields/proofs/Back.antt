@@ -20,4 +20,4 @@ told-back (Lasting d) = refl
 
 pub phase-back : (p : Phase) → phaseFrom (phaseFields p) ≡ p
 unfolding phaseFrom
-phase-back = by-phase _ refl (λ t. refl) (λ t. refl) (λ t. refl) (λ t. refl) (λ t c. rw (carrier-back c)) (λ t c. rw (carrier-back c)) (λ t n. rw (told-back n)) refl
+phase-back = by-phase _ refl (λ t. refl) (λ t. refl) (λ t. refl) (λ t. refl) (λ t c. rw (carrier-back c)) (λ t c. rw (carrier-back c)) (λ t n. rw (told-back n)) refl (λ t c. rw (carrier-back c))

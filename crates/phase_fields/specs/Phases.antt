@@ -8,7 +8,8 @@ use Rattle.units.specs.Units.{greatest}
 use Rattle.slots.specs.declared.Carrier.{Carrier}
 use Rattle.slots.specs.declared.Carrier.the-variants.{Present, Lost}
 use Rattle.slots.specs.declared.Phase.{Phase}
-use Rattle.slots.specs.declared.Phase.the-variants.{Free, Offered, RingBack, RingAgain, Acknowledged, Dialling, Answered, Hold, Taken}
+use Rattle.slots.specs.declared.Phase.the-variants.{Free, Offered, RingBack, RingAgain, Acknowledged}
+use Rattle.slots.specs.declared.Phase.the-variants.{Dialling, Answered, Hold, Taken, DialledOut}
 use Rattle.slots.specs.Images.{tenths}
 use Rattle.phase_fields.specs.declared.CarrierFields.{CarrierFields}
 use Rattle.phase_fields.specs.declared.ToldFields.{ToldFields}
@@ -36,6 +37,7 @@ phaseFields (Dialling t c) = fieldsOf 5 (t .0) c Nothing
 phaseFields (Answered t c) = fieldsOf 6 (t .0) c Nothing
 phaseFields (Hold t n) = fieldsOf 7 (t .0) Present n
 phaseFields Taken = fieldsOf 8 0 Present Nothing
+phaseFields (DialledOut t c) = fieldsOf 9 (t .0) c Nothing
 
 -- marks that are none give a time and a duration that no station may have: 29
 unfoldable pub carrierFrom : CarrierFields → Carrier
@@ -57,4 +59,5 @@ phaseFrom f =
     (cond (eqb (f .kind) 5) (Dialling (tenths (f .time)) (carrierFrom (f .carrier)))
     (cond (eqb (f .kind) 6) (Answered (tenths (f .time)) (carrierFrom (f .carrier)))
     (cond (eqb (f .kind) 7) (Hold (tenths (f .time)) (toldFrom (f .told)))
-    (cond (eqb (f .kind) 8) Taken (Offered (tenths greatest))))))))))
+    (cond (eqb (f .kind) 8) Taken
+    (cond (eqb (f .kind) 9) (DialledOut (tenths (f .time)) (carrierFrom (f .carrier))) (Offered (tenths greatest)))))))))))

@@ -90,6 +90,7 @@ pub fn phase_fields(p: Phase) -> PhaseFields
         Phase::Answered(t, c) => fields_of(6, t, c, Told::Nothing),
         Phase::Hold(t, n) => fields_of(7, t, Carrier::Present, n),
         Phase::Taken => plain(8, Tenths(0)),
+        Phase::DialledOut(t, c) => fields_of(9, t, c, Told::Nothing),
     }
 }
 
@@ -160,6 +161,10 @@ pub fn phase_from(f: PhaseFields) -> Phase
     }
     if kind == 8 {
         return Phase::Taken;
+    }
+    if kind == 9 {
+        let c = carrier_from(carrier);
+        return Phase::DialledOut(Tenths(f.time), c);
     }
     Phase::Offered(Tenths(GREATEST))
 }

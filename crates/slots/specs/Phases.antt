@@ -8,14 +8,15 @@ use Rattle.units.specs.declared.Told.the-variants.{Nothing}
 use Rattle.rules.specs.Rules.Words as W
 use Rattle.rules.specs.Rules.Station as R
 use Rattle.rules.specs.Rules.Station.{dealing, free, taken, pending, busy, held, offered, firstRing, secondRing, acknowledged}
-use Rattle.rules.specs.Rules.Station.{dialling, answered, kindWait, replyWait, holdWait}
+use Rattle.rules.specs.Rules.Station.{dialling, dialledOut, answered, kindWait, diallingWait, replyWait, holdWait}
 use Rattle.rules.specs.Rules.Sound.{fits}
 use Rattle.slots.specs.declared.Carrier.{Carrier}
 use Rattle.slots.specs.declared.Carrier.the-variants.{Present, Lost}
 use Rattle.slots.specs.declared.Span.{Span}
 use Rattle.slots.specs.declared.Span.the-variants.{Untimed, Until, Since}
 use Rattle.slots.specs.declared.Phase.{Phase}
-use Rattle.slots.specs.declared.Phase.the-variants.{Free, Offered, RingBack, RingAgain, Acknowledged, Dialling, Answered, Hold, Taken}
+use Rattle.slots.specs.declared.Phase.the-variants.{Free, Offered, RingBack, RingAgain, Acknowledged}
+use Rattle.slots.specs.declared.Phase.the-variants.{Dialling, DialledOut, Answered, Hold, Taken}
 
 -- ── what it stands for, beside the request that its slot stores ──────────────
 
@@ -30,6 +31,7 @@ phaseView (RingBack t) r = pending firstRing (dealing r) (t .0)
 phaseView (RingAgain t) r = pending secondRing (dealing r) (t .0)
 phaseView (Acknowledged t) r = pending acknowledged (dealing r) (t .0)
 phaseView (Dialling t c) r = busy (dealing r) (dialling (t .0)) (carrierOf c)
+phaseView (DialledOut t c) r = busy (dealing r) (dialledOut (t .0)) (carrierOf c)
 phaseView (Answered t c) r = busy (dealing r) (answered (t .0)) (carrierOf c)
 phaseView (Hold t n) r = held (dealing r) n (t .0)
 phaseView Taken r = taken
@@ -48,6 +50,7 @@ pendingImage acknowledged t = Acknowledged (record { 0 = t })
 
 abbrev pub stageImage : R.Stage → Carrier → Phase
 stageImage (dialling t) c = Dialling (record { 0 = t }) c
+stageImage (dialledOut t) c = DialledOut (record { 0 = t }) c
 stageImage (answered t) c = Answered (record { 0 = t }) c
 
 abbrev pub phaseImage : R.Slot → Phase
@@ -75,6 +78,7 @@ stored (RingBack t) = true
 stored (RingAgain t) = true
 stored (Acknowledged t) = true
 stored (Dialling t c) = true
+stored (DialledOut t c) = true
 stored (Answered t c) = true
 stored (Hold t n) = true
 stored Taken = false
@@ -87,6 +91,7 @@ owned (RingBack t) = true
 owned (RingAgain t) = true
 owned (Acknowledged t) = true
 owned (Dialling t c) = true
+owned (DialledOut t c) = true
 owned (Answered t c) = true
 owned (Hold t n) = false
 owned Taken = false
@@ -99,6 +104,7 @@ answeredSince (RingBack t) = none
 answeredSince (RingAgain t) = none
 answeredSince (Acknowledged t) = none
 answeredSince (Dialling t c) = none
+answeredSince (DialledOut t c) = none
 answeredSince (Answered t c) = some (t .0)
 answeredSince (Hold t n) = none
 answeredSince Taken = none
@@ -111,6 +117,7 @@ toldIn (RingBack t) = Nothing
 toldIn (RingAgain t) = Nothing
 toldIn (Acknowledged t) = Nothing
 toldIn (Dialling t c) = Nothing
+toldIn (DialledOut t c) = Nothing
 toldIn (Answered t c) = Nothing
 toldIn (Hold t n) = n
 toldIn Taken = Nothing
@@ -122,7 +129,8 @@ spanOf (Offered t) = Until t (record { 0 = kindWait offered })
 spanOf (RingBack t) = Until t (record { 0 = kindWait firstRing })
 spanOf (RingAgain t) = Until t (record { 0 = kindWait secondRing })
 spanOf (Acknowledged t) = Until t (record { 0 = kindWait acknowledged })
-spanOf (Dialling t c) = Until t (record { 0 = replyWait })
+spanOf (Dialling t c) = Until t (record { 0 = diallingWait })
+spanOf (DialledOut t c) = Until t (record { 0 = replyWait })
 spanOf (Answered t c) = Since t
 spanOf (Hold t n) = Until t (record { 0 = holdWait })
 spanOf Taken = Untimed
@@ -146,6 +154,7 @@ carrierIn (RingBack t) = Present
 carrierIn (RingAgain t) = Present
 carrierIn (Acknowledged t) = Present
 carrierIn (Dialling t c) = c
+carrierIn (DialledOut t c) = c
 carrierIn (Answered t c) = c
 carrierIn (Hold t n) = Present
 carrierIn Taken = Present

@@ -4,7 +4,7 @@ use mathlib.Core.List.{List, []}
 use mathlib.Core.Option.{Option, none, some}
 use Rattle.units.specs.declared.Channel.{Channel}
 use Rattle.rules.specs.Rules.Words as W
-use Rattle.rules.specs.Rules.Words.{lineLifted, lineHung, carrierHeard, carrierLost, handTakes, handGives}
+use Rattle.rules.specs.Rules.Words.{lineDialledOut, lineLifted, lineHung, carrierHeard, carrierLost, handTakes, handGives}
 use Rattle.rules.specs.Rules.Waits as T
 use Rattle.rules.specs.Rules.Waits.{ofQueue, loss, main}
 use Rattle.rules.specs.Rules.Station as R
@@ -15,7 +15,7 @@ use Rattle.requests.specs.declared.Request.{Request}
 use Rattle.requests.specs.Views.{viewed, requestOf}
 use Rattle.slots.specs.declared.Phase.the-variants.{Free}
 use Rattle.slots.specs.declared.Signal.{Signal}
-use Rattle.slots.specs.declared.Signal.the-variants.{LineLifted, LineHung, CarrierHeard, CarrierLost}
+use Rattle.slots.specs.declared.Signal.the-variants.{LineDialledOut, LineLifted, LineHung, CarrierHeard, CarrierLost}
 use Rattle.slots.specs.declared.Hand.{Hand}
 use Rattle.slots.specs.declared.Hand.the-variants.{Takes, GivesBack}
 use Rattle.slots.specs.declared.Slot.{Slot}
@@ -36,6 +36,7 @@ use Rattle.slots.specs.declared.Standing.the-variants.{Nowhere, Holds, W
 use Rattle.slots.specs.Phases.{phaseView}
 
 abbrev pub signalView : Signal → W.Signal
+signalView LineDialledOut = lineDialledOut
 signalView LineLifted = lineLifted
 signalView LineHung = lineHung
 signalView CarrierHeard = carrierHeard

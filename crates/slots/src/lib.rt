@@ -28,7 +28,10 @@ pub const OFFER_WAIT: Tenths = Tenths(160);
 // "wait 50, send once more, wait 50"
 pub const RING_WAIT: Tenths = Tenths(50);
 
-// "wait 600 for a reply"
+// Document 02, no. 1: "the wait is 600 for dialling itself"
+pub const DIALLING_WAIT: Tenths = Tenths(600);
+
+// "at it a new wait of 600 begins"
 pub const REPLY_WAIT: Tenths = Tenths(600);
 
 // "hold for 40"
@@ -40,7 +43,7 @@ pub enum Carrier {
     Lost(Tenths),
 }
 
-// Each with its due time; an answered call with the time since when.
+// Each with its due time; an answered call with the time since when. They stand in the order of their numbers in the lent layout.
 pub enum Phase {
     Free,
     Offered(Tenths),
@@ -51,6 +54,7 @@ pub enum Phase {
     Answered(Tenths, Carrier),
     Hold(Tenths, Told),
     Taken,
+    DialledOut(Tenths, Carrier),
 }
 
 // The time of a phase: none; the due time of a wait, and how long that is; since when a call is answered.
@@ -62,6 +66,7 @@ pub enum Span {
 
 // What is told of a slot's line ashore, and of the ship's carrier.
 pub enum Signal {
+    LineDialledOut,
     LineLifted,
     LineHung,
     CarrierHeard,
@@ -136,6 +141,7 @@ pub fn stores(p: Phase) -> bool
         Phase::RingAgain(_) => true,
         Phase::Acknowledged(_) => true,
         Phase::Dialling(_, _) => true,
+        Phase::DialledOut(_, _) => true,
         Phase::Answered(_, _) => true,
         Phase::Hold(_, _) => true,
         Phase::Taken => false,
@@ -153,6 +159,7 @@ pub fn has_ship(p: Phase) -> bool
         Phase::RingAgain(_) => true,
         Phase::Acknowledged(_) => true,
         Phase::Dialling(_, _) => true,
+        Phase::DialledOut(_, _) => true,
         Phase::Answered(_, _) => true,
         Phase::Hold(_, _) => false,
         Phase::Taken => false,
@@ -170,6 +177,7 @@ pub fn is_free(s: Slot) -> bool
         Phase::RingAgain(_) => false,
         Phase::Acknowledged(_) => false,
         Phase::Dialling(_, _) => false,
+        Phase::DialledOut(_, _) => false,
         Phase::Answered(_, _) => false,
         Phase::Hold(_, _) => false,
         Phase::Taken => false,
@@ -187,6 +195,7 @@ pub fn is_taken(s: Slot) -> bool
         Phase::RingAgain(_) => false,
         Phase::Acknowledged(_) => false,
         Phase::Dialling(_, _) => false,
+        Phase::DialledOut(_, _) => false,
         Phase::Answered(_, _) => false,
         Phase::Hold(_, _) => false,
         Phase::Taken => true,
@@ -204,6 +213,7 @@ pub fn told_in(p: Phase) -> Told
         Phase::RingAgain(_) => Told::Nothing,
         Phase::Acknowledged(_) => Told::Nothing,
         Phase::Dialling(_, _) => Told::Nothing,
+        Phase::DialledOut(_, _) => Told::Nothing,
         Phase::Answered(_, _) => Told::Nothing,
         Phase::Hold(_, t) => t,
         Phase::Taken => Told::Nothing,
@@ -219,7 +229,8 @@ pub fn span_of(p: Phase) -> Span
         Phase::RingBack(t) => Span::Until(t, RING_WAIT),
         Phase::RingAgain(t) => Span::Until(t, RING_WAIT),
         Phase::Acknowledged(t) => Span::Until(t, OFFER_WAIT),
-        Phase::Dialling(t, _) => Span::Until(t, REPLY_WAIT),
+        Phase::Dialling(t, _) => Span::Until(t, DIALLING_WAIT),
+        Phase::DialledOut(t, _) => Span::Until(t, REPLY_WAIT),
         Phase::Answered(t, _) => Span::Since(t),
         Phase::Hold(t, _) => Span::Until(t, HOLD_WAIT),
         Phase::Taken => Span::Untimed,
@@ -237,6 +248,7 @@ pub fn carrier_in(p: Phase) -> Carrier
         Phase::RingAgain(_) => Carrier::Present,
         Phase::Acknowledged(_) => Carrier::Present,
         Phase::Dialling(_, c) => c,
+        Phase::DialledOut(_, c) => c,
         Phase::Answered(_, c) => c,
         Phase::Hold(_, _) => Carrier::Present,
         Phase::Taken => Carrier::Present,

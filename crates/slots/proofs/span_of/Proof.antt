@@ -23,10 +23,14 @@ returns-7 c = rw (c .before .p6 .given .1)
 returns-8 : tie.Need-returns-8
 returns-8 c = rw (c .before .p7 .given .1)
 
+returns-9 : tie.Need-returns-9
+returns-9 c = rw (c .before .p8 .given .1)
+
 pub span-of-spec : {M : Type 1} → statement M
 span-of-spec =
     tie.close
     (tie.spec
+    (λ c. search needs)
     (λ c. search needs)
     (λ c. search needs)
     (λ c. search needs)
@@ -44,4 +48,5 @@ span-of-spec =
     returns-6
     returns-7
     returns-8
+    returns-9
     (λ c. search needs))
