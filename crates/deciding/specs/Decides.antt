@@ -4,7 +4,7 @@ use mathlib.Core.Bool.{Bool, cond}
 use lib.Dec.{ltb}
 use Rattle.units.specs.declared.Tenths.{Tenths}
 use Rattle.units.specs.declared.Told.{Told}
-use Rattle.rules.specs.Rules.Station.{Kind, offered, firstRing, secondRing, acknowledged, kindWait, carrierWait}
+use Rattle.rules.specs.Rules.Station.{Kind, offered, firstRing, secondRing, acknowledged, kindWait, replyWait, carrierWait}
 use Rattle.rules.specs.Rules.Sound.{queueRoom}
 use Rattle.requests.specs.declared.Mode.{Mode}
 use Rattle.requests.specs.declared.Mode.the-variants.{Simplex, Duplex}
@@ -12,9 +12,10 @@ use Rattle.requests.specs.Views.{modeOf}
 use Rattle.slots.specs.declared.Carrier.{Carrier}
 use Rattle.slots.specs.declared.Carrier.the-variants.{Present, Lost}
 use Rattle.slots.specs.declared.Phase.{Phase}
-use Rattle.slots.specs.declared.Phase.the-variants.{Free, Offered, RingBack, RingAgain, Acknowledged, Dialling, Answered, Hold, Taken}
+use Rattle.slots.specs.declared.Phase.the-variants.{Free, Offered, RingBack, RingAgain, Acknowledged}
+use Rattle.slots.specs.declared.Phase.the-variants.{Dialling, DialledOut, Answered, Hold, Taken}
 use Rattle.slots.specs.declared.Signal.{Signal}
-use Rattle.slots.specs.declared.Signal.the-variants.{LineLifted, LineHung, CarrierHeard, CarrierLost}
+use Rattle.slots.specs.declared.Signal.the-variants.{LineDialledOut, LineLifted, LineHung, CarrierHeard, CarrierLost}
 use Rattle.slots.specs.declared.Hand.{Hand}
 use Rattle.slots.specs.declared.Hand.the-variants.{Takes, GivesBack}
 use Rattle.outcomes.specs.declared.Talk.{Talk}
@@ -24,32 +25,39 @@ use Rattle.outcomes.specs.declared.Outcome.the-variants.{Ignored, Turns, Dials,
 use Rattle.outcomes.specs.declared.Outcome.the-variants.{ShipEnds, SaysAgain, Repeats, Renews, Redials, Offers, Joins, Unable}
 use Rattle.outcomes.specs.Does.{waitFrom}
 
--- the columns: free; taken; before the line is dialled; dialling; answered; in the hold
+-- the columns: free; taken; before the line is dialled; dialling; dialled out; answered; in the hold
 abbrev pub on : Outcome → Outcome → (Kind → Outcome) → (Tenths → Carrier → Outcome) → (Tenths → Carrier → Outcome)
-    → (Told → Outcome) → Phase → Outcome
-on a b k d c h Free = a
-on a b k d c h (Offered t) = k offered
-on a b k d c h (RingBack t) = k firstRing
-on a b k d c h (RingAgain t) = k secondRing
-on a b k d c h (Acknowledged t) = k acknowledged
-on a b k d c h (Dialling t l) = d t l
-on a b k d c h (Answered t l) = c t l
-on a b k d c h (Hold t n) = h n
-on a b k d c h Taken = b
+    → (Tenths → Carrier → Outcome) → (Told → Outcome) → Phase → Outcome
+on a b k d o c h Free = a
+on a b k d o c h (Offered t) = k offered
+on a b k d o c h (RingBack t) = k firstRing
+on a b k d o c h (RingAgain t) = k secondRing
+on a b k d o c h (Acknowledged t) = k acknowledged
+on a b k d o c h (Dialling t l) = d t l
+on a b k d o c h (DialledOut t l) = o t l
+on a b k d o c h (Answered t l) = c t l
+on a b k d o c h (Hold t n) = h n
+on a b k d o c h Taken = b
 
 -- an event that only a slot with a call knows
-abbrev pub onCall : (Tenths → Carrier → Outcome) → (Tenths → Carrier → Outcome) → Phase → Outcome
-onCall d c p = on Ignored Ignored (λ k. Ignored) d c (λ n. Ignored) p
+abbrev pub onCall : (Tenths → Carrier → Outcome) → (Tenths → Carrier → Outcome) → (Tenths → Carrier → Outcome) → Phase → Outcome
+onCall d o c p = on Ignored Ignored (λ k. Ignored) d o c (λ n. Ignored) p
+
+-- ── 02, no. 1: dialling ended ────────────────────────────────────────────────
+
+-- "at it a new wait of 600 begins. A second P in a call, or one after the answer, is ignored"
+abbrev pub dialledOutBy : Tenths → Phase → Outcome
+dialledOutBy t = onCall (λ d l. Turns (DialledOut (waitFrom t replyWait) l)) (λ d l. Ignored) (λ b l. Ignored)
 
 -- ── off-hook, carrier, coast's end ───────────────────────────────────────────
 
--- "while dialling: answered, the reply wait ends, a carrier wait runs on"
+-- "while dialling: answered, the reply wait ends, a carrier wait runs on"; 02, no. 1: "in either wait"
 abbrev pub offHookBy : Tenths → Phase → Outcome
-offHookBy t = onCall (λ d l. Turns (Answered t l)) (λ b l. Ignored)
+offHookBy t = onCall (λ d l. Turns (Answered t l)) (λ d l. Turns (Answered t l)) (λ b l. Ignored)
 
 -- "carrier up ends it"
 abbrev pub upBy : Phase → Outcome
-upBy = onCall (λ d l. Turns (Dialling d Present)) (λ b l. Turns (Answered b Present))
+upBy = onCall (λ d l. Turns (Dialling d Present)) (λ d l. Turns (DialledOut d Present)) (λ b l. Turns (Answered b Present))
 
 -- "a second down doesn't restart it"
 abbrev pub lossFrom : Tenths → Mode → Carrier → Carrier
@@ -57,13 +65,16 @@ lossFrom t m Present = Lost (waitFrom t (carrierWait (modeOf m)))
 lossFrom t m (Lost d) = Lost d
 
 abbrev pub downBy : Tenths → Mode → Phase → Outcome
-downBy t m = onCall (λ d l. Turns (Dialling d (lossFrom t m l))) (λ b l. Turns (Answered b (lossFrom t m l)))
+downBy t m =
+    onCall (λ d l. Turns (Dialling d (lossFrom t m l))) (λ d l. Turns (DialledOut d (lossFrom t m l)))
+    (λ b l. Turns (Answered b (lossFrom t m l)))
 
 -- on-hook, carrier loss
 abbrev pub coastEndBy : Phase → Outcome
-coastEndBy = onCall (λ d l. CoastEnds Unanswered) (λ b l. CoastEnds (Since b))
+coastEndBy = onCall (λ d l. CoastEnds Unanswered) (λ d l. CoastEnds Unanswered) (λ b l. CoastEnds (Since b))
 
 abbrev pub bySignal : Signal → Tenths → Mode → Phase → Outcome
+bySignal LineDialledOut t m p = dialledOutBy t p
 bySignal LineLifted t m p = offHookBy t p
 bySignal LineHung t m p = coastEndBy p
 bySignal CarrierHeard t m p = upBy p
@@ -82,12 +93,14 @@ workingKindBy secondRing = Ignored
 workingKindBy acknowledged = Dials
 
 abbrev pub workingBy : Bool → Phase → Outcome
-workingBy own p = ifOwn own (on Ignored Ignored workingKindBy (λ d l. Ignored) (λ b l. Ignored) (λ n. Ignored) p)
+workingBy own p = ifOwn own (on Ignored Ignored workingKindBy (λ d l. Ignored) (λ d l. Ignored) (λ b l. Ignored) (λ n. Ignored) p)
 
 -- "while dialling or answered"; "in the hold"
 abbrev pub shipEndBy : Bool → Phase → Outcome
 shipEndBy own p =
-    ifOwn own (on Ignored Ignored (λ k. Ignored) (λ d l. ShipEnds Unanswered) (λ b l. ShipEnds (Since b)) (λ n. SaysAgain n) p)
+    ifOwn own
+    (on Ignored Ignored (λ k. Ignored) (λ d l. ShipEnds Unanswered) (λ d l. ShipEnds Unanswered) (λ b l. ShipEnds (Since b))
+    (λ n. SaysAgain n) p)
 
 -- "acknowledged, wait 160"
 abbrev pub bqKindBy : Tenths → Kind → Outcome
@@ -97,15 +110,15 @@ bqKindBy t secondRing = Turns (Acknowledged (waitFrom t (kindWait acknowledged))
 bqKindBy t acknowledged = Ignored
 
 abbrev pub bqBy : Bool → Tenths → Phase → Outcome
-bqBy own t p = ifOwn own (on Ignored Ignored (bqKindBy t) (λ d l. Ignored) (λ b l. Ignored) (λ n. Ignored) p)
+bqBy own t p = ifOwn own (on Ignored Ignored (bqKindBy t) (λ d l. Ignored) (λ d l. Ignored) (λ b l. Ignored) (λ n. Ignored) p)
 
 -- ── operator ─────────────────────────────────────────────────────────────────
 
 abbrev pub takeBy : Phase → Outcome
-takeBy = on (Turns Taken) Ignored (λ k. Ignored) (λ d l. Ignored) (λ b l. Ignored) (λ n. Ignored)
+takeBy = on (Turns Taken) Ignored (λ k. Ignored) (λ d l. Ignored) (λ d l. Ignored) (λ b l. Ignored) (λ n. Ignored)
 
 abbrev pub giveBackBy : Phase → Outcome
-giveBackBy = on Ignored Frees (λ k. Ignored) (λ d l. Ignored) (λ b l. Ignored) (λ n. Ignored)
+giveBackBy = on Ignored Frees (λ k. Ignored) (λ d l. Ignored) (λ d l. Ignored) (λ b l. Ignored) (λ n. Ignored)
 
 abbrev pub byHand : Hand → Phase → Outcome
 byHand Takes p = takeBy p
@@ -120,7 +133,7 @@ dueKindBy secondRing = Clears
 dueKindBy acknowledged = Clears
 
 abbrev pub mainDueBy : Phase → Outcome
-mainDueBy = on Ignored Ignored dueKindBy (λ d l. CoastEnds Unanswered) (λ b l. Ignored) (λ n. Frees)
+mainDueBy = on Ignored Ignored dueKindBy (λ d l. CoastEnds Unanswered) (λ d l. CoastEnds Unanswered) (λ b l. Ignored) (λ n. Frees)
 
 -- ── a call request of the ship that has the slot ─────────────────────────────
 
@@ -138,7 +151,9 @@ ruleCBy Simplex k Present = Ignored
 ruleCBy Simplex k (Lost d) = Redials k
 
 abbrev pub askedAgainBy : Mode → Bool → Phase → Outcome
-askedAgainBy m same = on Ignored Ignored (ruleBBy same) (λ d l. ruleCBy m Unanswered l) (λ b l. ruleCBy m (Since b) l) (λ n. Ignored)
+askedAgainBy m same =
+    on Ignored Ignored (ruleBBy same) (λ d l. ruleCBy m Unanswered l) (λ d l. ruleCBy m Unanswered l) (λ b l. ruleCBy m (Since b) l)
+    (λ n. Ignored)
 
 -- ── and of a ship that stands nowhere ────────────────────────────────────────
 

@@ -1,7 +1,7 @@
-// What each event does: by the slot's phase, and for a ship that stands nowhere; what document 01 does not name is ignored. No rule
+// What each event does: by the slot's phase, and for a ship that stands nowhere; what the documents do not name is ignored. No rule
 // holds a station.
 ghost use mathlib.Core.Path.{_≡_};
-ghost use Rattle.deciding.specs.Decides.{offHookBy, upBy, lossFrom, downBy, coastEndBy, workingBy, shipEndBy, bqBy};
+ghost use Rattle.deciding.specs.Decides.{dialledOutBy, offHookBy, upBy, lossFrom, downBy, coastEndBy, workingBy, shipEndBy, bqBy};
 ghost use Rattle.deciding.specs.Decides.{bySignal, takeBy, giveBackBy, byHand, mainDueBy, ruleCBy, askedAgainBy};
 ghost use Rattle.deciding.specs.Decides.{newcomerBy};
 use due_times::carrier_wait;
@@ -14,15 +14,30 @@ use slots::Hand;
 use slots::MOST_WAITING;
 use slots::OFFER_WAIT;
 use slots::Phase;
+use slots::REPLY_WAIT;
 use slots::Signal;
 use units::Tenths;
 
-// "while dialling: answered, the reply wait ends, a carrier wait runs on"
+// Document 02, no. 1: "at it a new wait of 600 begins"; "A second P in a call, or one after the answer, is ignored".
+fn dialling_ended(time: Tenths, phase: Phase) -> Outcome
+    ensures { λ r. ⌜ r ≡ dialledOutBy time phase ⌝ }
+{
+    match phase {
+        Phase::Dialling(_, carrier) => {
+            let due = due_after(time, REPLY_WAIT);
+            Outcome::Turns(Phase::DialledOut(due, carrier))
+        }
+        _ => Outcome::Ignored,
+    }
+}
+
+// "while dialling: answered, the reply wait ends, a carrier wait runs on"; 02, no. 1: "in either wait"
 fn off_hook(time: Tenths, phase: Phase) -> Outcome
     ensures { λ r. ⌜ r ≡ offHookBy time phase ⌝ }
 {
     match phase {
         Phase::Dialling(_, carrier) => Outcome::Turns(Phase::Answered(time, carrier)),
+        Phase::DialledOut(_, carrier) => Outcome::Turns(Phase::Answered(time, carrier)),
         Phase::Answered(_, _) => Outcome::Ignored,
         _ => Outcome::Ignored,
     }
@@ -34,6 +49,7 @@ fn carrier_up(phase: Phase) -> Outcome
 {
     match phase {
         Phase::Dialling(due, _) => Outcome::Turns(Phase::Dialling(due, Carrier::Present)),
+        Phase::DialledOut(due, _) => Outcome::Turns(Phase::DialledOut(due, Carrier::Present)),
         Phase::Answered(since, _) => Outcome::Turns(Phase::Answered(since, Carrier::Present)),
         _ => Outcome::Ignored,
     }
@@ -59,6 +75,10 @@ fn carrier_down(time: Tenths, mode: Mode, phase: Phase) -> Outcome
             let lost = lost_from(time, mode, carrier);
             Outcome::Turns(Phase::Dialling(due, lost))
         }
+        Phase::DialledOut(due, carrier) => {
+            let lost = lost_from(time, mode, carrier);
+            Outcome::Turns(Phase::DialledOut(due, lost))
+        }
         Phase::Answered(since, carrier) => {
             let lost = lost_from(time, mode, carrier);
             Outcome::Turns(Phase::Answered(since, lost))
@@ -72,7 +92,7 @@ pub fn coast_end(phase: Phase) -> Outcome
     ensures { λ r. ⌜ r ≡ coastEndBy phase ⌝ }
 {
     match phase {
-        Phase::Dialling(_, _) => Outcome::CoastEnds(Talk::Unanswered),
+        Phase::Dialling(_, _) | Phase::DialledOut(_, _) => Outcome::CoastEnds(Talk::Unanswered),
         Phase::Answered(since, _) => Outcome::CoastEnds(Talk::Since(since)),
         _ => Outcome::Ignored,
     }
@@ -82,6 +102,7 @@ pub fn by_signal(signal: Signal, time: Tenths, mode: Mode, phase: Phase) -> Outc
     ensures { λ r. ⌜ r ≡ bySignal signal time mode phase ⌝ }
 {
     match signal {
+        Signal::LineDialledOut => dialling_ended(time, phase),
         Signal::LineLifted => off_hook(time, phase),
         Signal::LineHung => coast_end(phase),
         Signal::CarrierHeard => carrier_up(phase),
@@ -108,7 +129,7 @@ pub fn ship_end(own: bool, phase: Phase) -> Outcome
 {
     if own {
         return match phase {
-            Phase::Dialling(_, _) => Outcome::ShipEnds(Talk::Unanswered),
+            Phase::Dialling(_, _) | Phase::DialledOut(_, _) => Outcome::ShipEnds(Talk::Unanswered),
             Phase::Answered(since, _) => Outcome::ShipEnds(Talk::Since(since)),
             Phase::Hold(_, told) => Outcome::SaysAgain(told),
             _ => Outcome::Ignored,
@@ -169,7 +190,7 @@ pub fn main_due(phase: Phase) -> Outcome
     match phase {
         Phase::Offered(_) | Phase::RingAgain(_) | Phase::Acknowledged(_) => Outcome::Clears,
         Phase::RingBack(_) => Outcome::RingsAgain,
-        Phase::Dialling(_, _) => Outcome::CoastEnds(Talk::Unanswered),
+        Phase::Dialling(_, _) | Phase::DialledOut(_, _) => Outcome::CoastEnds(Talk::Unanswered),
         Phase::Hold(_, _) => Outcome::Frees,
         _ => Outcome::Ignored,
     }
@@ -200,6 +221,7 @@ pub fn asked_again(mode: Mode, same: bool, phase: Phase) -> Outcome
         },
         Phase::RingBack(_) | Phase::RingAgain(_) | Phase::Acknowledged(_) => Outcome::Renews,
         Phase::Dialling(_, carrier) => rule_c(mode, Talk::Unanswered, carrier),
+        Phase::DialledOut(_, carrier) => rule_c(mode, Talk::Unanswered, carrier),
         Phase::Answered(since, carrier) => rule_c(mode, Talk::Since(since), carrier),
         _ => Outcome::Ignored,
     }

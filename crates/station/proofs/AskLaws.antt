@@ -29,4 +29,4 @@ newcomer-ends false n = go (ltb n queueRoom)
 
 pub bq-ends : (own : Bool) (t : Tenths) (p : Phase) → goesOn (bqBy own t p) ≡ false
 bq-ends false t = λ p. refl
-bq-ends true t = by-phase _ refl (λ d. refl) (λ d. refl) (λ d. refl) (λ d. refl) (λ d c. refl) (λ d c. refl) (λ d n. refl) refl
+bq-ends true t = by-phase _ refl (λ d. refl) (λ d. refl) (λ d. refl) (λ d. refl) (λ d c. refl) (λ d c. refl) (λ d n. refl) refl (λ d c. refl)

@@ -7,6 +7,7 @@ use Rattle.station.proofs.Station.next_due.Reads as Station-next-due
 use Rattle.station.proofs.Station.heard_on_channel_70.Reads as Station-heard-on-channel-70
 use Rattle.station.proofs.Station.heard_on_slot.Reads as Station-heard-on-slot
 use Rattle.station.proofs.Station.plainly.Reads as Station-plainly
+use Rattle.station.proofs.Station.dialling_ended.Reads as Station-dialling-ended
 use Rattle.station.proofs.Station.off_hook.Reads as Station-off-hook
 use Rattle.station.proofs.Station.carrier_up.Reads as Station-carrier-up
 use Rattle.station.proofs.Station.carrier_down.Reads as Station-carrier-down
@@ -31,6 +32,10 @@ Station-next-due-settled κs a r r' s s' p q = p ∙ sym q
 pub Station-plainly-settled : (κs : Lfts 1) (a : _) (r r' : _) (s s' : _)
     → Station-plainly.Post κs a r s → Station-plainly.Post κs a r' s' → (r ≡ r') × (s .1 .1 .1 .1 .0 .now ≡ s' .1 .1 .1 .1 .0 .now)
 Station-plainly-settled κs a r r' s s' p q = (p .0 ∙ sym (q .0), p .1 ∙ sym (q .1))
+
+pub Station-dialling-ended-settled : (κs : Lfts 1) (a : _) (r r' : _) (s s' : _)
+    → Station-dialling-ended.Post κs a r s → Station-dialling-ended.Post κs a r' s' → (r ≡ r') × (s .1 .1 .1 .0 .now ≡ s' .1 .1 .1 .0 .now)
+Station-dialling-ended-settled κs a r r' s s' p q = (p .0 ∙ sym (q .0), p .1 ∙ sym (q .1))
 
 pub Station-off-hook-settled : (κs : Lfts 1) (a : _) (r r' : _) (s s' : _)
     → Station-off-hook.Post κs a r s → Station-off-hook.Post κs a r' s' → (r ≡ r') × (s .1 .1 .1 .0 .now ≡ s' .1 .1 .1 .0 .now)

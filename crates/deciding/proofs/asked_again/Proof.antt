@@ -15,7 +15,10 @@ returns-5 : tie.Need-returns-5
 returns-5 c = rw (c .rule-c2 .ensures, c .before .before .phase2 .given .1)
 
 returns-6 : tie.Need-returns-6
-returns-6 c = phase-arm (0 ∷ 7 ∷ 8 ∷ []) _ (askedAgainBy (c .before .args .mode) (c .before .args .same)) (search needs) (c .before .args .phase) (c .match .keys5)
+returns-6 c = rw (c .rule-c3 .ensures, c .before .before .phase3 .given .1)
+
+returns-7 : tie.Need-returns-7
+returns-7 c = phase-arm (0 ∷ 7 ∷ 8 ∷ []) _ (askedAgainBy (c .before .args .mode) (c .before .args .same)) (search needs) (c .before .args .phase) (c .match .keys6)
 
 pub asked-again-spec : {M : Type 1} → statement M
 asked-again-spec =
@@ -27,8 +30,11 @@ asked-again-spec =
     (λ c. search needs)
     (λ c κs. search needs)
     (λ c. search needs)
+    (λ c κs. search needs)
+    (λ c. search needs)
     (λ c. search needs)
     returns-3
     returns-4
     returns-5
-    returns-6)
+    returns-6
+    returns-7)

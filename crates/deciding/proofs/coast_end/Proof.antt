@@ -6,7 +6,7 @@ use Rattle.deciding.proofs.coast_end.Statement.{statement}
 use Rattle.deciding.proofs.coast_end.Tie as tie
 
 returns : tie.Need-returns
-returns c = rw (c .enum-told .given .1)
+returns c = phase-arm (5 ∷ 9 ∷ []) _ coastEndBy (search needs) (c .before .args .phase) (c .match .keys1)
 
 returns-2 : tie.Need-returns-2
 returns-2 c = rw (c .before .phase .given .1)
@@ -15,4 +15,4 @@ returns-3 : tie.Need-returns-3
 returns-3 c = phase-arm (0 ∷ 1 ∷ 2 ∷ 3 ∷ 4 ∷ 7 ∷ 8 ∷ []) _ coastEndBy (search needs) (c .before .args .phase) (c .match .keys3)
 
 pub coast-end-spec : {M : Type 1} → statement M
-coast-end-spec = tie.close (tie.spec (λ c. search needs) (λ c. search needs) returns returns-2 returns-3)
+coast-end-spec = tie.close (tie.spec (λ c. search needs) returns returns-2 returns-3)

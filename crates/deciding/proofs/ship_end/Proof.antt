@@ -7,7 +7,7 @@ use Rattle.deciding.proofs.ship_end.Statement.{statement}
 use Rattle.deciding.proofs.ship_end.Tie as tie
 
 returns : tie.Need-returns
-returns c = rw (c .enum-told .given .1, c .before .before .if1 .taken)
+returns c = rw (c .before .if1 .taken) (phase-arm (5 ∷ 9 ∷ []) _ (shipEndBy true) (search needs) (c .before .before .args .phase) (c .match .keys1))
 
 returns-2 : tie.Need-returns-2
 returns-2 c = rw (c .before .phase .given .1, c .before .before .before .if1 .taken)
@@ -22,7 +22,6 @@ pub ship-end-spec : {M : Type 1} → statement M
 ship-end-spec =
     tie.close
     (tie.spec
-    (λ c. search needs)
     (λ c. search needs)
     (λ c. search needs)
     returns
