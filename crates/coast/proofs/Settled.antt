@@ -11,6 +11,7 @@ use Rattle.coast.proofs.events.coast_heard_on_channel_70.Reads as coast
 use Rattle.coast.proofs.events.coast_heard_on_slot.Reads as coast-heard-on-slot
 use Rattle.coast.proofs.events.coast_carrier_up.Reads as coast-carrier-up
 use Rattle.coast.proofs.events.coast_carrier_down.Reads as coast-carrier-down
+use Rattle.coast.proofs.events.coast_dialling_ended.Reads as coast-dialling-ended
 use Rattle.coast.proofs.events.coast_off_hook.Reads as coast-off-hook
 use Rattle.coast.proofs.events.coast_on_hook.Reads as coast-on-hook
 use Rattle.coast.proofs.events.coast_take.Reads as coast-take
@@ -55,6 +56,10 @@ coast-carrier-up-settled κs a r r' s s' p q = (p .0 ∙ sym (q .0), p .1 .0 ∙
 pub coast-carrier-down-settled : (κs : Lfts 2) (a : _) (r r' : _) (s s' : _)
     → coast-carrier-down.Post κs a r s → coast-carrier-down.Post κs a r' s' → (r ≡ r') × (s .0 .now ≡ s' .0 .now) × (s .1 .1 .1 .0 .now ≡ s' .1 .1 .1 .0 .now)
 coast-carrier-down-settled κs a r r' s s' p q = (p .0 ∙ sym (q .0), p .1 .0 ∙ sym (q .1 .0), p .1 .1 ∙ sym (q .1 .1))
+
+pub coast-dialling-ended-settled : (κs : Lfts 2) (a : _) (r r' : _) (s s' : _)
+    → coast-dialling-ended.Post κs a r s → coast-dialling-ended.Post κs a r' s' → (r ≡ r') × (s .0 .now ≡ s' .0 .now) × (s .1 .1 .1 .0 .now ≡ s' .1 .1 .1 .0 .now)
+coast-dialling-ended-settled κs a r r' s s' p q = (p .0 ∙ sym (q .0), p .1 .0 ∙ sym (q .1 .0), p .1 .1 ∙ sym (q .1 .1))
 
 pub coast-off-hook-settled : (κs : Lfts 2) (a : _) (r r' : _) (s s' : _)
     → coast-off-hook.Post κs a r s → coast-off-hook.Post κs a r' s' → (r ≡ r') × (s .0 .now ≡ s' .0 .now) × (s .1 .1 .1 .0 .now ≡ s' .1 .1 .1 .0 .now)

@@ -1,7 +1,8 @@
 // The events, each on a station in lent bytes.
 ghost use mathlib.Core.Path.{_≡_};
 ghost use Prim.Native.Nat.{_≤_};
-ghost use Rattle.rules.specs.Rules.Words.{heard, carrierUp, carrierDown, offHook, onHook, takes, givesBack, tick, onChannel70};
+ghost use Rattle.rules.specs.Rules.Words.{heard, carrierUp, carrierDown, diallingEnded, offHook, onHook, takes, givesBack, tick};
+ghost use Rattle.rules.specs.Rules.Words.{onChannel70};
 ghost use Rattle.station.specs.Step.{eventAt, slotAt};
 ghost use Rattle.station.specs.Pieces.{plainView};
 ghost use Rattle.coast.specs.Events.{dueNumber, told, kept, returned, stationAfter, roomLeft};
@@ -152,6 +153,29 @@ pub extern "C" fn coast_carrier_down(
 {
     plainly(
         Plain::Signal(Signal::CarrierLost),
+        station,
+        time,
+        slot,
+        room,
+    )
+}
+
+// Ashore the exchange has dialled the number.
+#[no_mangle]
+pub extern "C" fn coast_dialling_ended(
+    station: &mut [u8],
+    time: u32,
+    slot: u32,
+    room: &mut [u8],
+) -> u64
+    ensures { λ r. ⌜ r ≡ returned (now (station .entry)) (slotAt time slot diallingEnded (now (room .entry))) ⌝ }
+    ensures { λ _. ⌜ now (station .exit) ≡ stationAfter (now (station .entry)) (slotAt time slot diallingEnded (now (room .entry))) ⌝ }
+    ensures { λ _. ⌜
+        now (room .exit) ≡ roomLeft (now (station .entry)) (now (room .entry)) (slotAt time slot diallingEnded (now (room .entry)))
+        ⌝ }
+{
+    plainly(
+        Plain::Signal(Signal::LineDialledOut),
         station,
         time,
         slot,

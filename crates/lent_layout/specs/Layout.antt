@@ -42,7 +42,7 @@ stationFields = headFields ++ (repeated mostSlots slotFields ++ repeated queueRo
 
 -- moves whenever a field does, or what a number in one stands for
 unfoldable pub layoutVersion : ℕ
-layoutVersion = 1
+layoutVersion = 2
 
 -- ── sizes and places ─────────────────────────────────────────────────────────
 
