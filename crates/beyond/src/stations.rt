@@ -165,8 +165,12 @@ pub(crate) fn agreed(due: Tenths) -> Station {
     in_phase(Phase::Acknowledged(due))
 }
 
-pub(crate) fn dialled(due: Tenths) -> Station {
+pub(crate) fn dialling(due: Tenths) -> Station {
     in_phase(Phase::Dialling(due, Carrier::Present))
+}
+
+pub(crate) fn dialled_out(due: Tenths) -> Station {
+    in_phase(Phase::DialledOut(due, Carrier::Present))
 }
 
 pub(crate) fn talking(since: Tenths) -> Station {

@@ -4,7 +4,8 @@ use crate::rooms::judged;
 use crate::stations::agreed;
 use crate::stations::at_clock;
 use crate::stations::busy;
-use crate::stations::dialled;
+use crate::stations::dialled_out;
+use crate::stations::dialling;
 use crate::stations::held;
 use crate::stations::named;
 use crate::stations::no_number;
@@ -108,7 +109,8 @@ fn try_waits() {
         b"29 an acknowledged slot due 162 later",
         agreed(Tenths(1162)),
     );
-    unsound(b"29 a reply due 602 later", dialled(Tenths(1602)));
+    unsound(b"29 dialling due 602 later", dialling(Tenths(1602)));
+    unsound(b"29 a reply due 602 later", dialled_out(Tenths(1602)));
     unsound(b"29 a hold due 42 later", held(hold, Told::Nothing));
     sound(b"a queue entry due 9001 later is sound", queued_to(10001));
     unsound(b"29 a queue entry due 9002 later", queued_to(10002));

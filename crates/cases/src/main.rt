@@ -1,4 +1,4 @@
-// Runs document 01's cases that are not marked P and that a script can reach, tables of script lines, and compares.
+// Runs the documents' cases that are not marked P and that a script can reach, tables of script lines, and compares.
 mod saying;
 mod tables;
 mod tallies;
@@ -42,6 +42,7 @@ fn run_tables(tally: Tally) -> Tally {
     let tally = run_file(tally, b"refusals");
     let tally = run_file(tally, b"requests");
     let tally = run_file(tally, b"calls");
+    let tally = run_file(tally, b"dialling");
     let tally = run_file(tally, b"ends");
     let tally = run_file(tally, b"operator");
     let tally = run_file(tally, b"ring-back");

@@ -9,9 +9,9 @@ use native.Mathlib.Omega.{arith}
 use lib.Dec.{eqb}
 use borrow.Author.Tests.{eqb-true, le-leb, leb-true}
 use Rattle.rules.specs.Rules.Places.{all}
-use Rattle.rules.specs.Rules.Words.{lineLifted, lineHung, carrierHeard, carrierLost, handTakes, handGives, heard, signal, operator, What, tick, onChannel70, onSlot}
+use Rattle.rules.specs.Rules.Words.{lineDialledOut, lineLifted, lineHung, carrierHeard, carrierLost, handTakes, handGives, heard, signal, operator, What, tick, onChannel70, onSlot}
 use Rattle.sequence.proofs.Tests.{Either, yes!, no!, which, both-true}
-use Rattle.slots.specs.declared.Signal.the-variants.{LineLifted, LineHung, CarrierHeard, CarrierLost}
+use Rattle.slots.specs.declared.Signal.the-variants.{LineDialledOut, LineLifted, LineHung, CarrierHeard, CarrierLost}
 use Rattle.slots.specs.declared.Hand.the-variants.{Takes, GivesBack}
 use Rattle.lines.specs.declared.Form.{Form}
 use Rattle.lines.specs.declared.Form.the-variants.{Symbols, SlotSymbols, Signalled, Operated, Alone}
@@ -30,6 +30,7 @@ pub names-form : (f : Form) (slot : ℕ) (symbols : List ℕ) → commandOf (wha
 unfolding commandOf
 names-form Symbols slot symbols = refl
 names-form SlotSymbols slot symbols = refl
+names-form (Signalled LineDialledOut) slot symbols = refl
 names-form (Signalled LineLifted) slot symbols = refl
 names-form (Signalled LineHung) slot symbols = refl
 names-form (Signalled CarrierHeard) slot symbols = refl
@@ -43,6 +44,7 @@ pub by-form : (P : What → Type 0) → ((f : Form) (slot : ℕ) (symbols : List
 by-form P h tick = h Alone 0 []
 by-form P h (onChannel70 symbols) = h Symbols 0 symbols
 by-form P h (onSlot i (heard symbols)) = h SlotSymbols i symbols
+by-form P h (onSlot i (signal lineDialledOut)) = h (Signalled LineDialledOut) i []
 by-form P h (onSlot i (signal lineLifted)) = h (Signalled LineLifted) i []
 by-form P h (onSlot i (signal lineHung)) = h (Signalled LineHung) i []
 by-form P h (onSlot i (signal carrierHeard)) = h (Signalled CarrierHeard) i []

@@ -1,5 +1,5 @@
 -- The lines of an event: "S identity channels; Q time symbols; W time slot symbols; then time and slot: U up, D down, O off-hook,
--- H on-hook, M take, F give back; T time".
+-- H on-hook, M take, F give back; T time"; of document 02, no. 1: "letter P, time and slot".
 use mathlib.Core.Bool.{Bool, true, cond, _&&_}
 use mathlib.Core.List.{List, [], _∷_, _++_, map}
 use mathlib.Core.Path.{_≡_}
@@ -7,8 +7,8 @@ use Prim.Native.Nat.{ℕ}
 use lib.Dec.{leb, eqb}
 use Rattle.rules.specs.Rules.Places.{all}
 use Rattle.rules.specs.Rules.Words.{Happened, heard, signal, operator, What, tick, onChannel70, onSlot}
-use Rattle.rules.specs.Rules.Words.{lineLifted, lineHung, carrierHeard, carrierLost, handTakes, handGives}
-use Rattle.slots.specs.declared.Signal.the-variants.{LineLifted, LineHung, CarrierHeard, CarrierLost}
+use Rattle.rules.specs.Rules.Words.{lineDialledOut, lineLifted, lineHung, carrierHeard, carrierLost, handTakes, handGives}
+use Rattle.slots.specs.declared.Signal.the-variants.{LineDialledOut, LineLifted, LineHung, CarrierHeard, CarrierLost}
 use Rattle.slots.specs.declared.Hand.the-variants.{Takes, GivesBack}
 use Rattle.slots.specs.Views.{signalView, handView}
 use Rattle.lines.specs.declared.Form.{Form}
@@ -31,6 +31,7 @@ pub data Said : Type 0 where
 
 abbrev pub slotLetter : Happened → ℕ
 slotLetter (heard symbols) = 87
+slotLetter (signal lineDialledOut) = 80
 slotLetter (signal lineLifted) = 79
 slotLetter (signal lineHung) = 72
 slotLetter (signal carrierHeard) = 85
@@ -66,7 +67,7 @@ formLetter form = whatLetter (formWhat form 0 [])
 abbrev pub forms : List Form
 forms =
     Symbols ∷ SlotSymbols
-    ∷ Signalled CarrierHeard ∷ Signalled CarrierLost ∷ Signalled LineLifted ∷ Signalled LineHung
+    ∷ Signalled CarrierHeard ∷ Signalled CarrierLost ∷ Signalled LineDialledOut ∷ Signalled LineLifted ∷ Signalled LineHung
     ∷ Operated Takes ∷ Operated GivesBack
     ∷ Alone ∷ []
 

@@ -29,6 +29,9 @@ pub(crate) fn command_of(letter: u8) -> Command
     if letter == b'D' {
         return Command::Happens(Form::Signalled(Signal::CarrierLost));
     }
+    if letter == b'P' {
+        return Command::Happens(Form::Signalled(Signal::LineDialledOut));
+    }
     if letter == b'O' {
         return Command::Happens(Form::Signalled(Signal::LineLifted));
     }

@@ -47,6 +47,10 @@ returns-11 : tie.Need-returns-11
 unfolding commandOf
 returns-11 c = search tests
 
+returns-12 : tie.Need-returns-12
+unfolding commandOf
+returns-12 c = search tests
+
 pub command-of-spec : {M : Type 1} → statement M
 command-of-spec =
     tie.close
@@ -61,4 +65,5 @@ command-of-spec =
     returns-8
     returns-9
     returns-10
-    returns-11)
+    returns-11
+    returns-12)
