@@ -14,7 +14,7 @@ use Rattle.sequence.specs.Symbols.{allAtMost}
 use Rattle.sequence.specs.Answers.{isDone}
 use Rattle.sequence.specs.Reading.{readingOf}
 use Rattle.reading.proofs.Passed.{passed}
-use Rattle.rules.specs.Rules.Words.{Happened, heard, signal, operator, lineLifted, lineHung, carrierHeard, carrierLost, handTakes, handGives, offHook, onHook, carrierUp, carrierDown, takes, givesBack, What, tick, onChannel70, onSlot}
+use Rattle.rules.specs.Rules.Words.{Happened, heard, signal, operator, lineDialledOut, lineLifted, lineHung, carrierHeard, carrierLost, handTakes, handGives, diallingEnded, offHook, onHook, carrierUp, carrierDown, takes, givesBack, What, tick, onChannel70, onSlot}
 use Rattle.rules.specs.Rules.Sound.{limit}
 use Rattle.rules.specs.Rules.Verdict.{slotThere, readerSays, readOn, readIn}
 use Rattle.rules.proofs.PlaceLaws.{and-true}
@@ -26,7 +26,7 @@ use Rattle.lent_layout.specs.Stations.{stationFrom}
 use Rattle.coast.specs.Events.{told, returned, stationAfter, roomLeft}
 use Rattle.coast.proofs.Theorems.{taken-apart}
 use Rattle.station_theorems.proofs.Steps.{lives, lent}
-use Rattle.host_theorems.specs.Calls.{Call, callOf, WhatInC, HappenedInC, Entered, by-tick, by-heard-on-channel-70, by-heard-on-slot, by-carrier-up, by-carrier-down, by-off-hook, by-on-hook, by-take-slot, by-give-back}
+use Rattle.host_theorems.specs.Calls.{Call, callOf, WhatInC, HappenedInC, Entered, by-tick, by-heard-on-channel-70, by-heard-on-slot, by-carrier-up, by-carrier-down, by-dialling-ended, by-off-hook, by-on-hook, by-take-slot, by-give-back}
 use Rattle.host_theorems.specs.Sequences.{InBytes}
 use Rattle.host_theorems.specs.Scripts.{AcceptedIsInC}
 use Rattle.host_theorems.specs.Statement.{answerIn, countIn}
@@ -46,6 +46,7 @@ called _ (by-heard-on-channel-70 κs a r s p) = record { time = a .1 .0; what = 
 called _ (by-heard-on-slot κs a r s p) = record { time = a .1 .0; what = onSlot (a .1 .1 .0) (heard (a .1 .1 .1 .0 .now)); event-is = refl; number-is = p .0; kept-is = p .1 .0; left-is = p .1 .1 }
 called _ (by-carrier-up κs a r s p) = record { time = a .1 .0; what = onSlot (a .1 .1 .0) carrierUp; event-is = refl; number-is = p .0; kept-is = p .1 .0; left-is = p .1 .1 }
 called _ (by-carrier-down κs a r s p) = record { time = a .1 .0; what = onSlot (a .1 .1 .0) carrierDown; event-is = refl; number-is = p .0; kept-is = p .1 .0; left-is = p .1 .1 }
+called _ (by-dialling-ended κs a r s p) = record { time = a .1 .0; what = onSlot (a .1 .1 .0) diallingEnded; event-is = refl; number-is = p .0; kept-is = p .1 .0; left-is = p .1 .1 }
 called _ (by-off-hook κs a r s p) = record { time = a .1 .0; what = onSlot (a .1 .1 .0) offHook; event-is = refl; number-is = p .0; kept-is = p .1 .0; left-is = p .1 .1 }
 called _ (by-on-hook κs a r s p) = record { time = a .1 .0; what = onSlot (a .1 .1 .0) onHook; event-is = refl; number-is = p .0; kept-is = p .1 .0; left-is = p .1 .1 }
 called _ (by-take-slot κs a r s p) = record { time = a .1 .0; what = onSlot (a .1 .1 .0) takes; event-is = refl; number-is = p .0; kept-is = p .1 .0; left-is = p .1 .1 }
@@ -83,6 +84,7 @@ module _ (b room : List ℕ) (time : ℕ) where
   onto i bytes l = (lent bytes, (time, (i, (lent l, tt))))
 
   on-slot : (i : ℕ) (h : Happened) → Entered (callFor (onSlot i h))
+  on-slot i (signal lineDialledOut) = by-dialling-ended lives (onto i b room) _ (onto i _ _) (refl, (refl, refl))
   on-slot i (signal lineLifted) = by-off-hook lives (onto i b room) _ (onto i _ _) (refl, (refl, refl))
   on-slot i (signal lineHung) = by-on-hook lives (onto i b room) _ (onto i _ _) (refl, (refl, refl))
   on-slot i (signal carrierHeard) = by-carrier-up lives (onto i b room) _ (onto i _ _) (refl, (refl, refl))

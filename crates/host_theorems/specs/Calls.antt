@@ -3,7 +3,8 @@ use Prim.Native.Nat.{ℕ, _<_}
 use mathlib.Core.Path.{_≡_}
 use mathlib.Core.List.{List, [], _∷_}
 use contract.Lifetimes.{Lfts}
-use Rattle.rules.specs.Rules.Words.{Config, Happened, heard, signal, offHook, onHook, carrierUp, carrierDown, operator, takes, givesBack}
+use Rattle.rules.specs.Rules.Words.{Config, Happened, heard, signal, operator}
+use Rattle.rules.specs.Rules.Words.{diallingEnded, offHook, onHook, carrierUp, carrierDown, takes, givesBack}
 use Rattle.rules.specs.Rules.Words.{What, tick, onChannel70, onSlot, Event}
 use Rattle.station.specs.Step.{eventAt, slotAt, given}
 use Rattle.coast.proofs.setting.coast_set_up.Reads as set-up
@@ -12,6 +13,7 @@ use Rattle.coast.proofs.events.coast_heard_on_channel_70.Reads as heard-on-chan
 use Rattle.coast.proofs.events.coast_heard_on_slot.Reads as heard-on-slot
 use Rattle.coast.proofs.events.coast_carrier_up.Reads as carrier-up
 use Rattle.coast.proofs.events.coast_carrier_down.Reads as carrier-down
+use Rattle.coast.proofs.events.coast_dialling_ended.Reads as dialling-ended
 use Rattle.coast.proofs.events.coast_off_hook.Reads as off-hook
 use Rattle.coast.proofs.events.coast_on_hook.Reads as on-hook
 use Rattle.coast.proofs.events.coast_take.Reads as take-slot
@@ -47,6 +49,9 @@ pub data Entered : Call → Type 0 where
       (a .0 .now) (a .1 .1 .1 .0 .now) r (s .0 .now) (s .1 .1 .1 .0 .now))
   by-carrier-down : (κs : Lfts 2) (a : _) (r : _) (s : _) → carrier-down.Post κs a r s → Entered (callOf
       (slotAt (a .1 .0) (a .1 .1 .0) carrierDown (a .1 .1 .1 .0 .now))
+      (a .0 .now) (a .1 .1 .1 .0 .now) r (s .0 .now) (s .1 .1 .1 .0 .now))
+  by-dialling-ended : (κs : Lfts 2) (a : _) (r : _) (s : _) → dialling-ended.Post κs a r s → Entered (callOf
+      (slotAt (a .1 .0) (a .1 .1 .0) diallingEnded (a .1 .1 .1 .0 .now))
       (a .0 .now) (a .1 .1 .1 .0 .now) r (s .0 .now) (s .1 .1 .1 .0 .now))
   by-off-hook : (κs : Lfts 2) (a : _) (r : _) (s : _) → off-hook.Post κs a r s → Entered (callOf
       (slotAt (a .1 .0) (a .1 .1 .0) offHook (a .1 .1 .1 .0 .now))

@@ -6,7 +6,7 @@ use mathlib.Core.Option.{Option, none, some}
 use native.Mathlib.Omega.{arith}
 use lib.ListN.{length, drop}
 use borrow.Author.Tests.{leb-false}
-use Rattle.rules.specs.Rules.Words.{Config, Event, Signal, lineLifted, lineHung, carrierHeard, carrierLost, Hand, handTakes, handGives, Happened, heard, signal, operator, What, tick, onChannel70, onSlot}
+use Rattle.rules.specs.Rules.Words.{Config, Event, Signal, lineDialledOut, lineLifted, lineHung, carrierHeard, carrierLost, Hand, handTakes, handGives, Happened, heard, signal, operator, What, tick, onChannel70, onSlot}
 use Rattle.rules.specs.Rules.Places.{Each}
 use Rattle.rules.specs.Rules.Station as R
 use Rattle.rules.specs.Rules.Calls.{act}
@@ -25,7 +25,7 @@ use Rattle.station.specs.Step.{eventAt, refusal, steppedFor, steppedBy, roomFor
 use Rattle.station.proofs.GateLaws.{passed}
 use Rattle.station.proofs.StepLaws.{reads}
 use Rattle.station_theorems.specs.Rooms.{actionsIn, shownIn}
-use Rattle.station_theorems.specs.Steps.{Step, Allowed, by-heard-on-channel-70, by-heard-on-slot, by-off-hook, by-on-hook, by-carrier-up, by-carrier-down, by-take-slot, by-give-back, by-tick, stepOf}
+use Rattle.station_theorems.specs.Steps.{Step, Allowed, by-heard-on-channel-70, by-heard-on-slot, by-dialling-ended, by-off-hook, by-on-hook, by-carrier-up, by-carrier-down, by-take-slot, by-give-back, by-tick, stepOf}
 use Rattle.station_theorems.specs.Statement.{laidOut, RefusalsLeaveAll, RoomsStay}
 use Rattle.station_theorems.proofs.ReadBack.{actions-back, shown-back, laid-back}
 use contract.Lifetimes.{Lfts}
@@ -42,6 +42,7 @@ pub record Does (x : Step) : Type 0 where
 pub allowed-does : (x : Step) → Allowed x → Does x
 allowed-does _ (by-heard-on-channel-70 κs a r s p) = record { back-is = p .0; left-is = p .1 }
 allowed-does _ (by-heard-on-slot κs a r s p) = record { back-is = p .0; left-is = p .1 }
+allowed-does _ (by-dialling-ended κs a r s p) = record { back-is = p .0; left-is = p .1 }
 allowed-does _ (by-off-hook κs a r s p) = record { back-is = p .0; left-is = p .1 }
 allowed-does _ (by-on-hook κs a r s p) = record { back-is = p .0; left-is = p .1 }
 allowed-does _ (by-carrier-up κs a r s p) = record { back-is = p .0; left-is = p .1 }
@@ -73,6 +74,7 @@ module _ (s : Station) (room : List ℕ) (time : ℕ) where
   stepFor w = stepOf (eventAt time w room) s room (steppedBy s (eventAt time w room)) (roomAfter s room (eventAt time w room))
 
   on-slot : (i : ℕ) (h : Happened) → Allowed (stepFor (onSlot i h))
+  on-slot i (signal lineDialledOut) = by-dialling-ended life (onto i room) _ (onto i _) (refl, refl)
   on-slot i (signal lineLifted) = by-off-hook life (onto i room) _ (onto i _) (refl, refl)
   on-slot i (signal lineHung) = by-on-hook life (onto i room) _ (onto i _) (refl, refl)
   on-slot i (signal carrierHeard) = by-carrier-up life (onto i room) _ (onto i _) (refl, refl)
@@ -88,13 +90,14 @@ module _ (s : Station) (room : List ℕ) (time : ℕ) where
 
 -- every signal and either hand: what holds of each
 abbrev pub signals : List Signal
-signals = lineLifted ∷ lineHung ∷ carrierHeard ∷ carrierLost ∷ []
+signals = lineDialledOut ∷ lineLifted ∷ lineHung ∷ carrierHeard ∷ carrierLost ∷ []
 
 pub every-signal : (P : Signal → Type 0) → Each P signals → (g : Signal) → P g
-every-signal P h lineLifted = h .0
-every-signal P h lineHung = h .1 .0
-every-signal P h carrierHeard = h .1 .1 .0
-every-signal P h carrierLost = h .1 .1 .1 .0
+every-signal P h lineDialledOut = h .0
+every-signal P h lineLifted = h .1 .0
+every-signal P h lineHung = h .1 .1 .0
+every-signal P h carrierHeard = h .1 .1 .1 .0
+every-signal P h carrierLost = h .1 .1 .1 .1 .0
 
 abbrev pub hands : List Hand
 hands = handTakes ∷ handGives ∷ []

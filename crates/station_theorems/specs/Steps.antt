@@ -3,13 +3,15 @@ use Prim.Native.Nat.{ℕ}
 use mathlib.Core.Path.{_≡_}
 use mathlib.Core.List.{List, [], _∷_}
 use contract.Lifetimes.{Lfts}
-use Rattle.rules.specs.Rules.Words.{Config, heard, offHook, onHook, carrierUp, carrierDown, takes, givesBack, tick, onChannel70, Event}
+use Rattle.rules.specs.Rules.Words.{Config, heard, diallingEnded, offHook, onHook, carrierUp, carrierDown, takes, givesBack}
+use Rattle.rules.specs.Rules.Words.{tick, onChannel70, Event}
 use Rattle.station.specs.declared.Station.{Station}
 use Rattle.station.specs.declared.Stepped.{Stepped}
 use Rattle.station.specs.Step.{eventAt, slotAt, chosen}
 use Rattle.station.proofs.Station.set_up.Reads as set-up
 use Rattle.station.proofs.Station.heard_on_channel_70.Reads as heard-on-channel-70
 use Rattle.station.proofs.Station.heard_on_slot.Reads as heard-on-slot
+use Rattle.station.proofs.Station.dialling_ended.Reads as dialling-ended
 use Rattle.station.proofs.Station.off_hook.Reads as off-hook
 use Rattle.station.proofs.Station.on_hook.Reads as on-hook
 use Rattle.station.proofs.Station.carrier_up.Reads as carrier-up
@@ -37,6 +39,9 @@ pub data Allowed : Step → Type 0 where
   by-heard-on-slot : (κs : Lfts 2) (a : _) (r : _) (s : _) → heard-on-slot.Post κs a r s → Allowed (stepOf
       (slotAt (a .1 .0 .0) (a .1 .1 .0 .0) (heard (a .1 .1 .1 .0 .now)) (a .1 .1 .1 .1 .0 .now))
       (a .0) (a .1 .1 .1 .1 .0 .now) r (s .1 .1 .1 .1 .0 .now))
+  by-dialling-ended : (κs : Lfts 1) (a : _) (r : _) (s : _) → dialling-ended.Post κs a r s → Allowed (stepOf
+      (slotAt (a .1 .0 .0) (a .1 .1 .0 .0) diallingEnded (a .1 .1 .1 .0 .now))
+      (a .0) (a .1 .1 .1 .0 .now) r (s .1 .1 .1 .0 .now))
   by-off-hook : (κs : Lfts 1) (a : _) (r : _) (s : _) → off-hook.Post κs a r s → Allowed (stepOf
       (slotAt (a .1 .0 .0) (a .1 .1 .0 .0) offHook (a .1 .1 .1 .0 .now))
       (a .0) (a .1 .1 .1 .0 .now) r (s .1 .1 .1 .0 .now))

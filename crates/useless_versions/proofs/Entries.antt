@@ -1,4 +1,4 @@
--- The nine entries in C: the scripts of the events, played by a host, shut the useless versions out.
+-- The entries for events in C: the scripts of the events, played by a host, shut the useless versions out.
 use Prim.Native.Nat.{ℕ, suc, _/_, _%_, _<_}
 use mathlib.Core.Path.{_≡_, refl, sym, ap, _∙_}
 use mathlib.Core.List.{List, [], _∷_, _++_, map}

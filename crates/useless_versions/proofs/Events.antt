@@ -1,4 +1,4 @@
--- The nine events: a script for each, with the rules' answers computed, shuts the useless versions of its method out.
+-- The events: a script for each, with the rules' answers computed, shuts the useless versions of its method out.
 use Prim.Native.Nat.{ℕ, zero, suc, _+_, _*_, _≤_, _<_}
 use mathlib.Core.Path.{_≡_, refl, sym, ap, _∙_}
 use mathlib.Core.Bool.{Bool, true, false, not, cond, _&&_, true≢false}
@@ -121,7 +121,7 @@ unfolding imageOf slotImage runsOpen
 computed heard-on-channel-70 = refl
 computed heard-on-slot = refl
 computed on-tick = refl
-computed (signalled g) = every-signal (λ f. holds (doing (signalled f)) (scripts (signalled f)) ≡ true) (refl, (refl, (refl, (refl, tt)))) g
+computed (signalled g) = every-signal (λ f. holds (doing (signalled f)) (scripts (signalled f)) ≡ true) (refl, (refl, (refl, (refl, (refl, tt))))) g
 computed (handled h) = every-hand (λ f. holds (doing (handled f)) (scripts (handled f)) ≡ true) (refl, (refl, tt)) h
 
 -- nothing is due on a fresh station, and behind P1 at 100 the offer is

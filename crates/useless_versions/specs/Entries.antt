@@ -1,4 +1,4 @@
--- The nine entries that a host in C calls for the events: none of them has a useless version.
+-- The entries that a host in C calls for the events: none of them has a useless version.
 use Prim.Native.Nat.{ℕ, _/_, _%_}
 use mathlib.Core.Path.{_≡_}
 use mathlib.Core.List.{List, map}

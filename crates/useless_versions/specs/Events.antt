@@ -1,4 +1,4 @@
--- The nine events: the method of each has no useless version.
+-- The events: the method of each has no useless version.
 use Prim.Native.Nat.{ℕ, zero, suc}
 use mathlib.Core.Path.{_≡_}
 use mathlib.Core.Bool.{cond}
@@ -14,11 +14,11 @@ use Rattle.station_theorems.specs.Rooms.{kindIn}
 use Rattle.station_theorems.specs.Steps.{Step, stepOf, Allowed, Trace, lastOf}
 use Rattle.useless_versions.specs.Versions.{Signs, NoUselessVersion}
 
--- ── the nine ─────────────────────────────────────────────────────────────────
+-- ── the methods ──────────────────────────────────────────────────────────────
 
 pub data Method : Type 0 where
   heard-on-channel-70 heard-on-slot on-tick : Method
-  signalled : Signal → Method  -- one for each of the four
+  signalled : Signal → Method  -- one for each signal
   handled : Hand → Method  -- and of the two
 
 abbrev pub methodOn : Happened → Method
@@ -52,7 +52,7 @@ stepBy x y = stepOf (eventOf x) (x .before) (x .lent) (y .stepped) (y .left)
 abbrev pub callIn : Step → Call
 callIn s = record { time = s .event .time; what = s .event .what; before = s .before; lent = s .lent }
 
--- the method's own contract allows what is handed back; nothing is asked of the other eight
+-- the method's own contract allows what is handed back; nothing is asked of the others
 abbrev pub Meets : Method → Call → Back → Type 0
 Meets k x y = methodOf (x .what) ≡ k → Allowed (stepBy x y)
 
