@@ -26,10 +26,11 @@ extern "C" {
  * COAST_.._SIZE a count of bytes. */
 
 /* The library's version: MAJOR moves where a host has to be changed, MINOR where only something is added for it, PATCH where only
- * a fault is mended. It is no version of the lent layout: COAST_LAYOUT_VERSION is that. */
-#define COAST_VERSION "1.0.0"
+ * a fault is mended. It is no version of the lent layout: COAST_LAYOUT_VERSION is that. A new layout moves MINOR at least: a host
+ * need not be changed, but the stations that it kept are refused. */
+#define COAST_VERSION "1.1.0"
 #define COAST_VERSION_MAJOR 1
-#define COAST_VERSION_MINOR 0
+#define COAST_VERSION_MINOR 1
 #define COAST_VERSION_PATCH 0
 
 /* The deepest that any entry reaches into the stack, as measured. */
@@ -113,15 +114,15 @@ uint32_t coast_write_sequence(const uint8_t *meaning, size_t size, uint8_t *room
  *
  *    0  1  the layout's version                  in each slot:
  *    1  4  clock, in tenths of a second             0  1  phase: 0 free, 1 offered, 2 ring-back, 3 ring-back repeated,
- *    5  4  the station's identity                         4 acknowledged, 5 dialling, 6 answered, 7 hold, 8 taken
- *    9  1  count of slots                           1  4  due time (1 to 5, 7), or when it was answered (6)
- *   10  1  count of waiting ships                   5  1  the ship's carrier (5, 6): 0 present, 1 lost
- *   11     16 slots of 45 bytes                     6  4  due time of a carrier that is lost
- *  731     32 waiting ships of 31 bytes,           10  1  what was told (7): 0 nothing, 1 a duration
- *          the oldest first                        11  3  hours, minutes, seconds
- *                                                  14  4  channel
- *  in each stored request:                         18 27  request, in the phases 1 to 7
- *    0  4  ship
+ *    5  4  the station's identity                         4 acknowledged, 5 dialling, 6 answered, 7 hold, 8 taken,
+ *    9  1  count of slots                                 9 dialled out
+ *   10  1  count of waiting ships                   1  4  due time (1 to 5, 7, 9), or when it was answered (6)
+ *   11     16 slots of 45 bytes                     5  1  the ship's carrier (5, 6, 9): 0 present, 1 lost
+ *  731     32 waiting ships of 31 bytes,            6  4  due time of a carrier that is lost
+ *          the oldest first                        10  1  what was told (7): 0 nothing, 1 a duration
+ *                                                  11  3  hours, minutes, seconds
+ *  in each stored request:                         14  4  channel
+ *    0  4  ship                                    18 27  request, in the phases 1 to 7 and 9
  *    4  4  station called
  *    8  1  mode: 0 simplex, 1 duplex             in each waiting ship:
  *    9  1  second telecommand                       0  4  due time
@@ -131,11 +132,11 @@ uint32_t coast_write_sequence(const uint8_t *meaning, size_t size, uint8_t *room
  *
  * What the library leaves is 0 wherever nothing is named: in slots and waiting ships past the counts, and in the parts that
  * a phase does not use. What stands there in bytes that are handed in is not looked at. A station is not sound, 29, with a
- * phase over 8; with a carrier, a duration's mark or a mode over 1 where it is looked at; or with a digit past its count that
+ * phase over 9; with a carrier, a duration's mark or a mode over 1 where it is looked at; or with a digit past its count that
  * is not 0.
  *
- * A station is sound if document 01 allows it: its identity, channels and stored requests keep the rules, no ship stands
- * twice, no call was answered after the clock, and each due time lies from the clock to the clock plus its wait and a tenth.
+ * A station is sound if document 01, with no. 1 of document 02, allows it: its identity, channels and stored requests keep the
+ * rules, no ship stands twice, no call was answered after the clock, and each due time lies from the clock to the clock plus its wait and a tenth.
  * All that the library leaves is sound. */
 #define COAST_STATION_SIZE 1723
 
@@ -146,7 +147,7 @@ uint32_t coast_write_sequence(const uint8_t *meaning, size_t size, uint8_t *room
  *     and is charged if it was answered; on any other slot the on-hook is ignored. A slot so freed may ring back a waiting ship;
  *   - switches off the carrier of every slot. Ships that waited, or had a slot without a call yet, lose it, and call again;
  *   - sets a station up by the new library, counts its time from 0 again, and takes again the slots that were taken. */
-#define COAST_LAYOUT_VERSION 1
+#define COAST_LAYOUT_VERSION 2
 #define COAST_AT_VERSION 0
 
 /* Actions: an event lays at most eight at the front of its room, in the order in which they are to be done; coast_count of
@@ -168,7 +169,7 @@ struct coast_lent {
 #define COAST_ACTION_CARRIER_OFF 2
 #define COAST_ACTION_SEND_CHANNEL_70 3 /* payload: a sequence of 21 to 28 symbols, to send on channel 70 */
 #define COAST_ACTION_SEND_WORKING 4    /* payload: a sequence, to send on the slot's working channel */
-#define COAST_ACTION_DIAL 5            /* payload: the digits 0 to 9 to dial, one a byte */
+#define COAST_ACTION_DIAL 5            /* payload: the digits 0 to 9 to dial, one a byte; when done: coast_dialling_ended */
 #define COAST_ACTION_RELEASE_LINE 6
 #define COAST_ACTION_CHARGE 7 /* payload: ship, start and stop in tenths, seconds; four bytes each, low byte first */
 
@@ -219,6 +220,13 @@ uint64_t coast_heard_on_slot(uint8_t *station, size_t size, uint32_t time, uint3
 /* The ship's carrier on a slot's working channel comes, or goes. Answers 0, 1; or 29, 30, 31, 32, 33, 34. */
 uint64_t coast_carrier_up(uint8_t *station, size_t size, uint32_t time, uint32_t slot, uint8_t *room, size_t room_size);
 uint64_t coast_carrier_down(uint8_t *station, size_t size, uint32_t time, uint32_t slot, uint8_t *room, size_t room_size);
+
+/* The exchange has dialled the number of a slot's call. Dialling has a minute, and the called person has another one from here
+ * on; when either is over, the coast ends the call. So a host that never calls this gives the two one minute together. On a slot
+ * that is dialling it is done; a second one in a call, one after the answer, and one on any other slot is ignored. Off-hook may
+ * come before it. The station cannot tell whose dialling ended: a host drops a report that comes after that call's line was
+ * released. Answers 0, 1; or 29, 30, 31, 32, 33, 34. */
+uint64_t coast_dialling_ended(uint8_t *station, size_t size, uint32_t time, uint32_t slot, uint8_t *room, size_t room_size);
 
 /* Ashore the handset of a slot's line is lifted, or put down. Answers 0, 1; or 29, 30, 31, 32, 33, 34. */
 uint64_t coast_off_hook(uint8_t *station, size_t size, uint32_t time, uint32_t slot, uint8_t *room, size_t room_size);

@@ -10,7 +10,7 @@
 #define SET_UP "S 002001234 26 27"
 #define SPOILT " 128 0 0 0 0 0 0 0 0 0 0 0 0 0 0 0 0 0 0 0 0 0 0 0"
 
-/* A line of a script, in which P1 to P6 stand for their symbols, and what it must give. */
+/* A line of a script, in which P1 to P6 behind its letter stand for their symbols, and what it must give. */
 struct step {
     const char *line;
     uint32_t answer, count, due, clock;
@@ -30,6 +30,15 @@ static const struct step course[] = {
     {"W 4829 0 P5", COAST_ANSWER_DONE, 4, 4870, 4829},
     {"H 4830 0", COAST_ANSWER_IGNORED, 0, 4870, 4830},
     {"T 9000", COAST_ANSWER_DONE, 0, NONE, 4870},
+    {"Q 9100 P1", COAST_ANSWER_DONE, 2, 9261, 9100},
+    {"W 9200 0 P4", COAST_ANSWER_DONE, 1, 9801, 9200},
+    {"D 9300 0", COAST_ANSWER_DONE, 0, 9351, 9300},
+    {"P 9310 0", COAST_ANSWER_DONE, 0, 9351, 9310},
+    {"P 9320 0", COAST_ANSWER_IGNORED, 0, 9351, 9320},
+    {"U 9330 0", COAST_ANSWER_DONE, 0, 9911, 9330},
+    {"O 9910 0", COAST_ANSWER_DONE, 0, NONE, 9910},
+    {"P 9911 0", COAST_ANSWER_IGNORED, 0, NONE, 9911},
+    {"H 9950 0", COAST_ANSWER_DONE, 4, NONE, 9950},
 };
 #define STEPS (sizeof course / sizeof course[0])
 
@@ -38,8 +47,9 @@ static uint64_t hand_in_line(const char *text, const struct lent_bytes *lent) {
     struct line line = {.length = 0};
     struct event event;
     uint8_t list[LIST_MOST];
-    for (; *text != '\0' && *text != 'P'; text++)
-        line.text[line.length++] = (uint8_t)*text;
+    do
+        line.text[line.length++] = (uint8_t)*text++;
+    while (*text != '\0' && *text != 'P');
     line.length -= *text == 'P' ? 1u : 0u; /* the space */
     if (!read_event(&line, &event, list))
         return UINT64_MAX;
@@ -66,6 +76,11 @@ static struct own after(size_t steps) {
     for (size_t i = 0; i < steps; i++)
         hand_in_own(&own, course[i].line);
     return own;
+}
+
+/* Whether a call is answered then, and not yet charged. */
+static bool talks_after(size_t steps) {
+    return (steps >= 7u && steps <= 9u) || steps == 19u || steps == 20u;
 }
 
 static uint32_t due_of(uint64_t returned) {
@@ -127,6 +142,7 @@ static void try_taken_apart(void) {
     want("charged to", coast_charge_stop(ended.room), 4829);
     want("seconds charged", coast_charge_seconds(ended.room), 410);
     want("then the line", coast_action_kind(coast_action_at(ended.room, 1)), COAST_ACTION_RELEASE_LINE);
+    want("charged from off-hook", coast_charge_start(after(STEPS).room), 9910);
     coast_put_number(ended.station, 4000000000u);
     want("a number put", coast_number_at(ended.station), 4000000000u);
 }
@@ -202,8 +218,10 @@ static void try_refusals(void) {
         {"T 99", COAST_ANSWER_TIME_BEFORE_CLOCK},
         {"Q 261" SPOILT, COAST_ANSWER_WAIT_DUE},
         {"W 261 9 P4", COAST_ANSWER_WAIT_DUE},
+        {"P 261 0", COAST_ANSWER_WAIT_DUE},
         {"W 260 2" SPOILT, COAST_ANSWER_NO_SLOT},
         {"O 260 4294967295", COAST_ANSWER_NO_SLOT},
+        {"P 260 2", COAST_ANSWER_NO_SLOT},
         {"W 260 65536 P4", COAST_ANSWER_NO_SLOT},
         {"M 260 257", COAST_ANSWER_NO_SLOT},
         {"Q 260", COAST_ANSWER_BAD_LENGTH},
@@ -226,19 +244,31 @@ static void try_bad_set_ups(void) {
         want_refused("a set-up", bad[i], own.station, COAST_STATION_SIZE, 0, COAST_ANSWER_BAD_SET_UP);
 }
 
-/* One byte made wrong in the station after so many steps: 3 dials on slot 0, 5 lost the carrier there, 10 holds. */
+/* One byte made wrong in the station after so many steps: 3 dials on slot 0, 5 lost the carrier there, 10 holds, 16 has dialled
+ * with its carrier lost. */
 static void try_unsound(void) {
     static const struct {
         size_t steps, place;
         uint8_t value;
-    } wrong[] = {{3, 4, 255}, {3, 8, 1}, {3, 9, 0}, {3, 9, 17}, {3, 10, 33}, {3, 11, 9}, {3, 11, 255}, {3, 13, 255}, {3, 25, 16},
-        {3, 26, 1}, {3, 32, 0}, {3, 37, 2}, {3, 39, 17}, {5, 16, 2}, {5, 18, 255}, {10, 21, 2}, {10, 23, 60}};
+    } wrong[] = {{3, 4, 255}, {3, 8, 1}, {3, 9, 0}, {3, 9, 17}, {3, 10, 33}, {3, 11, 10}, {3, 11, 255}, {3, 13, 255}, {3, 25, 16},
+        {3, 26, 1}, {3, 32, 0}, {3, 37, 2}, {3, 39, 17}, {5, 16, 2}, {5, 18, 255}, {10, 21, 2}, {10, 23, 60}, {16, 11, 10},
+        {16, 13, 255}, {16, 16, 2}, {16, 18, 255}, {16, 32, 0}};
     for (size_t i = 0; i < sizeof wrong / sizeof wrong[0]; i++) {
         struct own own = after(wrong[i].steps);
         own.station[wrong[i].place] = wrong[i].value;
         for (size_t j = 0; j < STEPS; j++)
             want_refused("an unsound station", course[j].line, own.station, COAST_STATION_SIZE, 0, COAST_ANSWER_NOT_SOUND);
     }
+}
+
+/* Before its dialling ended a slot has the phase 5, and then 9; the bytes beside it stand for the same. */
+static void try_dialled_out(void) {
+    struct own dialling = after(15), dialled = after(16);
+    want("the phase of dialling", dialling.station[11], 5);
+    want("the phase of dialled out", dialled.station[11], 9);
+    dialled.station[11] = 5;
+    want("the first end of dialling", coast_answer(hand_in_own(&dialled, "P 9320 0")), COAST_ANSWER_DONE);
+    want_due("a minute from there", hand_in_own(&dialled, "U 9330 0"), 9921);
 }
 
 /* Of all that byte 0 may be, one value alone is a station's; set-up does not look at it. */
@@ -292,7 +322,7 @@ static void try_coming_back(void) {
     }
 }
 
-/* And before another library takes over: an on-hook ends each call, and charges those that were answered, from step 7 to 9. */
+/* And before another library takes over: an on-hook ends each call, and charges those that were answered. */
 static void try_ending_calls(void) {
     for (size_t steps = 0; steps <= STEPS; steps++) {
         struct own own = after(steps);
@@ -303,7 +333,7 @@ static void try_ending_calls(void) {
             for (size_t i = 0; i < coast_count(told); i++)
                 charges += coast_action_kind(coast_action_at(own.room, i)) == COAST_ACTION_CHARGE ? 1u : 0u;
         }
-        want("calls charged", charges, steps >= 7u && steps <= 9u ? 1u : 0u);
+        want("calls charged", charges, talks_after(steps) ? 1u : 0u);
     }
 }
 
@@ -345,6 +375,7 @@ void try_stations(void) {
     try_refusals();
     try_bad_set_ups();
     try_unsound();
+    try_dialled_out();
     try_versions();
     try_advice();
     try_coming_back();
