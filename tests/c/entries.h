@@ -13,6 +13,7 @@
     X('W', heard_on_slot, on_slot_with_symbols) \
     X('U', carrier_up, on_slot)                 \
     X('D', carrier_down, on_slot)               \
+    X('P', dialling_ended, on_slot)             \
     X('O', off_hook, on_slot)                   \
     X('H', on_hook, on_slot)                    \
     X('M', take, by_hand)                       \

@@ -89,12 +89,20 @@ void close_unused(struct work *work, uint32_t slot) {
     free_slot(work, slot);
 }
 
-/* "dial the stored request's number .. Carrier counts as present; wait 600" */
+/* "dial the stored request's number .. Carrier counts as present"; 02: "the
+ * wait is 600 for dialling itself" */
 void dial(struct work *work, uint32_t slot) {
     struct meaning request = slot_at(work, slot)->request;
     store(work, slot, PHASE_DIALLING, &request);
     slot_at(work, slot)->carrier = CARRIER_PRESENT;
     act_dial(work, slot);
+}
+
+/* 02: "at it a new wait of 600 begins"; a carrier wait runs on. */
+void await_reply(struct work *work, uint32_t slot) {
+    struct slot *held = slot_at(work, slot);
+    held->phase = PHASE_DIALLED_OUT;
+    held->due = due_after(work->station->clock, slot_wait(held->phase));
 }
 
 /* "Off-hook while dialling: answered, the reply wait ends, a carrier wait

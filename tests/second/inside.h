@@ -55,6 +55,7 @@ void coasts_end(struct work *work, uint32_t slot);
 void ships_end(struct work *work, uint32_t slot);
 void repeat_ships_end(struct work *work, uint32_t slot);
 void dial(struct work *work, uint32_t slot);
+void await_reply(struct work *work, uint32_t slot);
 void begin_talk(struct work *work, uint32_t slot);
 
 /* ---- station.c ---- */

@@ -35,14 +35,24 @@ static inline bool expects_ship(enum phase phase) {
     return expects_working_call(phase) || is_rung(phase);
 }
 
-/* A line was dialled .. */
-static inline bool expects_reply(enum phase phase) {
+/* A line is being dialled .. */
+static inline bool is_dialling(enum phase phase) {
     return phase == PHASE_DIALLING;
 }
 
-/* .. and answered. */
+/* .. is dialled out, which the exchange tells (02 no. 1) .. */
+static inline bool is_dialled_out(enum phase phase) {
+    return phase == PHASE_DIALLED_OUT;
+}
+
+/* .. and is answered. */
 static inline bool talks(enum phase phase) {
     return phase == PHASE_ANSWERED;
+}
+
+/* "off-hook answers in either wait", and whatever else 01 says of dialling holds in both. */
+static inline bool expects_reply(enum phase phase) {
+    return is_dialling(phase) || is_dialled_out(phase);
 }
 
 /* A line was dialled and is not released. */
@@ -72,7 +82,9 @@ static inline uint32_t slot_wait(enum phase phase) {
         return OFFER_WAIT;
     if (is_rung(phase))
         return RING_BACK_WAIT;
-    if (expects_reply(phase))
+    if (is_dialling(phase))
+        return DIALLING_WAIT;
+    if (is_dialled_out(phase))
         return REPLY_WAIT;
     return is_held(phase) ? HOLD_WAIT : 0u;
 }

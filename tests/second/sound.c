@@ -25,7 +25,7 @@ static bool due_fits(const struct station *station, uint32_t due, uint32_t wait)
     return due >= station->clock && due <= due_after(station->clock, wait);
 }
 
-/* The carrier's record and wait, while dialling or answered. */
+/* The carrier's record and wait, in a call. */
 static bool carrier_fits(const struct station *station, const struct slot *slot) {
     if (slot->carrier == CARRIER_ABSENT)
         return due_fits(station, slot->carrier_due, carrier_wait(slot));

@@ -146,6 +146,14 @@ static int carrier_goes(struct work *work, uint32_t slot) {
 
 /* ---- the line ---- */
 
+/* 02: "A second P in a call, or one after the answer, is ignored" */
+static int last_digit_sent(struct work *work, uint32_t slot) {
+    if (!is_dialling(work->station->slots[slot].phase))
+        return IGNORED;
+    await_reply(work, slot);
+    return DONE;
+}
+
 static int handset_lifted(struct work *work, uint32_t slot) {
     if (!expects_reply(work->station->slots[slot].phase))
         return IGNORED;
@@ -204,6 +212,10 @@ struct step second_carrier_up(struct station station, uint32_t time, uint32_t sl
 
 struct step second_carrier_down(struct station station, uint32_t time, uint32_t slot, struct lent room) {
     return slot_event(&station, time, slot, room, carrier_goes);
+}
+
+struct step second_dialling_ended(struct station station, uint32_t time, uint32_t slot, struct lent room) {
+    return slot_event(&station, time, slot, room, last_digit_sent);
 }
 
 struct step second_off_hook(struct station station, uint32_t time, uint32_t slot, struct lent room) {

@@ -1,4 +1,4 @@
-/* The automatic coast station of 01, by value: it is handed in and the next
+/* The automatic coast station of 01, with 02's no. 1, by value: it is handed in and the next
  * station is handed back, with the answer and the count of actions. */
 #ifndef SECOND_STATION_H
 #define SECOND_STATION_H
@@ -16,6 +16,7 @@
 /* Waits, in tenths of a second. */
 #define OFFER_WAIT 160u
 #define RING_BACK_WAIT 50u
+#define DIALLING_WAIT 600u
 #define REPLY_WAIT 600u
 #define DUPLEX_CARRIER_WAIT 50u
 #define SIMPLEX_CARRIER_WAIT 450u
@@ -48,6 +49,7 @@ enum phase {
     PHASE_ANSWERED,
     PHASE_HOLD,
     PHASE_TAKEN,
+    PHASE_DIALLED_OUT,
     PHASES
 };
 
@@ -62,8 +64,8 @@ struct duration {
 /* Parts that the phase does not use are 0 and are not looked at. */
 struct slot {
     enum phase phase;
-    enum carrier carrier;     /* the ship's, while dialling or answered */
-    uint32_t due;             /* offer, ring-back, acknowledged, reply, hold */
+    enum carrier carrier;     /* the ship's, while dialling, dialled out or answered */
+    uint32_t due;             /* offer, ring-back, acknowledged, dialling, reply, hold */
     uint32_t carrier_due;     /* while the carrier is absent */
     uint32_t start;           /* of an answered call, in tenths */
     struct duration duration; /* of the hold's answer */

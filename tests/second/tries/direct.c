@@ -200,13 +200,13 @@ static void try_soundness(void) {
     s = busy(); s.slots[0].request.first = 101; unsound("duplex wait", s);
     s = busy(); s.queue[0].due = 10002; unsound("queue late", s);
     s = busy(); s.queue[0].due = 999; unsound("queue early", s);
-    s = busy(); s.slots[1].phase = (enum phase)9; unsound("no such phase", s);
+    s = busy(); s.slots[1].phase = (enum phase)10; unsound("no such phase", s);
     /* clang-format on */
 }
 
 /* Each wait, by the number that include/coast.h gives the phase. */
 static void try_phases(void) {
-    static const uint32_t waits[PHASES] = {0, 160, 50, 50, 160, 600, 0, 40, 0};
+    static const uint32_t waits[PHASES] = {0, 160, 50, 50, 160, 600, 0, 40, 0, 600};
     for (size_t i = 0; i < PHASES; i++) {
         struct station s = busy();
         enum phase phase = (enum phase)i;
@@ -225,6 +225,12 @@ static void try_phases(void) {
         s.slots[1].due = 999;
         unsound("due early", s);
         s.slots[1].due = 1000;
+        s.slots[1].carrier = CARRIER_ABSENT;
+        s.slots[1].carrier_due = 1000 + 50 + 1;
+        want("carrier due", second_is_sound(&s), 1);
+        s.slots[1].carrier_due++;
+        want("carrier late", second_is_sound(&s), !has_call(phase));
+        s.slots[1].carrier = CARRIER_PRESENT;
         s.slots[1].duration.kind = FIELD_DURATION;
         s.slots[1].duration.minutes = 60;
         want("duration", second_is_sound(&s), !is_held(phase));

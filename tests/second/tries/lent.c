@@ -7,7 +7,7 @@
 #include "../host/event.h"
 
 #define SIZE 1723u
-#define VERSION 1u /* at byte 0 */
+#define VERSION 2u /* at byte 0 */
 #define CLOCK 1
 #define IDENTITY 5
 #define SLOT_COUNT 9
@@ -138,6 +138,24 @@ static void versions(void) {
     station[0] = wanted[0] = VERSION;
 }
 
+/* With the carrier lost until after it. */
+static void end_of_dialling(void) {
+    want_time(CLOCK, 49, 1); /* 305 */
+    wanted[SLOT + 5] = 1;
+    want_time(SLOT + 6, 100, 1); /* 356 */
+    want("carrier down while dialling", happens("D 305 0"), told(0, 0, 356));
+    wanted[SLOT] = 9;
+    want_time(CLOCK, 54, 1);     /* 310 */
+    want_time(SLOT + 1, 143, 3); /* 911 */
+    want("dialling ended", happens("P 310 0"), told(0, 0, 356));
+    want_time(CLOCK, 64, 1); /* 320 */
+    want("dialling ended again", happens("P 320 0"), told(1, 0, 356));
+    want("dialling ended on no slot", happens("P 330 1"), told(34, 0, 356));
+    want_time(CLOCK, 74, 1); /* 330 */
+    wanted[SLOT + 5] = wanted[SLOT + 6] = wanted[SLOT + 7] = 0;
+    want("carrier up", happens("U 330 0"), told(0, 0, 911));
+}
+
 static void call_and_wait(void) {
     uint8_t another[24];
     wanted[SLOT] = 5;
@@ -153,6 +171,7 @@ static void call_and_wait(void) {
     want_time(QUEUE, 85, 36); /* 9301 */
     want_request(QUEUE + 4, other, 0);
     want("another request", heard("Q 300", another), told(0, 1, 861));
+    end_of_dialling();
     wanted[SLOT] = 6;
     want_time(CLOCK, 144, 1); /* 400 */
     want_time(SLOT + 1, 144, 1);
