@@ -42,12 +42,14 @@ static uint32_t call_again(struct event *event) {
     return OFFER_WAIT;
 }
 
-/* The ship does what it was offered. */
+/* The ship does what it was offered; with nothing to do it may call once more where its line is dialled. */
 static uint32_t answer(struct event *event) {
     uint32_t slot = any_slot(one_in(3) ? is_rung : expects_ship), named;
     const struct slot *held;
     struct meaning m;
     bool ring;
+    if (slot == NONE && one_in(12))
+        slot = any_slot(has_call);
     if (slot == NONE)
         return call(event);
     held = &stage.station.slots[slot];
@@ -59,7 +61,17 @@ static uint32_t answer(struct event *event) {
     event->letter = ring != one_in(40) ? 'Q' : 'W';
     event->slot = one_in(40) ? chance(stage.station.channel_count) : slot;
     put_sequence(event, &m);
-    return ring ? OFFER_WAIT : REPLY_WAIT;
+    return ring ? OFFER_WAIT : DIALLING_WAIT;
+}
+
+/* The exchange tells that dialling has ended, seldom where nothing is dialled. */
+static uint32_t exchange(struct event *event) {
+    uint32_t slot = any_slot(one_in(4) ? has_call : is_dialling);
+    if (slot == NONE && !one_in(8))
+        return answer(event);
+    event->letter = 'P';
+    event->slot = slot == NONE || one_in(20) ? chance(stage.station.channel_count) : slot;
+    return REPLY_WAIT;
 }
 
 /* The handset ashore. */
@@ -115,6 +127,7 @@ static filler *const fillers[MOVES] = {
     [CALL] = call,
     [AGAIN] = call_again,
     [ANSWER] = answer,
+    [EXCHANGE] = exchange,
     [LINE] = handset,
     [CARRIER] = carrier,
     [END] = end_call,

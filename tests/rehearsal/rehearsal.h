@@ -19,7 +19,7 @@ struct event {
 };
 
 /* The kinds of move; a mood gives each its weight. */
-enum move { CALL, AGAIN, ANSWER, LINE, CARRIER, END, TIME, HAND, STRAY, LEAP, NOISE, MOVES };
+enum move { CALL, AGAIN, ANSWER, EXCHANGE, LINE, CARRIER, END, TIME, HAND, STRAY, LEAP, NOISE, MOVES };
 
 struct mood {
     const char *name;

@@ -1,4 +1,5 @@
-/* What a script has reached: each situation that document 01 names, counted from the station before and after a step. */
+/* What a script has reached: each situation of document 01 and of no. 1 of 02, counted from the station before and after a
+ * step. */
 #include <stdio.h>
 
 #include "rehearsal.h"
@@ -13,7 +14,8 @@
     X(B_AGREED, "rule b, acknowledged")                                    \
     X(C_DUPLEX, "rule c, duplex without carrier")                          \
     X(C_PRESENT, "rule c, simplex with carrier")                           \
-    X(C_DIALLING, "rule c ends a call not answered")                       \
+    X(C_DIALLING, "rule c ends a call, dialling")                          \
+    X(C_DIALLED_OUT, "rule c ends a call, dialled out")                    \
     X(C_ANSWERED, "rule c ends an answered call")                          \
     X(C_SEVEN, "rule c, charge, ring-back and answer, seven actions")      \
     X(C_OFFERED, "rule c, then offered a slot again")                      \
@@ -29,20 +31,37 @@
     X(DIAL_LAST, "working call in the last tenth")                         \
     X(DIAL_OTHER_MODE, "working call of the other mode")                   \
     X(WORKING_IN_RING, "working call in ring-back")                        \
+    X(WORKING_DIALLING, "working call, line dialling")                     \
+    X(WORKING_DIALLED_OUT, "working call, line dialled out")               \
+    X(WORKING_ANSWERED, "working call, call answered")                     \
     X(BQ_FIRST, "BQ, first ring-back")                                     \
     X(BQ_SECOND, "BQ, second ring-back")                                   \
     X(BQ_CHANNEL, "BQ, another channel")                                   \
     X(BQ_TWICE, "BQ, acknowledged already")                                \
     X(END_DIALLING, "ship's end, dialling")                                \
+    X(END_DIALLED_OUT, "ship's end, dialled out")                          \
     X(END_ANSWERED, "ship's end, answered")                                \
     X(END_HOLD, "ship's end in the hold")                                  \
     X(END_HOLD_LAST, "ship's end in the hold's last tenth")                \
     X(END_OTHER, "end of call of another ship")                            \
     X(END_FIELD, "end of call with a duration")                            \
+    X(ENDED, "dialling ended, carrier present")                            \
+    X(ENDED_SILENT, "dialling ended, carrier wait runs on")                \
+    X(ENDED_LAST, "dialling ended in its last tenth")                      \
+    X(ENDED_AGAIN, "dialling ended a second time")                         \
+    X(ENDED_ANSWERED, "dialling ended, answered")                          \
+    X(ENDED_EARLY, "dialling ended, offered, ring-back or acknowledged")   \
+    X(ENDED_HOLD, "dialling ended, hold")                                  \
+    X(ENDED_IDLE, "dialling ended, free or taken")                         \
+    X(LIFT_DIALLING, "off-hook before dialling ended")                     \
+    X(LIFT_DIALLED_OUT, "off-hook after dialling ended")                   \
+    X(LIFT_LAST, "off-hook in the reply's last tenth")                     \
+    X(LIFT_LATE, "off-hook over a minute after the working call")          \
     X(LIFT, "off-hook, carrier present")                                   \
     X(LIFT_SILENT, "off-hook, carrier wait runs on")                       \
     X(LIFT_AGAIN, "off-hook, answered")                                    \
     X(LAY_DIALLING, "on-hook, dialling")                                   \
+    X(LAY_DIALLED_OUT, "on-hook, dialled out")                             \
     X(LAY_ANSWERED, "on-hook, answered")                                   \
     X(DOWN_SIMPLEX, "carrier down, simplex")                               \
     X(DOWN_DUPLEX, "carrier down, duplex")                                 \
@@ -54,9 +73,11 @@
     X(DUE_AGREED, "acknowledged due")                                      \
     X(DUE_RING, "first ring-back due")                                     \
     X(DUE_RING_AGAIN, "second ring-back due")                              \
-    X(DUE_REPLY, "no reply")                                               \
+    X(DUE_DIALLING, "no reply, dialling not ended")                        \
+    X(DUE_REPLY, "no reply, dialled out")                                  \
     X(DUE_SIMPLEX, "carrier loss, simplex")                                \
     X(DUE_DUPLEX, "carrier loss, duplex")                                  \
+    X(DUE_DIALLED_OUT, "carrier loss, dialled out")                        \
     X(DUE_ANSWERED, "carrier loss, answered")                              \
     X(DUE_HOLD, "hold due")                                                \
     X(DUE_QUEUE, "queue entry due")                                        \
@@ -91,6 +112,7 @@ static const char *const words[] = {
 #undef AS_WORDS
 };
 static uint32_t times[SEEN_COUNT];
+static uint32_t minute_ends[MOST_SLOTS]; /* the minute of dialling, of each slot's last call */
 
 static void note_if(bool so, enum situation situation) {
     times[situation] += so ? 1u : 0u;
@@ -143,7 +165,8 @@ static void note_in_call(const struct slot *held, const struct step *step, uint3
     bool ended = step->answer == DONE;
     note_if(held->request.first == DUPLEX && held->carrier == CARRIER_ABSENT, SEEN_C_DUPLEX);
     note_if(held->request.first == SIMPLEX && held->carrier == CARRIER_PRESENT, SEEN_C_PRESENT);
-    note_if(ended && expects_reply(held->phase), SEEN_C_DIALLING);
+    note_if(ended && is_dialling(held->phase), SEEN_C_DIALLING);
+    note_if(ended && is_dialled_out(held->phase), SEEN_C_DIALLED_OUT);
     note_if(ended && talks(held->phase), SEEN_C_ANSWERED);
     note_if(ended && step->actions == 7u, SEEN_C_SEVEN);
     note_if(ended && is_offered(step->station.slots[slot].phase), SEEN_C_OFFERED);
@@ -188,35 +211,60 @@ static void note_calling(const struct station *before, const struct event *event
 static void note_working(const struct station *before, const struct event *event, const struct step *step) {
     const struct slot *held = &before->slots[event->slot];
     enum phase phase = held->phase;
-    bool done = step->answer == DONE, call;
+    bool done = step->answer == DONE, own, call;
     struct meaning m;
     if (second_read(event->symbols, event->count, &m) != 0 || !is_ours(before, &m))
         return;
-    call = m.end == OTHER_END && m.first != END_OF_CALL;
+    own = m.self == held->request.self;
+    call = own && m.end == OTHER_END && (m.first == SIMPLEX || m.first == DUPLEX) && m.kind == FIELD_NONE;
     note_if(done && is_offered(phase), SEEN_DIAL);
     note_if(done && agreed(phase), SEEN_DIAL_AGREED);
     note_if(done && call && event->time + 1u == held->due, SEEN_DIAL_LAST);
     note_if(done && call && m.first != held->request.first, SEEN_DIAL_OTHER_MODE);
-    note_if(call && is_rung_once(phase) && m.self == held->request.self, SEEN_WORKING_IN_RING);
-    note_if(done && expects_reply(phase), SEEN_END_DIALLING);
+    note_if(call && is_rung_once(phase), SEEN_WORKING_IN_RING);
+    note_if(call && is_dialling(phase), SEEN_WORKING_DIALLING);
+    note_if(call && is_dialled_out(phase), SEEN_WORKING_DIALLED_OUT);
+    note_if(call && talks(phase), SEEN_WORKING_ANSWERED);
+    note_if(done && is_dialling(phase), SEEN_END_DIALLING);
+    note_if(done && is_dialled_out(phase), SEEN_END_DIALLED_OUT);
     note_if(done && talks(phase), SEEN_END_ANSWERED);
     note_if(done && is_held(phase), SEEN_END_HOLD);
     note_if(done && is_held(phase) && event->time + 1u == held->due, SEEN_END_HOLD_LAST);
-    note_if(!done && has_call(phase) && m.first == END_OF_CALL && m.self != held->request.self, SEEN_END_OTHER);
+    note_if(!done && has_call(phase) && m.first == END_OF_CALL && !own, SEEN_END_OTHER);
     note_if(!done && has_call(phase) && m.kind == FIELD_DURATION, SEEN_END_FIELD);
+}
+
+static void note_dialling_ended(const struct slot *held, uint32_t time) {
+    bool dialling = is_dialling(held->phase), present = held->carrier == CARRIER_PRESENT;
+    note_if(dialling && present, SEEN_ENDED);
+    note_if(dialling && !present, SEEN_ENDED_SILENT);
+    note_if(dialling && time + 1u == held->due, SEEN_ENDED_LAST);
+    note_if(is_dialled_out(held->phase), SEEN_ENDED_AGAIN);
+    note_if(talks(held->phase), SEEN_ENDED_ANSWERED);
+    note_if(expects_ship(held->phase), SEEN_ENDED_EARLY);
+    note_if(is_held(held->phase), SEEN_ENDED_HOLD);
+    note_if(!stores_request(held->phase), SEEN_ENDED_IDLE);
+}
+
+static void note_lifted(const struct slot *held, uint32_t time, uint32_t minute_end) {
+    bool out = is_dialled_out(held->phase), rings = expects_reply(held->phase), present = held->carrier == CARRIER_PRESENT;
+    note_if(is_dialling(held->phase), SEEN_LIFT_DIALLING);
+    note_if(out, SEEN_LIFT_DIALLED_OUT);
+    note_if(out && time + 1u == held->due, SEEN_LIFT_LAST);
+    note_if(out && time >= minute_end, SEEN_LIFT_LATE);
+    note_if(rings && present, SEEN_LIFT);
+    note_if(rings && !present, SEEN_LIFT_SILENT);
+    note_if(talks(held->phase), SEEN_LIFT_AGAIN);
 }
 
 static void note_slot_event(const struct station *before, const struct event *event, const struct step *step) {
     const struct slot *held = &before->slots[event->slot];
     enum phase phase = held->phase;
-    bool dialling = expects_reply(phase), answered = talks(phase), present = held->carrier == CARRIER_PRESENT;
-    bool call = dialling || answered, down = event->letter == 'D', up = event->letter == 'U';
-    bool duplex = held->request.first == DUPLEX;
-    note_if(event->letter == 'O' && dialling && present, SEEN_LIFT);
-    note_if(event->letter == 'O' && dialling && !present, SEEN_LIFT_SILENT);
-    note_if(event->letter == 'O' && answered, SEEN_LIFT_AGAIN);
-    note_if(event->letter == 'H' && dialling, SEEN_LAY_DIALLING);
-    note_if(event->letter == 'H' && answered, SEEN_LAY_ANSWERED);
+    bool call = has_call(phase), present = held->carrier == CARRIER_PRESENT, duplex = held->request.first == DUPLEX;
+    bool down = event->letter == 'D', up = event->letter == 'U';
+    note_if(event->letter == 'H' && is_dialling(phase), SEEN_LAY_DIALLING);
+    note_if(event->letter == 'H' && is_dialled_out(phase), SEEN_LAY_DIALLED_OUT);
+    note_if(event->letter == 'H' && talks(phase), SEEN_LAY_ANSWERED);
     note_if(down && call && present && !duplex, SEEN_DOWN_SIMPLEX);
     note_if(down && call && present && duplex, SEEN_DOWN_DUPLEX);
     note_if(down && call && !present, SEEN_DOWN_AGAIN);
@@ -253,10 +301,12 @@ static void note_fired(const struct station *before, const struct event *event, 
     note_if(own && agreed(held->phase), SEEN_DUE_AGREED);
     note_if(own && is_rung_once(held->phase), SEEN_DUE_RING);
     note_if(own && is_rung_again(held->phase), SEEN_DUE_RING_AGAIN);
-    note_if(own && expects_reply(held->phase), SEEN_DUE_REPLY);
+    note_if(own && is_dialling(held->phase), SEEN_DUE_DIALLING);
+    note_if(own && is_dialled_out(held->phase), SEEN_DUE_REPLY);
     note_if(own && is_held(held->phase), SEEN_DUE_HOLD);
     note_if(silent && !duplex, SEEN_DUE_SIMPLEX);
     note_if(silent && duplex, SEEN_DUE_DUPLEX);
+    note_if(silent && is_dialled_out(held->phase), SEEN_DUE_DIALLED_OUT);
     note_if(answered, SEEN_DUE_ANSWERED);
     note_if(answered && late, SEEN_LATE_CHARGE);
     note_if(wait.kind == WAIT_QUEUE, SEEN_DUE_QUEUE);
@@ -272,7 +322,7 @@ static void note_tick(const struct station *before, const struct event *event) {
         note_fired(before, event, wait);
 }
 
-/* Calls that this step ended, by their length, and slots that it rang back on. */
+/* Calls that this step ended, by their length, slots that it rang back on, and lines that it dialled. */
 static void note_changes(const struct station *before, const struct station *after) {
     for (uint32_t i = 0; i < before->channel_count; i++) {
         const struct slot *was = &before->slots[i], *is = &after->slots[i];
@@ -282,6 +332,8 @@ static void note_changes(const struct station *before, const struct station *aft
         note_if(stopped && seconds >= 360000u && !is_held(is->phase), SEEN_HUNDRED_COAST);
         note_if(stopped && seconds >= 324000u && seconds < 360000u, SEEN_NINETY);
         note_if(i > 0u && is_rung_once(is->phase) && !is_rung_once(was->phase), SEEN_RING_HIGH);
+        if (is_dialling(is->phase))
+            minute_ends[i] = is->due;
     }
 }
 
@@ -293,6 +345,8 @@ void note_step(const struct station *before, const struct event *event, const st
     case 'Q': note_calling(before, event, step); break;
     case 'W': note_working(before, event, step); break;
     case 'T': note_tick(before, event); break;
+    case 'P': note_dialling_ended(&before->slots[event->slot], event->time); break;
+    case 'O': note_lifted(&before->slots[event->slot], event->time, minute_ends[event->slot]); break;
     default: note_slot_event(before, event, step); break;
     }
     note_changes(before, &step->station);

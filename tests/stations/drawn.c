@@ -131,9 +131,9 @@ enum phase draw_phase(bool (*wanted)(enum phase)) {
     return phase;
 }
 
-/* More of them with a call, in which the most can happen. */
+/* More of them with a call, in which the most can happen, and as many answered as not. */
 static enum phase usual_phase(bool with_free) {
-    return one_in(4) ? draw_phase(has_call) : with_free ? any_phase() : draw_phase(is_busy);
+    return one_in(4) ? draw_phase(one_in(2) ? talks : expects_reply) : with_free ? any_phase() : draw_phase(is_busy);
 }
 
 void draw_idle(void) {

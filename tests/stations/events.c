@@ -23,6 +23,7 @@ struct event draw_event(void) {
                 [CALL] = 5,
                 [AGAIN] = 4,
                 [ANSWER] = 4,
+                [EXCHANGE] = 4,
                 [LINE] = 4,
                 [CARRIER] = 4,
                 [END] = 4,

@@ -32,19 +32,19 @@ static void tell_told(const uint8_t *bytes) {
 
 /* What its phase uses. */
 static void tell_slot(uint32_t slot, const uint8_t *bytes) {
-    static const char *const names[] = {
-        "free", "offered", "ring-back", "ring-back repeated", "acknowledged", "dialling", "answered", "hold", "taken"};
-    uint8_t phase = bytes[PHASE_AT];
-    printf("  slot %u: phase %u (%s), channel %u", (unsigned)slot, (unsigned)phase, phase <= 8u ? names[phase] : "none",
+    static const char *const names[PHASES] = {"free", "offered", "ring-back", "ring-back repeated", "acknowledged", "dialling",
+        "answered", "hold", "taken", "dialled out"};
+    enum phase phase = (enum phase)bytes[PHASE_AT];
+    printf("  slot %u: phase %u (%s), channel %u", (unsigned)slot, (unsigned)phase, phase < PHASES ? names[phase] : "none",
         (unsigned)number_at(bytes + CHANNEL_AT, 4));
-    if (phase == 0u || phase >= 8u) {
+    if (!stores_request(phase)) {
         printf("\n");
         return;
     }
-    printf(", %s %u", phase == 6u ? "since" : "due", (unsigned)number_at(bytes + TIME_AT, 4));
-    if (phase == 5u || phase == 6u)
+    printf(", %s %u", talks(phase) ? "since" : "due", (unsigned)number_at(bytes + TIME_AT, 4));
+    if (has_call(phase))
         tell_carrier(bytes);
-    if (phase == 7u)
+    if (is_held(phase))
         tell_told(bytes);
     printf(",");
     tell_request(bytes + SLOT_REQUEST_AT);
