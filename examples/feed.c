@@ -175,6 +175,7 @@ static bool take_slot_event(const char **at, struct order *order) {
     } events[] = {
         {"up", coast_carrier_up},
         {"down", coast_carrier_down},
+        {"dialled", coast_dialling_ended},
         {"off-hook", coast_off_hook},
         {"on-hook", coast_on_hook},
         {"take", coast_take},

@@ -8,6 +8,7 @@
  *   90.0 heard 26 SHIP ends NUMBER             its end of call
  *   90.0 heard 26 symbols 123 0 20 1 ..        whatever symbols were heard
  *   20.0 up 26                                 the ship's carrier is there; `down` where it is gone
+ *   20.0 dialled 26                            the exchange has dialled the number to its end
  *   20.0 off-hook 26                           the handset ashore is lifted; `on-hook` where it is put down
  *   20.0 take 26                               the operator takes the channel; `give-back` where he gives it back
  *   20.0 tick                                  a tick, needed or not

@@ -16,7 +16,9 @@ def steps_of_a_call(chance):
     end = chance.choice([['heard {c} {ship} ends {number}'] * 2, ['on-hook {c}'], ['down {c}'], ['down {c}', 'up {c}', 'down {c}'], []])
     asks = ['heard 70 {ship} asks {mode} {number}'] * chance.choice([1, 1, 2])
     agrees = ['heard 70 {ship} agrees {c} {mode} {number}'] * chance.choice([0, 1])
-    return [*asks, *agrees, 'heard {c} {ship} calls {mode} {number}', 'off-hook {c}', chance.choice(ODD), *end, chance.choice(ODD)]
+    dialled = ['dialled {c}'] * chance.choice([0, 1, 1, 2])
+    calls = ['heard {c} {ship} calls {mode} {number}', *dialled, 'off-hook {c}']
+    return [*asks, *agrees, *calls, chance.choice(ODD), *end, chance.choice(ODD)]
 
 
 def drawn(seed, calls):
