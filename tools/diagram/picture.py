@@ -7,26 +7,30 @@ from reading import NotUnderstood
 from slots import STAYS, conditions
 from words import EVENTS, PHASES, QUEUE, lasting, listed, word
 
-WIDTH, HEIGHT = 1000, 1180
+WIDTH, HEIGHT = 1000, 1300
 PLACES = {  # left, top, width, height
     'taken': (20, 30, 110, 60), 'free': (250, 30, 230, 60), 'freed': (602, 30, 220, 60), 'offered': (250, 180, 230, 350),
     'firstRing': (602, 195, 220, 60), 'secondRing': (602, 335, 220, 60), 'acknowledged': (602, 470, 220, 70),
-    'dialling': (250, 660, 230, 70), 'answered': (250, 800, 230, 60), 'held': (250, 1040, 230, 80),
+    'dialling': (250, 660, 230, 80), 'dialledOut': (250, 800, 230, 60), 'answered': (250, 920, 230, 60), 'held': (250, 1160, 230, 80),
 }
 GROUPS = {  # phases in one frame, and where it stands
-    'ring-back': (['firstRing', 'secondRing'], (592, 180, 240, 230)), 'call': (['dialling', 'answered'], (240, 640, 250, 340)),
+    'ring-back': (['firstRing', 'secondRing'], (592, 180, 240, 230)),
+    'call': (['dialling', 'dialledOut', 'answered'], (240, 640, 335, 460)),
 }
 FREED = {  # on which side the slot is freed, and how high that arrow runs, or how far to the right
     'taken': ('down', 75), 'offered': ('left', 355), 'secondRing': ('right', 365), 'acknowledged': ('right', 505),
-    'dialling': ('left', 695), 'call': ('left', 925), 'held': ('left', 1080),
+    'dialling': ('left', 700), 'dialledOut': ('left', 830), 'call': ('left', 1045), 'held': ('left', 1200),
 }
 # Arrows that do not simply go from the middle of one side to the middle of another.
 AT = {('offered', 'dialling'): 285, ('call', 'offered'): 405}
-BENT = {('acknowledged', 'dialling'): [(712, 540), (712, 695), (480, 695)]}
+BENT = {
+    ('acknowledged', 'dialling'): [(712, 540), (712, 690), (480, 690)],
+    ('dialling', 'answered'): [(480, 725), (560, 725), (560, 950), (480, 950)],
+}
 QUEUE_PLACE = (620, 850, 260, 110)
 UNSAID = ['from its ship', 'from a ship that does not wait']
-NOTES = ["An arrow from a dashed frame is that of each phase in it. Sequences are those of the slot's own ship.",
-         'Times are tenths of a second; a wait falls due one tenth after its length.']
+NOTES = ['An arrow from a dashed frame, and what stands free in it, is that of each phase in it. Times are tenths of a second;',
+         "a wait falls due one tenth after its length. Sequences are those of the slot's own ship."]
 
 
 # ── what is drawn ─────────────────────────────────────────────────────────────

@@ -3,11 +3,12 @@ from reading import NotUnderstood
 
 PHASES = {
     'free': 'free', 'taken': 'taken', 'offered': 'offered', 'firstRing': 'ring-back', 'secondRing': 'ring-back repeated',
-    'acknowledged': 'acknowledged', 'dialling': 'dialling', 'answered': 'answered', 'held': 'hold',
+    'acknowledged': 'acknowledged', 'dialling': 'dialling', 'dialledOut': 'dialled out', 'answered': 'answered', 'held': 'hold',
 }
 EVENTS = {
     'onChannel70 callRequest': 'call request', 'onChannel70 bq': 'BQ', 'onSlot heard workingCall': 'working call',
-    'onSlot heard endOfCall': 'end of call', 'onSlot signal lineLifted': 'off-hook', 'onSlot signal lineHung': 'on-hook',
+    'onSlot heard endOfCall': 'end of call', 'onSlot signal lineDialledOut': 'dialling ended', 'onSlot signal lineLifted': 'off-hook',
+    'onSlot signal lineHung': 'on-hook',
     'onSlot signal carrierHeard': 'carrier up', 'onSlot signal carrierLost': 'carrier down', 'onSlot operator handTakes': 'operator takes',
     'onSlot operator handGives': 'operator gives back', 'tick some main': 'wait due', 'tick some loss': 'carrier wait due',
     'tick some ofQueue': 'queue wait due', 'tick none': 'tick with nothing due', 'onChannel70 dataRequest': 'data request',
@@ -26,7 +27,8 @@ ANSWERS = {
 }
 # What a slot keeps: each argument of its constructors, and each field of their records.
 KEPT = {
-    'Dealing.request': 'the request', 'pending.2': 'the due time', 'dialling.0': "the reply's due time", 'answered.0': 'since when',
+    'Dealing.request': 'the request', 'pending.2': 'the due time', 'dialling.0': "the dialling's due time",
+    'dialledOut.0': "the reply's due time", 'answered.0': 'since when',
     'busy.2': "a lost carrier's due time", 'held.1': 'the duration told', 'held.2': 'the due time',
 }
 # What may change of it while the phase stays.
