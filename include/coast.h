@@ -136,8 +136,8 @@ uint32_t coast_write_sequence(const uint8_t *meaning, size_t size, uint8_t *room
  * is not 0.
  *
  * A station is sound if document 01, with no. 1 of document 02, allows it: its identity, channels and stored requests keep the
- * rules, no ship stands twice, no call was answered after the clock, and each due time lies from the clock to the clock plus its wait and a tenth.
- * All that the library leaves is sound. */
+ * rules, no ship stands twice, no call was answered after the clock, and each due time lies from the clock to the clock plus
+ * its wait and a tenth. All that the library leaves is sound. */
 #define COAST_STATION_SIZE 1723
 
 /* The version moves whenever the layout does, and stands at byte 0 in every layout. Every entry refuses a station of

@@ -40,7 +40,7 @@ pub data Move (i t : ℕ) : Slot → Next → List Action → Type 0 where
   to-ring : (r : Dealing) (d : ℕ)
       → Move i t (pending firstRing r d) (becomes (rungAgain r t)) (does (ringBack i (r .request)) ∷ [])
   to-drop : (k : Kind) (r : Dealing) (d : ℕ) → Move i t (pending k r d) frees (does (carrierOff i) ∷ [])
-  -- dialling or answered
+  -- dialling, dialled out or answered
   to-stage : (r : Dealing) (g q : Stage) (c : Option ℕ) → stageFits t q ≡ true → Move i t (busy r g c) (becomes (busy r q c)) []
   to-lose : (r : Dealing) (g : Stage) (c : Option ℕ) → Move i t (busy r g c) (becomes (busy r g (startLoss t (r .request .mode) c))) []
   to-regain : (r : Dealing) (g : Stage) (c : Option ℕ) → Move i t (busy r g c) (becomes (busy r g none)) []
