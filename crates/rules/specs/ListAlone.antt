@@ -2,5 +2,6 @@
 pub mod Book
 pub mod Reading
 pub mod ReadingLaws
-pub mod ThreeWords
+pub mod LineWords
 pub mod Repeated
+pub mod BeingCalled

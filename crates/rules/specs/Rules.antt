@@ -12,6 +12,7 @@ pub mod Station
 pub mod Slots
 pub mod Sound
 pub mod Requests
+pub mod Ashore
 pub mod Calls
 pub mod Bytes
 pub mod Verdict

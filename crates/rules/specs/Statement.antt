@@ -1,7 +1,8 @@
 -- What is claimed of every run: the theorem on charges, and what stands beside it.
 use mathlib.Core.Path.{_≡_}
+use mathlib.Core.Logic.{_⊎_}
 use mathlib.Core.List.{List, [], _∷_, _++_}
-use mathlib.Core.Bool.{true}
+use mathlib.Core.Bool.{true, false}
 use mathlib.Core.Option.{Option, none, some}
 use Prim.Native.Nat.{ℕ, suc, _+_, _-_, _/_, _<_, _≤_}
 use lib.ListN.{length}
@@ -9,15 +10,17 @@ use Rattle.units.specs.declared.Seconds.{Seconds}
 use Rattle.rules.specs.Rules.Places.{lowest, Each}
 use Rattle.rules.specs.Rules.Words.{Config, Event, Deed}
 use Rattle.rules.specs.Rules.Actions.{Charge, Action, does, over, charge}
-use Rattle.rules.specs.Rules.Station.{Slot, Waiting, Station, fresh, answeredIn, isFree}
+use Rattle.rules.specs.Rules.Station.{Kind, firstRing, isCalled, answered, Dealing, Slot, free, taken, pending, busy, held}
+use Rattle.rules.specs.Rules.Station.{ringsIn, Waiting, Station, theSlot, fresh, answeredIn, isFree}
 use Rattle.rules.specs.Rules.Sound.{sound}
 use Rattle.rules.specs.Rules.Calls.{act}
 use Rattle.rules.specs.Rules.Verdict.{verdict, setUpVerdict, Entry, play, final}
 use Rattle.rules.specs.Rules.Bytes.{payloadOf}
 use Rattle.rules.specs.ListAlone.Book.{Book, Note, Stop, column, blankBook}
 use Rattle.rules.specs.ListAlone.Reading.{Numbered, numbered, stops, counted, countedByCalls, readAll}
-use Rattle.rules.specs.ListAlone.ThreeWords.{idle, wordAfter, wordOf}
+use Rattle.rules.specs.ListAlone.LineWords.{unused, wordAfter, wordOf, rungAfter, InTurn, releases}
 use Rattle.rules.specs.ListAlone.Repeated.{Answers, RingsSame, DialsNamed, DeedByDeed}
+use Rattle.rules.specs.ListAlone.BeingCalled.{OffersOthers, AsksInVain}
 
 -- ── the list, and the charges in it ──────────────────────────────────────────
 
@@ -138,9 +141,10 @@ AlwaysFits = OfEveryRun (λ c es. (length (stationAfter c es .slots) ≤ 16) × 
 abbrev pub OfEveryList : (Config → List Note → Type 0) → Type 0
 OfEveryList P = OfEveryRun (λ c es. P c (listOf c es))
 
--- "dial", "release line" and off-hook alone say of every slot what the book says in its column, after the last entry
+-- "dial", "release line", 8, 9, a call from ashore, off-hook and carrier up alone say of every slot what the book says in its column,
+-- after the last entry
 abbrev pub WordsAgree : Config → List Note → Type 0
-WordsAgree c l = (i : ℕ) → i < length (c .channels) → wordAfter i l idle ≡ wordOf (column (readAll c l (blankBook c)) i .call)
+WordsAgree c l = (i : ℕ) → i < length (c .channels) → wordAfter c i l unused ≡ wordOf (column (readAll c l (blankBook c)) i .call)
 
 -- of every list, so after every entry
 unfoldable pub Literally : Type 0
@@ -155,17 +159,67 @@ OfEveryEntry P = OfEveryList (EveryEntry P)
 
 -- What is answered or dialled was heard. Whether anything is, and which waiting ship is rung back, the next three leave to the rules.
 
--- an acknowledgement or a 104 repeats the request that its own entry heard, a ring-back the one that its ship was last told to wait with
+-- an acknowledgement or a 104 repeats the request that its own entry heard, a ring-back the one that its ship was last told to wait with,
+-- a call from ashore the ship, mode and digits of its own event, and what is sent once more those of the first sending
 unfoldable pub AnswersRepeat : Type 0
 AnswersRepeat = OfEveryEntry Answers
 
--- a ring-back comes just behind its slot's carrier, nothing having been said of that slot, or repeats the one that channel 70 said last
+-- a ring-back or a call from ashore comes just behind its slot's carrier, nothing having been said of that slot, or repeats the one that
+-- channel 70 said last
 unfoldable pub SecondRingRepeats : Type 0
 SecondRingRepeats = OfEveryEntry (DeedByDeed RingsSame)
 
 -- a number that is dialled is that of the request which channel 70 last named for that slot
 unfoldable pub DialsAsked : Type 0
 DialsAsked = OfEveryEntry (DeedByDeed DialsNamed)
+
+-- 02, no. 2: calls from ashore. When one begins and why it is dropped, the next five leave to the rules; when it rings, `Literally` says.
+
+-- a slot rings exactly if the last 8 or 9 given on it is 8
+abbrev pub RingsBy : List Note → Station → Type 0
+RingsBy l st = (i : ℕ) → rungAfter i l false ≡ ringsIn (theSlot st i)
+
+unfoldable pub RingsAsTold : Type 0
+RingsAsTold = OfEveryRun (λ c es. RingsBy (listOf c es) (stationAfter c es))
+
+-- one 8 is given where it begins to ring, one 9 where it ends, and no other
+unfoldable pub RingsInTurn : Type 0
+RingsInTurn = OfEveryEntry InTurn
+
+-- a ship that is being called is not offered a slot, nor put off or refused, nor called or rung back on a second slot
+unfoldable pub CalledNotOffered : Type 0
+CalledNotOffered = OfEveryEntry OffersOthers
+
+-- and where it asks, for a call or for data, nothing is done
+unfoldable pub CalledAskInVain : Type 0
+CalledAskInVain = OfEveryEntry AsksInVain
+
+-- a call from ashore goes on: its ship is still being called, or answers at t
+abbrev pub GoesOn : Dealing → ℕ → Slot → Type 0
+GoesOn r t free = ⊥
+GoesOn r t taken = ⊥
+GoesOn r t (pending k o d) = (isCalled k ≡ true) × (o ≡ r)
+GoesOn r t (busy o g c) = (o ≡ r) × (g ≡ answered t)
+GoesOn r t (held o n d) = ⊥
+
+-- the slot is freed: free, or in ring-back for one that waited
+abbrev pub IsFreed : Slot → Type 0
+IsFreed free = Unit {0}
+IsFreed taken = ⊥
+IsFreed (pending k o d) = k ≡ firstRing
+IsFreed (busy o g c) = ⊥
+IsFreed (held o n d) = ⊥
+
+-- from st to next: while a call from ashore goes on its line is not released; where it is dropped, the line is released once, in that step
+abbrev pub ReleasedWhenDropped : Station → Station → List Action → Type 0
+ReleasedWhenDropped st next acts = (i : ℕ) (k : Kind) (r : Dealing) (d : ℕ) → theSlot st i ≡ pending k r d → isCalled k ≡ true
+    → (GoesOn r (next .clock) (theSlot next i) × (releases i (deedsOf acts) ≡ 0))
+    ⊎ (IsFreed (theSlot next i) × (releases i (deedsOf acts) ≡ 1))
+
+-- of every station and every event that it accepts
+unfoldable pub DroppedReleased : Type 0
+DroppedReleased = (c : Config) (st : Station) (e : Event) → verdict c st e ≡ none
+    → ReleasedWhenDropped st (act c st e .next) (act c st e .acts)
 
 -- while a ship waits no slot is free
 unfoldable pub NoChannelIdle : Type 0

@@ -40,6 +40,13 @@ offerTime = 16
 abbrev pub ringTime : ℕ
 ringTime = 5
 
+-- a call from ashore, and its ringing
+abbrev pub callTime : ℕ
+callTime = 5
+
+abbrev pub ringingTime : ℕ
+ringingTime = 60
+
 abbrev pub diallingTime : ℕ
 diallingTime = 60
 
@@ -77,9 +84,10 @@ pub data Said : Type 0 where
   toldRQ : Request → Said
   settled : Request → Said  -- the ship has answered the ring-back
 
--- the call on it: dialled and not released; answered and not stopped
+-- the call on it: from ashore or dialled, and not released; answered and not stopped
 pub data Call : Type 0 where
   quiet : Call
+  called : Request → Bool → Call  -- from ashore: whether it rings
   dialled : Party → Mode → Bool → Call  -- whether its dialling has ended
   talking : Party → Mode → ℕ → Call  -- since when
 

@@ -8,12 +8,15 @@ use lib.Dec.{eqb}
 use Rattle.rules.specs.Rules.Places.{dropAt}
 use Rattle.rules.specs.Rules.Words.{Party, is, Mode, simplex, duplex, Request, Config}
 use Rattle.rules.specs.Rules.Words.{Signal, lineDialledOut, lineLifted, lineHung, carrierHeard, carrierLost}
-use Rattle.rules.specs.Rules.Words.{Happened, heard, signal, operator, What, tick, onChannel70, onSlot, Event}
-use Rattle.rules.specs.Rules.Words.{Deed, carrierOn, carrierOff, acknowledge, ringBack, unable, dial, releaseLine}
+use Rattle.rules.specs.Rules.Words.{Happened, heard, signal, operator, What, tick, onChannel70, onSlot, fromAshore, Event}
+use Rattle.rules.specs.Rules.Words.{Deed, carrierOn, carrierOff, acknowledge, callShip, unable, dial, releaseLine}
+use Rattle.rules.specs.Rules.Words.{ringingOn, ringingOff, busyTone}
 use Rattle.rules.specs.Rules.Waits.{ofQueue, loss, main, Due}
-use Rattle.rules.specs.Rules.Heard.{Heard, callRequest, dataRequest, bq, workingCall, endOfCall, nothing, meaning}
-use Rattle.rules.specs.ListAlone.Book.{Note, Stop, after, silence, offerTime, ringTime, diallingTime, replyTime, holdTime}
-use Rattle.rules.specs.ListAlone.Book.{queueTime, Said, silent, toldBQ, toldRQ, settled, Call, quiet, dialled, talking}
+use Rattle.rules.specs.Rules.Heard.{Heard, callRequest, dataRequest, bq, workingCall, endOfCall, declined, nothing, meaning}
+use Rattle.rules.specs.Rules.Heard.{ashoreRequest}
+use Rattle.rules.specs.ListAlone.Book.{Note, Stop, after, silence, offerTime, ringTime, callTime, ringingTime, diallingTime}
+use Rattle.rules.specs.ListAlone.Book.{replyTime, holdTime}
+use Rattle.rules.specs.ListAlone.Book.{queueTime, Said, silent, toldBQ, toldRQ, settled, Call, quiet, called, dialled, talking}
 use Rattle.rules.specs.ListAlone.Book.{Column, Place, Book, atColumn, atPlaces, column, falls}
 unfoldable use Rattle.rules.specs.ListAlone.Book.{alike}
 
@@ -24,6 +27,7 @@ abbrev pub fallsAt : Book → ℕ → What → Option Due
 fallsAt b t tick = falls t b
 fallsAt b t (onChannel70 m) = none
 fallsAt b t (onSlot i h) = none
+fallsAt b t (fromAshore a) = none
 
 abbrev pub falling : Book → Event → Option Due
 falling b e = fallsAt b (e .time) (e .what)
@@ -40,11 +44,13 @@ moment b e = momentOf (e .time) (falling b e)
 
 abbrev pub stopOf : ℕ → ℕ → Call → List Stop
 stopOf t i quiet = []
+stopOf t i (called r rings) = []
 stopOf t i (dialled x m ended) = []
 stopOf t i (talking x m b) = record { slot = i; ship = x .ship; start = record { 0 = b }; stop = record { 0 = t } } ∷ []
 
 abbrev pub callOf : Party → Call → Bool
 callOf x quiet = false
+callOf x (called r rings) = false
 callOf x (dialled y m ended) = is x y
 callOf x (talking y m b) = is x y
 
@@ -55,6 +61,7 @@ stopsSaid t i k (dataRequest x n) = []
 stopsSaid t i k (bq j x) = []
 stopsSaid t i k (workingCall x) = []
 stopsSaid t i k (endOfCall x) = cond (callOf x k) (stopOf t i k) []
+stopsSaid t i k (declined x) = []
 stopsSaid t i k nothing = []
 
 -- and "on-hook"
@@ -83,6 +90,7 @@ lost duplex g = false
 -- "rule c": the ship of an answered simplex call asks again while its carrier is absent
 abbrev pub askedAgain : Party → Call → Option ℕ → Bool
 askedAgain x quiet g = false
+askedAgain x (called r rings) g = false
 askedAgain x (dialled y m ended) g = false
 askedAgain x (talking y m b) g = is x y && lost m g
 
@@ -96,6 +104,7 @@ stopsHeard t ls (dataRequest x n) = []
 stopsHeard t ls (bq i x) = []
 stopsHeard t ls (workingCall x) = []
 stopsHeard t ls (endOfCall x) = []
+stopsHeard t ls (declined x) = []
 stopsHeard t ls nothing = []
 
 -- the calls that an entry stops at the moment t, if it fires the wait f
@@ -103,17 +112,20 @@ abbrev pub stopsAt : Config → ℕ → Book → Option Due → What → List St
 stopsAt c t b f tick = stopsDue t b f
 stopsAt c t b f (onChannel70 m) = stopsHeard t (b .columns) (meaning c m)
 stopsAt c t b f (onSlot i h) = stopsOn c t i (column b i .call) h
+stopsAt c t b f (fromAshore a) = []
 
 -- ── what an event says ───────────────────────────────────────────────────────
 
 -- an answered call has stopped
 abbrev pub goneAfter : Call → Option ℕ → Option ℕ
 goneAfter quiet g = g
+goneAfter (called r rings) g = g
 goneAfter (dialled x m ended) g = g
 goneAfter (talking x m b) g = none
 
 abbrev pub closed : Call → Call
 closed quiet = quiet
+closed (called r rings) = called r rings
 closed (dialled x m ended) = dialled x m ended
 closed (talking x m b) = quiet
 
@@ -129,6 +141,7 @@ withGone g l = record { said = l .said; wait = l .wait; call = l .call; gone = g
 -- the exchange has dialled: the called person's minute begins, once in a call
 abbrev pub dialOutCall : ℕ → Call → Column → Column
 dialOutCall t quiet l = l
+dialOutCall t (called r rings) l = l
 dialOutCall t (dialled x m false) l = record { said = l .said; wait = some (after t replyTime); call = dialled x m true; gone = l .gone }
 dialOutCall t (dialled x m true) l = l
 dialOutCall t (talking x m b) l = l
@@ -139,11 +152,23 @@ dialOut t l = dialOutCall t (l .call) l
 -- off-hook on a dialled line: it talks from then on, and its wait ends
 abbrev pub pickUpCall : ℕ → Call → Column → Column
 pickUpCall t quiet l = l
+pickUpCall t (called r rings) l = l
 pickUpCall t (dialled x m ended) l = record { said = l .said; wait = none; call = talking x m t; gone = l .gone }
 pickUpCall t (talking x m b) l = l
 
 abbrev pub pickUp : ℕ → Column → Column
 pickUp t l = pickUpCall t (l .call) l
+
+-- carrier up: the carrier is there; while a call from ashore rings, it is the ship's answer, and its wait ends
+abbrev pub comeUpCall : ℕ → Call → Column → Column
+comeUpCall t quiet l = withGone none l
+comeUpCall t (called r false) l = withGone none l
+comeUpCall t (called r true) l = record { said = l .said; wait = none; call = talking (r .who) (r .mode) t; gone = none }
+comeUpCall t (dialled x m ended) l = withGone none l
+comeUpCall t (talking x m b) l = withGone none l
+
+abbrev pub comeUp : ℕ → Column → Column
+comeUp t l = comeUpCall t (l .call) l
 
 -- absent from t on, unless it is absent already
 abbrev pub absentFrom : ℕ → Mode → Option ℕ → Option ℕ
@@ -152,6 +177,7 @@ absentFrom t m (some d) = some d
 
 abbrev pub loseCall : ℕ → Call → Column → Column
 loseCall t quiet l = l
+loseCall t (called r rings) l = l
 loseCall t (dialled x m ended) l = withGone (absentFrom t m (l .gone)) l
 loseCall t (talking x m b) l = withGone (absentFrom t m (l .gone)) l
 
@@ -168,13 +194,14 @@ hearSaid t (dataRequest x n) l = l
 hearSaid t (bq i x) l = l
 hearSaid t (workingCall x) l = l
 hearSaid t (endOfCall x) l = signOff t x l
+hearSaid t (declined x) l = l
 hearSaid t nothing l = l
 
 abbrev pub hearSignal : ℕ → Signal → Column → Column
 hearSignal t lineDialledOut l = dialOut t l
 hearSignal t lineLifted l = pickUp t l
 hearSignal t lineHung l = close l
-hearSignal t carrierHeard l = withGone none l
+hearSignal t carrierHeard l = comeUp t l
 hearSignal t carrierLost l = lose t l
 
 abbrev pub hearColumn : Config → ℕ → Happened → Column → Column
@@ -191,8 +218,21 @@ settleSaid t x (toldRQ r) l = cond (is x (r .who))
     l
 settleSaid t x (settled r) l = l
 
+-- the ship's BQ to a call from ashore, the first one: it rings
+abbrev pub beginRingingCall : ℕ → Party → Call → Column → Column
+beginRingingCall t x quiet l = l
+beginRingingCall t x (called r false) l = cond (is x (r .who))
+    (record { said = l .said; wait = some (after t ringingTime); call = called r true; gone = l .gone })
+    l
+beginRingingCall t x (called r true) l = l
+beginRingingCall t x (dialled y m ended) l = l
+beginRingingCall t x (talking y m b) l = l
+
+abbrev pub beginRinging : ℕ → Party → Column → Column
+beginRinging t x l = beginRingingCall t x (l .call) l
+
 abbrev pub settle : ℕ → Party → Column → Column
-settle t x l = settleSaid t x (l .said) l
+settle t x l = settleSaid t x (l .said) (beginRinging t x l)
 
 -- a request from the ship of an answered simplex call whose carrier is absent
 abbrev pub again : Party → Column → Column
@@ -204,6 +244,7 @@ hearHeard t (dataRequest x n) b = b
 hearHeard t (bq i x) b = atColumn i (settle t x) b
 hearHeard t (workingCall x) b = b
 hearHeard t (endOfCall x) b = b
+hearHeard t (declined x) b = b
 hearHeard t nothing b = b
 
 -- the wait that the tick fires is over
@@ -216,12 +257,21 @@ abbrev pub hear : Config → ℕ → Option Due → What → Book → Book
 hear c t f tick b = hearDue b f
 hear c t f (onChannel70 m) b = hearHeard t (meaning c m) b
 hear c t f (onSlot i h) b = atColumn i (hearColumn c t h) b
+hear c t f (fromAshore a) b = b
 
 -- what channel 70 says to this station
 abbrev pub heardAt : Config → What → Heard
 heardAt c tick = nothing
 heardAt c (onChannel70 m) = meaning c m
 heardAt c (onSlot i h) = nothing
+heardAt c (fromAshore a) = nothing
+
+-- what a caller ashore asks of this station
+abbrev pub askedAt : Config → What → Option Request
+askedAt c tick = none
+askedAt c (onChannel70 m) = none
+askedAt c (onSlot i h) = none
+askedAt c (fromAshore a) = some (ashoreRequest c a)
 
 -- ── what a deed says ─────────────────────────────────────────────────────────
 
@@ -241,8 +291,38 @@ tell t r l = tellSaid t r (l .said) l
 abbrev pub rungUp : ℕ → Request → Column → Column
 rungUp t r l = record { said = toldRQ r; wait = some (after t ringTime); call = l .call; gone = l .gone }
 
+abbrev pub leave : Party → List Place → List Place
+leave x [] = []
+leave x (p ∷ ps) = cond (is x (p .who)) ps (p ∷ leave x ps)
+
+-- a call from ashore, its first sending or its second
+abbrev pub takeUp : Request → Call → Call
+takeUp r quiet = called r false
+takeUp r (called o rings) = called r rings
+takeUp r (dialled x m ended) = called r false
+takeUp r (talking x m b) = talking x m b
+
+abbrev pub callUp : ℕ → Request → Column → Column
+callUp t r l = record { said = silent; wait = some (after t callTime); call = takeUp r (l .call); gone = none }
+
+-- a call to a ship in an entry that nobody ashore has asked for: the second sending of a call from ashore, or a ring-back
+abbrev pub summonCall : ℕ → Request → Call → Column → Column
+summonCall t r quiet l = rungUp t r l
+summonCall t r (called o rings) l = callUp t r l
+summonCall t r (dialled x m ended) l = rungUp t r l
+summonCall t r (talking x m b) l = rungUp t r l
+
+abbrev pub summon : ℕ → Request → Column → Column
+summon t r l = summonCall t r (l .call) l
+
+-- by what was asked ashore in the same entry
+abbrev pub sendCall : Option Request → ℕ → ℕ → Request → Book → Book
+sendCall none t i r b = atPlaces (leave (r .who)) (atColumn i (summon t r) b)
+sendCall (some q) t i r b = atColumn i (callUp t r) b
+
 abbrev pub beginCall : Request → Call → Call
 beginCall r quiet = dialled (r .who) (r .mode) false
+beginCall r (called q rings) = dialled (r .who) (r .mode) false
 beginCall r (dialled x m ended) = dialled (r .who) (r .mode) false
 beginCall r (talking x m b) = talking x m b
 
@@ -262,6 +342,7 @@ dialUp t l = dialSaid t (l .said) l
 
 abbrev pub letGoCall : Call → Column → Column
 letGoCall quiet l = l
+letGoCall (called r rings) l = record { said = l .said; wait = none; call = quiet; gone = none }
 letGoCall (dialled x m ended) l = record { said = l .said; wait = none; call = quiet; gone = none }
 letGoCall (talking x m b) l = l
 
@@ -272,10 +353,6 @@ letGo l = letGoCall (l .call) l
 abbrev pub hush : Column → Column
 hush l = record { said = silent; wait = l .wait; call = l .call; gone = l .gone }
 
-abbrev pub leave : Party → List Place → List Place
-leave x [] = []
-leave x (p ∷ ps) = cond (is x (p .who)) ps (p ∷ leave x ps)
-
 -- told 104/103: the ship joins the queue, unless it stands there
 abbrev pub join : ℕ → Party → List Place → List Place
 join t x [] = record { who = x; due = after t queueTime } ∷ []
@@ -284,18 +361,22 @@ join t x (p ∷ ps) = cond (is x (p .who)) (p ∷ ps) (p ∷ join t x ps)
 abbrev pub queued : ℕ → ℕ → Party → Book → Book
 queued t n x b = cond (eqb n 103) (atPlaces (join t x) b) b
 
-abbrev pub read : ℕ → Deed → Book → Book
-read t (carrierOn i) b = b
-read t (carrierOff i) b = atColumn i hush b
-read t (acknowledge i r) b = atColumn i (tell t r) b
-read t (ringBack i r) b = atPlaces (leave (r .who)) (atColumn i (rungUp t r) b)
-read t (unable n x digits) b = queued t n x b
-read t (dial i digits) b = atColumn i (dialUp t) b
-read t (releaseLine i) b = atColumn i letGo b
+-- a deed of an entry in which q, if anything, was asked ashore; the caller's ringing and his tone say nothing of the call
+abbrev pub read : Option Request → ℕ → Deed → Book → Book
+read q t (carrierOn i) b = b
+read q t (carrierOff i) b = atColumn i hush b
+read q t (acknowledge i r) b = atColumn i (tell t r) b
+read q t (callShip i r) b = sendCall q t i r b
+read q t (unable n x digits) b = queued t n x b
+read q t (dial i digits) b = atColumn i (dialUp t) b
+read q t (releaseLine i) b = atColumn i letGo b
+read q t (ringingOn i) b = b
+read q t (ringingOff i) b = b
+read q t (busyTone i) b = b
 
-unfoldable pub reads : ℕ → List Deed → Book → Book
-reads t [] b = b
-reads t (d ∷ ds) b = reads t ds (read t d b)
+unfoldable pub reads : Option Request → ℕ → List Deed → Book → Book
+reads q t [] b = b
+reads q t (d ∷ ds) b = reads q t ds (read q t d b)
 
 -- ── the list read ────────────────────────────────────────────────────────────
 
@@ -305,7 +386,7 @@ setNow t b = record { now = t; columns = b .columns; places = b .places }
 -- the book after an entry: its event heard, then its deeds read
 unfoldable pub turn : Config → Book → Note → Book
 turn c b n =
-    reads (moment b (n .event)) (n .deeds)
+    reads (askedAt c (n .event .what)) (moment b (n .event)) (n .deeds)
     (hear c (moment b (n .event)) (falling b (n .event)) (n .event .what) (setNow (moment b (n .event)) b))
 
 unfoldable pub stopsIn : Config → Book → Note → List Stop
@@ -333,6 +414,7 @@ readAll c (n ∷ ns) b = readAll c ns (turn c b n)
 
 abbrev pub isTalking : Call → ℕ
 isTalking quiet = 0
+isTalking (called r rings) = 0
 isTalking (dialled x m ended) = 0
 isTalking (talking x m b) = 1
 
@@ -348,6 +430,7 @@ counted c (n ∷ ns) b = (moment b (n .event) - b .now) * talkers (b .columns) +
 -- by calls: what a call has talked up to t, if it is answered and not stopped
 abbrev pub talked : ℕ → Call → ℕ
 talked t quiet = 0
+talked t (called r rings) = 0
 talked t (dialled x m ended) = 0
 talked t (talking x m b) = t - b
 

@@ -5,26 +5,33 @@ use mathlib.Core.Bool.{Bool, false, cond, _&&_, _||_}
 use mathlib.Core.Option.{Option, none, some}
 use Prim.Native.Nat.{ℕ}
 use lib.Dec.{eqb}
-use Rattle.rules.specs.Rules.Places.{Each}
 use Rattle.rules.specs.Rules.Words.{Party, is, Request, Config}
-use Rattle.rules.specs.Rules.Words.{Deed, carrierOn, carrierOff, acknowledge, ringBack, unable, dial, releaseLine}
-use Rattle.rules.specs.Rules.Heard.{Heard, callRequest, dataRequest, bq, workingCall, endOfCall, nothing}
-use Rattle.rules.specs.ListAlone.Book.{Note, Said, silent, toldBQ, toldRQ, settled, Book, blankBook, column}
-use Rattle.rules.specs.ListAlone.Reading.{moment, heardAt, read, readAll}
+use Rattle.rules.specs.Rules.Words.{Deed, carrierOn, carrierOff, acknowledge, callShip, unable, dial, releaseLine}
+use Rattle.rules.specs.Rules.Words.{ringingOn, ringingOff, busyTone}
+use Rattle.rules.specs.Rules.Heard.{Heard, callRequest, dataRequest, bq, workingCall, endOfCall, declined, nothing}
+use Rattle.rules.specs.ListAlone.Book.{Note, Said, silent, toldBQ, toldRQ, settled, Call, quiet, called, dialled, talking}
+use Rattle.rules.specs.ListAlone.Book.{Book, blankBook, column}
+use Rattle.rules.specs.ListAlone.Reading.{moment, heardAt, askedAt, read, readAll}
 
--- what channel 70 says in the entry itself
+-- what channel 70 says in the entry itself, and what a caller ashore asks in it
 abbrev pub heardIn : Config → Note → Heard
 heardIn c n = heardAt c (n .event .what)
+
+abbrev pub askedIn : Config → Note → Option Request
+askedIn c n = askedAt c (n .event .what)
 
 -- the answer 104/103 to the ship x
 abbrev pub putsOff : Party → Deed → Bool
 putsOff x (carrierOn i) = false
 putsOff x (carrierOff i) = false
 putsOff x (acknowledge i r) = false
-putsOff x (ringBack i r) = false
+putsOff x (callShip i r) = false
 putsOff x (unable n y digits) = eqb n 103 && is y x
 putsOff x (dial i digits) = false
 putsOff x (releaseLine i) = false
+putsOff x (ringingOn i) = false
+putsOff x (ringingOff i) = false
+putsOff x (busyTone i) = false
 
 abbrev pub toldToWait : Party → List Deed → Bool
 toldToWait x [] = false
@@ -44,17 +51,30 @@ Asks x digits (dataRequest y n) = (y ≡ x) × (n ≡ digits)
 Asks x digits (bq i y) = ⊥
 Asks x digits (workingCall y) = ⊥
 Asks x digits (endOfCall y) = ⊥
+Asks x digits (declined y) = ⊥
 Asks x digits nothing = ⊥
 
--- an acknowledgement and a 104 repeat the request h of their own entry, a ring-back what its ship last asked for
-abbrev pub Repeats : Heard → (Party → Heard) → Deed → Type 0
-Repeats h asked (carrierOn i) = Unit {0}
-Repeats h asked (carrierOff i) = Unit {0}
-Repeats h asked (acknowledge i r) = h ≡ callRequest r
-Repeats h asked (ringBack i r) = asked (r .who) ≡ callRequest r
-Repeats h asked (unable n x digits) = Asks x digits h
-Repeats h asked (dial i digits) = Unit {0}
-Repeats h asked (releaseLine i) = Unit {0}
+-- a call to a ship, where k is the call on its slot just before: in the entry of a caller ashore, what is asked there; once more, what
+-- the ship was called with; else it is a ring-back, with what its ship last asked for
+abbrev pub CallsAsked : Option Request → Heard → Request → Call → Type 0
+CallsAsked (some q) h r k = q ≡ r
+CallsAsked none h r quiet = h ≡ callRequest r
+CallsAsked none h r (called o rings) = o ≡ r
+CallsAsked none h r (dialled x m ended) = h ≡ callRequest r
+CallsAsked none h r (talking x m b) = h ≡ callRequest r
+
+-- an acknowledgement and a 104 repeat the request h of their own entry, in which q, if anything, was asked ashore
+abbrev pub Repeats : Heard → Option Request → (Party → Heard) → Book → Deed → Type 0
+Repeats h q asked b (carrierOn i) = Unit {0}
+Repeats h q asked b (carrierOff i) = Unit {0}
+Repeats h q asked b (acknowledge i r) = h ≡ callRequest r
+Repeats h q asked b (callShip i r) = CallsAsked q (asked (r .who)) r (column b i .call)
+Repeats h q asked b (unable n x digits) = Asks x digits h
+Repeats h q asked b (dial i digits) = Unit {0}
+Repeats h q asked b (releaseLine i) = Unit {0}
+Repeats h q asked b (ringingOn i) = Unit {0}
+Repeats h q asked b (ringingOff i) = Unit {0}
+Repeats h q asked b (busyTone i) = Unit {0}
 
 -- ── and what channel 70 last carried about its slot ──────────────────────────
 
@@ -63,10 +83,13 @@ abbrev pub switchedOn : Deed → Option ℕ
 switchedOn (carrierOn i) = some i
 switchedOn (carrierOff i) = none
 switchedOn (acknowledge i r) = none
-switchedOn (ringBack i r) = none
+switchedOn (callShip i r) = none
 switchedOn (unable n x digits) = none
 switchedOn (dial i digits) = none
 switchedOn (releaseLine i) = none
+switchedOn (ringingOn i) = none
+switchedOn (ringingOff i) = none
+switchedOn (busyTone i) = none
 
 -- a first ring-back of slot i comes just behind its carrier, a second is the first once more
 abbrev pub Rings : ℕ → Request → Option ℕ → Said → Type 0
@@ -74,6 +97,13 @@ Rings i r on silent = on ≡ some i
 Rings i r on (toldBQ o) = ⊥
 Rings i r on (toldRQ o) = o ≡ r
 Rings i r on (settled o) = ⊥
+
+-- a call from ashore is sent once more only while it does not ring; any other call to a ship is as above
+abbrev pub Sends : ℕ → Request → Option ℕ → Said → Call → Type 0
+Sends i r on s quiet = Rings i r on s
+Sends i r on s (called o rings) = rings ≡ false
+Sends i r on s (dialled x m ended) = Rings i r on s
+Sends i r on s (talking x m b) = Rings i r on s
 
 -- the digits are those of the request acknowledged, or rung back and agreed to
 abbrev pub Dials : List ℕ → Said → Type 0
@@ -87,29 +117,36 @@ abbrev pub RingsSame : Option ℕ → Book → Deed → Type 0
 RingsSame on b (carrierOn i) = Unit {0}
 RingsSame on b (carrierOff i) = Unit {0}
 RingsSame on b (acknowledge i r) = Unit {0}
-RingsSame on b (ringBack i r) = Rings i r on (column b i .said)
+RingsSame on b (callShip i r) = Sends i r on (column b i .said) (column b i .call)
 RingsSame on b (unable n x digits) = Unit {0}
 RingsSame on b (dial i digits) = Unit {0}
 RingsSame on b (releaseLine i) = Unit {0}
+RingsSame on b (ringingOn i) = Unit {0}
+RingsSame on b (ringingOff i) = Unit {0}
+RingsSame on b (busyTone i) = Unit {0}
 
 abbrev pub DialsNamed : Option ℕ → Book → Deed → Type 0
 DialsNamed on b (carrierOn i) = Unit {0}
 DialsNamed on b (carrierOff i) = Unit {0}
 DialsNamed on b (acknowledge i r) = Unit {0}
-DialsNamed on b (ringBack i r) = Unit {0}
+DialsNamed on b (callShip i r) = Unit {0}
 DialsNamed on b (unable n x digits) = Unit {0}
 DialsNamed on b (dial i digits) = Dials digits (column b i .said)
 DialsNamed on b (releaseLine i) = Unit {0}
+DialsNamed on b (ringingOn i) = Unit {0}
+DialsNamed on b (ringingOff i) = Unit {0}
+DialsNamed on b (busyTone i) = Unit {0}
 
 -- each deed with the book just before it, the deeds being read from b on at the time t
-abbrev pub EachRead : (Option ℕ → Book → Deed → Type 0) → ℕ → Option ℕ → Book → List Deed → Type 0
-EachRead P t on b [] = Unit {0}
-EachRead P t on b (d ∷ ds) = P on b d × EachRead P t (switchedOn d) (read t d b) ds
+abbrev pub EachRead : (Option ℕ → Book → Deed → Type 0) → Option Request → ℕ → Option ℕ → Book → List Deed → Type 0
+EachRead P q t on b [] = Unit {0}
+EachRead P q t on b (d ∷ ds) = P on b d × EachRead P q t (switchedOn d) (read q t d b) ds
 
 -- ── of an entry, with the entries before it ──────────────────────────────────
 
-abbrev pub Answers : Config → List Note → Note → Type 0
-Answers c before n = Each (Repeats (heardIn c n) (λ x. lastAsked c x nothing before)) (n .deeds)
-
 abbrev pub DeedByDeed : (Option ℕ → Book → Deed → Type 0) → Config → List Note → Note → Type 0
-DeedByDeed P c before n = EachRead P (moment (readAll c before (blankBook c)) (n .event)) none (readAll c before (blankBook c)) (n .deeds)
+DeedByDeed P c before n =
+    EachRead P (askedIn c n) (moment (readAll c before (blankBook c)) (n .event)) none (readAll c before (blankBook c)) (n .deeds)
+
+abbrev pub Answers : Config → List Note → Note → Type 0
+Answers c before n = DeedByDeed (λ on. Repeats (heardIn c n) (askedIn c n) (λ x. lastAsked c x nothing before)) c before n

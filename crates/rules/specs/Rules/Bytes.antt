@@ -12,7 +12,8 @@ use Rattle.sequence.specs.declared.Meaning.{Meaning}
 use Rattle.sequence.specs.Figures.{firstUnable, firstOver, untold, mostDigits, endRq, endBq, endLast}
 use Rattle.sequence.specs.Layout.{layout}
 use Rattle.rules.specs.Rules.Words.{Party, Request, modeNumber, Config}
-use Rattle.rules.specs.Rules.Words.{carrierOn, carrierOff, acknowledge, ringBack, unable, dial, releaseLine}
+use Rattle.rules.specs.Rules.Words.{carrierOn, carrierOff, acknowledge, callShip, unable, dial, releaseLine, ringingOn}
+use Rattle.rules.specs.Rules.Words.{ringingOff, busyTone}
 use Rattle.rules.specs.Rules.Actions.{Ender, theShip, theCoast, Action, does, over, charge, chargeNumbers}
 
 -- ── the sequences ────────────────────────────────────────────────────────────
@@ -81,15 +82,19 @@ fours (n ∷ l) = four n (fours l)
 abbrev pub channelAt : Config → ℕ → ChannelNumber
 channelAt c i = getD (c .channels) i (record { 0 = 0 })
 
--- "1 carrier on, 2 carrier off, 3 send on channel 70, 4 send on the working channel, 5 dial, 6 release line, 7 charge"
+-- "1 carrier on, 2 carrier off, 3 send on channel 70, 4 send on the working channel, 5 dial, 6 release line, 7 charge";
+-- 02, no. 2: "8 ringing on, 9 ringing off, 10 five seconds of busy tone"
 abbrev pub kindNumber : Action → ℕ
 kindNumber (does (carrierOn i)) = 1
 kindNumber (does (carrierOff i)) = 2
 kindNumber (does (acknowledge i r)) = 3
-kindNumber (does (ringBack i r)) = 3
+kindNumber (does (callShip i r)) = 3
 kindNumber (does (unable n x digits)) = 3
 kindNumber (does (dial i digits)) = 5
 kindNumber (does (releaseLine i)) = 6
+kindNumber (does (ringingOn i)) = 8
+kindNumber (does (ringingOff i)) = 9
+kindNumber (does (busyTone i)) = 10
 kindNumber (over i e x digits n) = 4
 kindNumber (charge h) = 7
 
@@ -101,10 +106,13 @@ abbrev pub slotNumber : Action → ℕ
 slotNumber (does (carrierOn i)) = i
 slotNumber (does (carrierOff i)) = i
 slotNumber (does (acknowledge i r)) = i
-slotNumber (does (ringBack i r)) = i
+slotNumber (does (callShip i r)) = i
 slotNumber (does (unable n x digits)) = unableSlot
 slotNumber (does (dial i digits)) = i
 slotNumber (does (releaseLine i)) = i
+slotNumber (does (ringingOn i)) = i
+slotNumber (does (ringingOff i)) = i
+slotNumber (does (busyTone i)) = i
 slotNumber (over i e x digits n) = i
 slotNumber (charge h) = h .slot
 
@@ -113,10 +121,13 @@ unfoldable pub payloadOf : Config → Action → List ℕ
 payloadOf c (does (carrierOn i)) = []
 payloadOf c (does (carrierOff i)) = []
 payloadOf c (does (acknowledge i r)) = layout (ableSaid (channelAt c i) endBq r)
-payloadOf c (does (ringBack i r)) = layout (ableSaid (channelAt c i) endRq r)
+payloadOf c (does (callShip i r)) = layout (ableSaid (channelAt c i) endRq r)
 payloadOf c (does (unable n x digits)) = layout (unableSaid n x digits)
 payloadOf c (does (dial i digits)) = digits
 payloadOf c (does (releaseLine i)) = []
+payloadOf c (does (ringingOn i)) = []
+payloadOf c (does (ringingOff i)) = []
+payloadOf c (does (busyTone i)) = []
 payloadOf c (over i e x digits n) = layout (overSaid e x digits n)
 payloadOf c (charge h) = fours (chargeNumbers h)
 

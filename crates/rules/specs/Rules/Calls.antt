@@ -1,26 +1,32 @@
--- What each other event does: working call, ring-back acknowledged, dialling ended, off-hook, carrier, both ends, operator, and a wait
--- that falls due. One function for an event, a clause for each phase of the slot.
-use mathlib.Core.List.{[], _∷_}
-use mathlib.Core.Bool.{Bool, cond, not}
+-- What each other event does: working call, BQ, call from ashore, dialling ended, off-hook, carrier, both ends, operator, and a wait that
+-- falls due. One function for an event, a clause for each phase of the slot.
+use mathlib.Core.List.{List, [], _∷_, _++_}
+use mathlib.Core.Bool.{Bool, true, false, cond, not}
 use mathlib.Core.Option.{Option, none, some}
 use Prim.Native.Nat.{ℕ}
 use Rattle.units.specs.declared.Told.{Told}
-use Rattle.rules.specs.Rules.Places.{dropAt}
+use Rattle.rules.specs.Rules.Places.{dropAt, lowest}
 use Rattle.rules.specs.Rules.Words.{Party, is, Mode, Request, Config}
 use Rattle.rules.specs.Rules.Words.{Signal, lineDialledOut, lineLifted, lineHung, carrierHeard, carrierLost}
 use Rattle.rules.specs.Rules.Words.{Hand, handTakes, handGives, Happened, heard, signal, operator}
-use Rattle.rules.specs.Rules.Words.{What, tick, onChannel70, onSlot, Event, carrierOn, carrierOff, ringBack, dial}
+use Rattle.rules.specs.Rules.Words.{What, tick, onChannel70, onSlot, fromAshore, Event}
+use Rattle.rules.specs.Rules.Words.{carrierOn, carrierOff, callShip, dial, releaseLine, ringingOn, ringingOff, busyTone}
 use Rattle.rules.specs.Rules.Waits.{Wait, ofQueue, loss, main, Due}
-use Rattle.rules.specs.Rules.Heard.{Heard, callRequest, dataRequest, bq, workingCall, endOfCall, nothing, kindOf, addressed, meaning}
-use Rattle.rules.specs.Rules.Actions.{does, over, theShip}
-use Rattle.rules.specs.Rules.Station.{isFree, isTaken, Kind, offered, firstRing, secondRing, acknowledged}
+use Rattle.rules.specs.Rules.Heard.{Heard, callRequest, dataRequest, bq, workingCall, endOfCall, declined, nothing, kindOf}
+use Rattle.rules.specs.Rules.Heard.{addressed, meaning, ashoreRequest}
+use Rattle.rules.specs.Rules.Actions.{Action, does, over, theShip}
+use Rattle.rules.specs.Rules.Station.{isFree, isTaken, Kind, offered, firstRing, secondRing, acknowledged, firstCall}
+use Rattle.rules.specs.Rules.Station.{secondCall, ringing, rings}
 use Rattle.rules.specs.Rules.Station.{Stage, dialling, dialledOut, answered, answeredAt, Dealing}
 use Rattle.rules.specs.Rules.Station.{Slot, free, taken, pending, busy, held}
-use Rattle.rules.specs.Rules.Station.{Station, theSlot, fresh, setSlot, setClock, setQueue, dueAfter, rungAgain}
+use Rattle.rules.specs.Rules.Station.{Station, theSlot, fresh, setSlot, setClock, setQueue, dueAfter, rungAgain, calledAgain}
+use Rattle.rules.specs.Rules.Station.{ringingAt}
 use Rattle.rules.specs.Rules.Station.{agreedAt, carrierWait, diallingWait, replyWait, holdWait, table, fires, nextDue}
 use Rattle.rules.specs.Rules.Requests.{Out, done, ignored, also, rungBack, freedFor, freed, lasted, endActs}
-use Rattle.rules.specs.Rules.Requests.{coastEnd, standing, ruleA, repeated, afresh, same, ruleB, ruleD, offer}
+use Rattle.rules.specs.Rules.Requests.{coastEnd, Standing, nowhere, holds, waits, standing, beingCalled, ruleA, repeated}
+use Rattle.rules.specs.Rules.Requests.{afresh, same, ruleB, ruleD, offer}
 use Rattle.rules.specs.Rules.Requests.{ruleF, ruleG, eToG, newcomer, dToG, redial, ruleC, bOrC, requested}
+use Rattle.rules.specs.Rules.Ashore.{engaged, calledFrom}
 
 -- ── working call ─────────────────────────────────────────────────────────────
 
@@ -40,6 +46,9 @@ workingKind i offered r st = dialNow i r st
 workingKind i firstRing r st = ignored st
 workingKind i secondRing r st = ignored st
 workingKind i acknowledged r st = dialNow i r st
+workingKind i firstCall r st = ignored st
+workingKind i secondCall r st = ignored st
+workingKind i ringing r st = ignored st
 
 -- ".., same ship"
 unfoldable pub workingOn : ℕ → Party → Station → Slot → Out
@@ -49,17 +58,29 @@ workingOn i x st (pending k r d) = cond (is x (r .request .who)) (workingKind i 
 workingOn i x st (busy r g c) = ignored st
 workingOn i x st (held r n d) = ignored st
 
--- ── ring-back acknowledged ───────────────────────────────────────────────────
+-- ── BQ: ring-back acknowledged; the ship that is called agrees ────────────────
 
 -- "acknowledged, wait 160" (house)
 unfoldable pub agreed : ℕ → Dealing → Station → Out
 agreed i r st = done (setSlot i (agreedAt r (st .clock)) st)
+
+-- 02, no. 2: "The ship's first BQ with 100 or 101 and that channel starts the ringing and a wait of one minute"
+unfoldable pub startsRinging : ℕ → Dealing → Station → Out
+startsRinging i r st =
+    record {
+      answer = 0;
+      next = setSlot i (ringingAt r (st .clock)) st;
+      acts = does (ringingOn i) ∷ [];
+    }
 
 unfoldable pub bqKind : ℕ → Kind → Dealing → Station → Out
 bqKind i offered r st = ignored st
 bqKind i firstRing r st = agreed i r st
 bqKind i secondRing r st = agreed i r st
 bqKind i acknowledged r st = ignored st
+bqKind i firstCall r st = startsRinging i r st
+bqKind i secondCall r st = startsRinging i r st
+bqKind i ringing r st = ignored st
 
 -- "BQ on channel 70 from that ship .. naming that channel"
 unfoldable pub bqFor : ℕ → Party → Station → Slot → Out
@@ -68,6 +89,41 @@ bqFor i x st taken = ignored st
 bqFor i x st (pending k r d) = cond (is x (r .request .who)) (bqKind i k r st) (ignored st)
 bqFor i x st (busy r g c) = ignored st
 bqFor i x st (held r n d) = ignored st
+
+-- ── 02, no. 2: a call from ashore is dropped ─────────────────────────────────
+
+-- "ringing off if it rings, carrier off, the tone unless the caller hung up, release line"
+abbrev pub dropActs : ℕ → Bool → Bool → List Action
+dropActs i rung tone =
+    cond rung (does (ringingOff i) ∷ []) []
+    ++ does (carrierOff i) ∷ cond tone (does (busyTone i) ∷ []) [] ++ does (releaseLine i) ∷ []
+
+-- "the slot is freed"
+unfoldable pub dropped : ℕ → Kind → Bool → Station → Out
+dropped i k tone st = also (dropActs i (rings k) tone) (freed i st)
+
+-- "its BQ with 104 before its transmission, ringing or not, drops the call"
+unfoldable pub declinedKind : ℕ → Kind → Station → Out
+declinedKind i offered st = ignored st
+declinedKind i firstRing st = ignored st
+declinedKind i secondRing st = ignored st
+declinedKind i acknowledged st = ignored st
+declinedKind i firstCall st = dropped i firstCall true st
+declinedKind i secondCall st = dropped i secondCall true st
+declinedKind i ringing st = dropped i ringing true st
+
+unfoldable pub declinedOn : ℕ → Station → Slot → Out
+declinedOn i st free = ignored st
+declinedOn i st taken = ignored st
+declinedOn i st (pending k r d) = declinedKind i k st
+declinedOn i st (busy r g c) = ignored st
+declinedOn i st (held r n d) = ignored st
+
+-- the slot is that ship's
+unfoldable pub declinedAt : Station → Standing → Out
+declinedAt st nowhere = ignored st
+declinedAt st (holds i) = declinedOn i st (theSlot st i)
+declinedAt st (waits k) = ignored st
 
 -- ── 02, no. 1: dialling ended ────────────────────────────────────────────────
 
@@ -112,11 +168,30 @@ downOn i st (pending k r d) = ignored st
 downOn i st (busy r g c) = done (setSlot i (busy r g (startLoss (st .clock) (r .request .mode) c)) st)
 downOn i st (held r n d) = ignored st
 
+-- 02, no. 2: "The first carrier up while it rings is the ship's transmission: it ends that wait, stops the ringing and starts the charge";
+-- "answered, its carrier present"
+unfoldable pub transmitted : ℕ → Dealing → Station → Out
+transmitted i r st =
+    record {
+      answer = 0;
+      next = setSlot i (busy r (answered (st .clock)) none) st;
+      acts = does (ringingOff i) ∷ [];
+    }
+
+unfoldable pub upKind : ℕ → Kind → Dealing → Station → Out
+upKind i offered r st = ignored st
+upKind i firstRing r st = ignored st
+upKind i secondRing r st = ignored st
+upKind i acknowledged r st = ignored st
+upKind i firstCall r st = ignored st
+upKind i secondCall r st = ignored st
+upKind i ringing r st = transmitted i r st
+
 -- "carrier up ends it"
 unfoldable pub upOn : ℕ → Station → Slot → Out
 upOn i st free = ignored st
 upOn i st taken = ignored st
-upOn i st (pending k r d) = ignored st
+upOn i st (pending k r d) = upKind i k r st
 upOn i st (busy r g c) = done (setSlot i (busy r g none) st)
 upOn i st (held r n d) = ignored st
 
@@ -148,7 +223,7 @@ shipEndOn i x st (pending k r d) = ignored st
 shipEndOn i x st (busy r g c) = cond (is x (r .request .who)) (shipEnd i r (answeredAt g) st) (ignored st)
 shipEndOn i x st (held r n d) = cond (is x (r .request .who)) (sayAgain i (r .request) n st) (ignored st)
 
--- ── coast's end: on-hook, carrier loss ───────────────────────────────────────
+-- ── coast's end: carrier loss, on-hook ───────────────────────────────────────
 
 unfoldable pub endOn : ℕ → Station → Slot → Out
 endOn i st free = ignored st
@@ -156,6 +231,23 @@ endOn i st taken = ignored st
 endOn i st (pending k r d) = ignored st
 endOn i st (busy r g c) = coastEnd i (r .request) (answeredAt g) st
 endOn i st (held r n d) = ignored st
+
+-- 02, no. 2: "The caller's on-hook before that drops the call too"
+unfoldable pub hungKind : ℕ → Kind → Station → Out
+hungKind i offered st = ignored st
+hungKind i firstRing st = ignored st
+hungKind i secondRing st = ignored st
+hungKind i acknowledged st = ignored st
+hungKind i firstCall st = dropped i firstCall false st
+hungKind i secondCall st = dropped i secondCall false st
+hungKind i ringing st = dropped i ringing false st
+
+unfoldable pub hungOn : ℕ → Station → Slot → Out
+hungOn i st free = ignored st
+hungOn i st taken = ignored st
+hungOn i st (pending k r d) = hungKind i k st
+hungOn i st (busy r g c) = coastEnd i (r .request) (answeredAt g) st
+hungOn i st (held r n d) = ignored st
 
 -- ── operator ─────────────────────────────────────────────────────────────────
 
@@ -192,15 +284,28 @@ ringAgain i r st =
     record {
       answer = 0;
       next = setSlot i (rungAgain r (st .clock)) st;
-      acts = does (ringBack i (r .request)) ∷ [];
+      acts = does (callShip i (r .request)) ∷ [];
     }
 
--- "then carrier off, details dropped, slot freed"; acknowledged: "then as an offer due"
+-- 02, no. 2: "one repeat after 5 s"
+unfoldable pub callAgain : ℕ → Dealing → Station → Out
+callAgain i r st =
+    record {
+      answer = 0;
+      next = setSlot i (calledAgain r (st .clock)) st;
+      acts = does (callShip i (r .request)) ∷ [];
+    }
+
+-- "then carrier off, details dropped, slot freed"; acknowledged: "then as an offer due";
+-- 02, no. 2: "dropped after another 5 s", "a wait of one minute, which drops the call when due"
 unfoldable pub pendingDue : ℕ → Kind → Dealing → Station → Out
 pendingDue i offered r st = offerDue i st
 pendingDue i firstRing r st = ringAgain i r st
 pendingDue i secondRing r st = offerDue i st
 pendingDue i acknowledged r st = offerDue i st
+pendingDue i firstCall r st = callAgain i r st
+pendingDue i secondCall r st = dropped i secondCall true st
+pendingDue i ringing r st = dropped i ringing true st
 
 -- no reply, in either wait
 unfoldable pub replyDue : ℕ → Request → Station → Stage → Out
@@ -229,11 +334,12 @@ ticked st t (some p) = fire (setClock (p .at) st) (p .what)
 
 -- ── an accepted event ────────────────────────────────────────────────────────
 
--- heard on channel 70
+-- heard on channel 70; 02, no. 2: "A request from a ship being called .. is ignored, before rule a"
 unfoldable pub heardOn70 : Station → Heard → Out
 heardOn70 st (callRequest r) = requested st r (standing st (r .who))
-heardOn70 st (dataRequest x n) = ruleA st x n
+heardOn70 st (dataRequest x n) = cond (beingCalled st x) (ignored st) (ruleA st x n)
 heardOn70 st (bq i x) = bqFor i x st (theSlot st i)
+heardOn70 st (declined x) = declinedAt st (standing st x)
 heardOn70 st (workingCall x) = ignored st
 heardOn70 st (endOfCall x) = ignored st
 heardOn70 st nothing = ignored st
@@ -245,12 +351,13 @@ heardOn i st s (dataRequest x n) = ignored st
 heardOn i st s (bq j x) = ignored st
 heardOn i st s (workingCall x) = workingOn i x st s
 heardOn i st s (endOfCall x) = shipEndOn i x st s
+heardOn i st s (declined x) = ignored st
 heardOn i st s nothing = ignored st
 
 abbrev pub signalOn : ℕ → Station → Slot → Signal → Out
 signalOn i st s lineDialledOut = dialledOutOn i st s
 signalOn i st s lineLifted = offHookOn i st s
-signalOn i st s lineHung = endOn i st s
+signalOn i st s lineHung = hungOn i st s
 signalOn i st s carrierHeard = upOn i st s
 signalOn i st s carrierLost = downOn i st s
 
@@ -268,6 +375,7 @@ unfoldable pub actAt : Config → Station → ℕ → What → Out
 actAt c st t tick = ticked st t (fires t st)
 actAt c st t (onChannel70 m) = heardOn70 (setClock t st) (meaning c m)
 actAt c st t (onSlot i h) = happenedOn c i (setClock t st) (theSlot st i) h
+actAt c st t (fromAshore a) = calledFrom (setClock t st) (ashoreRequest c a) (lowest isFree (st .slots))
 
 abbrev pub act : Config → Station → Event → Out
 act c st e = actAt c st (e .time) (e .what)
@@ -275,7 +383,8 @@ act c st e = actAt c st (e .time) (e .what)
 -- every rule open, for what computes a run
 unfoldable pub rulesOpen : Unit {0}
 unfolding is kindOf addressed meaning fresh setSlot setClock setQueue table fires nextDue rungBack freedFor freed coastEnd standing
-    ruleA repeated afresh same ruleB ruleD offer ruleF ruleG eToG newcomer dToG redial ruleC bOrC requested dialNow workingKind
-    workingOn agreed bqKind bqFor dialledOutStage dialledOutOn offHookStage offHookOn downOn upOn shipEnd sayAgain shipEndOn endOn
-    takeOn giveOn offerDue ringAgain pendingDue replyDue mainOn fire ticked heardOn70 heardOn happenedOn actAt
+    beingCalled ruleA repeated afresh same ruleB ruleD offer ruleF ruleG eToG newcomer dToG redial ruleC bOrC requested dialNow
+    workingKind workingOn agreed startsRinging bqKind bqFor dropped declinedKind declinedOn declinedAt dialledOutStage dialledOutOn
+    offHookStage offHookOn downOn transmitted upKind upOn shipEnd sayAgain shipEndOn endOn hungKind hungOn ashoreRequest engaged
+    calledFrom takeOn giveOn offerDue ringAgain callAgain pendingDue replyDue mainOn fire ticked heardOn70 heardOn happenedOn actAt
 rulesOpen = tt

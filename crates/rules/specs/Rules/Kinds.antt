@@ -1,5 +1,6 @@
 -- Which sequence is of which kind, in 01's words; and that `addressed` tells just these.
 use mathlib.Core.Path.{_≡_}
+use mathlib.Core.Bool.{true}
 use mathlib.Core.Option.{some}
 use Prim.Native.Nat.{ℕ}
 use Rattle.units.specs.declared.Channel.{Channel as ChannelNumber}
@@ -7,8 +8,8 @@ use Rattle.sequence.specs.declared.Field.the-variants.{Blank, Channel}
 use Rattle.sequence.specs.declared.Meaning.{Meaning}
 use Rattle.rules.specs.Rules.Places.{lowest}
 use Rattle.rules.specs.Rules.Words.{Mode, Config, modeNumber, Ours}
-use Rattle.rules.specs.Rules.Heard.{Heard, callRequest, dataRequest, bq, workingCall, endOfCall, nothing}
-use Rattle.rules.specs.Rules.Heard.{digitsIn, sentBy, requestIn, sameChannel, addressed}
+use Rattle.rules.specs.Rules.Heard.{Heard, callRequest, dataRequest, bq, workingCall, endOfCall, declined, nothing}
+use Rattle.rules.specs.Rules.Heard.{digitsIn, sentBy, requestIn, sameChannel, addressed, isMode, modeOf}
 
 -- to this station, with an end of sequence and a first telecommand, the field 126s
 pub record Plain (c : Config) (end first : ℕ) (m : Meaning) : Type 0 where
@@ -29,8 +30,14 @@ pub data Means (c : Config) (m : Meaning) : Heard → Type 0 where
   -- "BQ .., telecommand 100 or 101, naming that channel"
   asBq : (w : Mode) (n : ChannelNumber) (i : ℕ) → Ours c (m .address) → m .end ≡ 122 → m .first ≡ modeNumber w → m .field ≡ Channel n
       → lowest (sameChannel n) (c .channels) ≡ some i → Means c m (bq i (sentBy m))
+  -- 02, no. 2: "BQ with 104"
+  asDeclined : Plain c 122 104 m → Means c m (declined (sentBy m))
   -- anything else
   asNothing : Means c m nothing
+
+-- 02, no. 2: "The mode is 100 or 101": the mode of a call from ashore is sent as it was asked for
+unfoldable pub ModesKept : Type 0
+ModesKept = (n : ℕ) → isMode n ≡ true → modeNumber (modeOf n) ≡ n
 
 -- what is heard as a kind is of that kind
 unfoldable pub OnlyThese : Type 0

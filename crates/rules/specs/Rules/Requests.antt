@@ -11,9 +11,9 @@ use Rattle.units.specs.declared.Told.{Told}
 use Rattle.units.specs.declared.Told.the-variants.{Nothing}
 use Rattle.rules.specs.Rules.Places.{modAt, lowest}
 use Rattle.rules.specs.Rules.Words.{Party, is, Mode, simplex, duplex, Request}
-use Rattle.rules.specs.Rules.Words.{Deed, carrierOn, carrierOff, acknowledge, ringBack, unable, releaseLine}
+use Rattle.rules.specs.Rules.Words.{Deed, carrierOn, carrierOff, acknowledge, callShip, unable, releaseLine}
 use Rattle.rules.specs.Rules.Actions.{Action, does, over, charge, Ender, theCoast, chargeOf}
-use Rattle.rules.specs.Rules.Station.{Kind, isOffer, answeredAt, Slot, bySlot, shipOf, isFree, Waiting}
+use Rattle.rules.specs.Rules.Station.{Kind, isOffer, isCalled, answeredAt, Slot, bySlot, shipOf, isCalledIn, isFree, Waiting}
 use Rattle.rules.specs.Rules.Station.{Station, theSlot, setSlot, emptied, setQueue, dueAfter, offerOf, ringOf, queueWait}
 use Rattle.rules.specs.Rules.Sound.{queueRoom}
 
@@ -47,7 +47,7 @@ rungBack i st w q =
     record {
       answer = 0;
       next = setSlot i (ringOf (w .request) st) (setQueue q st);
-      acts = does (carrierOn i) ∷ does (ringBack i (w .request)) ∷ [];
+      acts = does (carrierOn i) ∷ does (callShip i (w .request)) ∷ [];
     }
 
 -- "Whenever a slot is freed and a ship waits, the same event takes the oldest"
@@ -110,6 +110,15 @@ standsAt none none = nowhere
 -- the one lookup
 unfoldable pub standing : Station → Party → Standing
 standing st x = standsAt (slotOf x st) (placeOf x st)
+
+-- the ship is being called from ashore
+abbrev pub calledAt : Station → Standing → Bool
+calledAt st nowhere = false
+calledAt st (holds i) = isCalledIn (theSlot st i)
+calledAt st (waits k) = false
+
+unfoldable pub beingCalled : Station → Party → Bool
+beingCalled st x = calledAt st (standing st x)
 
 -- ── the rules ────────────────────────────────────────────────────────────────
 
@@ -198,10 +207,10 @@ ruleC i o b duplex c st r = ignored st
 ruleC i o b simplex none st r = ignored st
 ruleC i o b simplex (some d) st r = redial i o b st r
 
--- b. the ship's slot is before its dialling; c. "dialling or answered"
+-- 02, no. 2: "A request from a ship being called .. is ignored"; b. the ship's slot is before its dialling; c. "dialling or answered"
 unfoldable pub bOrC : ℕ → Slot → Station → Request → Out
 bOrC i s st r =
-    bySlot (ignored st) (λ k o. ruleB i k (o .request) st r)
+    bySlot (ignored st) (λ k o. cond (isCalled k) (ignored st) (ruleB i k (o .request) st r))
     (λ o g c. ruleC i (o .request) (answeredAt g) (o .request .mode) c st r) s
 
 -- the first rule that fits, by where the ship stands

@@ -75,7 +75,7 @@ abbrev pub listed : Option Party → List Party → List Party
 listed none r = r
 listed (some x) r = x ∷ r
 
--- the ship of an offered, ring-back, acknowledged, dialling, dialled out or answered slot
+-- the ship of an offered, ring-back, acknowledged, dialling, dialled out or answered slot; 02, no. 2: "a called ship counts"
 abbrev pub owner : Slot → List Party → List Party
 owner s r = listed (shipOf s) r
 

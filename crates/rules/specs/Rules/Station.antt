@@ -11,15 +11,39 @@ use Rattle.rules.specs.Rules.Waits.{loss, main, Due, running, earliest, 
 
 -- ── what a station holds ─────────────────────────────────────────────────────
 
--- a slot before its line is dialled: offered; in ring-back, sent once or twice; acknowledged
+-- a slot before its line is dialled: offered; in ring-back, sent once or twice; acknowledged;
+-- or called from ashore, sent once or twice, and ringing
 pub data Kind : Type 0 where
   offered firstRing secondRing acknowledged : Kind
+  firstCall secondCall ringing : Kind
 
 abbrev pub isOffer : Kind → Bool
 isOffer offered = true
 isOffer firstRing = false
 isOffer secondRing = false
 isOffer acknowledged = false
+isOffer firstCall = false
+isOffer secondCall = false
+isOffer ringing = false
+
+-- 02, no. 2: the ship is being called
+abbrev pub isCalled : Kind → Bool
+isCalled offered = false
+isCalled firstRing = false
+isCalled secondRing = false
+isCalled acknowledged = false
+isCalled firstCall = true
+isCalled secondCall = true
+isCalled ringing = true
+
+abbrev pub rings : Kind → Bool
+rings offered = false
+rings firstRing = false
+rings secondRing = false
+rings acknowledged = false
+rings firstCall = false
+rings secondCall = false
+rings ringing = true
 
 pub data Stage : Type 0 where
   dialling : ℕ → Stage  -- the due time of the wait for its dialling
@@ -46,7 +70,7 @@ pub data Slot : Type 0 where
   busy : Dealing → Stage → Option ℕ → Slot  -- with the due time of the carrier wait: none where the carrier is present
   held : Dealing → Told → ℕ → Slot  -- the hold after a ship's end of call: the duration told, the due time
 
--- whether a ship's line is still to be dialled, or is dialled: a hold and a taken slot are nobody's
+-- before its line is dialled or answered, or after: a hold and a taken slot are nobody's
 abbrev pub bySlot : {A : Type 0} → A → (Kind → Dealing → A) → (Dealing → Stage → Option ℕ → A) → Slot → A
 bySlot a f g free = a
 bySlot a f g taken = a
@@ -57,6 +81,21 @@ bySlot a f g (held r n d) = a
 -- the ship that a slot is dealing with
 abbrev pub shipOf : Slot → Option Party
 shipOf s = bySlot none (λ k r. some (r .request .who)) (λ r g c. some (r .request .who)) s
+
+-- the ship whose request it keeps, in a hold too
+abbrev pub keptFor : Slot → Option Party
+keptFor free = none
+keptFor taken = none
+keptFor (pending k r d) = some (r .request .who)
+keptFor (busy r g c) = some (r .request .who)
+keptFor (held r n d) = some (r .request .who)
+
+-- its ship is being called, and whether it rings
+abbrev pub isCalledIn : Slot → Bool
+isCalledIn s = bySlot false (λ k r. isCalled k) (λ r g c. false) s
+
+abbrev pub ringsIn : Slot → Bool
+ringsIn s = bySlot false (λ k r. rings k) (λ r g c. false) s
 
 -- since when its call is answered, if it is
 abbrev pub answeredIn : Slot → Option ℕ
@@ -113,12 +152,15 @@ setQueue q st = record { clock = st .clock; slots = st .slots; queue = q }
 abbrev pub dueAfter : ℕ → ℕ → ℕ
 dueAfter s p = s + (p + 1)
 
--- rules b and e; ring-back
+-- rules b and e; ring-back; 02, no. 2: "one repeat after 5 s, dropped after another 5 s", "a wait of one minute"
 abbrev pub kindWait : Kind → ℕ
 kindWait offered = 160
 kindWait firstRing = 50
 kindWait secondRing = 50
 kindWait acknowledged = 160
+kindWait firstCall = 50
+kindWait secondCall = 50
+kindWait ringing = 600
 
 -- the slot offered, in ring-back, in ring-back once more, acknowledged: from now on
 abbrev pub offerOf : Request → Station → Slot
@@ -132,6 +174,16 @@ rungAgain r t = pending secondRing r (dueAfter t (kindWait secondRing))
 
 abbrev pub agreedAt : Dealing → ℕ → Slot
 agreedAt r t = pending acknowledged r (dueAfter t (kindWait acknowledged))
+
+-- called from ashore, called once more, ringing: from now on
+abbrev pub calledOf : Request → Station → Slot
+calledOf r st = pending firstCall (dealing r) (dueAfter (st .clock) (kindWait firstCall))
+
+abbrev pub calledAgain : Dealing → ℕ → Slot
+calledAgain r t = pending secondCall r (dueAfter t (kindWait secondCall))
+
+abbrev pub ringingAt : Dealing → ℕ → Slot
+ringingAt r t = pending ringing r (dueAfter t (kindWait ringing))
 
 -- carrier down: "50 duplex, 450 simplex"
 abbrev pub carrierWait : Mode → ℕ

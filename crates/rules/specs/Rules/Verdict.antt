@@ -10,13 +10,17 @@ use Rattle.sequence.specs.declared.Answer.the-variants.{Done}
 use Rattle.sequence.specs.Refusals.{Row, row, firstRefusal}
 use Rattle.sequence.specs.Answers.{answerNumber, isDone}
 use Rattle.sequence.specs.Reading.{readingOf}
-use Rattle.rules.specs.Rules.Places.{isSome}
-use Rattle.rules.specs.Rules.Words.{Config, Hand, Happened, What, happens, slotIn, symbolsOn, symbolsIn, handIn, Event}
+use Rattle.sequence.specs.Identity.{isShip}
+use Rattle.rules.specs.Rules.Places.{isSome, lowest}
+use Rattle.rules.specs.Rules.Heard.{isMode, ashoreRequest}
+use Rattle.rules.specs.Rules.Words.{Config, Hand, Happened, What, happens, slotIn, symbolsOn, symbolsIn, handIn, Ashore}
+use Rattle.rules.specs.Rules.Words.{ashoreIn, Event}
 use Rattle.rules.specs.Rules.Actions.{Action}
 use Rattle.rules.specs.Rules.Bytes.{mostActions, blockSize}
-use Rattle.rules.specs.Rules.Station.{Station, fires, theSlot}
-use Rattle.rules.specs.Rules.Sound.{configKeeps, limit, sound}
+use Rattle.rules.specs.Rules.Station.{Station, fires, theSlot, isFree}
+use Rattle.rules.specs.Rules.Sound.{configKeeps, numberKeeps, limit, sound}
 use Rattle.rules.specs.Rules.Requests.{Out}
+use Rattle.rules.specs.Rules.Ashore.{engaged}
 use Rattle.rules.specs.Rules.Calls.{barredHand, act}
 
 -- a test, and the number given where it fails
@@ -62,6 +66,28 @@ barredAt st (some i) (some h) = barredHand (theSlot st i) h
 abbrev pub barred : Station → What → Bool
 barred st w = barredAt st (slotIn w) (handIn w)
 
+-- 02, no. 2: "15 for a bad ship identity", "17 for another mode", "19 for a bad number", "38 when that ship already has a slot (a hold
+-- included) or waits", "37 when no slot is free"
+abbrev pub calledShip : Option Ashore → Bool
+calledShip none = true
+calledShip (some a) = isShip (a .ship)
+
+abbrev pub calledMode : Option Ashore → Bool
+calledMode none = true
+calledMode (some a) = isMode (a .mode)
+
+abbrev pub callerNumber : Option Ashore → Bool
+callerNumber none = true
+callerNumber (some a) = numberKeeps (a .digits)
+
+abbrev pub calledEngaged : Config → Station → Option Ashore → Bool
+calledEngaged c st none = false
+calledEngaged c st (some a) = engaged st (ashoreRequest c a .who)
+
+abbrev pub slotForCaller : Station → Option Ashore → Bool
+slotForCaller st none = true
+slotForCaller st (some a) = isSome (lowest isFree (st .slots))
+
 -- "Refusals, in this order"
 unfoldable pub refusals : Config → Station → Event → List (Row (Option ℕ))
 refusals c st e =
@@ -73,6 +99,11 @@ refusals c st e =
     ∷ unless (slotThere (length (st .slots)) (e .what)) 34
     ∷ unless (isDone (readIn (e .what))) (answerNumber (readIn (e .what)))
     ∷ unless (not (barred st (e .what))) 35
+    ∷ unless (calledShip (ashoreIn (e .what))) 15
+    ∷ unless (calledMode (ashoreIn (e .what))) 17
+    ∷ unless (callerNumber (ashoreIn (e .what))) 19
+    ∷ unless (not (calledEngaged c st (ashoreIn (e .what)))) 38
+    ∷ unless (slotForCaller st (ashoreIn (e .what))) 37
     ∷ []
 
 -- the number of the refusal, if the event is refused: the first that fits

@@ -10,7 +10,7 @@ use Rattle.sequence.specs.Figures.{firstSimplex, firstDuplex}
 
 -- ── who asks for what ────────────────────────────────────────────────────────
 
--- a ship with the station that it calls
+-- a ship with the station that it calls, or that calls it
 pub record Party : Type 0 where
   pub ship : ℕ
   pub station : ℕ
@@ -32,7 +32,7 @@ pub record Request : Type 0 where
   pub who : Party
   pub mode : Mode
   pub second : ℕ  -- its second telecommand
-  pub number : List ℕ  -- the digits to dial
+  pub number : List ℕ  -- the digits to dial, or the caller's own
 
 -- what a station is, from set-up on; slot i works on channel i of the list
 pub record Config : Type 0 where
@@ -95,10 +95,27 @@ isAnswering (signal carrierHeard) = false
 isAnswering (signal carrierLost) = false
 isAnswering (operator h) = false
 
+-- the ship transmits
+abbrev pub isTransmitting : Happened → Bool
+isTransmitting (heard m) = false
+isTransmitting (signal lineDialledOut) = false
+isTransmitting (signal lineLifted) = false
+isTransmitting (signal lineHung) = false
+isTransmitting (signal carrierHeard) = true
+isTransmitting (signal carrierLost) = false
+isTransmitting (operator h) = false
+
+-- 02, no. 2: what a caller ashore asks for, before it is judged
+pub record Ashore : Type 0 where
+  pub ship : ℕ
+  pub mode : ℕ  -- as a first telecommand
+  pub digits : List ℕ  -- the caller's own number
+
 pub data What : Type 0 where
   tick : What
   onChannel70 : List ℕ → What  -- symbols
   onSlot : ℕ → Happened → What
+  fromAshore : Ashore → What
 
 -- the called person answers on the slot i
 abbrev pub answeringOn : ℕ → What
@@ -108,18 +125,31 @@ abbrev pub isAnsweringOn : ℕ → What → Bool
 isAnsweringOn i tick = false
 isAnsweringOn i (onChannel70 m) = false
 isAnsweringOn i (onSlot j h) = eqb i j && isAnswering h
+isAnsweringOn i (fromAshore a) = false
+
+-- the ship transmits on the slot i
+abbrev pub transmittingOn : ℕ → What
+transmittingOn i = onSlot i carrierUp
+
+abbrev pub isTransmittingOn : ℕ → What → Bool
+isTransmittingOn i tick = false
+isTransmittingOn i (onChannel70 m) = false
+isTransmittingOn i (onSlot j h) = eqb i j && isTransmitting h
+isTransmittingOn i (fromAshore a) = false
 
 -- something happens, and not time alone goes on
 abbrev pub happens : What → Bool
 happens tick = false
 happens (onChannel70 m) = true
 happens (onSlot i h) = true
+happens (fromAshore a) = true
 
 -- the slot that it names
 abbrev pub slotIn : What → Option ℕ
 slotIn tick = none
 slotIn (onChannel70 m) = none
 slotIn (onSlot i h) = some i
+slotIn (fromAshore a) = none
 
 -- the symbols that it brings
 abbrev pub symbolsOn : Happened → Option (List ℕ)
@@ -131,6 +161,7 @@ abbrev pub symbolsIn : What → Option (List ℕ)
 symbolsIn tick = none
 symbolsIn (onChannel70 m) = some m
 symbolsIn (onSlot i h) = symbolsOn h
+symbolsIn (fromAshore a) = none
 
 -- the operator's hand in it
 abbrev pub handOf : Happened → Option Hand
@@ -142,6 +173,14 @@ abbrev pub handIn : What → Option Hand
 handIn tick = none
 handIn (onChannel70 m) = none
 handIn (onSlot i h) = handOf h
+handIn (fromAshore a) = none
+
+-- what is asked for ashore
+abbrev pub ashoreIn : What → Option Ashore
+ashoreIn tick = none
+ashoreIn (onChannel70 m) = none
+ashoreIn (onSlot i h) = none
+ashoreIn (fromAshore a) = some a
 
 pub record Event : Type 0 where
   pub time : ℕ  -- in tenths
@@ -154,7 +193,10 @@ pub data Deed : Type 0 where
   carrierOn : ℕ → Deed
   carrierOff : ℕ → Deed
   acknowledge : ℕ → Request → Deed  -- channel 70: the slot's channel, with BQ
-  ringBack : ℕ → Request → Deed  -- the same with RQ
+  callShip : ℕ → Request → Deed  -- the same with RQ: a ring-back, or a call from ashore
   unable : ℕ → Party → List ℕ → Deed  -- channel 70: 104 with the second telecommand, and the number asked for
   dial : ℕ → List ℕ → Deed
   releaseLine : ℕ → Deed
+  ringingOn : ℕ → Deed  -- to the caller ashore
+  ringingOff : ℕ → Deed
+  busyTone : ℕ → Deed  -- "five seconds of busy tone"

@@ -1,0 +1,154 @@
+-- One slot's line by a few words alone: idle; outward, dialled for a ship; inward, taken by a caller ashore; answered since a time. And
+-- whether it rings at the caller's, by the actions 8 and 9.
+use mathlib.Core.Path.{_≡_}
+use mathlib.Core.List.{List, [], _∷_}
+use mathlib.Core.Bool.{Bool, true, false, cond}
+use mathlib.Core.Option.{Option, none, some}
+use Prim.Native.Nat.{ℕ, _+_}
+use lib.Dec.{eqb}
+use Rattle.rules.specs.Rules.Words.{Request, Config, What, isAnsweringOn, isTransmittingOn}
+use Rattle.rules.specs.Rules.Words.{Deed, carrierOn, carrierOff, acknowledge, callShip, unable, dial, releaseLine}
+use Rattle.rules.specs.Rules.Words.{ringingOn, ringingOff, busyTone}
+use Rattle.rules.specs.ListAlone.Book.{Note, Call, quiet, called, dialled, talking}
+use Rattle.rules.specs.ListAlone.Reading.{askedAt}
+
+pub data Line : Type 0 where
+  idle : Line
+  outward : Line  -- dialled, and not released
+  inward : Line  -- taken by a caller ashore, and not released
+  since : ℕ → Line  -- answered, and not released
+
+pub record Word : Type 0 where
+  pub line : Line
+  pub rings : Bool  -- the last of 8 and 9 is 8
+
+abbrev pub worded : Line → Bool → Word
+worded l b = record { line = l; rings = b }
+
+-- before the first entry
+abbrev pub unused : Word
+unused = worded idle false
+
+-- off-hook
+abbrev pub answer : ℕ → Line → Line
+answer t idle = idle
+answer t outward = since t
+answer t inward = inward
+answer t (since b) = since b
+
+-- carrier up, where it rings or not
+abbrev pub transmit : ℕ → Line → Bool → Line
+transmit t idle b = idle
+transmit t outward b = outward
+transmit t inward true = since t
+transmit t inward false = inward
+transmit t (since s) b = since s
+
+-- the called person answers on slot i, or the ship transmits there
+abbrev pub wordHeard : ℕ → ℕ → What → Word → Word
+wordHeard i t e w =
+    cond (isAnsweringOn i e) (worded (answer t (w .line)) (w .rings))
+    (cond (isTransmittingOn i e) (worded (transmit t (w .line) (w .rings)) (w .rings)) w)
+
+-- a call to a ship takes the line in the entry of a caller ashore, and in no other
+abbrev pub wordCalled : Option Request → Word → Word
+wordCalled none w = w
+wordCalled (some q) w = worded inward (w .rings)
+
+-- "dial", "release line", "ringing on", "ringing off" on slot i
+abbrev pub wordDone : Option Request → ℕ → Deed → Word → Word
+wordDone q i (carrierOn j) w = w
+wordDone q i (carrierOff j) w = w
+wordDone q i (acknowledge j r) w = w
+wordDone q i (callShip j r) w = cond (eqb i j) (wordCalled q w) w
+wordDone q i (unable n x digits) w = w
+wordDone q i (dial j digits) w = cond (eqb i j) (worded outward (w .rings)) w
+wordDone q i (releaseLine j) w = cond (eqb i j) (worded idle (w .rings)) w
+wordDone q i (ringingOn j) w = cond (eqb i j) (worded (w .line) true) w
+wordDone q i (ringingOff j) w = cond (eqb i j) (worded (w .line) false) w
+wordDone q i (busyTone j) w = w
+
+unfoldable pub wordsDone : Option Request → ℕ → List Deed → Word → Word
+wordsDone q i [] w = w
+wordsDone q i (d ∷ ds) w = wordsDone q i ds (wordDone q i d w)
+
+unfoldable pub wordAfter : Config → ℕ → List Note → Word → Word
+wordAfter c i [] w = w
+wordAfter c i (n ∷ ns) w =
+    wordAfter c i ns (wordsDone (askedAt c (n .event .what)) i (n .deeds) (wordHeard i (n .event .time) (n .event .what) w))
+
+-- what the book's column says, in the same words
+abbrev pub wordOf : Call → Word
+wordOf quiet = worded idle false
+wordOf (called r rings) = worded inward rings
+wordOf (dialled x m ended) = worded outward false
+wordOf (talking x m b) = worded (since b) false
+
+-- ── 8, 9 and 6 by themselves ─────────────────────────────────────────────────
+
+-- whether slot i rings: the last of 8 and 9 on it is 8
+abbrev pub rungDone : ℕ → Deed → Bool → Bool
+rungDone i (carrierOn j) b = b
+rungDone i (carrierOff j) b = b
+rungDone i (acknowledge j r) b = b
+rungDone i (callShip j r) b = b
+rungDone i (unable n x digits) b = b
+rungDone i (dial j digits) b = b
+rungDone i (releaseLine j) b = b
+rungDone i (ringingOn j) b = cond (eqb i j) true b
+rungDone i (ringingOff j) b = cond (eqb i j) false b
+rungDone i (busyTone j) b = b
+
+abbrev pub rungsDone : ℕ → List Deed → Bool → Bool
+rungsDone i [] b = b
+rungsDone i (d ∷ ds) b = rungsDone i ds (rungDone i d b)
+
+unfoldable pub rungAfter : ℕ → List Note → Bool → Bool
+rungAfter i [] b = b
+rungAfter i (n ∷ ns) b = rungAfter i ns (rungsDone i (n .deeds) b)
+
+-- the 8s and 9s on slot i, in order: true for an 8
+abbrev pub ringSwitch : ℕ → Deed → List Bool → List Bool
+ringSwitch i (carrierOn j) l = l
+ringSwitch i (carrierOff j) l = l
+ringSwitch i (acknowledge j r) l = l
+ringSwitch i (callShip j r) l = l
+ringSwitch i (unable n x digits) l = l
+ringSwitch i (dial j digits) l = l
+ringSwitch i (releaseLine j) l = l
+ringSwitch i (ringingOn j) l = cond (eqb i j) (true ∷ l) l
+ringSwitch i (ringingOff j) l = cond (eqb i j) (false ∷ l) l
+ringSwitch i (busyTone j) l = l
+
+abbrev pub ringSwitches : ℕ → List Deed → List Bool
+ringSwitches i [] = []
+ringSwitches i (d ∷ ds) = ringSwitch i d (ringSwitches i ds)
+
+-- what is to be given where it rang by a and rings by b
+abbrev pub change : Bool → Bool → List Bool
+change false false = []
+change false true = true ∷ []
+change true false = false ∷ []
+change true true = []
+
+-- of an entry, with the entries before it
+abbrev pub InTurn : Config → List Note → Note → Type 0
+InTurn c before n = (i : ℕ)
+    → ringSwitches i (n .deeds) ≡ change (rungAfter i before false) (rungsDone i (n .deeds) (rungAfter i before false))
+
+-- how often the line of slot i is released
+abbrev pub release : ℕ → Deed → ℕ
+release i (carrierOn j) = 0
+release i (carrierOff j) = 0
+release i (acknowledge j r) = 0
+release i (callShip j r) = 0
+release i (unable n x digits) = 0
+release i (dial j digits) = 0
+release i (releaseLine j) = cond (eqb i j) 1 0
+release i (ringingOn j) = 0
+release i (ringingOff j) = 0
+release i (busyTone j) = 0
+
+abbrev pub releases : ℕ → List Deed → ℕ
+releases i [] = 0
+releases i (d ∷ ds) = release i d + releases i ds

@@ -1,0 +1,27 @@
+-- 02, no. 2: a call from ashore: whether it may, and how it begins. What follows stands with the other events.
+use mathlib.Core.List.{[], _∷_}
+use mathlib.Core.Bool.{Bool, _||_}
+use mathlib.Core.Option.{Option, none, some}
+use Prim.Native.Nat.{ℕ}
+use Rattle.rules.specs.Rules.Places.{lowest, isSome}
+use Rattle.rules.specs.Rules.Words.{Party, Request, carrierOn, callShip}
+use Rattle.rules.specs.Rules.Actions.{does}
+use Rattle.rules.specs.Rules.Station.{Slot, keptFor, Station, setSlot, calledOf}
+use Rattle.rules.specs.Rules.Requests.{Out, ignored, isOf, placeOf}
+
+-- 38: "that ship already has a slot (a hold included) or waits"
+abbrev pub keepsFor : Party → Slot → Bool
+keepsFor x s = isOf x (keptFor s)
+
+unfoldable pub engaged : Station → Party → Bool
+engaged st x = isSome (lowest (keepsFor x) (st .slots)) || isSome (placeOf x st)
+
+-- "takes the lowest free slot: carrier on, a 123 call .. with the channel and RQ"; where none is free: 37
+unfoldable pub calledFrom : Station → Request → Option ℕ → Out
+calledFrom st r none = ignored st
+calledFrom st r (some i) =
+    record {
+      answer = 0;
+      next = setSlot i (calledOf r st) st;
+      acts = does (carrierOn i) ∷ does (callShip i r) ∷ [];
+    }
