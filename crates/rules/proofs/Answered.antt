@@ -23,7 +23,7 @@ use Rattle.rules.proofs.Eight.{answers-few}
 
 -- the number of every refusal but 29
 abbrev pub otherNumbers : List ℕ
-otherNumbers = 11 ∷ 12 ∷ 13 ∷ 14 ∷ 15 ∷ 16 ∷ 17 ∷ 18 ∷ 19 ∷ 20 ∷ 21 ∷ 30 ∷ 31 ∷ 32 ∷ 33 ∷ 34 ∷ 35 ∷ []
+otherNumbers = 11 ∷ 12 ∷ 13 ∷ 14 ∷ 15 ∷ 16 ∷ 17 ∷ 18 ∷ 19 ∷ 20 ∷ 21 ∷ 30 ∷ 31 ∷ 32 ∷ 33 ∷ 34 ∷ 35 ∷ 37 ∷ 38 ∷ []
 
 -- a test that all of them pass
 module _ (p : ℕ → Bool) (others : all p otherNumbers ≡ true) where
@@ -68,7 +68,7 @@ module _ (p : ℕ → Bool) (others : all p otherNumbers ≡ true) where
       let read = readIn (e .what) in
       first-such (refusals c st e) (
         λ f. one-such 29 (unsound f),
-        (row-such 30 refl _, (row-such 31 refl _, (row-such 32 refl _, (row-such 33 refl _, (row-such 34 refl _, (λ f. one-such (answerNumber read) (read-such read f), (row-such 35 refl _, tt))))))),
+        (row-such 30 refl _, (row-such 31 refl _, (row-such 32 refl _, (row-such 33 refl _, (row-such 34 refl _, (λ f. one-such (answerNumber read) (read-such read f), (row-such 35 refl _, (row-such 15 refl _, (row-such 17 refl _, (row-such 19 refl _, (row-such 38 refl _, (row-such 37 refl _, tt)))))))))))),
       )
 
 pub zero-or-one : ZeroOrOne

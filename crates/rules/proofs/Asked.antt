@@ -16,7 +16,7 @@ use Rattle.rules.specs.Rules.Requests.{Out, rungBack, freedFor, freed, c
 use Rattle.rules.specs.ListAlone.Book.{Stop, Column, Book, blank, atColumn, Call}
 use Rattle.rules.specs.ListAlone.Reading.{again, tell, letGo, hush, reads, stopOf, askedAgain, stopsAgain}
 use Rattle.rules.proofs.PlaceLaws.{or-false, and-true, shift-none}
-use Rattle.rules.proofs.Base.{by-stage, callIn, view, seen, is-true, atLine², stay, moves, Calling, no-call, a-call, calling, slot-mapped, slot-lowest}
+use Rattle.rules.proofs.Base.{by-kind, by-stage, lineOf, a-caller, callIn, view, seen, is-true, atLine², stay, moves, Calling, no-call, a-call, calling, slot-mapped, slot-lowest}
 use Rattle.rules.proofs.Ruling.{againOf, Ruling, passes, repeats, renews, redials, bOrC-ruling}
 use Rattle.rules.proofs.Pieces.{Good, good-also, coastEnd-good, newcomer-good, ruleD-good}
 
@@ -31,6 +31,7 @@ others x s h = go s (view s .call) (calling s) h
   where
     go : (s : Slot) (k : Call) → Calling s k → owns x s ≡ false → askedAgain x k (lossDue s) ≡ false
     go _ _ (no-call s n) h = refl
+    go _ _ (a-caller k r d) h = by-kind (λ z. askedAgain x (lineOf z (r .request)) none ≡ false) refl refl refl refl refl refl refl k
     go _ _ (a-call r g c) h = asked-other x (r .request) g c h
 
 pub elem-none : (x : Party) (ss : List Slot) (q : List Party) → elem is x (owners ss q) ≡ false → lowest (owns x) ss ≡ none
@@ -121,7 +122,7 @@ module _ (i : ℕ) (st : Station) (r : Request) where
   unfolding B repeated afresh reads
   ruling-good cs _ _ (passes p a) e h = record { reading = stay i st p e (again (r .who)) (a h .0); charging = a h .1 }
   ruling-good cs _ _ (repeats k o d a b) e h = record { reading = atLine² i (again (r .who)) (tell (st .clock) r) (seen st) ∙ stay i st (pending k o d) e (λ l. tell (st .clock) r (again (r .who) l)) a; charging = b }
-  ruling-good cs _ _ (renews k o d a b) e h = record { reading = atLine² i (again (r .who)) (tell (st .clock) r) (seen st) ∙ moves i st (pending k o d) e (λ l. tell (st .clock) r (again (r .who) l)) (offerOf r st) a; charging = b }
+  ruling-good cs _ _ (renews k o d z a b) e h = record { reading = atLine² i (again (r .who)) (tell (st .clock) r) (seen st) ∙ moves i st (pending k o d) e (λ l. tell (st .clock) r (again (r .who) l)) (offerOf r st) a; charging = b }
   ruling-good cs _ _ (redials o g c a) e h = rw (a h .1) (redial-good o g c e (a h .0))
 
 -- the whole request

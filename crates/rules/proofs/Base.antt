@@ -10,9 +10,9 @@ use borrow.Author.Tests.{eq-eqb, eqb-true, leb-true, le-leb}
 use Rattle.units.specs.declared.Told.{Told}
 use Rattle.rules.specs.Rules.Words.{Party, is, Mode, simplex, duplex, Request, Deed, Config}
 use Rattle.rules.specs.Rules.Actions.{Action, does, over, charge}
-use Rattle.rules.specs.Rules.Station.{bySlot, shipOf, Kind, offered, firstRing, secondRing, acknowledged, Slot, free, taken, pending, busy, held, Waiting, Station, theSlot, setSlot, carrierWait, lossDue, stageDue, mainDue, slotTable, table, fires, answeredAt, answeredIn, Dealing, Stage, dialling, dialledOut, answered, fresh, dueAfter, kindWait, diallingWait, replyWait, holdWait, isFree, offerOf, ringOf, rungAgain, agreedAt}
+use Rattle.rules.specs.Rules.Station.{bySlot, shipOf, Kind, offered, firstRing, secondRing, acknowledged, firstCall, secondCall, ringing, Slot, free, taken, pending, busy, held, Waiting, Station, theSlot, setSlot, carrierWait, lossDue, stageDue, mainDue, slotTable, table, fires, answeredAt, answeredIn, Dealing, Stage, dialling, dialledOut, answered, fresh, dueAfter, kindWait, diallingWait, replyWait, holdWait, isFree, offerOf, ringOf, rungAgain, agreedAt, calledOf, calledAgain, ringingAt, isCalled}
 use Rattle.rules.specs.Rules.Requests.{sameMode, sameNumber, same}
-use Rattle.rules.specs.ListAlone.Book.{silence, alikeMode, alikeDigits, alike, Said, silent, toldBQ, toldRQ, settled, Call, quiet, dialled, talking, Column, Place, Book, atColumn, column, columnTable, falls}
+use Rattle.rules.specs.ListAlone.Book.{silence, alikeMode, alikeDigits, alike, Said, silent, toldBQ, toldRQ, settled, Call, quiet, called, dialled, talking, Column, Place, Book, atColumn, column, columnTable, falls}
 use Rattle.rules.specs.ListAlone.Reading.{read, reads}
 use Rattle.rules.specs.Statement.{deedsOf, chargesOf}
 use Rattle.rules.specs.Rules.Places.{lowest, all, Each, modAt}
@@ -30,11 +30,14 @@ by-slot P a b f g h (pending k r d) = f k r d
 by-slot P a b f g h (busy r s c) = g r s c
 by-slot P a b f g h (held r n d) = h r n d
 
-pub by-kind : (P : Kind → Type 0) → P offered → P firstRing → P secondRing → P acknowledged → (k : Kind) → P k
-by-kind P a b c d offered = a
-by-kind P a b c d firstRing = b
-by-kind P a b c d secondRing = c
-by-kind P a b c d acknowledged = d
+pub by-kind : (P : Kind → Type 0) → P offered → P firstRing → P secondRing → P acknowledged → P firstCall → P secondCall → P ringing → (k : Kind) → P k
+by-kind P a b c d e f g offered = a
+by-kind P a b c d e f g firstRing = b
+by-kind P a b c d e f g secondRing = c
+by-kind P a b c d e f g acknowledged = d
+by-kind P a b c d e f g firstCall = e
+by-kind P a b c d e f g secondCall = f
+by-kind P a b c d e f g ringing = g
 
 pub by-stage : (P : Stage → Type 0) → ((d : ℕ) → P (dialling d)) → ((d : ℕ) → P (dialledOut d)) → ((b : ℕ) → P (answered b)) → (g : Stage) → P g
 by-stage P f g h (dialling d) = f d
@@ -48,6 +51,22 @@ saidOf offered r = toldBQ r
 saidOf firstRing r = toldRQ r
 saidOf secondRing r = toldRQ r
 saidOf acknowledged r = settled r
+saidOf firstCall r = silent
+saidOf secondCall r = silent
+saidOf ringing r = silent
+
+-- the line that a caller ashore has taken
+abbrev pub lineOf : Kind → Request → Call
+lineOf offered r = quiet
+lineOf firstRing r = quiet
+lineOf secondRing r = quiet
+lineOf acknowledged r = quiet
+lineOf firstCall r = called r false
+lineOf secondCall r = called r false
+lineOf ringing r = called r true
+
+pub no-caller : (k : Kind) (r : Request) → isCalled k ≡ false → lineOf k r ≡ quiet
+no-caller k r = by-kind (λ z. isCalled z ≡ false → lineOf z r ≡ quiet) (λ h. refl) (λ h. refl) (λ h. refl) (λ h. refl) (λ h. cc) (λ h. cc) (λ h. cc) k
 
 abbrev pub callIn : Request → Stage → Call
 callIn r (dialling d) = dialled (r .who) (r .mode) false
@@ -58,17 +77,18 @@ abbrev pub view : Slot → Column
 view s = record {
   said = bySlot silent (λ k r. saidOf k (r .request)) (λ r g c. silent) s;
   wait = mainDue s;
-  call = bySlot quiet (λ k r. quiet) (λ r g c. callIn (r .request) g) s;
+  call = bySlot quiet (λ k r. lineOf k (r .request)) (λ r g c. callIn (r .request) g) s;
   gone = lossDue s;
 }
 
--- the call of a slot: none, or that of its request
+-- the call of a slot: none, one from ashore, or that of its request
 pub data Calling : Slot → Call → Type 0 where
   no-call : (s : Slot) → answeredIn s ≡ none → Calling s quiet
+  a-caller : (k : Kind) (r : Dealing) (d : ℕ) → Calling (pending k r d) (lineOf k (r .request))
   a-call : (r : Dealing) (g : Stage) (c : Option ℕ) → Calling (busy r g c) (callIn (r .request) g)
 
 pub calling : (s : Slot) → Calling s (view s .call)
-calling = by-slot (λ s. Calling s (view s .call)) (no-call _ refl) (no-call _ refl) (λ k r d. no-call _ refl) a-call (λ r n d. no-call _ refl)
+calling = by-slot (λ s. Calling s (view s .call)) (no-call _ refl) (no-call _ refl) a-caller a-call (λ r n d. no-call _ refl)
 
 -- the call of a slot that is rung back once, and whose it is
 abbrev firstRung : Kind → Dealing → Option Dealing
@@ -76,12 +96,15 @@ firstRung offered r = none
 firstRung firstRing r = some r
 firstRung secondRing r = none
 firstRung acknowledged r = none
+firstRung firstCall r = none
+firstRung secondCall r = none
+firstRung ringing r = none
 
 abbrev pub rungOnce : Slot → Option Dealing
 rungOnce s = bySlot none firstRung (λ r g c. none) s
 
 pub rung-owns : (s : Slot) (o : Dealing) → rungOnce s ≡ some o → shipOf s ≡ some (o .request .who)
-rung-owns s o = by-slot (λ p. rungOnce p ≡ some o → shipOf p ≡ some (o .request .who)) (λ h. cc) (λ h. cc) (λ k r d. by-kind (λ x. firstRung x r ≡ some o → some (r .request .who) ≡ some (o .request .who)) (λ h. cc) (λ h. cc) (λ h. cc) (λ h. cc) k) (λ r g c h. cc) (λ r n d h. cc) s
+rung-owns s o = by-slot (λ p. rungOnce p ≡ some o → shipOf p ≡ some (o .request .who)) (λ h. cc) (λ h. cc) (λ k r d. by-kind (λ x. firstRung x r ≡ some o → some (r .request .who) ≡ some (o .request .who)) (λ h. cc) (λ h. cc) (λ h. cc) (λ h. cc) (λ h. cc) (λ h. cc) (λ h. cc) k) (λ r g c h. cc) (λ r n d h. cc) s
 
 abbrev pub place : Waiting → Place
 place w = record { who = w .request .who; due = w .due }
@@ -141,10 +164,10 @@ charges-append (does d ∷ a) b = charges-append a b
 charges-append (over i e x digits n ∷ a) b = charges-append a b
 charges-append (charge c ∷ a) b = ap (λ r. c ∷ r) (charges-append a b)
 
-pub reads-append : (t : ℕ) (a b : List Deed) (k : Book) → reads t (a ++ b) k ≡ reads t b (reads t a k)
+pub reads-append : (q : Option Request) (t : ℕ) (a b : List Deed) (k : Book) → reads q t (a ++ b) k ≡ reads q t b (reads q t a k)
 unfolding reads
-reads-append t [] b k = refl
-reads-append t (d ∷ a) b k = reads-append t a b (read t d k)
+reads-append q t [] b k = refl
+reads-append q t (d ∷ a) b k = reads-append q t a b (read q t d k)
 
 -- ── one slot of the book ─────────────────────────────────────────────────────
 
@@ -186,6 +209,16 @@ module _ (st : Station) where
 
   pub slot-each : (F : Slot → Type 0) → F free → (i : ℕ) → Each F (st .slots) → F (theSlot st i)
   slot-each F z i h = each-at F free z i (st .slots) h
+
+  -- a slot given to another
+  pub slot-given : (F : Slot → Type 0) → F free → (q : Slot) → F q → (i : ℕ) → F (theSlot (setSlot i q st) i)
+  unfolding setSlot
+  slot-given F z q h i = go i (st .slots)
+    where
+      go : (i : ℕ) (ss : List Slot) → F (getD (modAt (λ x. q) i ss) i free)
+      go i [] = z
+      go zero (s ∷ ss) = h
+      go (suc i) (s ∷ ss) = go i ss
 
   pub slot-lowest : (f : Slot → Bool) (i : ℕ) → lowest f (st .slots) ≡ some i → f (theSlot st i) ≡ true
   slot-lowest f i h = lowest-is free f (st .slots) i h
@@ -315,3 +348,12 @@ again-fits r t = new-wait t (kindWait secondRing)
 
 pub agreed-fits : (r : Dealing) (t : ℕ) → slotFits t (agreedAt r t) ≡ true
 agreed-fits r t = new-wait t (kindWait acknowledged)
+
+pub call-fits : (r : Request) (st : Station) → slotFits (st .clock) (calledOf r st) ≡ true
+call-fits r st = new-wait (st .clock) (kindWait firstCall)
+
+pub called-again-fits : (r : Dealing) (t : ℕ) → slotFits t (calledAgain r t) ≡ true
+called-again-fits r t = new-wait t (kindWait secondCall)
+
+pub ringing-fits : (r : Dealing) (t : ℕ) → slotFits t (ringingAt r t) ≡ true
+ringing-fits r t = new-wait t (kindWait ringing)

@@ -4,20 +4,22 @@ use mathlib.Core.List.{List, [], _∷_, _++_, map}
 use mathlib.Core.Bool.{Bool, true, false, _||_}
 use mathlib.Core.Option.{Option, none, some}
 use Prim.Native.Nat.{ℕ}
-use Rattle.rules.specs.Rules.Places.{dropAt, Each}
+use Rattle.rules.specs.Rules.Places.{modAt, dropAt, Each}
 use Rattle.rules.specs.Rules.Words.{Party, Request, Deed}
 use Rattle.rules.specs.Rules.Heard.{Heard, callRequest}
 use Rattle.rules.specs.Rules.Actions.{Ender, theShip, theCoast, Action}
-use Rattle.rules.specs.Rules.Station.{Dealing, dealing, Slot, Waiting, Station, theSlot, setSlot, setClock, setQueue, answeredAt, ringOf}
+use Rattle.rules.specs.Rules.Station.{Dealing, dealing, Slot, Waiting, Station, theSlot, setSlot, setClock, setQueue, answeredAt, ringOf, rings}
 use Rattle.rules.specs.Rules.Requests.{Out, also, rungBack, freedFor, freed, endActs, coastEnd, done}
-use Rattle.rules.specs.ListAlone.Book.{silent, Stop, Column, Book, atColumn, column}
+use Rattle.rules.specs.Rules.Calls.{dropActs}
+use Rattle.rules.specs.ListAlone.Book.{Said, silent, Call, quiet, called, dialled, talking, Stop, Column, Book, atColumn, column}
 use Rattle.rules.specs.ListAlone.Reading.{letGo, hush, read, reads}
-use Rattle.rules.specs.ListAlone.Repeated.{putsOff, toldToWait, Repeats, switchedOn, RingsSame, DialsNamed, EachRead}
-use Rattle.rules.specs.ListAlone.ThreeWords.{Word}
+use Rattle.rules.specs.ListAlone.Repeated.{putsOff, toldToWait, CallsAsked, Sends, Repeats, switchedOn, RingsSame, DialsNamed, EachRead}
+use Rattle.rules.specs.ListAlone.LineWords.{Word}
 use Rattle.rules.specs.Statement.{deedsOf}
-use Rattle.rules.proofs.PlaceLaws.{each-set, each-dropped, each-append}
-use Rattle.rules.proofs.Base.{rungOnce, view, deeds-append, slot-each, slot-mapped}
-use Rattle.rules.proofs.Outcome.{Next, stays, becomes, frees, Move, to-dial, to-agree, to-ring, to-drop, to-stage, to-lose, to-regain, to-hold, to-end, to-repeat, to-run-out, to-take, to-give, played, Outcome, passed, moved}
+use Rattle.rules.proofs.PlaceLaws.{each-set, each-dropped}
+use Rattle.rules.proofs.Base.{rungOnce, no-caller, view, deeds-append, slot-each, slot-mapped}
+use Rattle.rules.proofs.Outcome.{Next, stays, becomes, frees, Move, to-dial, to-agree, to-ring, to-drop, to-call, to-rings, to-answer, to-let-go, to-stage, to-lose, to-regain, to-hold, to-end, to-repeat, to-run-out, to-take, to-give, played, Outcome, passed, moved}
+use Rattle.rules.proofs.Hears.{column-of}
 use Rattle.rules.proofs.Laws.{there}
 
 -- ── what a station knows: a is what each ship last asked for that was told to wait ──
@@ -33,14 +35,13 @@ pub record Known (a : Party → Heard) (st : Station) : Type 0 where
   pub waiting : Each (Asked a) (st .queue)
   pub ringing : Each (Rung a) (st .slots)
 
--- a deed that fits what channel 70 last said of its slot
-abbrev pub Fits : Option ℕ → Book → Deed → Type 0
-Fits on b d = RingsSame on b d × DialsNamed on b d
+-- a deed that repeats what was asked, and fits what channel 70 last said of its slot; q is asked ashore in the same entry
+abbrev pub Fits : Heard → Option Request → (Party → Heard) → Option ℕ → Book → Deed → Type 0
+Fits h q a on b d = Repeats h q a b d × (RingsSame on b d × DialsNamed on b d)
 
--- deeds that repeat, and tell nobody to wait
+-- deeds that fit, and tell nobody to wait
 pub record Mild (h : Heard) (a : Party → Heard) (b : Book) (ds : List Deed) : Type 0 where
-  pub repeats : Each (Repeats h a) ds
-  pub fits : (t : ℕ) (on : Option ℕ) → EachRead Fits t on b ds
+  pub fits : (t : ℕ) (on : Option ℕ) → EachRead (Fits h none a) none t on b ds
   pub untold : (x : Party) → toldToWait x ds ≡ false
 
 pub record Calm (h : Heard) (a : Party → Heard) (b : Book) (o : Out) : Type 0 where
@@ -71,44 +72,92 @@ told-append x (d ∷ ds) es h = go (putsOff x d) h (told-append x ds es)
     go true e ih = let y : true ≡ false = e in cc
     go false e ih = ih e
 
-pub fits-append : (t : ℕ) (on : Option ℕ) (b : Book) (ds es : List Deed) → EachRead Fits t on b ds → ((o : Option ℕ) → EachRead Fits t o (reads t ds b) es) → EachRead Fits t on b (ds ++ es)
+pub fits-append : (P : Option ℕ → Book → Deed → Type 0) (t : ℕ) (on : Option ℕ) (b : Book) (ds es : List Deed) → EachRead P none t on b ds → ((o : Option ℕ) → EachRead P none t o (reads none t ds b) es) → EachRead P none t on b (ds ++ es)
 unfolding reads
-fits-append t on b [] es p q = q on
-fits-append t on b (d ∷ ds) es p q = (p .0, fits-append t (switchedOn d) (read t d b) ds es (p .1) q)
+fits-append P t on b [] es p q = q on
+fits-append P t on b (d ∷ ds) es p q = (p .0, fits-append P t (switchedOn d) (read none t d b) ds es (p .1) q)
 
--- the carrier is off: channel 70 has said nothing
-hushed : (i : ℕ) (b : Book) → column (atColumn i hush b) i .said ≡ silent
-hushed i b = ap (λ (l : Column). l .said) (there hush refl i (b .columns))
+-- ── a column on which nothing stands: channel 70 has said nothing of it, and no caller ashore has its line ──
+
+abbrev NoCaller : Call → Type 0
+NoCaller quiet = Unit {0}
+NoCaller (called r b) = ⊥
+NoCaller (dialled x m o) = Unit {0}
+NoCaller (talking x m b) = Unit {0}
+
+abbrev Silent : Column → Type 0
+Silent l = (l .said ≡ silent) × NoCaller (l .call)
+
+-- so a call to a ship is a ring-back, and comes just behind the carrier
+rung-asked : (h : Heard) (r : Request) (k : Call) → NoCaller k → h ≡ callRequest r → CallsAsked none h r k
+rung-asked h r quiet z e = e
+rung-asked h r (called o b) z e = absurd z
+rung-asked h r (dialled x m o) z e = e
+rung-asked h r (talking x m b) z e = e
+
+rung-behind : (i : ℕ) (r : Request) (s : Said) (k : Call) → s ≡ silent → NoCaller k → Sends i r (some i) s k
+rung-behind i r s quiet e z = rw e refl
+rung-behind i r s (called o b) e z = absurd z
+rung-behind i r s (dialled x m o) e z = rw e refl
+rung-behind i r s (talking x m b) e z = rw e refl
+
+-- the line is released, then the carrier off; or the other way round
+released : (l : Column) → NoCaller (letGo l .call)
+released l = go (l .call)
+  where
+    go : (c : Call) → NoCaller (letGo (column-of (l .said) (l .wait) c (l .gone)) .call)
+    go quiet = tt
+    go (called r b) = tt
+    go (dialled x m o) = tt
+    go (talking x m b) = tt
+
+ended-silent : (i : ℕ) (b : Book) → Silent (column (atColumn i hush (atColumn i letGo b)) i)
+ended-silent i b = rw (there hush refl i (modAt letGo i (b .columns)), there letGo refl i (b .columns)) (refl, released (column b i))
+
+let-go-said : (l : Column) → letGo l .said ≡ l .said
+let-go-said l = go (l .call)
+  where
+    go : (c : Call) → letGo (column-of (l .said) (l .wait) c (l .gone)) .said ≡ l .said
+    go quiet = refl
+    go (called r b) = refl
+    go (dialled x m o) = refl
+    go (talking x m b) = refl
+
+dropped-silent : (i : ℕ) (b : Book) → Silent (column (atColumn i letGo (atColumn i hush b)) i)
+dropped-silent i b = rw (there letGo refl i (modAt hush i (b .columns)), there hush refl i (b .columns)) (let-go-said (hush (column b i)), released (hush (column b i)))
 
 module _ (h : Heard) (a : Party → Heard) where
-  also-calm : (b : Book) (acts : List Action) (o : Out) → Mild h a b (deedsOf acts) → ((t : ℕ) → Calm h a (reads t (deedsOf acts) b) o) → Calm h a b (also acts o)
+  also-calm : (b : Book) (acts : List Action) (o : Out) → Mild h a b (deedsOf acts) → ((t : ℕ) → Calm h a (reads none t (deedsOf acts) b) o) → Calm h a b (also acts o)
   also-calm b acts o m c = record {
     mild = rw (deeds-append acts (o .acts)) (record {
-      repeats = each-append (Repeats h a) (deedsOf acts) (deedsOf (o .acts)) (m .repeats) (c 0 .mild .repeats);
-      fits = λ t on. fits-append t on b (deedsOf acts) (deedsOf (o .acts)) (m .fits t on) (c t .mild .fits t);
+      fits = λ t on. fits-append (Fits h none a) t on b (deedsOf acts) (deedsOf (o .acts)) (m .fits t on) (c t .mild .fits t);
       untold = λ x. told-append x (deedsOf acts) (deedsOf (o .acts)) (m .untold x) ∙ c 0 .mild .untold x;
     });
     known = c 0 .known;
   }
 
   -- the oldest is rung back with its request
-  freedFor-calm : (b : Book) (i : ℕ) (st : Station) → column b i .said ≡ silent → Known a st → (q : List Waiting) → st .queue ≡ q → Calm h a b (freedFor i st q)
+  freedFor-calm : (b : Book) (i : ℕ) (st : Station) → Silent (column b i) → Known a st → (q : List Waiting) → st .queue ≡ q → Calm h a b (freedFor i st q)
   unfolding freedFor rungBack
-  freedFor-calm b i st quiet k [] e = record { mild = record { repeats = tt; fits = λ t on. tt; untold = λ x. refl }; known = set-known a i _ st (λ r h. cc) k }
-  freedFor-calm b i st quiet k (w ∷ q) e =
+  freedFor-calm b i st z k [] e = record { mild = record { fits = λ t on. tt; untold = λ x. refl }; known = set-known a i _ st (λ r h. cc) k }
+  freedFor-calm b i st z k (w ∷ q) e =
       let p : Each (Asked a) (w ∷ q) = rw e at (k .waiting) in
       record {
-        mild = record { repeats = (tt, (p .0, tt)); fits = λ t on. ((tt, tt), ((rw quiet refl, tt), tt)); untold = λ x. refl };
+        mild = record { fits = λ t on. ((tt, (tt, tt)), ((rung-asked _ _ (column b i .call) (z .1) (p .0), (rung-behind i _ _ (column b i .call) (z .0) (z .1), tt)), tt)); untold = λ x. refl };
         known = set-known a i (ringOf (w .request) st) (setQueue q st) (λ r h. let y : dealing (w .request) ≡ r = cc in rw (← y) (p .0)) (queue-known a q st (p .1) k);
       }
 
-  freed-calm : (b : Book) (i : ℕ) (st : Station) → column b i .said ≡ silent → Known a st → Calm h a b (freed i st)
+  freed-calm : (b : Book) (i : ℕ) (st : Station) → Silent (column b i) → Known a st → Calm h a b (freed i st)
   unfolding freed
-  freed-calm b i st quiet k = freedFor-calm b i st quiet k (st .queue) refl
+  freed-calm b i st z k = freedFor-calm b i st z k (st .queue) refl
 
   module _ (b : Book) where
     no-deed : Mild h a b []
-    no-deed = record { repeats = tt; fits = λ t on. tt; untold = λ x. refl }
+    no-deed = record { fits = λ t on. tt; untold = λ x. refl }
+
+    -- a deed about the caller ashore
+    one-deed : (d : Deed) → ((t : ℕ) (on : Option ℕ) → Fits h none a on b d) → ((x : Party) → toldToWait x (d ∷ []) ≡ false) → Mild h a b (d ∷ [])
+    one-deed d f n = record { fits = λ t on. (f t on, tt); untold = n }
 
     -- no action
     pub still : (n : ℕ) (st : Station) → Known a st → Calm h a b (record { answer = n; next = st; acts = [] })
@@ -116,13 +165,27 @@ module _ (h : Heard) (a : Party → Heard) where
 
     -- the line is released, and the carrier off
     end-mild : (i : ℕ) (e : Ender) (r : Request) (g : Option ℕ) (t : ℕ) → Mild h a b (deedsOf (endActs i e r g t))
-    end-mild i e r none t = record { repeats = (tt, (tt, tt)); fits = λ t on. ((tt, tt), ((tt, tt), tt)); untold = λ x. refl }
-    end-mild i e r (some s) t = record { repeats = (tt, (tt, tt)); fits = λ t on. ((tt, tt), ((tt, tt), tt)); untold = λ x. refl }
+    end-mild i e r none t = record { fits = λ t on. ((tt, (tt, tt)), ((tt, (tt, tt)), tt)); untold = λ x. refl }
+    end-mild i e r (some s) t = record { fits = λ t on. ((tt, (tt, tt)), ((tt, (tt, tt)), tt)); untold = λ x. refl }
 
-    end-quiet : (i : ℕ) (e : Ender) (r : Request) (g : Option ℕ) (t u : ℕ) → column (reads u (deedsOf (endActs i e r g t)) b) i .said ≡ silent
+    end-quiet : (i : ℕ) (e : Ender) (r : Request) (g : Option ℕ) (t u : ℕ) → Silent (column (reads none u (deedsOf (endActs i e r g t)) b) i)
     unfolding reads
-    end-quiet i e r none t u = hushed i (atColumn i letGo b)
-    end-quiet i e r (some s) t u = hushed i (atColumn i letGo b)
+    end-quiet i e r none t u = ended-silent i b
+    end-quiet i e r (some s) t u = ended-silent i b
+
+    -- the same of a call from ashore that is dropped
+    drop-mild : (i : ℕ) (rung tone : Bool) → Mild h a b (deedsOf (dropActs i rung tone))
+    drop-mild i false false = record { fits = λ t on. ((tt, (tt, tt)), ((tt, (tt, tt)), tt)); untold = λ x. refl }
+    drop-mild i false true = record { fits = λ t on. ((tt, (tt, tt)), ((tt, (tt, tt)), ((tt, (tt, tt)), tt))); untold = λ x. refl }
+    drop-mild i true false = record { fits = λ t on. ((tt, (tt, tt)), ((tt, (tt, tt)), ((tt, (tt, tt)), tt))); untold = λ x. refl }
+    drop-mild i true true = record { fits = λ t on. ((tt, (tt, tt)), ((tt, (tt, tt)), ((tt, (tt, tt)), ((tt, (tt, tt)), tt)))); untold = λ x. refl }
+
+    drop-quiet : (i : ℕ) (rung tone : Bool) (u : ℕ) → Silent (column (reads none u (deedsOf (dropActs i rung tone)) b) i)
+    unfolding reads
+    drop-quiet i false false u = dropped-silent i b
+    drop-quiet i false true u = dropped-silent i b
+    drop-quiet i true false u = dropped-silent i b
+    drop-quiet i true true u = dropped-silent i b
 
     pub coastEnd-calm : (i : ℕ) (st : Station) → Known a st → (r : Request) (g : Option ℕ) → Calm h a b (coastEnd i r g st)
     unfolding coastEnd
@@ -134,33 +197,37 @@ module _ (h : Heard) (a : Party → Heard) where
     abbrev Leaves : ℕ → Next → Book → Type 0
     Leaves i stays c = Unit {0}
     Leaves i (becomes q) c = Rung a q
-    Leaves i frees c = column c i .said ≡ silent
+    Leaves i frees c = Silent (column c i)
 
-    move-calm : (i t : ℕ) (p : Slot) (n : Next) (acts : List Action) → Move i t p n acts → Rung a p → column b i .said ≡ view p .said → Mild h a b (deedsOf acts) × ((u : ℕ) → Leaves i n (reads u (deedsOf acts) b))
+    move-calm : (i t : ℕ) (p : Slot) (n : Next) (acts : List Action) → Move i t p n acts → Rung a p → column b i ≡ view p → Mild h a b (deedsOf acts) × ((u : ℕ) → Leaves i n (reads none u (deedsOf acts) b))
     unfolding reads
-    move-calm i t _ _ _ (to-dial k r d z) g s = (record { repeats = (tt, tt); fits = λ u on. ((tt, rw s z), tt); untold = λ x. refl }, λ u o x. cc)
-    move-calm i t _ _ _ (to-agree k r d) g s = (no-deed, λ u o x. cc)
-    move-calm i t _ _ _ (to-ring r d) g s = (record { repeats = (g r refl, tt); fits = λ u on. ((rw s refl, tt), tt); untold = λ x. refl }, λ u o x. cc)
-    move-calm i t _ _ _ (to-drop k r d) g s = (record { repeats = (tt, tt); fits = λ u on. ((tt, tt), tt); untold = λ x. refl }, λ u. hushed i b)
+    move-calm i t _ _ _ (to-dial k r d z) g s = (one-deed _ (λ u on. (tt, (tt, rw s z))) (λ x. refl), λ u o x. cc)
+    move-calm i t _ _ _ (to-agree k r d z) g s = (no-deed, λ u o x. cc)
+    move-calm i t _ _ _ (to-ring r d) g s = (one-deed _ (λ u on. (rw s (g r refl), (rw s refl, tt))) (λ x. refl), λ u o x. cc)
+    move-calm i t _ _ _ (to-drop k r d z) g s = (one-deed _ (λ u on. (tt, (tt, tt))) (λ x. refl), λ u. rw (there hush refl i (b .columns), s, no-caller k (r .request) z) (refl, tt))
+    move-calm i t _ _ _ (to-call r d) g s = (one-deed _ (λ u on. (rw s refl, (rw s refl, tt))) (λ x. refl), λ u o x. cc)
+    move-calm i t _ _ _ (to-rings k r d z) g s = (one-deed _ (λ u on. (tt, (tt, tt))) (λ x. refl), λ u o x. cc)
+    move-calm i t _ _ _ (to-answer r d) g s = (one-deed _ (λ u on. (tt, (tt, tt))) (λ x. refl), λ u o x. cc)
+    move-calm i t _ _ _ (to-let-go k r d tone) g s = (drop-mild i (rings k) tone, λ u. drop-quiet i (rings k) tone u)
     move-calm i t _ _ _ (to-stage r n q c z) g s = (no-deed, λ u o x. cc)
     move-calm i t _ _ _ (to-lose r g c) k s = (no-deed, λ u o x. cc)
     move-calm i t _ _ _ (to-regain r g c) k s = (no-deed, λ u o x. cc)
     move-calm i t _ _ _ (to-hold r g c) k s = (end-mild i theShip (r .request) (answeredAt g) t, λ u o x. cc)
     move-calm i t _ _ _ (to-end r g c) k s = (end-mild i theCoast (r .request) (answeredAt g) t, λ u. end-quiet i theCoast (r .request) (answeredAt g) t u)
-    move-calm i t _ _ _ (to-repeat r n d) g s = (record { repeats = (tt, (tt, tt)); fits = λ u on. ((tt, tt), ((tt, tt), tt)); untold = λ x. refl }, λ u. tt)
-    move-calm i t _ _ _ (to-run-out r n d) g s = (no-deed, λ u. s)
+    move-calm i t _ _ _ (to-repeat r n d) g s = (record { fits = λ u on. ((tt, (tt, tt)), ((tt, (tt, tt)), tt)); untold = λ x. refl }, λ u. tt)
+    move-calm i t _ _ _ (to-run-out r n d) g s = (no-deed, λ u. rw s (refl, tt))
     move-calm i t _ _ _ to-take g s = (no-deed, λ u o x. cc)
-    move-calm i t _ _ _ to-give g s = (no-deed, λ u. s)
+    move-calm i t _ _ _ to-give g s = (no-deed, λ u. rw s (refl, tt))
 
     module _ (i : ℕ) (st : Station) (k : Known a st) where
-      played-calm : (n : Next) (acts : List Action) → Mild h a b (deedsOf acts) × ((u : ℕ) → Leaves i n (reads u (deedsOf acts) b)) → Calm h a b (played i st n acts)
+      played-calm : (n : Next) (acts : List Action) → Mild h a b (deedsOf acts) × ((u : ℕ) → Leaves i n (reads none u (deedsOf acts) b)) → Calm h a b (played i st n acts)
       played-calm stays acts m = record { mild = m .0; known = k }
       played-calm (becomes q) acts m = record { mild = m .0; known = set-known a i q st (m .1 0) k }
       played-calm frees acts m = also-calm b acts (freed i st) (m .0) (λ t. freed-calm _ i st (m .1 t) k)
 
       pub outcome-calm : b .columns ≡ map view (st .slots) → {f : Column → Column} {w : Word → Word} {cs : List Stop} {o : Out} → Outcome i st f w cs (theSlot st i) o → Calm h a b o
       outcome-calm v (passed x y z) = still 1 st k
-      outcome-calm v (moved {n} {acts} u x y z) = played-calm n acts (move-calm i (st .clock) _ n acts u (slot-each st (Rung a) (λ r x. cc) i (k .ringing)) (rw v (ap (λ (l : Column). l .said) (slot-mapped st view i))))
+      outcome-calm v (moved {n} {acts} u x y z) = played-calm n acts (move-calm i (st .clock) _ n acts u (slot-each st (Rung a) (λ r x. cc) i (k .ringing)) (rw v (slot-mapped st view i)))
 
     -- the time of a waiting ship is over
     pub drop-calm : (st : Station) → Known a st → (j : ℕ) → Calm h a b (done (setQueue (dropAt j (st .queue)) st))

@@ -14,11 +14,11 @@ use Rattle.rules.specs.Rules.Station.{Stage, Slot, Station}
 use Rattle.rules.specs.Rules.Sound.{requestKeeps, slotKeeps, limit}
 use Rattle.rules.specs.Rules.Calls.{act}
 use Rattle.rules.specs.Rules.Verdict.{verdict}
-use Rattle.rules.specs.ListAlone.Book.{Stop, Call, quiet, dialled, talking}
+use Rattle.rules.specs.ListAlone.Book.{Stop, Call, quiet, called, dialled, talking}
 use Rattle.rules.specs.ListAlone.Reading.{stopsIn, falling, moment, stopOf}
 use Rattle.rules.specs.Statement.{owed, InOrder, ChargesFit, FourBytes, EndsAt}
 use Rattle.rules.proofs.PlaceLaws.{and-true}
-use Rattle.rules.proofs.Base.{by-stage, callIn, view, seen, Calling, no-call, a-call, calling}
+use Rattle.rules.proofs.Base.{by-kind, by-stage, lineOf, callIn, view, seen, Calling, no-call, a-caller, a-call, calling}
 use Rattle.rules.proofs.Accepted.{accepted, sounds}
 use Rattle.rules.proofs.Run.{noteOf, stops-are}
 use Rattle.rules.proofs.Stopped.{each-stop}
@@ -29,6 +29,7 @@ use Rattle.rules.proofs.Kept.{stays-sound}
 
 abbrev aShips : Call → Bool
 aShips quiet = true
+aShips (called r b) = true
 aShips (dialled x m o) = true
 aShips (talking x m b) = leb (x .ship) 799999999
 
@@ -44,6 +45,7 @@ slot-known c s k = go s (view s .call) (calling s) k
   where
     go : (s : Slot) (k : Call) → Calling s k → slotKeeps c s ≡ true → aShips k ≡ true
     go _ _ (no-call s n) h = refl
+    go _ _ (a-caller k r d) h = by-kind (λ z. aShips (lineOf z (r .request)) ≡ true) refl refl refl refl refl refl refl k
     go _ _ (a-call r g l) h = call-known c (r .request) g h
 
 all-known : (c : Config) (ss : List Slot) → all (slotKeeps c) ss ≡ true → all (λ l. aShips (l .call)) (map view ss) ≡ true
@@ -55,6 +57,7 @@ FromShip s = s .ship ≤ 799999999
 
 one-known : (t i : ℕ) (k : Call) → aShips k ≡ true → Each FromShip (stopOf t i k)
 one-known t i quiet e = tt
+one-known t i (called r b) e = tt
 one-known t i (dialled x m o) e = tt
 one-known t i (talking x m b) e = (leb-true (x .ship) 799999999 e, tt)
 

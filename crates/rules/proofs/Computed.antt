@@ -1,7 +1,7 @@
 -- The cases of 01, its sample script, and the runs on both sides: computed.
 use mathlib.Core.Path.{_≡_, refl}
 use mathlib.Core.List.{[], _∷_, _++_, map}
-use Rattle.rules.specs.Rules.Words.{simplex, duplex, carrierOn, ringBack, unable}
+use Rattle.rules.specs.Rules.Words.{simplex, duplex, carrierOn, callShip, unable}
 use Rattle.rules.specs.Rules.Heard.{callRequest, nothing}
 use Rattle.rules.specs.Rules.Station.{fresh}
 use Rattle.rules.specs.Rules.Verdict.{play}
@@ -14,6 +14,7 @@ use Rattle.rules.specs.Tables.Runs.{station, seven, usual, asksAnew, run
 use Rattle.rules.specs.Tables.Cases.{cases, sample, sampleShows}
 use Rattle.rules.specs.Tables.RequestCases.{requestCases}
 use Rattle.rules.specs.Tables.CallCases.{callCases}
+use Rattle.rules.specs.Tables.AshoreCases.{ashoreCases}
 use Rattle.rules.specs.Tables.RefusalCases.{refusalCases}
 use Rattle.rules.specs.Tables.Phases.{rowOf, phases}
 use Rattle.rules.specs.Tables.SoundCases.{from, setUpCases, storedCases, countCases, timeCases}
@@ -25,9 +26,9 @@ unfolding runsOpen
 cases-computed = as-expected cases refl
 
 -- a case for each rule, and for each refusal
-pub rules-computed : map (λ r. r .computed) (requestCases ++ callCases ++ refusalCases) ≡ map (λ r. r .expected) (requestCases ++ callCases ++ refusalCases)
+pub rules-computed : map (λ r. r .computed) (requestCases ++ callCases ++ ashoreCases ++ refusalCases) ≡ map (λ r. r .expected) (requestCases ++ callCases ++ ashoreCases ++ refusalCases)
 unfolding runsOpen
-rules-computed = as-expected (requestCases ++ callCases ++ refusalCases) refl
+rules-computed = as-expected (requestCases ++ callCases ++ ashoreCases ++ refusalCases) refl
 
 -- a case for each part of soundness, and for set-up
 pub sound-computed : map (λ j. j .given) (setUpCases ++ storedCases ++ countCases ++ timeCases) ≡ map (λ j. j .expected) (setUpCases ++ storedCases ++ countCases ++ timeCases)
@@ -56,6 +57,6 @@ stops-computed = refl
 
 -- duplex, then simplex: what seven was last told to wait with, and what it is rung back with
 pub other-mode-computed : (lastAsked (station 1) (from seven simplex .who) nothing (notes (play (station 1) (asksAnew duplex simplex []) (fresh (station 1)))) ≡ callRequest (from seven simplex))
-    × (map (λ n. n .deeds) (notes (play (station 1) (asksAnew duplex simplex []) (fresh (station 1)))) ≡ [] ∷ (unable 103 (from seven simplex .who) usual ∷ []) ∷ (unable 103 (from seven simplex .who) usual ∷ []) ∷ (carrierOn 0 ∷ ringBack 0 (from seven simplex) ∷ []) ∷ [])
+    × (map (λ n. n .deeds) (notes (play (station 1) (asksAnew duplex simplex []) (fresh (station 1)))) ≡ [] ∷ (unable 103 (from seven simplex .who) usual ∷ []) ∷ (unable 103 (from seven simplex .who) usual ∷ []) ∷ (carrierOn 0 ∷ callShip 0 (from seven simplex) ∷ []) ∷ [])
 unfolding runsOpen notes lastAsked
 other-mode-computed = (refl, refl)

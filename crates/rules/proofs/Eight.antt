@@ -11,19 +11,20 @@ use Rattle.rules.specs.Rules.Places.{lowest, all, Each}
 use Rattle.rules.specs.Rules.Words.{Request, Config, What, Event, carrierOn}
 use Rattle.rules.specs.Rules.Heard.{Heard}
 use Rattle.rules.specs.Rules.Actions.{Ender, theShip, theCoast, Action, does}
-use Rattle.rules.specs.Rules.Station.{Slot, Waiting, Station, theSlot, setClock, answeredAt, isFree}
+use Rattle.rules.specs.Rules.Station.{Slot, Waiting, Station, theSlot, setClock, answeredAt, isFree, rings}
 use Rattle.rules.specs.Rules.Sound.{slotKeeps, sound}
 use Rattle.rules.specs.Rules.Requests.{Out, also, rungBack, freedFor, freed, bill, lasted, endActs, coastEnd, Standing, nowhere, holds, waits, placeOf, standing, ruleA, repeated, afresh, ruleD, offer, ruleF, ruleG, eToG, newcomer, dToG, redial, requested}
-use Rattle.rules.specs.Rules.Calls.{actAt, act}
+use Rattle.rules.specs.Rules.Ashore.{calledFrom}
+use Rattle.rules.specs.Rules.Calls.{dropActs, actAt, act}
 use Rattle.rules.specs.ListAlone.Book.{Stop, Column, Book}
-use Rattle.rules.specs.ListAlone.ThreeWords.{Word}
+use Rattle.rules.specs.ListAlone.LineWords.{Word}
 use Rattle.rules.specs.Statement.{AtMostEight}
 use Rattle.rules.proofs.PlaceLaws.{each-append}
-use Rattle.rules.proofs.Outcome.{Next, stays, becomes, frees, Move, to-dial, to-agree, to-ring, to-drop, to-stage, to-lose, to-regain, to-hold, to-end, to-repeat, to-run-out, to-take, to-give, played, Outcome, passed, moved}
+use Rattle.rules.proofs.Outcome.{Next, stays, becomes, frees, Move, to-dial, to-agree, to-ring, to-drop, to-call, to-rings, to-answer, to-let-go, to-stage, to-lose, to-regain, to-hold, to-end, to-repeat, to-run-out, to-take, to-give, played, Outcome, passed, moved}
 use Rattle.rules.proofs.Ruling.{Ruling, passes, repeats, renews, redials, bOrC-ruling}
 use Rattle.rules.proofs.Accepted.{sounds}
-use Rattle.rules.proofs.Payloads.{Slim, on-slim, off-slim, release-slim, acknowledge-slim, ringBack-slim, unable-slim, over-slim, bill-slim, dial-slim}
-use Rattle.rules.proofs.Effect.{Effect, rests, drops, data-asked, call-asked, to-slot, act-effect}
+use Rattle.rules.proofs.Payloads.{Slim, on-slim, off-slim, release-slim, ringing-slim, silenced-slim, tone-slim, acknowledge-slim, callShip-slim, unable-slim, over-slim, bill-slim, dial-slim}
+use Rattle.rules.proofs.Effect.{Effect, rests, drops, data-asked, call-asked, to-slot, called-ashore, act-effect}
 use Rattle.rules.proofs.Base.{slot-all}
 
 record Few (cfg : Config) (n : ℕ) (o : Out) : Type 0 where
@@ -59,7 +60,7 @@ module _ (cfg : Config) where
   freedFor-few : (i : ℕ) (st : Station) (q : List Waiting) → Few cfg 2 (freedFor i st q)
   unfolding freedFor rungBack
   freedFor-few i st [] = zero-few 2 _
-  freedFor-few i st (w ∷ q) = record { many = omega arith; slim = (on-slim cfg i, (ringBack-slim cfg i (w .request), tt)); told = omega arith }
+  freedFor-few i st (w ∷ q) = record { many = omega arith; slim = (on-slim cfg i, (callShip-slim cfg i (w .request), tt)); told = omega arith }
 
   freed-few : (i : ℕ) (st : Station) → Few cfg 2 (freed i st)
   unfolding freed
@@ -108,7 +109,7 @@ module _ (cfg : Config) where
   unfolding repeated
   ruling-few i st r cs _ _ (passes p a) = none-few 8 st
   ruling-few i st r cs _ _ (repeats k o d a b) = one-few 8 st _ (acknowledge-slim cfg i r) (omega arith)
-  ruling-few i st r cs _ _ (renews k o d a b) = afresh-few 8 i st r (omega arith)
+  ruling-few i st r cs _ _ (renews k o d z a b) = afresh-few 8 i st r (omega arith)
   ruling-few i st r cs _ _ (redials o g c a) = redial-few i (o .request) (answeredAt g) st r
 
   request-few : (st : Station) (r : Request) (o : Standing) → Few cfg 8 (requested st r o)
@@ -119,11 +120,21 @@ module _ (cfg : Config) where
 
   -- ── on a slot ──────────────────────────────────────────────────────────────
 
+  drop-slim : (i : ℕ) (rung tone : Bool) → (length (dropActs i rung tone) ≤ 4) × Each (Slim cfg) (dropActs i rung tone)
+  drop-slim i false false = (omega arith, (off-slim cfg i, (release-slim cfg i, tt)))
+  drop-slim i false true = (omega arith, (off-slim cfg i, (tone-slim cfg i, (release-slim cfg i, tt))))
+  drop-slim i true false = (omega arith, (silenced-slim cfg i, (off-slim cfg i, (release-slim cfg i, tt))))
+  drop-slim i true true = (omega arith, (silenced-slim cfg i, (off-slim cfg i, (tone-slim cfg i, (release-slim cfg i, tt)))))
+
   move-slim : (i t : ℕ) (p : Slot) (n : Next) (acts : List Action) → Move i t p n acts → slotKeeps cfg p ≡ true → (length acts ≤ 4) × Each (Slim cfg) acts
   move-slim i t _ _ _ (to-dial k r d z) h = (omega arith, (dial-slim cfg i (r .request) h, tt))
-  move-slim i t _ _ _ (to-agree k r d) h = (omega arith, tt)
-  move-slim i t _ _ _ (to-ring r d) h = (omega arith, (ringBack-slim cfg i (r .request), tt))
-  move-slim i t _ _ _ (to-drop k r d) h = (omega arith, (off-slim cfg i, tt))
+  move-slim i t _ _ _ (to-agree k r d z) h = (omega arith, tt)
+  move-slim i t _ _ _ (to-ring r d) h = (omega arith, (callShip-slim cfg i (r .request), tt))
+  move-slim i t _ _ _ (to-drop k r d z) h = (omega arith, (off-slim cfg i, tt))
+  move-slim i t _ _ _ (to-call r d) h = (omega arith, (callShip-slim cfg i (r .request), tt))
+  move-slim i t _ _ _ (to-rings k r d z) h = (omega arith, (ringing-slim cfg i, tt))
+  move-slim i t _ _ _ (to-answer r d) h = (omega arith, (silenced-slim cfg i, tt))
+  move-slim i t _ _ _ (to-let-go k r d tone) h = drop-slim i (rings k) tone
   move-slim i t _ _ _ (to-stage r n q c z) h = (omega arith, tt)
   move-slim i t _ _ _ (to-lose r g c) h = (omega arith, tt)
   move-slim i t _ _ _ (to-regain r g c) h = (omega arith, tt)
@@ -145,17 +156,18 @@ module _ (cfg : Config) where
 
   -- ── an event, of a station whose stored requests keep the rules ────────────
 
-  effect-few : (st : Station) → all (slotKeeps cfg) (st .slots) ≡ true → (b : Book) (ws : List Word) (cs : List Stop) (m : Heard) (o : Out) → Effect st b ws cs m o → Few cfg 8 o
-  unfolding ruleA
-  effect-few st k _ _ _ _ _ (rests m n h) = record { many = omega arith; slim = tt; told = h }
-  effect-few st k _ _ _ _ _ (drops j) = zero-few 8 _
-  effect-few st k _ _ _ _ _ (data-asked x n) = one-few 8 st _ (unable-slim cfg 109 x n) (omega arith)
-  effect-few st k _ _ _ _ _ (call-asked r) = request-few st r (standing st (r .who))
-  effect-few st k _ _ _ _ _ (to-slot m i u e) = outcome-few i st (theSlot st i) u (slot-all st (slotKeeps cfg) refl i k)
+  effect-few : (st : Station) → all (slotKeeps cfg) (st .slots) ≡ true → (q : Option Request) (b : Book) (ws : List Word) (cs : List Stop) (m : Heard) (o : Out) → Effect st q b ws cs m o → Few cfg 8 o
+  unfolding ruleA calledFrom
+  effect-few st k _ _ _ _ _ _ (rests m n h) = record { many = omega arith; slim = tt; told = h }
+  effect-few st k _ _ _ _ _ _ (drops j) = zero-few 8 _
+  effect-few st k _ _ _ _ _ _ (data-asked x n) = one-few 8 st _ (unable-slim cfg 109 x n) (omega arith)
+  effect-few st k _ _ _ _ _ _ (call-asked r) = request-few st r (standing st (r .who))
+  effect-few st k _ _ _ _ _ _ (called-ashore r i h) = record { many = omega arith; slim = (on-slim cfg i, (callShip-slim cfg i r, tt)); told = omega arith }
+  effect-few st k _ _ _ _ _ _ (to-slot m i u e) = outcome-few i st (theSlot st i) u (slot-all st (slotKeeps cfg) refl i k)
 
   act-few : (st : Station) → all (slotKeeps cfg) (st .slots) ≡ true → (t : ℕ) (w : What) → Few cfg 8 (actAt cfg st t w)
   unfolding setClock
-  act-few st k t w = effect-few _ k _ _ _ _ _ (act-effect cfg st t w)
+  act-few st k t w = effect-few _ k _ _ _ _ _ _ (act-effect cfg st t w)
 
 pub answers-few : (cfg : Config) (st : Station) (e : Event) → sound cfg st ≡ true → act cfg st e .answer ≤ 1
 answers-few cfg st e s = act-few cfg st (sounds cfg st s .slots-keep) (e .time) (e .what) .told

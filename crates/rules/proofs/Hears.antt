@@ -1,15 +1,15 @@
 -- What a deed and an event say on a column, as to who talks on it: nothing, or a call begins, or one stops. It speaks of the list alone.
-use mathlib.Core.Path.{_≡_, refl}
+use mathlib.Core.Path.{_≡_, refl, _∙_}
 use mathlib.Core.List.{List, [], map}
 use mathlib.Core.Bool.{Bool, true, false, cond}
 use mathlib.Core.Option.{Option, none, some}
 use Prim.Native.Nat.{ℕ}
 use lib.Dec.{eqb}
 use Rattle.rules.specs.Rules.Places.{modAt, dropAt}
-use Rattle.rules.specs.Rules.Words.{Party, is, Mode, Request, Config, lineDialledOut, lineLifted, lineHung, carrierHeard, carrierLost, Happened, heard, signal, operator, answeringOn, What, onSlot, Deed, carrierOn, carrierOff, acknowledge, ringBack, unable, dial, releaseLine, tick, onChannel70}
-use Rattle.rules.specs.Rules.Heard.{Heard, callRequest, dataRequest, bq, workingCall, endOfCall, nothing, meaning}
-use Rattle.rules.specs.ListAlone.Book.{Stop, after, offerTime, alike, Said, silent, toldBQ, toldRQ, settled, Call, quiet, dialled, talking, Column, Book, atPlaces, Place, column}
-use Rattle.rules.specs.ListAlone.Reading.{close, withGone, dialOut, pickUp, lose, signOff, hearSaid, hearColumn, settle, told, tell, rungUp, beginCall, dialUp, letGo, hush, join, queued, read, withWait, again, hearHeard, hearDue, hear, setNow, stopOf, callOf, stopsSaid, stopsOn, stopsDue, stopsAgain, stopsHeard, stopsAt}
+use Rattle.rules.specs.Rules.Words.{Party, is, Mode, Request, Config, lineDialledOut, lineLifted, lineHung, carrierHeard, carrierLost, Happened, heard, signal, operator, answeringOn, What, onSlot, Deed, carrierOn, carrierOff, acknowledge, callShip, unable, dial, releaseLine, ringingOn, ringingOff, busyTone, tick, onChannel70, fromAshore, transmittingOn}
+use Rattle.rules.specs.Rules.Heard.{Heard, callRequest, dataRequest, bq, workingCall, endOfCall, declined, nothing, meaning}
+use Rattle.rules.specs.ListAlone.Book.{Stop, after, offerTime, ringingTime, alike, Said, silent, toldBQ, toldRQ, settled, Call, quiet, called, dialled, talking, Column, Book, atPlaces, Place, column}
+use Rattle.rules.specs.ListAlone.Reading.{close, withGone, dialOut, pickUp, lose, signOff, hearSaid, hearColumn, settle, settleSaid, beginRinging, beginRingingCall, comeUp, callUp, takeUp, summon, told, tell, beginCall, dialUp, letGo, hush, join, queued, read, withWait, again, hearHeard, hearDue, hear, setNow, stopOf, callOf, stopsSaid, stopsOn, stopsDue, stopsAgain, stopsHeard, stopsAt}
 use Rattle.rules.specs.Rules.Waits.{Wait, ofQueue, loss, main, Due}
 
 abbrev pub column-of : Said → Option ℕ → Call → Option ℕ → Column
@@ -18,11 +18,13 @@ column-of s w c g = record { said = s; wait = w; call = c; gone = g }
 -- the answered part of a call
 abbrev pub talk : Call → Call
 talk quiet = quiet
+talk (called r b) = quiet
 talk (dialled x m o) = quiet
 talk (talking x m b) = talking x m b
 
 pub talk-is : (c : Call) (x : Party) (m : Mode) (t : ℕ) → talk c ≡ talking x m t → c ≡ talking x m t
 talk-is quiet x m t h = cc
+talk-is (called r b) x m t h = cc
 talk-is (dialled y k o) x m t h = cc
 talk-is (talking y k b) x m t h = h
 
@@ -46,6 +48,7 @@ tell-same u r l = go (l .said)
 
 begin-same : (r : Request) (c : Call) → talk (beginCall r c) ≡ talk c
 begin-same r quiet = refl
+begin-same r (called q b) = refl
 begin-same r (dialled x m o) = refl
 begin-same r (talking x m b) = refl
 
@@ -63,6 +66,7 @@ release-same l = go (l .call)
   where
     go : (c : Call) → talk (letGo (column-of (l .said) (l .wait) c (l .gone)) .call) ≡ talk c
     go quiet = refl
+    go (called r b) = refl
     go (dialled x m o) = refl
     go (talking x m b) = refl
 
@@ -71,6 +75,7 @@ lose-same u l = go (l .call)
   where
     go : (c : Call) → talk (lose u (column-of (l .said) (l .wait) c (l .gone)) .call) ≡ talk c
     go quiet = refl
+    go (called r b) = refl
     go (dialled x m o) = refl
     go (talking x m b) = refl
 
@@ -79,18 +84,44 @@ dial-out-same u l = go (l .call)
   where
     go : (c : Call) → talk (dialOut u (column-of (l .said) (l .wait) c (l .gone)) .call) ≡ talk c
     go quiet = refl
+    go (called r b) = refl
     go (dialled x m false) = refl
     go (dialled x m true) = refl
     go (talking x m b) = refl
 
-settle-same : (u : ℕ) (x : Party) → Same (settle u x)
-settle-same u x l = go (l .said)
+take-same : (r : Request) (c : Call) → talk (takeUp r c) ≡ talk c
+take-same r quiet = refl
+take-same r (called q b) = refl
+take-same r (dialled x m o) = refl
+take-same r (talking x m b) = refl
+
+summon-same : (u : ℕ) (r : Request) → Same (summon u r)
+summon-same u r l = go (l .call)
   where
-    go : (s : Said) → talk (settle u x (column-of s (l .wait) (l .call) (l .gone)) .call) ≡ talk (l .call)
-    go silent = refl
-    go (toldBQ r) = refl
-    go (toldRQ r) = cond-same _ (is x (r .who)) (column-of (settled r) (some (after u offerTime)) (l .call) (l .gone)) (column-of (toldRQ r) (l .wait) (l .call) (l .gone)) refl refl
-    go (settled r) = refl
+    go : (c : Call) → talk (summon u r (column-of (l .said) (l .wait) c (l .gone)) .call) ≡ talk c
+    go quiet = refl
+    go (called q b) = refl
+    go (dialled x m o) = refl
+    go (talking x m b) = refl
+
+ring-same : (u : ℕ) (x : Party) → Same (beginRinging u x)
+ring-same u x l = go (l .call)
+  where
+    go : (c : Call) → talk (beginRingingCall u x c (column-of (l .said) (l .wait) c (l .gone)) .call) ≡ talk c
+    go quiet = refl
+    go (called r false) = cond-same _ (is x (r .who)) (column-of (l .said) (some (after u ringingTime)) (called r true) (l .gone)) (column-of (l .said) (l .wait) (called r false) (l .gone)) refl refl
+    go (called r true) = refl
+    go (dialled y m o) = refl
+    go (talking y m b) = refl
+
+settle-same : (u : ℕ) (x : Party) → Same (settle u x)
+settle-same u x l = go (l .said) (beginRinging u x l) ∙ ring-same u x l
+  where
+    go : (s : Said) (k : Column) → talk (settleSaid u x s k .call) ≡ talk (k .call)
+    go silent k = refl
+    go (toldBQ r) k = refl
+    go (toldRQ r) k = cond-same _ (is x (r .who)) (column-of (settled r) (some (after u offerTime)) (k .call) (k .gone)) k refl refl
+    go (settled r) k = refl
 
 -- ── what a deed says ─────────────────────────────────────────────────────────
 
@@ -106,14 +137,18 @@ pub data Leaves (ls : List Column) : List Column → Type 0 where
   elsewhere : Leaves ls ls
   at-column : (i : ℕ) (f : Column → Column) → Same f → Leaves ls (modAt f i ls)
 
-pub read-leaves : (u : ℕ) (d : Deed) (b : Book) → Leaves (b .columns) (read u d b .columns)
-read-leaves u (carrierOn i) b = elsewhere
-read-leaves u (carrierOff i) b = at-column i hush (λ l. refl)
-read-leaves u (acknowledge i r) b = at-column i (tell u r) (tell-same u r)
-read-leaves u (ringBack i r) b = at-column i (rungUp u r) (λ l. refl)
-read-leaves u (unable n x digits) b = rw (queued-columns u n x b) elsewhere
-read-leaves u (dial i n) b = at-column i (dialUp u) (dial-same u)
-read-leaves u (releaseLine i) b = at-column i letGo release-same
+pub read-leaves : (q : Option Request) (u : ℕ) (d : Deed) (b : Book) → Leaves (b .columns) (read q u d b .columns)
+read-leaves q u (carrierOn i) b = elsewhere
+read-leaves q u (carrierOff i) b = at-column i hush (λ l. refl)
+read-leaves q u (acknowledge i r) b = at-column i (tell u r) (tell-same u r)
+read-leaves none u (callShip i r) b = at-column i (summon u r) (summon-same u r)
+read-leaves (some q) u (callShip i r) b = at-column i (callUp u r) (λ l. take-same r (l .call))
+read-leaves q u (unable n x digits) b = rw (queued-columns u n x b) elsewhere
+read-leaves q u (dial i n) b = at-column i (dialUp u) (dial-same u)
+read-leaves q u (releaseLine i) b = at-column i letGo release-same
+read-leaves q u (ringingOn i) b = elsewhere
+read-leaves q u (ringingOff i) b = elsewhere
+read-leaves q u (busyTone i) b = elsewhere
 
 -- ── what an event says, on the column i at the time u ──────────────────────────
 
@@ -121,6 +156,7 @@ read-leaves u (releaseLine i) b = at-column i letGo release-same
 pub data Hears (u i : ℕ) (e : What) : (Column → Column) → (Call → List Stop) → Type 0 where
   says-nothing : (f : Column → Column) → Same f → Hears u i e f (λ k. [])
   says-begun : e ≡ answeringOn i → Hears u i e (pickUp u) (λ k. [])
+  says-answered : e ≡ transmittingOn i → Hears u i e (comeUp u) (λ k. [])
   says-over : Hears u i e close (stopOf u i)
   says-end : (x : Party) → Hears u i e (signOff u x) (λ k. cond (callOf x k) (stopOf u i k) [])
 
@@ -130,6 +166,7 @@ said-hears u i e (dataRequest x n) = says-nothing (λ l. l) (λ l. refl)
 said-hears u i e (bq j x) = says-nothing (λ l. l) (λ l. refl)
 said-hears u i e (workingCall x) = says-nothing (λ l. l) (λ l. refl)
 said-hears u i e (endOfCall x) = says-end x
+said-hears u i e (declined x) = says-nothing (λ l. l) (λ l. refl)
 said-hears u i e nothing = says-nothing (λ l. l) (λ l. refl)
 
 column-hears : (cfg : Config) (u i : ℕ) (h : Happened) → Hears u i (onSlot i h) (hearColumn cfg u h) (λ k. stopsOn cfg u i k h)
@@ -137,7 +174,7 @@ column-hears cfg u i (heard m) = said-hears u i (onSlot i (heard m)) (meaning cf
 column-hears cfg u i (signal lineDialledOut) = says-nothing (dialOut u) (dial-out-same u)
 column-hears cfg u i (signal lineLifted) = says-begun refl
 column-hears cfg u i (signal lineHung) = says-over
-column-hears cfg u i (signal carrierHeard) = says-nothing (withGone none) (λ l. refl)
+column-hears cfg u i (signal carrierHeard) = says-answered refl
 column-hears cfg u i (signal carrierLost) = says-nothing (lose u) (lose-same u)
 column-hears cfg u i (operator h) = says-nothing (λ l. l) (λ l. refl)
 
@@ -165,9 +202,11 @@ module _ (u : ℕ) (e : What) (b : Book) where
   heard-hearing (bq i x) = one-column i (settle u x) (λ k. []) (says-nothing (settle u x) (settle-same u x))
   heard-hearing (workingCall x) = no-column (b .places)
   heard-hearing (endOfCall x) = no-column (b .places)
+  heard-hearing (declined x) = no-column (b .places)
   heard-hearing nothing = no-column (b .places)
 
 pub event-hearing : (cfg : Config) (u : ℕ) (b : Book) (o : Option Due) (w : What) → Hearing u w b (hear cfg u o w (setNow u b)) (stopsAt cfg u b o w)
 event-hearing cfg u b o tick = due-hearing u tick b o
 event-hearing cfg u b o (onChannel70 m) = heard-hearing u (onChannel70 m) b (meaning cfg m)
+event-hearing cfg u b o (fromAshore a) = no-column (b .places)
 event-hearing cfg u b o (onSlot i h) = one-column i (hearColumn cfg u h) (λ k. stopsOn cfg u i k h) (column-hears cfg u i h)

@@ -9,14 +9,14 @@ use native.Mathlib.Omega.{arith}
 use Rattle.rules.specs.Rules.Places.{modAt, dropAt, lowest}
 use Rattle.rules.specs.Rules.Words.{Request, Config, Event}
 use Rattle.rules.specs.Rules.Actions.{Action}
-use Rattle.rules.specs.Rules.Station.{Slot, Waiting, Station, fresh, setSlot, setClock, setQueue, isFree, offerOf}
+use Rattle.rules.specs.Rules.Station.{Slot, Waiting, Station, fresh, setSlot, setClock, setQueue, isFree, offerOf, calledOf}
 use Rattle.rules.specs.Rules.Requests.{rungBack, freedFor, freed, ruleD, ruleF}
 use Rattle.rules.specs.Rules.Calls.{act}
 use Rattle.rules.specs.Rules.Verdict.{verdict, final}
 use Rattle.rules.specs.Statement.{NoChannelIdle}
 use Rattle.rules.proofs.PlaceLaws.{shift-none}
 use Rattle.rules.proofs.Run.{final-on, final-past}
-use Rattle.rules.proofs.Outcome.{becomes, Move, to-dial, to-agree, to-ring, to-stage, to-lose, to-regain, to-hold, to-take}
+use Rattle.rules.proofs.Outcome.{becomes, Move, to-dial, to-agree, to-ring, to-call, to-rings, to-answer, to-stage, to-lose, to-regain, to-hold, to-take}
 use Rattle.rules.proofs.Walk.{Closed, act-kept}
 
 -- nobody waits, or no slot is free
@@ -51,7 +51,10 @@ freed-fair i st f = freedFor-fair i st (st .queue) refl f
 
 turned-busy : (i t : ℕ) (p q : Slot) (acts : List Action) → Move i t p (becomes q) acts → isFree q ≡ false
 turned-busy i t _ _ _ (to-dial k r d z) = refl
-turned-busy i t _ _ _ (to-agree k r d) = refl
+turned-busy i t _ _ _ (to-agree k r d z) = refl
+turned-busy i t _ _ _ (to-call r d) = refl
+turned-busy i t _ _ _ (to-rings k r d z) = refl
+turned-busy i t _ _ _ (to-answer r d) = refl
 turned-busy i t _ _ _ (to-ring r d) = refl
 turned-busy i t _ _ _ (to-stage r n q c z) = refl
 turned-busy i t _ _ _ (to-lose r g c) = refl
@@ -88,6 +91,7 @@ fair-closed cfg = record {
   freeing = freed-fair;
   renewed = λ i st r h k o d e y f. set-fair i (offerOf r st) st refl f;
   offering = λ i st r h n y f. set-fair i (offerOf r st) st refl f;
+  calling = λ i st r h n y f. set-fair i (calledOf r st) st refl f;
   joining = λ st r h n y none q f. ruleF-fair st r none;
   replacing = λ k st r h y f. ruleD-fair k st r f;
   dropping = drop-fair;

@@ -1,5 +1,5 @@
 -- What is heard is of its kind, and every sequence of a kind is heard as that kind.
-use mathlib.Core.Path.{_≡_, refl}
+use mathlib.Core.Path.{_≡_, refl, sym}
 use mathlib.Core.Bool.{Bool, true, false, cond, _&&_, _||_}
 use mathlib.Core.Option.{Option, none, some}
 use Prim.Native.Nat.{ℕ}
@@ -11,7 +11,7 @@ use Rattle.sequence.specs.declared.Meaning.{Meaning}
 use Rattle.rules.specs.Rules.Places.{lowest}
 use Rattle.rules.specs.Rules.Words.{Mode, simplex, duplex, modeNumber, Config, ours, Ours}
 use Rattle.rules.specs.Rules.Heard.{Heard, nothing, sentBy, isBlank, says, sameChannel, slotNamed, bqOn, agrees, kindOf, addressed}
-use Rattle.rules.specs.Rules.Kinds.{Plain, Means, asCallRequest, asDataRequest, asWorkingCall, asEndOfCall, asBq, asNothing, OnlyThese, AllThese}
+use Rattle.rules.specs.Rules.Kinds.{Plain, Means, asCallRequest, asDataRequest, asWorkingCall, asEndOfCall, asBq, asDeclined, asNothing, OnlyThese, AllThese, ModesKept}
 use Rattle.rules.proofs.PlaceLaws.{and-true}
 
 blank-is : (f : Field) → isBlank f ≡ true → f ≡ Blank
@@ -56,7 +56,7 @@ module _ (c : Config) (m : Meaning) where
       let p = and-true (eqb (m .end) 122) (eqb (m .first) 100 || eqb (m .first) 101) h in
       let e = eqb-true (m .end) 122 (p .0) in
       or-true (eqb (m .first) 100) (eqb (m .first) 101) (p .1) _ (λ k. bq-means a e simplex (eqb-true (m .first) 100 k) (m .field) refl) (λ k. bq-means a e duplex (eqb-true (m .first) 101 k) (m .field) refl))
-      asNothing)))))
+      (means-if (says 122 104 m) _ _ (λ h. asDeclined (plain 122 104 a h)) asNothing))))))
 
 -- what is heard as a kind is of that kind
 pub only-these : OnlyThese
@@ -78,4 +78,15 @@ all-these c m _ (asWorkingCall duplex p) k = rw (eq-eqb _ _ (p .to-this), p .end
 all-these c m _ (asEndOfCall p) k = rw (eq-eqb _ _ (p .to-this), p .ends, p .begins, p .empty) refl
 all-these c m _ (asBq simplex n i a e g h l) k = rw (eq-eqb _ _ a, e, g, h, l) refl
 all-these c m _ (asBq duplex n i a e g h l) k = rw (eq-eqb _ _ a, e, g, h, l) refl
+all-these c m _ (asDeclined p) k = rw (eq-eqb _ _ (p .to-this), p .ends, p .begins, p .empty) refl
 all-these c m _ asNothing k = absurd (k refl)
+
+-- the mode of a call from ashore
+pub modes-kept : ModesKept
+unfolding ModesKept
+modes-kept n h = go (eqb n 101) refl (eqb n 100) refl h
+  where
+    go : (b : Bool) → eqb n 101 ≡ b → (c : Bool) → eqb n 100 ≡ c → (c || b) ≡ true → modeNumber (cond b duplex simplex) ≡ n
+    go true e c f k = sym (eqb-true n 101 e)
+    go false e true f k = sym (eqb-true n 100 f)
+    go false e false f k = cc

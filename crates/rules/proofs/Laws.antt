@@ -1,5 +1,6 @@
 -- What the reading means, said of one entry and one column, with no station in sight.
---     begins   a column talks after an entry only if it talked before, or the entry answers it and it was dialled
+--     begins   a column talks after an entry only if it talked before, or the entry answers it and it was dialled, or its ship transmits and
+--              it rang
 --     ends     a column that talked talks on, or the entry holds its stop
 use mathlib.Core.Path.{_≡_, refl, sym, ap, _∙_}
 use mathlib.Core.Logic.{_⊎_, inl, inr}
@@ -11,12 +12,13 @@ use native.Mathlib.Nat.{add-zero, add-suc, suc-add, zero-add}
 use native.Mathlib.Omega.{arith}
 use lib.ListN.{getD}
 use Rattle.rules.specs.Rules.Places.{modAt}
-use Rattle.rules.specs.Rules.Words.{Party, is, Mode, Config, answeringOn, What, Deed}
+use Rattle.rules.specs.Rules.Words.{Party, is, Mode, Request, Config, answeringOn, transmittingOn, What, Deed}
 use Rattle.rules.specs.Rules.Waits.{Due}
-use Rattle.rules.specs.ListAlone.Book.{Note, Stop, after, holdTime, Said, Call, quiet, dialled, talking, Column, Book, blank, column}
-use Rattle.rules.specs.ListAlone.Reading.{closed, close, pickUp, signOff, again, hear, read, reads, setNow, turn, stopsIn, falling, moment, stopOf, callOf, lost, askedAgain, stopsAgain, stopsAt}
-use Rattle.rules.specs.ListAlone.ReadingLaws.{In, stopAt, IsDialled, Begins, Lifts, Ends}
-use Rattle.rules.proofs.Hears.{column-of, talk, talk-is, Same, Leaves, elsewhere, at-column, read-leaves, Hears, says-nothing, says-begun, says-over, says-end, Hearing, no-column, one-column, all-columns, event-hearing}
+use Rattle.rules.specs.ListAlone.Book.{Note, Stop, after, holdTime, Said, Call, quiet, called, dialled, talking, Column, Book, blank, column}
+use Rattle.rules.specs.ListAlone.Reading.{closed, close, pickUp, comeUp, signOff, again, hear, read, reads, setNow, turn, stopsIn, falling, moment, stopOf, callOf, lost, askedAgain, stopsAgain, stopsAt, askedAt}
+use Rattle.rules.specs.ListAlone.ReadingLaws.{In, stopAt, IsDialled, IsRinging, Begins, Lifts, Transmits, Ends}
+use Rattle.rules.proofs.PlaceLaws.{aside}
+use Rattle.rules.proofs.Hears.{column-of, talk, talk-is, Same, Leaves, elsewhere, at-column, read-leaves, Hears, says-nothing, says-begun, says-answered, says-over, says-end, Hearing, no-column, one-column, all-columns, event-hearing}
 
 -- ── no deed begins or stops an answered call ─────────────────────────────────
 
@@ -27,17 +29,17 @@ same-at f h zero (suc j) (l ∷ ls) = refl
 same-at f h (suc i) zero (l ∷ ls) = refl
 same-at f h (suc i) (suc j) (l ∷ ls) = same-at f h i j ls
 
-read-same : (u j : ℕ) (d : Deed) (b : Book) → talk (column (read u d b) j .call) ≡ talk (column b j .call)
-read-same u j d b = go (read u d b .columns) (read-leaves u d b)
+read-same : (q : Option Request) (u j : ℕ) (d : Deed) (b : Book) → talk (column (read q u d b) j .call) ≡ talk (column b j .call)
+read-same q u j d b = go (read q u d b .columns) (read-leaves q u d b)
   where
     go : (ls : List Column) → Leaves (b .columns) ls → talk (getD ls j blank .call) ≡ talk (getD (b .columns) j blank .call)
     go _ elsewhere = refl
     go _ (at-column i f h) = same-at f h i j (b .columns)
 
-reads-same : (u j : ℕ) (ds : List Deed) (b : Book) → talk (column (reads u ds b) j .call) ≡ talk (column b j .call)
+reads-same : (q : Option Request) (u j : ℕ) (ds : List Deed) (b : Book) → talk (column (reads q u ds b) j .call) ≡ talk (column b j .call)
 unfolding reads
-reads-same u j [] b = refl
-reads-same u j (d ∷ ds) b = reads-same u j ds (read u d b) ∙ read-same u j d b
+reads-same q u j [] b = refl
+reads-same q u j (d ∷ ds) b = reads-same q u j ds (read q u d b) ∙ read-same q u j d b
 
 -- ── what an event does to one column ───────────────────────────────────────────
 
@@ -45,18 +47,8 @@ reads-same u j (d ∷ ds) b = reads-same u j ds (read u d b) ∙ read-same u j d
 data After (e : What) (u j : ℕ) (cs : List Stop) (c k : Call) : Type 0 where
   goes-on : talk k ≡ talk c → After e u j cs c k
   starts : (x : Party) (m : Mode) (o : Bool) → e ≡ answeringOn j → c ≡ dialled x m o → k ≡ talking x m u → After e u j cs c k
+  comes-up : (r : Request) → e ≡ transmittingOn j → c ≡ called r true → k ≡ talking (r .who) (r .mode) u → After e u j cs c k
   stopped : (x : Party) (m : Mode) (t : ℕ) → c ≡ talking x m t → talk k ≡ quiet → In (stopAt j x t u) cs → After e u j cs c k
-
-aside : (f : Column → Column) (i j : ℕ) (ls : List Column) → (j ≡ i) ⊎ (getD (modAt f i ls) j blank ≡ getD ls j blank)
-aside f i j [] = inr refl
-aside f zero zero (l ∷ ls) = inl refl
-aside f zero (suc j) (l ∷ ls) = inr refl
-aside f (suc i) zero (l ∷ ls) = inr refl
-aside f (suc i) (suc j) (l ∷ ls) = go (aside f i j ls)
-  where
-    go : (j ≡ i) ⊎ (getD (modAt f i ls) j blank ≡ getD ls j blank) → (suc j ≡ suc i) ⊎ (getD (modAt f i ls) j blank ≡ getD ls j blank)
-    go (inl p) = inl (ap suc p)
-    go (inr q) = inr q
 
 pub there : (f : Column → Column) → f blank ≡ blank → (i : ℕ) (ls : List Column) → getD (modAt f i ls) i blank ≡ f (getD ls i blank)
 there f h i [] = sym h
@@ -67,7 +59,7 @@ there f h (suc i) (l ∷ ls) = there f h i ls
 module _ (e : What) (u i j : ℕ) (cs : List Stop) (f : Column → Column) (fb : f blank ≡ blank) (ls : List Column)
     (at-i : After e u i cs (getD ls i blank .call) (f (getD ls i blank) .call)) where
   seen-from : After e u j cs (getD ls j blank .call) (getD (modAt f i ls) j blank .call)
-  seen-from = go (aside f i j ls)
+  seen-from = go (aside blank f i j ls)
     where
       go : (j ≡ i) ⊎ (getD (modAt f i ls) j blank ≡ getD ls j blank) → After e u j cs (getD ls j blank .call) (getD (modAt f i ls) j blank .call)
       go (inl p) = rw (p, there f fb i ls) at-i
@@ -75,11 +67,13 @@ module _ (e : What) (u i j : ℕ) (cs : List Stop) (f : Column → Column) (fb :
 
 close-after : (e : What) (u i : ℕ) (c : Call) → After e u i (stopOf u i c) c (closed c)
 close-after e u i quiet = goes-on refl
+close-after e u i (called r b) = goes-on refl
 close-after e u i (dialled x m o) = goes-on refl
 close-after e u i (talking x m t) = stopped x m t refl refl (inl refl)
 
 signOff-after : (e : What) (u : ℕ) (x : Party) (i : ℕ) (s : Said) (w : Option ℕ) (c : Call) (g : Option ℕ) → After e u i (cond (callOf x c) (stopOf u i c) []) c (signOff u x (column-of s w c g) .call)
 signOff-after e u x i s w quiet g = goes-on refl
+signOff-after e u x i s w (called r b) g = goes-on refl
 signOff-after e u x i s w (dialled y m o) g = go (is x y)
   where
     go : (b : Bool) → After e u i (cond b [] []) (dialled y m o) (cond b (column-of s (some (after u holdTime)) quiet none) (column-of s w (dialled y m o) g) .call)
@@ -93,8 +87,16 @@ signOff-after e u x i s w (talking y m t) g = go (is x y)
 
 pickUp-after : (e : What) (u i : ℕ) (cs : List Stop) → e ≡ answeringOn i → (s : Said) (w : Option ℕ) (c : Call) (g : Option ℕ) → After e u i cs c (pickUp u (column-of s w c g) .call)
 pickUp-after e u i cs h s w quiet g = goes-on refl
+pickUp-after e u i cs h s w (called r b) g = goes-on refl
 pickUp-after e u i cs h s w (dialled x m o) g = starts x m o h refl refl
 pickUp-after e u i cs h s w (talking x m b) g = goes-on refl
+
+comeUp-after : (e : What) (u i : ℕ) (cs : List Stop) → e ≡ transmittingOn i → (s : Said) (w : Option ℕ) (c : Call) (g : Option ℕ) → After e u i cs c (comeUp u (column-of s w c g) .call)
+comeUp-after e u i cs h s w quiet g = goes-on refl
+comeUp-after e u i cs h s w (called r false) g = goes-on refl
+comeUp-after e u i cs h s w (called r true) g = comes-up r h refl refl
+comeUp-after e u i cs h s w (dialled x m o) g = goes-on refl
+comeUp-after e u i cs h s w (talking x m b) g = goes-on refl
 
 in-append : (c : Stop) (a b : List Stop) → In c b → In c (a ++ b)
 in-append c [] b h = h
@@ -115,6 +117,7 @@ again-after e u x k zero (l ∷ ls) = rw (add-zero k) (go (l .call) (l .gone))
 
     go : (c : Call) (g : Option ℕ) → After e u k (cond (askedAgain x c g) (stopOf u k c) [] ++ stopsAgain u x (suc k) ls) c (again x (column-of (l .said) (l .wait) c g) .call)
     go quiet g = goes-on refl
+    go (called r b) g = goes-on refl
     go (dialled y m o) g = goes-on refl
     go (talking y m t) g = pick ((is x y) && (lost m g)) y m t g
 again-after e u x k (suc j) (l ∷ ls) = rw (add-suc k j, ← (suc-add k j)) (more (again-after e u x (suc k) j ls))
@@ -122,11 +125,13 @@ again-after e u x k (suc j) (l ∷ ls) = rw (add-suc k j, ← (suc-add k j)) (mo
     more : {c d : Call} → After e u (suc k + j) (stopsAgain u x (suc k) ls) c d → After e u (suc k + j) (stopsAgain u x k (l ∷ ls)) c d
     more (goes-on p) = goes-on p
     more (starts y m o p q r) = starts y m o p q r
+    more (comes-up o p q r) = comes-up o p q r
     more (stopped y m t p q r) = stopped y m t p q (in-append _ (cond (askedAgain x (l .call) (l .gone)) (stopOf u k (l .call)) []) _ r)
 
 hears-after : (u i j : ℕ) (e : What) (f : Column → Column) (s : Call → List Stop) → Hears u i e f s → (ls : List Column) → After e u j (s (getD ls i blank .call)) (getD ls j blank .call) (getD (modAt f i ls) j blank .call)
 hears-after u i j e _ _ (says-nothing f h) ls = goes-on (same-at f h i j ls)
 hears-after u i j e _ _ (says-begun h) ls = let l = getD ls i blank in seen-from e u i j [] (pickUp u) refl ls (pickUp-after e u i [] h (l .said) (l .wait) (l .call) (l .gone))
+hears-after u i j e _ _ (says-answered h) ls = let l = getD ls i blank in seen-from e u i j [] (comeUp u) refl ls (comeUp-after e u i [] h (l .said) (l .wait) (l .call) (l .gone))
 hears-after u i j e _ _ says-over ls = seen-from e u i j (stopOf u i (getD ls i blank .call)) close refl ls (close-after e u i (getD ls i blank .call))
 hears-after u i j e _ _ (says-end x) ls = let l = getD ls i blank in seen-from e u i j (cond (callOf x (l .call)) (stopOf u i (l .call)) []) (signOff u x) refl ls (signOff-after e u x i (l .said) (l .wait) (l .call) (l .gone))
 
@@ -146,7 +151,7 @@ mid cfg b n j = column (hear cfg (moment b (n .event)) (falling b (n .event)) (n
 
 turn-mid : (cfg : Config) (b : Book) (n : Note) (j : ℕ) → talk (column (turn cfg b n) j .call) ≡ talk (mid cfg b n j)
 unfolding turn mid
-turn-mid cfg b n j = reads-same (moment b (n .event)) j (n .deeds) (hear cfg (moment b (n .event)) (falling b (n .event)) (n .event .what) (setNow (moment b (n .event)) b))
+turn-mid cfg b n j = reads-same (askedAt cfg (n .event .what)) (moment b (n .event)) j (n .deeds) (hear cfg (moment b (n .event)) (falling b (n .event)) (n .event .what) (setNow (moment b (n .event)) b))
 
 is-dialled : (x : Party) (m : Mode) (o : Bool) (c : Call) → c ≡ dialled x m o → IsDialled x m c
 is-dialled x m false c h = inl h
@@ -159,14 +164,18 @@ begins cfg b n j x m t h = go (hear-after cfg b (moment b (n .event)) (falling b
     now-talks : mid cfg b n j ≡ talking x m t
     now-talks = talk-is (mid cfg b n j) x m t (sym (turn-mid cfg b n j) ∙ ap talk h)
 
-    go : After (n .event .what) (moment b (n .event)) j (stopsAt cfg (moment b (n .event)) b (falling b (n .event)) (n .event .what)) (column b j .call) (mid cfg b n j) → (column b j .call ≡ talking x m t) ⊎ ((n .event .what ≡ answeringOn j) × ((moment b (n .event) ≡ t) × IsDialled x m (column b j .call)))
+    go : After (n .event .what) (moment b (n .event)) j (stopsAt cfg (moment b (n .event)) b (falling b (n .event)) (n .event .what)) (column b j .call) (mid cfg b n j) → (column b j .call ≡ talking x m t) ⊎ (((n .event .what ≡ answeringOn j) × ((moment b (n .event) ≡ t) × IsDialled x m (column b j .call))) ⊎ ((n .event .what ≡ transmittingOn j) × ((moment b (n .event) ≡ t) × IsRinging x m (column b j .call))))
     go (goes-on p) = inl (talk-is (column b j .call) x m t (sym p ∙ ap talk now-talks))
     go (starts y k o p q r) =
         let s : talking y k (moment b (n .event)) ≡ talking x m t = sym r ∙ now-talks in
         let sx : y ≡ x = cc in
         let sm : k ≡ m = cc in
         let st : moment b (n .event) ≡ t = cc in
-        inr (p, (st, is-dialled x m o _ (rw (sx, sm) at q)))
+        inr (inl (p, (st, is-dialled x m o _ (rw (sx, sm) at q))))
+    go (comes-up o p q r) =
+        let s : talking (o .who) (o .mode) (moment b (n .event)) ≡ talking x m t = sym r ∙ now-talks in
+        let st : moment b (n .event) ≡ t = cc in
+        inr (inr (p, (st, record { request = o; is-ringing = q; ship = cc; mode = cc })))
     go (stopped y k v p q r) = let z : quiet ≡ talking x m t = sym q ∙ ap talk now-talks in let w : _≡_ {A = ℕ} 0 1 = cc in absurd (omega arith)
 
 pub ends : Ends
@@ -176,6 +185,7 @@ ends cfg b n j x m t h = go (hear-after cfg b (moment b (n .event)) (falling b (
     go : After (n .event .what) (moment b (n .event)) j (stopsAt cfg (moment b (n .event)) b (falling b (n .event)) (n .event .what)) (column b j .call) (mid cfg b n j) → (column (turn cfg b n) j .call ≡ talking x m t) ⊎ In (stopAt j x t (moment b (n .event))) (stopsIn cfg b n)
     go (goes-on p) = inl (talk-is (column (turn cfg b n) j .call) x m t (turn-mid cfg b n j ∙ p ∙ ap talk h))
     go (starts y k o p q r) = let z : dialled y k o ≡ talking x m t = sym q ∙ h in let w : _≡_ {A = ℕ} 0 1 = cc in absurd (omega arith)
+    go (comes-up o p q r) = let z : called o true ≡ talking x m t = sym q ∙ h in let w : _≡_ {A = ℕ} 0 1 = cc in absurd (omega arith)
     go (stopped y k v p q r) =
         let s : talking y k v ≡ talking x m t = sym p ∙ h in
         let sx : y ≡ x = cc in
@@ -190,3 +200,11 @@ lifts cfg t n ds b j x m h = talk-is _ x m t (turn-mid cfg b (record { event = r
     go : (l : Column) → IsDialled x m (l .call) → talk (pickUp t l .call) ≡ talking x m t
     go l (inl e) = rw e refl
     go l (inr e) = rw e refl
+
+-- and a ringing one whose ship transmits
+pub transmits : Transmits
+unfolding Transmits mid
+transmits cfg t n ds b j x m h = talk-is _ x m t (turn-mid cfg b (record { event = record { time = t; room = n; what = transmittingOn j }; deeds = ds }) j ∙ ap (λ (l : Column). talk (l .call)) (there (comeUp t) refl j (b .columns)) ∙ go (column b j) h)
+  where
+    go : (l : Column) → IsRinging x m (l .call) → talk (comeUp t l .call) ≡ talking x m t
+    go l e = rw (e .is-ringing, e .ship, e .mode) refl

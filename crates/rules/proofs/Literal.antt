@@ -1,28 +1,30 @@
--- `Literally`: the three words say of every slot what the book says of its column.
+-- `Literally`: the words say of every slot what the book says of its column.
 use mathlib.Core.Path.{_≡_, refl, sym, ap, _∙_}
 use mathlib.Core.List.{List, [], _∷_}
+use mathlib.Core.Bool.{true, false}
 use mathlib.Core.Option.{Option, none, some}
 use Prim.Native.Nat.{ℕ, zero, suc, _<_}
 use lib.Dec.{ltb}
 use lib.ListN.{getD, length, length-map, replicate}
 use Rattle.rules.specs.Rules.Places.{lowest}
-use Rattle.rules.specs.Rules.Words.{Request, Config, What, Event, Deed, carrierOn, carrierOff, acknowledge, ringBack, unable, dial, releaseLine}
+use Rattle.rules.specs.Rules.Words.{Request, Config, What, Event, Deed, carrierOn, carrierOff, acknowledge, callShip, unable, dial, releaseLine, ringingOn, ringingOff, busyTone}
 use Rattle.rules.specs.Rules.Heard.{Heard}
-use Rattle.rules.specs.Rules.Station.{Slot, Station, theSlot, fresh, setClock, setQueue, answeredAt, isFree, offerOf}
+use Rattle.rules.specs.Rules.Station.{Slot, Station, theSlot, fresh, setClock, setQueue, answeredAt, isFree, offerOf, calledOf}
 use Rattle.rules.specs.Rules.Requests.{Out, coastEnd, slotOf, placeOf, standsAt, standing, ruleA, repeated, afresh, ruleD, offer, ruleF, ruleG, eToG, newcomer, dToG, redial, requested}
+use Rattle.rules.specs.Rules.Ashore.{calledFrom}
 use Rattle.rules.specs.Rules.Calls.{actAt, act}
 use Rattle.rules.specs.Rules.Verdict.{verdict, play}
 use Rattle.rules.specs.ListAlone.Book.{Stop, Column, Book, column}
-use Rattle.rules.specs.ListAlone.Reading.{readAll}
-use Rattle.rules.specs.ListAlone.ThreeWords.{Word, idle, ringing, wordHeard, wordDone, wordsDone, wordAfter, wordOf}
+use Rattle.rules.specs.ListAlone.Reading.{askedAt, readAll}
+use Rattle.rules.specs.ListAlone.LineWords.{Word, unused, wordCalled, wordHeard, wordDone, wordsDone, wordAfter, wordOf}
 use Rattle.rules.specs.Statement.{deedsOf, notes, Literally}
 use Rattle.rules.proofs.PlaceLaws.{modAt-length}
-use Rattle.rules.proofs.Base.{view, seen, slot-lowest, slot-mapped, fresh-mapped, fresh-length, free-is}
+use Rattle.rules.proofs.Base.{by-stage, no-caller, callIn, view, seen, slot-lowest, slot-mapped, fresh-mapped, fresh-length, free-is}
 use Rattle.rules.proofs.Outcome.{word}
 use Rattle.rules.proofs.Ruling.{Ruling, passes, repeats, renews, redials, bOrC-ruling}
 use Rattle.rules.proofs.Run.{turn-is, play-on, play-past, fresh-seen}
-use Rattle.rules.proofs.Spoken.{words, speak, spoken, Spoken, told-also, told-if, told-ignored, keeps, coastEnd-told, outcome-told, one-of}
-use Rattle.rules.proofs.Effect.{Effect, rests, drops, data-asked, call-asked, to-slot, act-effect, heardBy, lifted-one, lifted-length}
+use Rattle.rules.proofs.Spoken.{words, dialsLine, freesLine, setsRinging, speak, spoken, SpokenBy, Spoken, told-also, told-if, told-ignored, keeps, turns-to, coastEnd-told, outcome-told, one-of}
+use Rattle.rules.proofs.Effect.{Effect, rests, drops, data-asked, call-asked, to-slot, called-ashore, act-effect, heardBy, lifted-one, lifted-length}
 
 -- ── a request ────────────────────────────────────────────────────────────────
 
@@ -45,7 +47,7 @@ module _ (st : Station) (r : Request) where
   dToG-told (some k) = ruleD-told k
 
 module _ (i : ℕ) (st : Station) (r : Request) where
-  afresh-told : word (theSlot st i) ≡ idle → Spoken (words st) (afresh i st r)
+  afresh-told : word (theSlot st i) ≡ unused → Spoken (words st) (afresh i st r)
   unfolding afresh spoken
   afresh-told h = record { telling = keeps i st (offerOf r st) h }
 
@@ -53,15 +55,15 @@ module _ (i : ℕ) (st : Station) (r : Request) where
   unfolding repeated spoken
   repeat-told = record { telling = refl }
 
-  redial-told : (o : Request) (g : Option ℕ) → Spoken (words st) (redial i o g st r)
+  redial-told : (o : Request) (g : Option ℕ) → word (theSlot st i) .rings ≡ false → Spoken (words st) (redial i o g st r)
   unfolding redial
-  redial-told o g = told-also (words st) (words (coastEnd i o g st .next)) (coastEnd i o g st .acts) (dToG (coastEnd i o g st .next) r (placeOf (r .who) (coastEnd i o g st .next))) (coastEnd-told i st o g .telling) (dToG-told (coastEnd i o g st .next) r (placeOf (r .who) (coastEnd i o g st .next)))
+  redial-told o g h = told-also (words st) (words (coastEnd i o g st .next)) (coastEnd i o g st .acts) (dToG (coastEnd i o g st .next) r (placeOf (r .who) (coastEnd i o g st .next))) (coastEnd-told i st o g h .telling) (dToG-told (coastEnd i o g st .next) r (placeOf (r .who) (coastEnd i o g st .next)))
 
   ruling-told : (cs : List Stop) (p : Slot) (x : Out) → Ruling i st r cs p x → theSlot st i ≡ p → Spoken (words st) x
-  ruling-told cs _ _ (passes p a) e = told-ignored (words st) st refl
+  ruling-told cs _ _ (passes p a) e = told-ignored none (words st) st refl
   ruling-told cs _ _ (repeats k o d a b) e = repeat-told
-  ruling-told cs _ _ (renews k o d a b) e = afresh-told (rw e refl)
-  ruling-told cs _ _ (redials o g c a) e = redial-told (o .request) (answeredAt g)
+  ruling-told cs _ _ (renews k o d z a b) e = afresh-told (rw (e, no-caller k (o .request) z) refl)
+  ruling-told cs _ _ (redials o g c a) e = redial-told (o .request) (answeredAt g) (rw e (by-stage (λ z. wordOf (callIn (o .request) z) .rings ≡ false) (λ d. refl) (λ d. refl) (λ b. refl) g))
 
 request-told : (st : Station) (r : Request) (o k : Option ℕ) → Spoken (words st) (requested st r (standsAt o k))
 unfolding requested
@@ -71,71 +73,79 @@ request-told st r (some i) k = ruling-told i st r _ (theSlot st i) _ (bOrC-rulin
 
 -- ── an event ─────────────────────────────────────────────────────────────────
 
-effect-told : (st : Station) (b : Book) (ws : List Word) (cs : List Stop) (m : Heard) (o : Out) → Effect st b ws cs m o → Spoken ws o
-unfolding ruleA standing spoken setQueue
-effect-told st _ _ _ _ _ (rests m n h) = record { telling = refl }
-effect-told st _ _ _ _ _ (drops k) = record { telling = refl }
-effect-told st _ _ _ _ _ (data-asked x n) = record { telling = refl }
-effect-told st _ _ _ _ _ (call-asked r) = request-told st r (slotOf (r .who) st) (placeOf (r .who) st)
-effect-told st _ _ _ _ _ (to-slot m i u e) = rw e (outcome-told i st (theSlot st i) u refl)
+effect-told : (st : Station) (q : Option Request) (b : Book) (ws : List Word) (cs : List Stop) (m : Heard) (o : Out) → Effect st q b ws cs m o → SpokenBy q ws o
+unfolding ruleA standing spoken setQueue calledFrom
+effect-told st _ _ _ _ _ _ (rests m n h) = record { telling = refl }
+effect-told st _ _ _ _ _ _ (drops k) = record { telling = refl }
+effect-told st _ _ _ _ _ _ (data-asked x n) = record { telling = refl }
+effect-told st _ _ _ _ _ _ (call-asked r) = request-told st r (slotOf (r .who) st) (placeOf (r .who) st)
+effect-told st _ _ _ _ _ _ (to-slot m i u e) = rw e (outcome-told i st (theSlot st i) u refl)
+effect-told st _ _ _ _ _ _ (called-ashore r i h) = record { telling = turns-to i st (wordCalled (some r)) (calledOf r st) (rw (free-is (theSlot st i) (slot-lowest st isFree i h)) refl) }
 
-act-told : (cfg : Config) (st : Station) (t : ℕ) (w : What) → Spoken (heardBy t w (words st)) (actAt cfg st t w)
+act-told : (cfg : Config) (st : Station) (t : ℕ) (w : What) → SpokenBy (askedAt cfg w) (heardBy t w (words st)) (actAt cfg st t w)
 unfolding setClock
-act-told cfg st t w = effect-told _ _ _ _ _ _ (act-effect cfg st t w)
+act-told cfg st t w = effect-told _ _ _ _ _ _ _ (act-effect cfg st t w)
 
 -- ── one slot of them ─────────────────────────────────────────────────────────
 
-speak-length : (d : Deed) (ws : List Word) → length (speak d ws) ≡ length ws
-speak-length (carrierOn i) ws = refl
-speak-length (carrierOff i) ws = refl
-speak-length (acknowledge i r) ws = refl
-speak-length (ringBack i r) ws = refl
-speak-length (unable n x digits) ws = refl
-speak-length (dial i n) ws = modAt-length (λ w. ringing) i ws
-speak-length (releaseLine i) ws = modAt-length (λ w. idle) i ws
+module _ (q : Option Request) where
+  speak-length : (d : Deed) (ws : List Word) → length (speak q d ws) ≡ length ws
+  speak-length (carrierOn i) ws = refl
+  speak-length (carrierOff i) ws = refl
+  speak-length (acknowledge i r) ws = refl
+  speak-length (callShip i r) ws = modAt-length (wordCalled q) i ws
+  speak-length (unable n x digits) ws = refl
+  speak-length (dial i n) ws = modAt-length dialsLine i ws
+  speak-length (releaseLine i) ws = modAt-length freesLine i ws
+  speak-length (ringingOn i) ws = modAt-length (setsRinging true) i ws
+  speak-length (ringingOff i) ws = modAt-length (setsRinging false) i ws
+  speak-length (busyTone i) ws = refl
 
-speak-one : (i : ℕ) (d : Deed) (ws : List Word) → i < length ws → wordDone i d (getD ws i idle) ≡ getD (speak d ws) i idle
-speak-one i (carrierOn j) ws h = refl
-speak-one i (carrierOff j) ws h = refl
-speak-one i (acknowledge j r) ws h = refl
-speak-one i (ringBack j r) ws h = refl
-speak-one i (unable n x digits) ws h = refl
-speak-one i (dial j n) ws h = one-of (λ w. ringing) i j ws h
-speak-one i (releaseLine j) ws h = one-of (λ w. idle) i j ws h
+  speak-one : (i : ℕ) (d : Deed) (ws : List Word) → i < length ws → wordDone q i d (getD ws i unused) ≡ getD (speak q d ws) i unused
+  speak-one i (carrierOn j) ws h = refl
+  speak-one i (carrierOff j) ws h = refl
+  speak-one i (acknowledge j r) ws h = refl
+  speak-one i (callShip j r) ws h = one-of (wordCalled q) i j ws h
+  speak-one i (unable n x digits) ws h = refl
+  speak-one i (dial j n) ws h = one-of dialsLine i j ws h
+  speak-one i (releaseLine j) ws h = one-of freesLine i j ws h
+  speak-one i (ringingOn j) ws h = one-of (setsRinging true) i j ws h
+  speak-one i (ringingOff j) ws h = one-of (setsRinging false) i j ws h
+  speak-one i (busyTone j) ws h = refl
 
-spoken-one : (i : ℕ) (ds : List Deed) (ws : List Word) → i < length ws → wordsDone i ds (getD ws i idle) ≡ getD (spoken ds ws) i idle
-unfolding wordsDone spoken
-spoken-one i [] ws h = refl
-spoken-one i (d ∷ ds) ws h = ap (wordsDone i ds) (speak-one i d ws h) ∙ spoken-one i ds (speak d ws) (rw (speak-length d ws) h)
+  spoken-one : (i : ℕ) (ds : List Deed) (ws : List Word) → i < length ws → wordsDone q i ds (getD ws i unused) ≡ getD (spoken q ds ws) i unused
+  unfolding wordsDone spoken
+  spoken-one i [] ws h = refl
+  spoken-one i (d ∷ ds) ws h = ap (wordsDone q i ds) (speak-one i d ws h) ∙ spoken-one i ds (speak q d ws) (rw (speak-length d ws) h)
 
-spoken-length : (ds : List Deed) (ws : List Word) → length (spoken ds ws) ≡ length ws
-unfolding spoken
-spoken-length [] ws = refl
-spoken-length (d ∷ ds) ws = spoken-length ds (speak d ws) ∙ speak-length d ws
+  spoken-length : (ds : List Deed) (ws : List Word) → length (spoken q ds ws) ≡ length ws
+  unfolding spoken
+  spoken-length [] ws = refl
+  spoken-length (d ∷ ds) ws = spoken-length ds (speak q d ws) ∙ speak-length d ws
 
 -- ── the run ──────────────────────────────────────────────────────────────────
 
 next-length : (cfg : Config) (st : Station) (e : Event) → length (words (act cfg st e .next)) ≡ length (words st)
-next-length cfg st e = ap length (sym (act-told cfg st (e .time) (e .what) .telling)) ∙ spoken-length (deedsOf (act cfg st e .acts)) (heardBy (e .time) (e .what) (words st)) ∙ lifted-length (e .time) (e .what) (words st)
+next-length cfg st e = ap length (sym (act-told cfg st (e .time) (e .what) .telling)) ∙ spoken-length (askedAt cfg (e .what)) (deedsOf (act cfg st e .acts)) (heardBy (e .time) (e .what) (words st)) ∙ lifted-length (e .time) (e .what) (words st)
 
-next-word : (cfg : Config) (i : ℕ) (st : Station) (e : Event) → i < length (words st) → wordsDone i (deedsOf (act cfg st e .acts)) (wordHeard i (e .time) (e .what) (getD (words st) i idle)) ≡ getD (words (act cfg st e .next)) i idle
-next-word cfg i st e h = ap (wordsDone i (deedsOf (act cfg st e .acts))) (lifted-one i (e .time) (e .what) (words st) h) ∙ spoken-one i (deedsOf (act cfg st e .acts)) (heardBy (e .time) (e .what) (words st)) (rw (lifted-length (e .time) (e .what) (words st)) h) ∙ ap (λ (ws : List Word). getD ws i idle) (act-told cfg st (e .time) (e .what) .telling)
+next-word : (cfg : Config) (i : ℕ) (st : Station) (e : Event) → i < length (words st) → wordsDone (askedAt cfg (e .what)) i (deedsOf (act cfg st e .acts)) (wordHeard i (e .time) (e .what) (getD (words st) i unused)) ≡ getD (words (act cfg st e .next)) i unused
+next-word cfg i st e h = ap (wordsDone (askedAt cfg (e .what)) i (deedsOf (act cfg st e .acts))) (lifted-one i (e .time) (e .what) (words st) h) ∙ spoken-one (askedAt cfg (e .what)) i (deedsOf (act cfg st e .acts)) (heardBy (e .time) (e .what) (words st)) (rw (lifted-length (e .time) (e .what) (words st)) h) ∙ ap (λ (ws : List Word). getD ws i unused) (act-told cfg st (e .time) (e .what) .telling)
 
-word-seen : (i : ℕ) (st : Station) → getD (words st) i idle ≡ wordOf (column (seen st) i .call)
+word-seen : (i : ℕ) (st : Station) → getD (words st) i unused ≡ wordOf (column (seen st) i .call)
 unfolding seen
 word-seen i st = slot-mapped st word i ∙ ap (λ (l : Column). wordOf (l .call)) (sym (slot-mapped st view i))
 
-run-words : (cfg : Config) (i : ℕ) (es : List Event) (st : Station) → i < length (words st) → wordAfter i (notes (play cfg es st)) (getD (words st) i idle) ≡ wordOf (column (readAll cfg (notes (play cfg es st)) (seen st)) i .call)
+run-words : (cfg : Config) (i : ℕ) (es : List Event) (st : Station) → i < length (words st) → wordAfter cfg i (notes (play cfg es st)) (getD (words st) i unused) ≡ wordOf (column (readAll cfg (notes (play cfg es st)) (seen st)) i .call)
 unfolding play wordAfter readAll notes
 run-words cfg i [] st h = word-seen i st
 run-words cfg i (e ∷ es) st h = go (verdict cfg st e) refl (λ s k. run-words cfg i es s k)
   where
-    go : (o : Option ℕ) → verdict cfg st e ≡ o → ((s : Station) → i < length (words s) → wordAfter i (notes (play cfg es s)) (getD (words s) i idle) ≡ wordOf (column (readAll cfg (notes (play cfg es s)) (seen s)) i .call))
-        → wordAfter i (notes (play cfg (e ∷ es) st)) (getD (words st) i idle) ≡ wordOf (column (readAll cfg (notes (play cfg (e ∷ es) st)) (seen st)) i .call)
-    go none v ih = rw (play-on cfg e es st v) (ap (wordAfter i (notes (play cfg es (act cfg st e .next)))) (next-word cfg i st e h) ∙ ih (act cfg st e .next) (rw (next-length cfg st e) h) ∙ ap (λ (b : Book). wordOf (column (readAll cfg (notes (play cfg es (act cfg st e .next))) b) i .call)) (sym (turn-is cfg st e v)))
+    go : (o : Option ℕ) → verdict cfg st e ≡ o → ((s : Station) → i < length (words s) → wordAfter cfg i (notes (play cfg es s)) (getD (words s) i unused) ≡ wordOf (column (readAll cfg (notes (play cfg es s)) (seen s)) i .call))
+        → wordAfter cfg i (notes (play cfg (e ∷ es) st)) (getD (words st) i unused) ≡ wordOf (column (readAll cfg (notes (play cfg (e ∷ es) st)) (seen st)) i .call)
+    go none v ih = rw (play-on cfg e es st v) (ap (wordAfter cfg i (notes (play cfg es (act cfg st e .next)))) (next-word cfg i st e h) ∙ ih (act cfg st e .next) (rw (next-length cfg st e) h) ∙ ap (λ (b : Book). wordOf (column (readAll cfg (notes (play cfg es (act cfg st e .next))) b) i .call)) (sym (turn-is cfg st e v)))
     go (some n) v ih = rw (play-past cfg e es st n v) (ih st h)
 
-blank-word : (n i : ℕ) → getD (replicate n idle) i idle ≡ idle
+blank-word : (n i : ℕ) → getD (replicate n unused) i unused ≡ unused
 blank-word zero i = refl
 blank-word (suc n) zero = refl
 blank-word (suc n) (suc i) = blank-word n i
@@ -143,9 +153,9 @@ blank-word (suc n) (suc i) = blank-word n i
 fresh-words : (cfg : Config) → length (words (fresh cfg)) ≡ length (cfg .channels)
 fresh-words cfg = length-map (fresh cfg .slots) word ∙ fresh-length cfg
 
-fresh-word : (cfg : Config) (i : ℕ) → getD (words (fresh cfg)) i idle ≡ idle
-fresh-word cfg i = ap (λ (ws : List Word). getD ws i idle) (fresh-mapped cfg word) ∙ blank-word (length (cfg .channels)) i
+fresh-word : (cfg : Config) (i : ℕ) → getD (words (fresh cfg)) i unused ≡ unused
+fresh-word cfg i = ap (λ (ws : List Word). getD ws i unused) (fresh-mapped cfg word) ∙ blank-word (length (cfg .channels)) i
 
 pub literally : Literally
 unfolding Literally fresh
-literally cfg set es i h = rw (← (fresh-seen cfg)) (ap (wordAfter i (notes (play cfg es (fresh cfg)))) (sym (fresh-word cfg i)) ∙ run-words cfg i es (fresh cfg) (rw (fresh-words cfg) h))
+literally cfg set es i h = rw (← (fresh-seen cfg)) (ap (wordAfter cfg i (notes (play cfg es (fresh cfg)))) (sym (fresh-word cfg i)) ∙ run-words cfg i es (fresh cfg) (rw (fresh-words cfg) h))

@@ -5,13 +5,13 @@ use mathlib.Core.Bool.{Bool, true, false}
 use mathlib.Core.Option.{Option, none, some}
 use Prim.Native.Nat.{ℕ, zero}
 use Rattle.rules.specs.Rules.Places.{lowest, Each}
-use Rattle.rules.specs.Rules.Words.{Party, is, Deed, carrierOn, carrierOff, acknowledge, ringBack, unable, dial, releaseLine}
+use Rattle.rules.specs.Rules.Words.{Party, is, Deed, carrierOn, carrierOff, acknowledge, callShip, unable, dial, releaseLine, ringingOn, ringingOff, busyTone}
 use Rattle.rules.specs.Rules.Actions.{Action}
 use Rattle.rules.specs.Rules.Station.{Slot, Waiting, Station, theSlot}
 use Rattle.rules.specs.Rules.Requests.{Out, freed, waitsFor}
 use Rattle.rules.specs.ListAlone.Book.{Stop, Column, Book, atColumn}
-use Rattle.rules.specs.ListAlone.Reading.{tell, rungUp, dialUp, letGo, hush, leave, reads}
-use Rattle.rules.specs.ListAlone.ThreeWords.{Word}
+use Rattle.rules.specs.ListAlone.Reading.{tell, summon, dialUp, letGo, hush, leave, reads}
+use Rattle.rules.specs.ListAlone.LineWords.{Word}
 use Rattle.rules.specs.Statement.{deedsOf, chargesOf, owed}
 use Rattle.rules.proofs.PlaceLaws.{modAt-modAt, shift-none}
 use Rattle.rules.proofs.Base.{view, place, seen, atLine², stay, moves}
@@ -27,14 +27,17 @@ leave-none x (w ∷ q) h = go (is x (w .request .who)) refl (λ e. leave-none x 
     go false e ih = rw e (ap (λ z. place w ∷ z) (ih (shift-none _ (rw e at h))))
 
 -- deeds about one slot are read on its column alone
-reads-here : (t i : ℕ) (b : Book) (ds : List Deed) (f : Column → Column) → Each (About i (b .places)) ds → reads t ds (atColumn i f b) ≡ atColumn i (λ l. linesDone t ds (f l)) b
+reads-here : (t i : ℕ) (b : Book) (ds : List Deed) (f : Column → Column) → Each (About i (b .places)) ds → reads none t ds (atColumn i f b) ≡ atColumn i (λ l. linesDone t ds (f l)) b
 unfolding reads
 reads-here t i b [] f a = refl
 reads-here t i b (carrierOn j ∷ ds) f a = reads-here t i b ds f (a .1)
 reads-here t i b (carrierOff j ∷ ds) f a = rw (← (a .0), atLine² i f hush b) (reads-here t i b ds (λ l. hush (f l)) (a .1))
 reads-here t i b (acknowledge j r ∷ ds) f a = rw (← (a .0), atLine² i f (tell t r) b) (reads-here t i b ds (λ l. tell t r (f l)) (a .1))
-reads-here t i b (ringBack j r ∷ ds) f a = rw (← (a .0 .0)) (ap (reads t ds) (book-is refl (modAt-modAt f (rungUp t r) i (b .columns)) (a .0 .1)) ∙ reads-here t i b ds (λ l. rungUp t r (f l)) (a .1))
+reads-here t i b (callShip j r ∷ ds) f a = rw (← (a .0 .0)) (ap (reads none t ds) (book-is refl (modAt-modAt f (summon t r) i (b .columns)) (a .0 .1)) ∙ reads-here t i b ds (λ l. summon t r (f l)) (a .1))
 reads-here t i b (unable n x digits ∷ ds) f a = absurd (a .0)
+reads-here t i b (ringingOn j ∷ ds) f a = reads-here t i b ds f (a .1)
+reads-here t i b (ringingOff j ∷ ds) f a = reads-here t i b ds f (a .1)
+reads-here t i b (busyTone j ∷ ds) f a = reads-here t i b ds f (a .1)
 reads-here t i b (dial j n ∷ ds) f a = rw (← (a .0), atLine² i f (dialUp t) b) (reads-here t i b ds (λ l. dialUp t (f l)) (a .1))
 reads-here t i b (releaseLine j ∷ ds) f a = rw (← (a .0), atLine² i f letGo b) (reads-here t i b ds (λ l. letGo (f l)) (a .1))
 

@@ -2,7 +2,7 @@
 use mathlib.Core.Path.{_≡_, refl, sym, ap, _∙_}
 use mathlib.Core.List.{List, [], _∷_, map}
 use mathlib.Core.Bool.{true}
-use mathlib.Core.Option.{Option, none, some}
+use mathlib.Core.Option.{Option, none}
 use Prim.Native.Nat.{ℕ, _+_, _-_, _≤_}
 use native.Mathlib.Omega.{arith}
 use borrow.Author.Tests.{leb-true}
@@ -12,13 +12,14 @@ use Rattle.rules.specs.Rules.Waits.{Due}
 use Rattle.rules.specs.Rules.Station.{Slot, Station, fresh}
 use Rattle.rules.specs.Rules.Calls.{act}
 use Rattle.rules.specs.Rules.Verdict.{verdict, play, final}
-use Rattle.rules.specs.ListAlone.Book.{Stop, Call, quiet, dialled, talking, Book, blankBook}
+use Rattle.rules.specs.ListAlone.Book.{Stop, Call, quiet, called, dialled, talking, Book, blankBook}
 use Rattle.rules.specs.ListAlone.Reading.{stopsIn, Numbered, stops, readAll, talkedBy, lengths, countedByCalls, falling, moment, stopOf, stopsAt}
 use Rattle.rules.specs.Statement.{notes, owed, owedFor, ChargesAreStops, tenthsIn, unchargedTenths, TenthsAgree, CountsAgree, InOrder, ClockIsNow, EndsAt}
 use Rattle.rules.proofs.PlaceLaws.{and-true}
 use Rattle.rules.proofs.Base.{view, seen, begunBy}
 use Rattle.rules.proofs.Accepted.{accepted, sounds, begun-all}
-use Rattle.rules.proofs.Run.{noteOf, turn-is, stops-are, play-on, play-past, final-on, final-past, fresh-seen, charges-are-stops}
+use Rattle.rules.proofs.Run.{noteOf, stops-are, fresh-seen, charges-are-stops}
+use Rattle.rules.proofs.Entries.{read-final}
 use Rattle.rules.proofs.Stopped.{each-stop}
 use Rattle.rules.proofs.Tenths.{since, since-slot, uncharged-seen, clock-is, tenths-agree}
 use Rattle.rules.proofs.Moments.{moment-on}
@@ -28,6 +29,7 @@ use Rattle.rules.proofs.Moments.{moment-on}
 module _ (cfg : Config) (c t : ℕ) (h : c ≤ t) where
   one-good : (i : ℕ) (k : Call) → since c k ≡ true → Each (λ s. EndsAt t (owed s)) (stopOf t i k)
   one-good i quiet e = tt
+  one-good i (called r b) e = tt
   one-good i (dialled x m o) e = tt
   one-good i (talking x m b) e = let a = leb-true b c e in ((omega arith, refl), tt)
 
@@ -52,15 +54,6 @@ unfolding InOrder
 in-order cfg st e v = rw (clock-is cfg st e v, stops-are cfg st e v) (moment-on cfg st e v, owed-each (moment (seen st) e) (stopsIn cfg (seen st) (noteOf e (act cfg st e .acts))) (stops-good cfg st e v))
 
 -- ── the two counts ───────────────────────────────────────────────────────────
-
-read-final : (cfg : Config) (es : List Event) (st : Station) → readAll cfg (notes (play cfg es st)) (seen st) ≡ seen (final cfg es st)
-unfolding play final readAll notes
-read-final cfg [] st = refl
-read-final cfg (e ∷ es) st = go (verdict cfg st e) refl (λ s. read-final cfg es s)
-  where
-    go : (o : Option ℕ) → verdict cfg st e ≡ o → ((s : Station) → readAll cfg (notes (play cfg es s)) (seen s) ≡ seen (final cfg es s)) → readAll cfg (notes (play cfg (e ∷ es) st)) (seen st) ≡ seen (final cfg (e ∷ es) st)
-    go none v ih = rw (play-on cfg e es st v, final-on cfg e es st v) (ap (readAll cfg (notes (play cfg es (act cfg st e .next)))) (turn-is cfg st e v) ∙ ih (act cfg st e .next))
-    go (some n) v ih = rw (play-past cfg e es st n v, final-past cfg e es st n v) (ih st)
 
 owed-lengths : (ss : List (Numbered Stop)) → tenthsIn (owedFor ss) ≡ lengths ss
 owed-lengths [] = refl

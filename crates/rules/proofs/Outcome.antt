@@ -6,19 +6,19 @@ use mathlib.Core.Option.{Option, none, some}
 use Prim.Native.Nat.{ℕ}
 use Rattle.units.specs.declared.Told.{Told}
 use Rattle.rules.specs.Rules.Places.{Each}
-use Rattle.rules.specs.Rules.Words.{Party, is, Request, Config, lineDialledOut, lineLifted, lineHung, carrierHeard, carrierLost, handTakes, handGives, Happened, heard, signal, operator, offHook, Deed, carrierOn, carrierOff, acknowledge, ringBack, unable, dial, releaseLine, Mode, isAnswering}
-use Rattle.rules.specs.Rules.Heard.{Heard, callRequest, dataRequest, bq, workingCall, endOfCall, nothing, meaning}
+use Rattle.rules.specs.Rules.Words.{Party, is, Request, Config, lineDialledOut, lineLifted, lineHung, carrierHeard, carrierLost, handTakes, handGives, Happened, heard, signal, operator, offHook, Deed, carrierOn, carrierOff, acknowledge, callShip, unable, dial, releaseLine, ringingOn, ringingOff, busyTone, Mode, isAnswering, isTransmitting, carrierUp}
+use Rattle.rules.specs.Rules.Heard.{Heard, callRequest, dataRequest, bq, workingCall, endOfCall, declined, nothing, meaning}
 use Rattle.rules.specs.Rules.Actions.{Action, does, over, Ender, theShip, theCoast}
-use Rattle.rules.specs.Rules.Station.{Kind, firstRing, rungAgain, agreedAt, Stage, answeredAt, dialling, dialledOut, answered, Dealing, Slot, free, taken, pending, busy, held, Station, setSlot, dueAfter, diallingWait, replyWait, holdWait, carrierWait}
+use Rattle.rules.specs.Rules.Station.{Kind, firstRing, firstCall, secondCall, ringing, isCalled, rings, rungAgain, agreedAt, calledAgain, ringingAt, Stage, answeredAt, dialling, dialledOut, answered, Dealing, Slot, free, taken, pending, busy, held, Station, setSlot, dueAfter, diallingWait, replyWait, holdWait, carrierWait}
 use Rattle.rules.specs.Rules.Requests.{Out, ignored, also, freed, lasted, endActs, coastEnd}
-use Rattle.rules.specs.Rules.Calls.{dialNow, workingKind, workingOn, agreed, bqKind, bqFor, dialledOutStage, dialledOutOn, offHookStage, offHookOn, startLoss, downOn, upOn, shipEnd, sayAgain, shipEndOn, endOn, takeOn, giveOn, offerDue, ringAgain, pendingDue, replyDue, mainOn, heardOn, happenedOn}
+use Rattle.rules.specs.Rules.Calls.{dialNow, workingKind, workingOn, agreed, startsRinging, bqKind, bqFor, dialledOutStage, dialledOutOn, offHookStage, offHookOn, startLoss, downOn, transmitted, upKind, upOn, dropActs, dropped, declinedKind, declinedOn, hungKind, hungOn, callAgain, shipEnd, sayAgain, shipEndOn, endOn, takeOn, giveOn, offerDue, ringAgain, pendingDue, replyDue, mainOn, heardOn, happenedOn}
 use Rattle.rules.specs.ListAlone.Book.{Stop, Column, Place}
-use Rattle.rules.specs.ListAlone.Reading.{close, withWait, withGone, dialOut, pickUp, lose, signOff, hearSaid, hearColumn, settle, tell, rungUp, dialUp, letGo, hush, leave, stopOf, callOf, stopsSaid, stopsOn}
+use Rattle.rules.specs.ListAlone.Reading.{close, withWait, withGone, dialOut, pickUp, comeUp, lose, signOff, hearSaid, hearColumn, settle, tell, summon, dialUp, letGo, hush, leave, stopOf, callOf, stopsSaid, stopsOn}
 use Rattle.rules.specs.ListAlone.Repeated.{Dials}
-use Rattle.rules.specs.ListAlone.ThreeWords.{Word, idle, ringing, answer, wordOf}
+use Rattle.rules.specs.ListAlone.LineWords.{Word, worded, idle, outward, answer, transmit, wordOf}
 use Rattle.rules.specs.Statement.{deedsOf, chargesOf, owed}
 use Rattle.rules.specs.Rules.Sound.{stageFits, lossFits, slotFits}
-use Rattle.rules.proofs.Base.{by-kind, saidOf, view, silence-is, new-wait, again-fits, agreed-fits}
+use Rattle.rules.proofs.Base.{by-kind, by-stage, saidOf, view, silence-is, new-wait, again-fits, agreed-fits, called-again-fits, ringing-fits}
 use Rattle.rules.proofs.PlaceLaws.{and-true}
 use borrow.Author.Tests.{le-leb}
 use native.Mathlib.Omega.{arith}
@@ -35,11 +35,18 @@ pub data Move (i t : ℕ) : Slot → Next → List Action → Type 0 where
   -- before its line is dialled: the number is the one named on channel 70
   to-dial : (k : Kind) (r : Dealing) (d : ℕ) → Dials (r .request .number) (saidOf k (r .request))
       → Move i t (pending k r d) (becomes (busy r (dialling (dueAfter t diallingWait)) none)) (does (dial i (r .request .number)) ∷ [])
-  to-agree : (k : Kind) (r : Dealing) (d : ℕ)
+  to-agree : (k : Kind) (r : Dealing) (d : ℕ) → isCalled k ≡ false
       → Move i t (pending k r d) (becomes (agreedAt r t)) []
   to-ring : (r : Dealing) (d : ℕ)
-      → Move i t (pending firstRing r d) (becomes (rungAgain r t)) (does (ringBack i (r .request)) ∷ [])
-  to-drop : (k : Kind) (r : Dealing) (d : ℕ) → Move i t (pending k r d) frees (does (carrierOff i) ∷ [])
+      → Move i t (pending firstRing r d) (becomes (rungAgain r t)) (does (callShip i (r .request)) ∷ [])
+  to-drop : (k : Kind) (r : Dealing) (d : ℕ) → isCalled k ≡ false → Move i t (pending k r d) frees (does (carrierOff i) ∷ [])
+  -- called from ashore
+  to-call : (r : Dealing) (d : ℕ)
+      → Move i t (pending firstCall r d) (becomes (calledAgain r t)) (does (callShip i (r .request)) ∷ [])
+  to-rings : (k : Kind) (r : Dealing) (d : ℕ) → rings k ≡ false → Move i t (pending k r d) (becomes (ringingAt r t)) (does (ringingOn i) ∷ [])
+  to-answer : (r : Dealing) (d : ℕ)
+      → Move i t (pending ringing r d) (becomes (busy r (answered t) none)) (does (ringingOff i) ∷ [])
+  to-let-go : (k : Kind) (r : Dealing) (d : ℕ) (tone : Bool) → Move i t (pending k r d) frees (dropActs i (rings k) tone)
   -- dialling, dialled out or answered
   to-stage : (r : Dealing) (g q : Stage) (c : Option ℕ) → stageFits t q ≡ true → Move i t (busy r g c) (becomes (busy r q c)) []
   to-lose : (r : Dealing) (g : Stage) (c : Option ℕ) → Move i t (busy r g c) (becomes (busy r g (startLoss t (r .request .mode) c))) []
@@ -57,7 +64,9 @@ pub data Move (i t : ℕ) : Slot → Next → List Action → Type 0 where
 
 -- the word of a column that an event is heard on
 abbrev pub lifted : ℕ → Happened → Word → Word
-lifted t h w = cond (isAnswering h) (answer t w) w
+lifted t h w =
+    cond (isAnswering h) (worded (answer t (w .line)) (w .rings))
+    (cond (isTransmitting h) (worded (transmit t (w .line) (w .rings)) (w .rings)) w)
 
 -- what a move gives
 abbrev pub played : ℕ → Station → Next → List Action → Out
@@ -71,7 +80,7 @@ leaves p stays = p
 leaves p (becomes q) = q
 leaves p frees = free
 
--- ── what is read of it: the book's column of the slot, and its three words ─────
+-- ── what is read of it: the book's column of the slot, and its word ────────────
 
 abbrev pub word : Slot → Word
 word s = wordOf (view s .call)
@@ -81,10 +90,13 @@ abbrev pub lineDone : ℕ → Deed → Column → Column
 lineDone t (carrierOn i) l = l
 lineDone t (carrierOff i) l = hush l
 lineDone t (acknowledge i r) l = tell t r l
-lineDone t (ringBack i r) l = rungUp t r l
+lineDone t (callShip i r) l = summon t r l
 lineDone t (unable n x digits) l = l
 lineDone t (dial i digits) l = dialUp t l
 lineDone t (releaseLine i) l = letGo l
+lineDone t (ringingOn i) l = l
+lineDone t (ringingOff i) l = l
+lineDone t (busyTone i) l = l
 
 abbrev pub linesDone : ℕ → List Deed → Column → Column
 linesDone t [] l = l
@@ -94,10 +106,13 @@ abbrev pub oneDone : Deed → Word → Word
 oneDone (carrierOn i) w = w
 oneDone (carrierOff i) w = w
 oneDone (acknowledge i r) w = w
-oneDone (ringBack i r) w = w
+oneDone (callShip i r) w = w
 oneDone (unable n x digits) w = w
-oneDone (dial i digits) w = ringing
-oneDone (releaseLine i) w = idle
+oneDone (dial i digits) w = worded outward (w .rings)
+oneDone (releaseLine i) w = worded idle (w .rings)
+oneDone (ringingOn i) w = worded (w .line) true
+oneDone (ringingOff i) w = worded (w .line) false
+oneDone (busyTone i) w = w
 
 abbrev pub allDone : List Deed → Word → Word
 allDone [] w = w
@@ -108,10 +123,13 @@ abbrev pub About : ℕ → List Place → Deed → Type 0
 About i ps (carrierOn j) = i ≡ j
 About i ps (carrierOff j) = i ≡ j
 About i ps (acknowledge j r) = i ≡ j
-About i ps (ringBack j r) = (i ≡ j) × (leave (r .who) ps ≡ ps)
+About i ps (callShip j r) = (i ≡ j) × (leave (r .who) ps ≡ ps)
 About i ps (unable n x digits) = ⊥
 About i ps (dial j digits) = i ≡ j
 About i ps (releaseLine j) = i ≡ j
+About i ps (ringingOn j) = i ≡ j
+About i ps (ringingOff j) = i ≡ j
+About i ps (busyTone j) = i ≡ j
 
 -- no ship that a pending slot has stands among those that wait
 abbrev pub Apart : List Place → Slot → Type 0
@@ -121,12 +139,22 @@ end-about : (i : ℕ) (ps : List Place) (e : Ender) (r : Request) (b : Option �
 end-about i ps e r none t = (refl, (refl, tt))
 end-about i ps e r (some b) t = (refl, (refl, tt))
 
+drop-about : (i : ℕ) (ps : List Place) (rung tone : Bool) → Each (About i ps) (deedsOf (dropActs i rung tone))
+drop-about i ps false false = (refl, (refl, tt))
+drop-about i ps false true = (refl, (refl, (refl, tt)))
+drop-about i ps true false = (refl, (refl, (refl, tt)))
+drop-about i ps true true = (refl, (refl, (refl, (refl, tt))))
+
 -- all that a slot does is about itself
 pub move-about : (ps : List Place) (i t : ℕ) (p : Slot) (n : Next) (acts : List Action) → Move i t p n acts → Apart ps p → Each (About i ps) (deedsOf acts)
 move-about ps i t _ _ _ (to-dial k r d z) h = (refl, tt)
-move-about ps i t _ _ _ (to-agree k r d) h = tt
+move-about ps i t _ _ _ (to-agree k r d z) h = tt
 move-about ps i t _ _ _ (to-ring r d) h = ((refl, h firstRing r d refl), tt)
-move-about ps i t _ _ _ (to-drop k r d) h = (refl, tt)
+move-about ps i t _ _ _ (to-drop k r d z) h = (refl, tt)
+move-about ps i t _ _ _ (to-call r d) h = ((refl, h firstCall r d refl), tt)
+move-about ps i t _ _ _ (to-rings k r d z) h = (refl, tt)
+move-about ps i t _ _ _ (to-answer r d) h = (refl, tt)
+move-about ps i t _ _ _ (to-let-go k r d tone) h = drop-about i ps (rings k) tone
 move-about ps i t _ _ _ (to-stage r n q c z) h = tt
 move-about ps i t _ _ _ (to-lose r g c) h = tt
 move-about ps i t _ _ _ (to-regain r g c) h = tt
@@ -144,7 +172,10 @@ down-fits t g m (some d) h k = rw h k
 -- what the slot becomes fits the clock
 pub turned-fits : (i t : ℕ) (p q : Slot) (acts : List Action) → Move i t p (becomes q) acts → slotFits t p ≡ true → slotFits t q ≡ true
 turned-fits i t _ _ _ (to-dial k r d z) h = rw (new-wait t diallingWait) refl
-turned-fits i t _ _ _ (to-agree k r d) h = agreed-fits r t
+turned-fits i t _ _ _ (to-agree k r d z) h = agreed-fits r t
+turned-fits i t _ _ _ (to-call r d) h = called-again-fits r t
+turned-fits i t _ _ _ (to-rings k r d z) h = ringing-fits r t
+turned-fits i t _ _ _ (to-answer r d) h = rw (le-leb t t (omega arith)) refl
 turned-fits i t _ _ _ (to-ring r d) h = again-fits r t
 turned-fits i t _ _ _ (to-stage r g q c z) h = rw z (and-true (stageFits t g) (lossFits t (r .request .mode) c) h .1)
 turned-fits i t _ _ _ (to-lose r g c) h = let f = and-true (stageFits t g) (lossFits t (r .request .mode) c) h in down-fits t g (r .request .mode) c (f .0) (f .1)
@@ -172,7 +203,7 @@ module _ (i : ℕ) (st : Station) where
   unfolding dialledOutOn dialledOutStage
   dialled-out-outcome free = passed refl refl refl
   dialled-out-outcome taken = passed refl refl refl
-  dialled-out-outcome (pending k r d) = passed refl refl refl
+  dialled-out-outcome (pending k r d) = by-kind (λ z. Outcome i st (dialOut (st .clock)) (λ w. w) [] (pending z r d) (ignored st)) (passed refl refl refl) (passed refl refl refl) (passed refl refl refl) (passed refl refl refl) (passed refl refl refl) (passed refl refl refl) (passed refl refl refl) k
   dialled-out-outcome (busy r (dialling d) c) = moved (to-stage r _ (dialledOut (dueAfter (st .clock) replyWait)) c (new-wait (st .clock) replyWait)) refl refl refl
   dialled-out-outcome (busy r (dialledOut d) c) = passed refl refl refl
   dialled-out-outcome (busy r (answered b) c) = passed refl refl refl
@@ -183,25 +214,27 @@ module _ (i : ℕ) (st : Station) where
   unfolding offHookOn offHookStage
   offHook-outcome free = passed refl refl refl
   offHook-outcome taken = passed refl refl refl
-  offHook-outcome (pending k r d) = passed refl refl refl
+  offHook-outcome (pending k r d) = by-kind (λ z. Outcome i st (pickUp (st .clock)) (lifted (st .clock) offHook) [] (pending z r d) (ignored st)) (passed refl refl refl) (passed refl refl refl) (passed refl refl refl) (passed refl refl refl) (passed refl refl refl) (passed refl refl refl) (passed refl refl refl) k
   offHook-outcome (busy r (dialling d) c) = moved (to-stage r _ (answered (st .clock)) c (le-leb (st .clock) (st .clock) (omega arith))) refl refl refl
   offHook-outcome (busy r (dialledOut d) c) = moved (to-stage r _ (answered (st .clock)) c (le-leb (st .clock) (st .clock) (omega arith))) refl refl refl
   offHook-outcome (busy r (answered b) c) = passed refl refl refl
   offHook-outcome (held r n d) = passed refl refl refl
 
-  up-outcome : (p : Slot) → Outcome i st (withGone none) (λ w. w) [] p (upOn i st p)
-  unfolding upOn
+  up-outcome : (p : Slot) → Outcome i st (comeUp (st .clock)) (lifted (st .clock) carrierUp) [] p (upOn i st p)
+  unfolding upOn upKind transmitted
   up-outcome free = passed refl refl refl
   up-outcome taken = passed refl refl refl
-  up-outcome (pending k r d) = passed refl refl refl
-  up-outcome (busy r g c) = moved (to-regain r g c) refl refl refl
+  up-outcome (pending k r d) = by-kind (λ z. Outcome i st (comeUp (st .clock)) (lifted (st .clock) carrierUp) [] (pending z r d) (upKind i z r st)) (passed refl refl refl) (passed refl refl refl) (passed refl refl refl) (passed refl refl refl) (passed refl refl refl) (passed refl refl refl) (moved (to-answer r d) refl refl refl) k
+  up-outcome (busy r (dialling d) c) = moved (to-regain r _ c) refl refl refl
+  up-outcome (busy r (dialledOut d) c) = moved (to-regain r _ c) refl refl refl
+  up-outcome (busy r (answered b) c) = moved (to-regain r _ c) refl refl refl
   up-outcome (held r n d) = passed refl refl refl
 
   down-outcome : (p : Slot) → Outcome i st (lose (st .clock)) (λ w. w) [] p (downOn i st p)
   unfolding downOn
   down-outcome free = passed refl refl refl
   down-outcome taken = passed refl refl refl
-  down-outcome (pending k r d) = passed refl refl refl
+  down-outcome (pending k r d) = by-kind (λ z. Outcome i st (lose (st .clock)) (λ w. w) [] (pending z r d) (ignored st)) (passed refl refl refl) (passed refl refl refl) (passed refl refl refl) (passed refl refl refl) (passed refl refl refl) (passed refl refl refl) (passed refl refl refl) k
   down-outcome (busy r (dialling d) none) = moved (to-lose r (dialling d) none) (rw (silence-is (r .request .mode)) refl) refl refl
   down-outcome (busy r (dialling d) (some u)) = moved (to-lose r (dialling d) (some u)) refl refl refl
   down-outcome (busy r (dialledOut d) none) = moved (to-lose r (dialledOut d) none) (rw (silence-is (r .request .mode)) refl) refl refl
@@ -210,23 +243,42 @@ module _ (i : ℕ) (st : Station) where
   down-outcome (busy r (answered b) (some u)) = moved (to-lose r (answered b) (some u)) refl refl refl
   down-outcome (held r n d) = passed refl refl refl
 
-  -- ── on-hook, and carrier loss ──
+  -- ── carrier loss, and on-hook ──
   pub end-outcome : (p : Slot) → Outcome i st close (λ w. w) (stopOf (st .clock) i (view p .call)) p (endOn i st p)
   unfolding endOn coastEnd
   end-outcome free = passed refl refl refl
   end-outcome taken = passed refl refl refl
-  end-outcome (pending k r d) = passed refl refl refl
+  end-outcome (pending k r d) = by-kind (λ z. Outcome i st close (λ w. w) (stopOf (st .clock) i (view (pending z r d) .call)) (pending z r d) (ignored st)) (passed refl refl refl) (passed refl refl refl) (passed refl refl refl) (passed refl refl refl) (passed refl refl refl) (passed refl refl refl) (passed refl refl refl) k
   end-outcome (busy r (dialling d) c) = moved (to-end r (dialling d) c) refl refl refl
   end-outcome (busy r (dialledOut d) c) = moved (to-end r (dialledOut d) c) refl refl refl
   end-outcome (busy r (answered b) c) = moved (to-end r (answered b) c) refl refl refl
   end-outcome (held r n d) = passed refl refl refl
+
+  hung-outcome : (p : Slot) → Outcome i st close (λ w. w) (stopOf (st .clock) i (view p .call)) p (hungOn i st p)
+  unfolding hungOn hungKind dropped coastEnd
+  hung-outcome free = passed refl refl refl
+  hung-outcome taken = passed refl refl refl
+  hung-outcome (pending k r d) = by-kind (λ z. Outcome i st close (λ w. w) (stopOf (st .clock) i (view (pending z r d) .call)) (pending z r d) (hungKind i z st)) (passed refl refl refl) (passed refl refl refl) (passed refl refl refl) (passed refl refl refl) (moved (to-let-go _ r d false) refl refl refl) (moved (to-let-go _ r d false) refl refl refl) (moved (to-let-go _ r d false) refl refl refl) k
+  hung-outcome (busy r (dialling d) c) = moved (to-end r (dialling d) c) refl refl refl
+  hung-outcome (busy r (dialledOut d) c) = moved (to-end r (dialledOut d) c) refl refl refl
+  hung-outcome (busy r (answered b) c) = moved (to-end r (answered b) c) refl refl refl
+  hung-outcome (held r n d) = passed refl refl refl
+
+  -- ── the ship is unable to come ──
+  pub declined-outcome : (p : Slot) → Outcome i st (λ l. l) (λ w. w) [] p (declinedOn i st p)
+  unfolding declinedOn declinedKind dropped
+  declined-outcome free = passed refl refl refl
+  declined-outcome taken = passed refl refl refl
+  declined-outcome (pending k r d) = by-kind (λ z. Outcome i st (λ l. l) (λ w. w) [] (pending z r d) (declinedKind i z st)) (passed refl refl refl) (passed refl refl refl) (passed refl refl refl) (passed refl refl refl) (moved (to-let-go _ r d true) refl refl refl) (moved (to-let-go _ r d true) refl refl refl) (moved (to-let-go _ r d true) refl refl refl) k
+  declined-outcome (busy r g c) = passed refl refl refl
+  declined-outcome (held r n d) = passed refl refl refl
 
   -- ── the ship's end ──
   shipEnd-outcome : (x : Party) (p : Slot) → Outcome i st (signOff (st .clock) x) (λ w. w) (cond (callOf x (view p .call)) (stopOf (st .clock) i (view p .call)) []) p (shipEndOn i x st p)
   unfolding shipEndOn shipEnd sayAgain
   shipEnd-outcome x free = passed refl refl refl
   shipEnd-outcome x taken = passed refl refl refl
-  shipEnd-outcome x (pending k r d) = passed refl refl refl
+  shipEnd-outcome x (pending k r d) = by-kind (λ z. Outcome i st (signOff (st .clock) x) (λ w. w) (cond (callOf x (view (pending z r d) .call)) (stopOf (st .clock) i (view (pending z r d) .call)) []) (pending z r d) (ignored st)) (passed refl refl refl) (passed refl refl refl) (passed refl refl refl) (passed refl refl refl) (passed refl refl refl) (passed refl refl refl) (passed refl refl refl) k
   shipEnd-outcome x (busy r (dialling d) c) = outcome-if (is x (r .request .who)) (shipEnd i r none st) (ignored st) (λ h. moved (to-hold r (dialling d) c) (rw h refl) refl (rw h refl)) (λ h. passed (rw h refl) refl (rw h refl))
   shipEnd-outcome x (busy r (dialledOut d) c) = outcome-if (is x (r .request .who)) (shipEnd i r none st) (ignored st) (λ h. moved (to-hold r (dialledOut d) c) (rw h refl) refl (rw h refl)) (λ h. passed (rw h refl) refl (rw h refl))
   shipEnd-outcome x (busy r (answered b) c) = outcome-if (is x (r .request .who)) (shipEnd i r (some b) st) (ignored st) (λ h. moved (to-hold r (answered b) c) (rw h refl) refl (rw h refl)) (λ h. passed (rw h refl) refl (rw h refl))
@@ -237,21 +289,24 @@ module _ (i : ℕ) (st : Station) where
   unfolding workingOn workingKind dialNow
   working-outcome x free = passed refl refl refl
   working-outcome x taken = passed refl refl refl
-  working-outcome x (pending k r d) = outcome-if (is x (r .request .who)) (workingKind i k r st) (ignored st) (λ h. by-kind (λ z. Outcome i st (λ l. l) (λ w. w) [] (pending z r d) (workingKind i z r st)) (moved (to-dial _ r d refl) refl refl refl) (passed refl refl refl) (passed refl refl refl) (moved (to-dial _ r d refl) refl refl refl) k) (λ h. passed refl refl refl)
+  working-outcome x (pending k r d) = outcome-if (is x (r .request .who)) (workingKind i k r st) (ignored st) (λ h. by-kind (λ z. Outcome i st (λ l. l) (λ w. w) [] (pending z r d) (workingKind i z r st)) (moved (to-dial _ r d refl) refl refl refl) (passed refl refl refl) (passed refl refl refl) (moved (to-dial _ r d refl) refl refl refl) (passed refl refl refl) (passed refl refl refl) (passed refl refl refl) k) (λ h. passed refl refl refl)
   working-outcome x (busy r g c) = passed refl refl refl
   working-outcome x (held r n d) = passed refl refl refl
 
   -- ── the ring-back agreed to ──
   pub bq-outcome : (x : Party) (p : Slot) → Outcome i st (settle (st .clock) x) (λ w. w) [] p (bqFor i x st p)
-  unfolding bqFor bqKind agreed
+  unfolding bqFor bqKind agreed startsRinging
   bq-outcome x free = passed refl refl refl
   bq-outcome x taken = passed refl refl refl
   bq-outcome x (pending k r d) = by-kind (λ z. Outcome i st (settle (st .clock) x) (λ w. w) [] (pending z r d) (cond (is x (r .request .who)) (bqKind i z r st) (ignored st)))
       (outcome-if (is x (r .request .who)) (ignored st) (ignored st) (λ h. passed refl refl refl) (λ h. passed refl refl refl))
-      (outcome-if (is x (r .request .who)) (agreed i r st) (ignored st) (λ h. moved (to-agree _ r d) (rw h refl) refl refl) (λ h. passed (rw h refl) refl refl))
-      (outcome-if (is x (r .request .who)) (agreed i r st) (ignored st) (λ h. moved (to-agree _ r d) (rw h refl) refl refl) (λ h. passed (rw h refl) refl refl))
+      (outcome-if (is x (r .request .who)) (agreed i r st) (ignored st) (λ h. moved (to-agree _ r d refl) (rw h refl) refl refl) (λ h. passed (rw h refl) refl refl))
+      (outcome-if (is x (r .request .who)) (agreed i r st) (ignored st) (λ h. moved (to-agree _ r d refl) (rw h refl) refl refl) (λ h. passed (rw h refl) refl refl))
+      (outcome-if (is x (r .request .who)) (ignored st) (ignored st) (λ h. passed refl refl refl) (λ h. passed refl refl refl))
+      (outcome-if (is x (r .request .who)) (startsRinging i r st) (ignored st) (λ h. moved (to-rings _ r d refl) (rw h refl) refl refl) (λ h. passed (rw h refl) refl refl))
+      (outcome-if (is x (r .request .who)) (startsRinging i r st) (ignored st) (λ h. moved (to-rings _ r d refl) (rw h refl) refl refl) (λ h. passed (rw h refl) refl refl))
       (outcome-if (is x (r .request .who)) (ignored st) (ignored st) (λ h. passed refl refl refl) (λ h. passed refl refl refl)) k
-  bq-outcome x (busy r g c) = passed refl refl refl
+  bq-outcome x (busy r g c) = by-stage (λ z. Outcome i st (settle (st .clock) x) (λ w. w) [] (busy r z c) (ignored st)) (λ d. passed refl refl refl) (λ d. passed refl refl refl) (λ b. passed refl refl refl) g
   bq-outcome x (held r n d) = passed refl refl refl
 
   -- ── the operator ──
@@ -273,10 +328,10 @@ module _ (i : ℕ) (st : Station) where
 
   -- ── the slot's other wait falls due ──
   pub main-outcome : (p : Slot) → Outcome i st (withWait none) (λ w. w) [] p (mainOn i st p)
-  unfolding mainOn pendingDue offerDue ringAgain replyDue coastEnd
+  unfolding mainOn pendingDue offerDue ringAgain callAgain dropped replyDue coastEnd
   main-outcome free = passed refl refl refl
   main-outcome taken = passed refl refl refl
-  main-outcome (pending k r d) = by-kind (λ z. Outcome i st (withWait none) (λ w. w) [] (pending z r d) (pendingDue i z r st)) (moved (to-drop _ r d) refl refl refl) (moved (to-ring r d) refl refl refl) (moved (to-drop _ r d) refl refl refl) (moved (to-drop _ r d) refl refl refl) k
+  main-outcome (pending k r d) = by-kind (λ z. Outcome i st (withWait none) (λ w. w) [] (pending z r d) (pendingDue i z r st)) (moved (to-drop _ r d refl) refl refl refl) (moved (to-ring r d) refl refl refl) (moved (to-drop _ r d refl) refl refl refl) (moved (to-drop _ r d refl) refl refl refl) (moved (to-call r d) refl refl refl) (moved (to-let-go _ r d true) refl refl refl) (moved (to-let-go _ r d true) refl refl refl) k
   main-outcome (busy r (dialling d) c) = moved (to-end r (dialling d) c) refl refl refl
   main-outcome (busy r (dialledOut d) c) = moved (to-end r (dialledOut d) c) refl refl refl
   main-outcome (busy r (answered b) c) = passed refl refl refl
@@ -290,6 +345,7 @@ module _ (i : ℕ) (st : Station) where
   said-outcome p (bq j x) = passed refl refl refl
   said-outcome p (workingCall x) = working-outcome x p
   said-outcome p (endOfCall x) = shipEnd-outcome x p
+  said-outcome p (declined x) = passed refl refl refl
   said-outcome p nothing = passed refl refl refl
 
   pub happened-outcome : (cfg : Config) (p : Slot) (h : Happened) → Outcome i st (hearColumn cfg (st .clock) h) (lifted (st .clock) h) (stopsOn cfg (st .clock) i (view p .call) h) p (happenedOn cfg i st p h)
@@ -297,7 +353,7 @@ module _ (i : ℕ) (st : Station) where
   happened-outcome cfg p (heard m) = said-outcome p (meaning cfg m)
   happened-outcome cfg p (signal lineDialledOut) = dialled-out-outcome p
   happened-outcome cfg p (signal lineLifted) = offHook-outcome p
-  happened-outcome cfg p (signal lineHung) = end-outcome p
+  happened-outcome cfg p (signal lineHung) = hung-outcome p
   happened-outcome cfg p (signal carrierHeard) = up-outcome p
   happened-outcome cfg p (signal carrierLost) = down-outcome p
   happened-outcome cfg p (operator handTakes) = take-outcome p

@@ -15,7 +15,7 @@ use Rattle.sequence.specs.declared.Meaning.{Meaning}
 use Rattle.sequence.specs.Number.{evened, pairsOf}
 use Rattle.sequence.specs.Layout.{front, body, layout}
 use Rattle.rules.specs.Rules.Places.{Each}
-use Rattle.rules.specs.Rules.Words.{Party, Request, Config, carrierOn, carrierOff, acknowledge, ringBack, unable, dial, releaseLine, ours}
+use Rattle.rules.specs.Rules.Words.{Party, Request, Config, carrierOn, carrierOff, acknowledge, callShip, unable, dial, releaseLine, ringingOn, ringingOff, busyTone, ours}
 use Rattle.rules.specs.Rules.Actions.{Ender, Action, does, over}
 use Rattle.rules.specs.Rules.Sound.{numberKeeps, requestKeeps}
 use Rattle.rules.specs.Rules.Requests.{bill}
@@ -79,13 +79,25 @@ module _ (cfg : Config) where
   unfolding payloadOf
   release-slim i = omega arith
 
+  pub ringing-slim : (i : ℕ) → Slim cfg (does (ringingOn i))
+  unfolding payloadOf
+  ringing-slim i = omega arith
+
+  pub silenced-slim : (i : ℕ) → Slim cfg (does (ringingOff i))
+  unfolding payloadOf
+  silenced-slim i = omega arith
+
+  pub tone-slim : (i : ℕ) → Slim cfg (does (busyTone i))
+  unfolding payloadOf
+  tone-slim i = omega arith
+
   pub acknowledge-slim : (i : ℕ) (r : Request) → Slim cfg (does (acknowledge i r))
   unfolding payloadOf ableSaid answerTo
   acknowledge-slim i r = sent-length (ableSaid (channelAt cfg i) 122 r) (r .number) refl
 
-  pub ringBack-slim : (i : ℕ) (r : Request) → Slim cfg (does (ringBack i r))
+  pub callShip-slim : (i : ℕ) (r : Request) → Slim cfg (does (callShip i r))
   unfolding payloadOf ableSaid answerTo
-  ringBack-slim i r = sent-length (ableSaid (channelAt cfg i) 117 r) (r .number) refl
+  callShip-slim i r = sent-length (ableSaid (channelAt cfg i) 117 r) (r .number) refl
 
   pub unable-slim : (n : ℕ) (x : Party) (digits : List ℕ) → Slim cfg (does (unable n x digits))
   unfolding payloadOf unableSaid answerTo

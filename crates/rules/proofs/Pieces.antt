@@ -13,7 +13,7 @@ use Rattle.rules.specs.Rules.Actions.{theCoast, Action}
 use Rattle.rules.specs.Rules.Station.{Stage, answered, answeredAt, Slot, Waiting, Station, theSlot, setSlot, setQueue, dueAfter, queueWait, isFree, ringOf, offerOf}
 use Rattle.rules.specs.Rules.Requests.{Out, done, also, rungBack, freedFor, freed, endActs, coastEnd, waitsFor, afresh, ruleD, offer, ruleF, ruleG, eToG, newcomer}
 use Rattle.rules.specs.ListAlone.Book.{Stop, Column, Place, Book, blank, atColumn}
-use Rattle.rules.specs.ListAlone.Reading.{tell, rungUp, letGo, hush, leave, join, reads, stopOf}
+use Rattle.rules.specs.ListAlone.Reading.{tell, summon, letGo, hush, leave, join, reads, stopOf}
 use Rattle.rules.specs.Statement.{deedsOf, chargesOf, owed}
 use Rattle.rules.proofs.PlaceLaws.{modAt-modAt, shift-some, shift-none}
 use Rattle.rules.proofs.Base.{by-stage, callIn, view, place, seen, is-same, is-true, deeds-append, charges-append, reads-append, atLine², moves, free-is, slot-set, slot-lowest}
@@ -21,10 +21,14 @@ use Rattle.rules.specs.Rules.Sound.{queueRoom}
 
 -- ── what is shown of a piece ─────────────────────────────────────────────────
 
--- read from the book b at the time t, the piece's deeds give the book of what it leaves, and its charges are cs
-pub record Good (t : ℕ) (b : Book) (cs : List Stop) (o : Out) : Type 0 where
-  pub reading : reads t (deedsOf (o .acts)) b ≡ seen (o .next)
+-- read from the book b at the time t, the piece's deeds give the book of what it leaves, and its charges are cs; q is what was asked
+-- ashore in the same entry
+pub record GoodBy (q : Option Request) (t : ℕ) (b : Book) (cs : List Stop) (o : Out) : Type 0 where
+  pub reading : reads q t (deedsOf (o .acts)) b ≡ seen (o .next)
   pub charging : chargesOf (o .acts) ≡ map owed cs
+
+abbrev pub Good : ℕ → Book → List Stop → Out → Type 0
+Good t b cs o = GoodBy none t b cs o
 
 pub good-if : (t : ℕ) (b : Book) (cs : List Stop) (c : Bool) (x y : Out) → (c ≡ true → Good t b cs x) → (c ≡ false → Good t b cs y) → Good t b cs (cond c x y)
 good-if t b cs true x y p q = p refl
@@ -34,9 +38,9 @@ map-append : {A B : Type 0} (f : A → B) (a b : List A) → map f (a ++ b) ≡ 
 map-append f [] b = refl
 map-append f (x ∷ a) b = ap (λ r. f x ∷ r) (map-append f a b)
 
-pub good-also : (t : ℕ) (b k : Book) (cs ds : List Stop) (a : List Action) (o : Out) → reads t (deedsOf a) b ≡ k → chargesOf a ≡ map owed cs → Good t k ds o → Good t b (cs ++ ds) (also a o)
+pub good-also : (t : ℕ) (b k : Book) (cs ds : List Stop) (a : List Action) (o : Out) → reads none t (deedsOf a) b ≡ k → chargesOf a ≡ map owed cs → Good t k ds o → Good t b (cs ++ ds) (also a o)
 good-also t b k cs ds a o h c g = record {
-  reading = ap (λ z. reads t z b) (deeds-append a (o .acts)) ∙ reads-append t (deedsOf a) (deedsOf (o .acts)) b ∙ ap (reads t (deedsOf (o .acts))) h ∙ g .reading;
+  reading = ap (λ z. reads none t z b) (deeds-append a (o .acts)) ∙ reads-append none t (deedsOf a) (deedsOf (o .acts)) b ∙ ap (reads none t (deedsOf (o .acts))) h ∙ g .reading;
   charging = charges-append a (o .acts) ∙ rw (c, g .charging) (sym (map-append owed cs ds));
 }
 
@@ -65,7 +69,7 @@ freedFor-good : (i : ℕ) (st : Station) (p : Slot) → theSlot st i ≡ p → (
 unfolding freedFor rungBack reads seen setSlot setQueue
 freedFor-good i st p e [] eq f h = record { reading = moves i st p e f _ h; charging = refl }
 freedFor-good i st p e (w ∷ q) eq f h = record {
-  reading = book-is refl (lines² i st p e f (rungUp (st .clock) (w .request)) (ringOf (w .request) st) (ap (rungUp (st .clock) (w .request)) h)) (rw eq (leave-first (w .request .who) (place w) (map place q) refl));
+  reading = book-is refl (lines² i st p e f (summon (st .clock) (w .request)) (ringOf (w .request) st) (ap (summon (st .clock) (w .request)) h)) (rw eq (leave-first (w .request .who) (place w) (map place q) refl));
   charging = refl;
 }
 

@@ -1,5 +1,6 @@
 -- Laws of a place in a list, and of tests.
 use mathlib.Core.Path.{_≡_, refl, ap}
+use mathlib.Core.Logic.{_⊎_, inl, inr}
 use mathlib.Core.List.{List, [], _∷_, _++_, map}
 use mathlib.Core.Bool.{Bool, true, false, cond, _&&_, _||_}
 use mathlib.Core.Option.{Option, none, some}
@@ -46,6 +47,24 @@ pub modAt-length : {A : Type 0} (f : A → A) (i : ℕ) (l : List A) → length 
 modAt-length f i [] = refl
 modAt-length f zero (x ∷ l) = refl
 modAt-length f (suc i) (x ∷ l) = ap suc (modAt-length f i l)
+
+-- at another place nothing is changed
+pub aside : {A : Type 0} (d : A) (f : A → A) (i j : ℕ) (l : List A) → (j ≡ i) ⊎ (getD (modAt f i l) j d ≡ getD l j d)
+aside d f i j [] = inr refl
+aside d f zero zero (x ∷ l) = inl refl
+aside d f zero (suc j) (x ∷ l) = inr refl
+aside d f (suc i) zero (x ∷ l) = inr refl
+aside d f (suc i) (suc j) (x ∷ l) = go (aside d f i j l)
+  where
+    go : (j ≡ i) ⊎ (getD (modAt f i l) j d ≡ getD l j d) → (suc j ≡ suc i) ⊎ (getD (modAt f i l) j d ≡ getD l j d)
+    go (inl p) = inl (ap suc p)
+    go (inr p) = inr p
+
+-- nor outside the list; else it is there
+pub there-or-not : {A : Type 0} (d x : A) (i : ℕ) (l : List A) → (getD (modAt (λ y. x) i l) i d ≡ x) ⊎ ((getD l i d ≡ d) × (getD (modAt (λ y. x) i l) i d ≡ d))
+there-or-not d x i [] = inr (refl, refl)
+there-or-not d x zero (y ∷ l) = inl refl
+there-or-not d x (suc i) (y ∷ l) = there-or-not d x i l
 
 -- ── the lowest place that passes ──────────────────────────────────────────────
 
@@ -134,3 +153,14 @@ pub each-dropped : {A : Type 0} (P : A → Type 0) (i : ℕ) (l : List A) → Ea
 each-dropped P i [] k = tt
 each-dropped P zero (y ∷ l) k = k .1
 each-dropped P (suc i) (y ∷ l) k = (k .0, each-dropped P i l (k .1))
+
+-- where one place is taken by another element: of the others, and of all if of that one too
+pub each-others : {A : Type 0} (P : A → Type 0) (x : A) (i : ℕ) (l : List A) → Each P (modAt (λ y. x) i l) → Each P (dropAt i l)
+each-others P x i [] k = tt
+each-others P x zero (y ∷ l) k = k .1
+each-others P x (suc i) (y ∷ l) k = (k .0, each-others P x i l (k .1))
+
+pub each-back : {A : Type 0} (P : A → Type 0) (x d : A) (i : ℕ) (l : List A) → P (getD l i d) → Each P (modAt (λ y. x) i l) → Each P l
+each-back P x d i [] p k = tt
+each-back P x d zero (y ∷ l) p k = (p, k .1)
+each-back P x d (suc i) (y ∷ l) p k = (k .0, each-back P x d i l p (k .1))

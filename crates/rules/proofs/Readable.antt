@@ -16,7 +16,7 @@ use Rattle.sequence.specs.Reading as S
 use Rattle.sequence.proofs.RefusalLaws.{done-held}
 use Rattle.rules.specs.Rules.Words.{Mode, simplex, duplex, modeNumber, Request, Config, Ours}
 use Rattle.rules.specs.Rules.Heard.{Heard, callRequest, digitsIn, requestIn, addressed, meaning}
-use Rattle.rules.specs.Rules.Kinds.{Plain, Means, asCallRequest, asDataRequest, asWorkingCall, asEndOfCall, asBq, asNothing, OnlyThese}
+use Rattle.rules.specs.Rules.Kinds.{Plain, Means, asCallRequest, asDataRequest, asWorkingCall, asEndOfCall, asBq, asDeclined, asNothing, OnlyThese}
 use Rattle.rules.specs.Rules.Sound.{identityKeeps, configKeeps, numberKeeps, requestKeeps}
 use Rattle.rules.specs.Rules.Requests.{done}
 use Rattle.rules.specs.Rules.Verdict.{refusals}
@@ -150,4 +150,5 @@ module _ (cfg : Config) (keeps : configKeeps cfg ≡ true) (s : List ℕ) (done 
       go _ (asWorkingCall w p) e = cc
       go _ (asEndOfCall p) e = cc
       go _ (asBq w n i a b c d f) e = cc
+      go _ (asDeclined p) e = cc
       go _ asNothing e = cc

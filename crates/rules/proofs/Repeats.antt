@@ -10,36 +10,40 @@ use lib.ListN.{length}
 use Rattle.rules.specs.Rules.Places.{modAt, shift, lowest, Each}
 use Rattle.rules.specs.Rules.Words.{Party, is, Request, Config, What, Event, Deed}
 use Rattle.rules.specs.Rules.Heard.{Heard, callRequest, nothing}
-use Rattle.rules.specs.Rules.Station.{Slot, Waiting, Station, theSlot, fresh, setSlot, setClock, setQueue, dueAfter, queueWait, answeredAt, isFree, offerOf}
+use Rattle.rules.specs.Rules.Station.{Slot, Waiting, Station, theSlot, fresh, setSlot, setClock, setQueue, dueAfter, queueWait, answeredAt, isFree, offerOf, calledOf}
 use Rattle.rules.specs.Rules.Requests.{Out, also, rungBack, freedFor, freed, coastEnd, owns, waitsFor, slotOf, placeOf, standsAt, standing, ruleA, repeated, afresh, ruleD, offer, ruleF, ruleG, eToG, newcomer, dToG, redial, requested}
+use Rattle.rules.specs.Rules.Ashore.{calledFrom}
 use Rattle.rules.specs.Rules.Calls.{actAt, act}
 use Rattle.rules.specs.Rules.Verdict.{verdict, play}
-use Rattle.rules.specs.ListAlone.Book.{Note, Stop, Book, blankBook}
-use Rattle.rules.specs.ListAlone.Reading.{read, reads, turn, readAll, heardAt}
-use Rattle.rules.specs.ListAlone.Repeated.{heardIn, toldToWait, lastAsked, Repeats, switchedOn, EachRead}
-use Rattle.rules.specs.Statement.{deedsOf, notes, AnswersRepeat, SecondRingRepeats, DialsAsked}
-use Rattle.rules.specs.ListAlone.ThreeWords.{Word}
+use Rattle.rules.specs.ListAlone.Book.{Note, Stop, Book, blank, column, blankBook}
+use Rattle.rules.specs.ListAlone.Reading.{read, reads, turn, readAll, heardAt, askedAt}
+use Rattle.rules.specs.ListAlone.Repeated.{heardIn, askedIn, toldToWait, lastAsked, switchedOn, EachRead}
+use Rattle.rules.specs.Statement.{deedsOf, notes, EveryEntry, AnswersRepeat, SecondRingRepeats, DialsAsked}
+use Rattle.rules.specs.ListAlone.LineWords.{Word}
 use Rattle.rules.proofs.PlaceLaws.{shift-some, each-append}
-use Rattle.rules.proofs.Base.{rung-owns, view, seen, is-same, deeds-append, slot-lowest, fresh-each}
+use Rattle.rules.proofs.Base.{rung-owns, view, seen, is-same, deeds-append, slot-lowest, slot-mapped, free-is, fresh-each}
 use Rattle.rules.proofs.Accepted.{accepted, sounds}
-use Rattle.rules.proofs.Run.{noteOf, turn-is, play-on, play-past, fresh-seen}
+use Rattle.rules.proofs.Run.{turn-is, fresh-seen}
+use Rattle.rules.proofs.Entries.{Reader, FitsOn, run-entries}
 use Rattle.rules.proofs.Once.{bit, countS, countQ, Once, distinct-once, none-count, waiting-count, coastEnd-gone}
 use Rattle.rules.proofs.Ruling.{Ruling, passes, repeats, renews, redials, bOrC-ruling}
 use Rattle.rules.proofs.Calm.{Asked, Rung, Known, Fits, Calm, still, set-known, told-append, fits-append, coastEnd-calm, outcome-calm, clock-known, drop-calm}
-use Rattle.rules.proofs.Effect.{Effect, rests, drops, data-asked, call-asked, to-slot, act-effect}
+use Rattle.rules.proofs.Effect.{Effect, rests, drops, data-asked, call-asked, to-slot, called-ashore, act-effect}
 
 -- what each ship last asked for, once the deeds are done
 abbrev told : Heard → (Party → Heard) → List Deed → Party → Heard
 told h a ds x = cond (toldToWait x ds) h (a x)
 
 -- an outcome that repeats, and leaves the station with what it has told
-record Said (h : Heard) (a : Party → Heard) (b : Book) (o : Out) : Type 0 where
-  repeats : Each (Repeats h a) (deedsOf (o .acts))
-  fits : (t : ℕ) (on : Option ℕ) → EachRead Fits t on b (deedsOf (o .acts))
+record SaidBy (q : Option Request) (h : Heard) (a : Party → Heard) (b : Book) (o : Out) : Type 0 where
+  fits : (t : ℕ) (on : Option ℕ) → EachRead (Fits h q a) q t on b (deedsOf (o .acts))
   known : Known (told h a (deedsOf (o .acts))) (o .next)
 
+abbrev Said : Heard → (Party → Heard) → Book → Out → Type 0
+Said h a b o = SaidBy none h a b o
+
 calm-said : (h : Heard) (a : Party → Heard) (b : Book) (o : Out) → Calm h a b o → Said h a b o
-calm-said h a b o c = record { repeats = c .mild .repeats; fits = c .mild .fits; known = subst (λ z. Known z (o .next)) (λ i x. cond (sym (c .mild .untold x) i) h (a x)) (c .known) }
+calm-said h a b o c = record { fits = c .mild .fits; known = subst (λ z. Known z (o .next)) (λ i x. cond (sym (c .mild .untold x) i) h (a x)) (c .known) }
 
 -- ── the ship that is told to wait is the only one concerned ──────────────────
 
@@ -91,20 +95,20 @@ module _ (r : Request) (a : Party → Heard) (b : Book) where
   module _ (st : Station) (k : Known a st) (n : countS (r .who) (st .slots) ≡ 0) where
     ruleF-said : countQ (r .who) (st .queue) ≡ 0 → Said (callRequest r) a b (ruleF st r)
     unfolding ruleF setQueue
-    ruleF-said m = record { repeats = ((refl, refl), tt); fits = λ t on. ((tt, tt), tt); known = record { waiting = each-append (Asked now) (st .queue) (record { request = r; due = dueAfter (st .clock) queueWait } ∷ []) (others-wait (st .queue) m (k .waiting)) (now-asked, tt); ringing = others-ring (st .slots) n (k .ringing) } }
+    ruleF-said m = record { fits = λ t on. (((refl, refl), (tt, tt)), tt); known = record { waiting = each-append (Asked now) (st .queue) (record { request = r; due = dueAfter (st .clock) queueWait } ∷ []) (others-wait (st .queue) m (k .waiting)) (now-asked, tt); ringing = others-ring (st .slots) n (k .ringing) } }
 
     ruleD-said : (j : ℕ) → placeOf (r .who) st ≡ some j → countQ (r .who) (st .queue) ≤ 1 → Said (callRequest r) a b (ruleD j st r)
     unfolding ruleD setQueue
-    ruleD-said j h m = record { repeats = ((refl, refl), tt); fits = λ t on. ((tt, tt), tt); known = record { waiting = replaced j (st .queue) h m (k .waiting); ringing = others-ring (st .slots) n (k .ringing) } }
+    ruleD-said j h m = record { fits = λ t on. (((refl, refl), (tt, tt)), tt); known = record { waiting = replaced j (st .queue) h m (k .waiting); ringing = others-ring (st .slots) n (k .ringing) } }
 
     eToG-said : placeOf (r .who) st ≡ none → (o : Option ℕ) → Said (callRequest r) a b (eToG st r o)
     unfolding eToG offer afresh ruleG
-    eToG-said h (some i) = calm-said _ a b _ (record { mild = record { repeats = (tt, (refl, tt)); fits = λ t on. ((tt, tt), ((tt, tt), tt)); untold = λ x. refl }; known = set-known a i (offerOf r st) st (λ o x. cc) k })
+    eToG-said h (some i) = calm-said _ a b _ (record { mild = record { fits = λ t on. ((tt, (tt, tt)), ((refl, (tt, tt)), tt)); untold = λ x. refl }; known = set-known a i (offerOf r st) st (λ o x. cc) k })
     eToG-said h none = go (ltb (length (st .queue)) 32)
       where
         go : (t : Bool) → Said (callRequest r) a b (cond t (ruleF st r) (ruleG st r))
         go true = ruleF-said (waiting-count (r .who) (st .queue) h)
-        go false = calm-said _ a b _ (record { mild = record { repeats = ((refl, refl), tt); fits = λ t on. ((tt, tt), tt); untold = λ x. refl }; known = k })
+        go false = calm-said _ a b _ (record { mild = record { fits = λ t on. (((refl, refl), (tt, tt)), tt); untold = λ x. refl }; known = k })
 
     newcomer-said : placeOf (r .who) st ≡ none → Said (callRequest r) a b (newcomer st r)
     unfolding newcomer
@@ -119,17 +123,16 @@ module _ (r : Request) (a : Party → Heard) (b : Book) where
 
   afresh-calm : (i : ℕ) (st : Station) → Known a st → Calm (callRequest r) a b (afresh i st r)
   unfolding afresh
-  afresh-calm i st k = record { mild = record { repeats = (refl, tt); fits = λ t on. ((tt, tt), tt); untold = λ x. refl }; known = set-known a i (offerOf r st) st (λ o x. cc) k }
+  afresh-calm i st k = record { mild = record { fits = λ t on. ((refl, (tt, tt)), tt); untold = λ x. refl }; known = set-known a i (offerOf r st) st (λ o x. cc) k }
 
   repeated-calm : (i : ℕ) (st : Station) → Known a st → Calm (callRequest r) a b (repeated i st r)
   unfolding repeated
-  repeated-calm i st k = record { mild = record { repeats = (refl, tt); fits = λ t on. ((tt, tt), tt); untold = λ x. refl }; known = k }
+  repeated-calm i st k = record { mild = record { fits = λ t on. ((refl, (tt, tt)), tt); untold = λ x. refl }; known = k }
 
 -- what is said behind a calm piece
-also-said : (h : Heard) (a : Party → Heard) (b : Book) (p o : Out) → Calm h a b p → ((t : ℕ) → Said h a (reads t (deedsOf (p .acts)) b) o) → Said h a b (also (p .acts) o)
+also-said : (h : Heard) (a : Party → Heard) (b : Book) (p o : Out) → Calm h a b p → ((t : ℕ) → Said h a (reads none t (deedsOf (p .acts)) b) o) → Said h a b (also (p .acts) o)
 also-said h a b p o c s = record {
-  repeats = rw (deeds-append (p .acts) (o .acts)) (each-append (Repeats h a) (deedsOf (p .acts)) (deedsOf (o .acts)) (c .mild .repeats) (s 0 .repeats));
-  fits = λ t on. rw (deeds-append (p .acts) (o .acts)) (fits-append t on b (deedsOf (p .acts)) (deedsOf (o .acts)) (c .mild .fits t on) (s t .fits t));
+  fits = λ t on. rw (deeds-append (p .acts) (o .acts)) (fits-append (Fits h none a) t on b (deedsOf (p .acts)) (deedsOf (o .acts)) (c .mild .fits t on) (s t .fits t));
   known = subst (λ z. Known z (o .next)) (λ i x. cond (sym (same-told x) i) h (a x)) (s 0 .known);
 }
   where
@@ -153,12 +156,12 @@ module _ (r : Request) (a : Party → Heard) (b : Book) (st : Station) (k : Know
   unfolding redial
   ruling-said i cs _ _ (passes p x) e h = calm-said _ a b _ (still (callRequest r) a b 1 st k)
   ruling-said i cs _ _ (repeats j o d x y) e h = calm-said _ a b _ (repeated-calm r a b i st k)
-  ruling-said i cs _ _ (renews j o d x y) e h = calm-said _ a b _ (afresh-calm r a b i st k)
+  ruling-said i cs _ _ (renews j o d z x y) e h = calm-said _ a b _ (afresh-calm r a b i st k)
   ruling-said i cs _ _ (redials o g c x) e h =
       let q = o .request in
       let s = answeredAt g in
       let end = coastEnd-calm (callRequest r) a b i st k q s in
-      also-said (callRequest r) a b (coastEnd i q s st) _ end (λ t. dToG-said r a (reads t (deedsOf (coastEnd i q s st .acts)) b) (coastEnd i q s st .next) (end .known) (coastEnd-gone i (r .who) q s st once (rw e h)) (placeOf (r .who) (coastEnd i q s st .next)) refl (coastEnd-fewer i (r .who) q s st waits-once))
+      also-said (callRequest r) a b (coastEnd i q s st) _ end (λ t. dToG-said r a (reads none t (deedsOf (coastEnd i q s st .acts)) b) (coastEnd i q s st .next) (end .known) (coastEnd-gone i (r .who) q s st once (rw e h)) (placeOf (r .who) (coastEnd i q s st .next)) refl (coastEnd-fewer i (r .who) q s st waits-once))
 
   request-said : (o q : Option ℕ) → slotOf (r .who) st ≡ o → placeOf (r .who) st ≡ q → Said (callRequest r) a b (requested st r (standsAt o q))
   unfolding requested
@@ -169,75 +172,70 @@ module _ (r : Request) (a : Party → Heard) (b : Book) (st : Station) (k : Know
 -- ── any event ────────────────────────────────────────────────────────────────
 
 module _ (a : Party → Heard) where
-  effect-said : (k : Book) (st : Station) → k .columns ≡ map view (st .slots) → Known a st → Once st → (b : Book) (ws : List Word) (cs : List Stop) (m : Heard) (o : Out) → Effect st b ws cs m o → Said m a k o
-  unfolding ruleA standing
-  effect-said k st v n once _ _ _ _ _ (rests m j h) = calm-said _ a k _ (still m a k j st n)
-  effect-said k st v n once _ _ _ _ _ (drops j) = calm-said _ a k _ (drop-calm nothing a k st n j)
-  effect-said k st v n once _ _ _ _ _ (data-asked x d) = calm-said _ a k _ (record { mild = record { repeats = ((refl, refl), tt); fits = λ t on. ((tt, tt), tt); untold = λ x. refl }; known = n })
-  effect-said k st v n once _ _ _ _ _ (call-asked r) = request-said r a k st n once (slotOf (r .who) st) (placeOf (r .who) st) refl refl
-  effect-said k st v n once _ _ _ _ _ (to-slot m i u e) = calm-said _ a k _ (outcome-calm m a k i st n v u)
+  effect-said : (k : Book) (st : Station) → k .columns ≡ map view (st .slots) → Known a st → Once st → (q : Option Request) (b : Book) (ws : List Word) (cs : List Stop) (m : Heard) (o : Out) → Effect st q b ws cs m o → SaidBy q m a k o
+  unfolding ruleA standing calledFrom
+  effect-said k st v n once _ _ _ _ _ _ (rests m j h) = record { fits = λ t on. tt; known = n }
+  effect-said k st v n once _ _ _ _ _ _ (drops j) = calm-said _ a k _ (drop-calm nothing a k st n j)
+  effect-said k st v n once _ _ _ _ _ _ (data-asked x d) = calm-said _ a k _ (record { mild = record { fits = λ t on. (((refl, refl), (tt, tt)), tt); untold = λ x. refl }; known = n })
+  effect-said k st v n once _ _ _ _ _ _ (call-asked r) = request-said r a k st n once (slotOf (r .who) st) (placeOf (r .who) st) refl refl
+  effect-said k st v n once _ _ _ _ _ _ (called-ashore r i h) =
+      let c : column k i ≡ blank = rw v (slot-mapped st view i ∙ ap view (free-is (theSlot st i) (slot-lowest st isFree i h))) in
+      record { fits = λ t on. ((tt, (tt, tt)), ((refl, (rw c refl, tt)), tt)); known = set-known a i (calledOf r st) st (λ o x. cc) n }
+  effect-said k st v n once _ _ _ _ _ _ (to-slot m i u e) = calm-said _ a k _ (outcome-calm m a k i st n v u)
 
-  act-said : (cfg : Config) (st : Station) → Known a st → Once st → (t : ℕ) (w : What) → Said (heardAt cfg w) a (seen st) (actAt cfg st t w)
+  act-said : (cfg : Config) (st : Station) → Known a st → Once st → (t : ℕ) (w : What) → SaidBy (askedAt cfg w) (heardAt cfg w) a (seen st) (actAt cfg st t w)
   unfolding setClock seen
-  act-said cfg st k once t w = effect-said (seen st) _ refl (clock-known a _ st k) once _ _ _ _ _ (act-effect cfg st t w)
+  act-said cfg st k once t w = effect-said (seen st) _ refl (clock-known a _ st k) once _ _ _ _ _ _ (act-effect cfg st t w)
 
 -- ── the run ──────────────────────────────────────────────────────────────────
 
-next-said : (cfg : Config) (a : Party → Heard) (st : Station) (e : Event) → Known a st → verdict cfg st e ≡ none → Said (heardAt cfg (e .what)) a (seen st) (act cfg st e)
+next-said : (cfg : Config) (a : Party → Heard) (st : Station) (e : Event) → Known a st → verdict cfg st e ≡ none → SaidBy (askedAt cfg (e .what)) (heardAt cfg (e .what)) a (seen st) (act cfg st e)
 next-said cfg a st e k v = act-said a cfg st k (distinct-once st (sounds cfg st (accepted cfg st e v .is-sound) .no-twice)) (e .time) (e .what)
 
 -- of one entry, where a is what was asked for before it, and b the book before it
 record Answered (cfg : Config) (a : Party → Heard) (b : Book) (n : Note) : Type 0 where
-  repeats : Each (Repeats (heardIn cfg n) a) (n .deeds)
-  fits : (t : ℕ) (on : Option ℕ) → EachRead Fits t on b (n .deeds)
+  fits : (t : ℕ) (on : Option ℕ) → EachRead (Fits (heardIn cfg n) (askedIn cfg n) a) (askedIn cfg n) t on b (n .deeds)
 
--- of every entry of a list, where a is what was asked for before the list, and b the book before it
-abbrev AllAnswered : Config → (Party → Heard) → Book → List Note → Type 0
-AllAnswered cfg a b l = (before : List Note) (n : Note) (after : List Note) → l ≡ before ++ n ∷ after → Answered cfg (λ x. lastAsked cfg x (a x) before) (readAll cfg before b) n
+-- what was asked for before an entry, and the book before it
+module _ (cfg : Config) where
+  asked-and-book : Reader ((Party → Heard) × Book)
+  unfolding lastAsked readAll
+  asked-and-book = record {
+    on = λ n s. (told (heardIn cfg n) (s .0) (n .deeds), turn cfg (s .1) n);
+    after = λ l s. (λ x. lastAsked cfg x (s .0 x) l, readAll cfg l (s .1));
+    at-first = λ s. refl;
+    one-by-one = λ n l s. refl;
+  }
 
-none-answered : (cfg : Config) (a : Party → Heard) (b : Book) → AllAnswered cfg a b []
-none-answered cfg a b [] n after e = let y : _≡_ {A = ℕ} 0 1 = cc in absurd (omega arith)
-none-answered cfg a b (m ∷ before) n after e = let y : _≡_ {A = ℕ} 0 1 = cc in absurd (omega arith)
+  abbrev KnownAndSeen : (Party → Heard) × Book → Station → Type 0
+  KnownAndSeen s st = Known (s .0) st × (s .1 ≡ seen st)
 
-one-more : (cfg : Config) (a : Party → Heard) (b : Book) (m : Note) (l : List Note) → Answered cfg a b m → AllAnswered cfg (told (heardIn cfg m) a (m .deeds)) (turn cfg b m) l → AllAnswered cfg a b (m ∷ l)
-unfolding lastAsked readAll
-one-more cfg a b m l p f [] n after e = let y : m ≡ n = cc in rw (← y) p
-one-more cfg a b m l p f (o ∷ before) n after e = let y : m ≡ o = cc in let z : l ≡ before ++ n ∷ after = cc in rw (← y) (f before n after z)
+  known-on : FitsOn asked-and-book cfg KnownAndSeen
+  unfolding asked-and-book
+  known-on s st e v f = (next-said cfg (s .0) st e (f .0) v .known, rw (f .1) (turn-is cfg st e v))
 
-run-answered : (cfg : Config) (es : List Event) (a : Party → Heard) (st : Station) → Known a st → AllAnswered cfg a (seen st) (notes (play cfg es st))
-unfolding play notes
-run-answered cfg [] a st k = none-answered cfg a (seen st)
-run-answered cfg (e ∷ es) a st k = go (verdict cfg st e) refl (λ c s. run-answered cfg es c s)
-  where
-    go : (o : Option ℕ) → verdict cfg st e ≡ o → ((c : Party → Heard) (s : Station) → Known c s → AllAnswered cfg c (seen s) (notes (play cfg es s))) → AllAnswered cfg a (seen st) (notes (play cfg (e ∷ es) st))
-    go none v ih =
-        let s = next-said cfg a st e k v in
-        let n = noteOf e (act cfg st e .acts) in
-        let rest = notes (play cfg es (act cfg st e .next)) in
-        rw (play-on cfg e es st v) (one-more cfg a (seen st) n rest (record { repeats = s .repeats; fits = s .fits }) (rw (turn-is cfg st e v) (ih (told (heardIn cfg n) a (n .deeds)) (act cfg st e .next) (s .known))))
-    go (some n) v ih = rw (play-past cfg e es st n v) (ih a st k)
+  all-answered : (es : List Event) → EveryEntry (λ c before n. Answered cfg (λ x. lastAsked cfg x nothing before) (readAll cfg before (blankBook cfg)) n) cfg (notes (play cfg es (fresh cfg)))
+  unfolding fresh asked-and-book
+  all-answered es = rw (← (fresh-seen cfg)) (run-entries asked-and-book cfg KnownAndSeen known-on (λ s n. Answered cfg (s .0) (s .1) n) (λ s st e v f. record { fits = rw (f .1) (next-said cfg (s .0) st e (f .0) v .fits) }) es (λ x. nothing, seen (fresh cfg)) (fresh cfg) (record { waiting = tt; ringing = fresh-each cfg (Rung (λ x. nothing)) (λ r x. cc) }, refl))
 
-all-answered : (cfg : Config) (es : List Event) → AllAnswered cfg (λ x. nothing) (blankBook cfg) (notes (play cfg es (fresh cfg)))
-unfolding fresh
-all-answered cfg es = rw (← (fresh-seen cfg)) (run-answered cfg es (λ x. nothing) (fresh cfg) (record { waiting = tt; ringing = fresh-each cfg (Rung (λ x. nothing)) (λ r x. cc) }))
+each-read : {P Q : Option ℕ → Book → Deed → Type 0} → ((on : Option ℕ) (b : Book) (d : Deed) → P on b d → Q on b d) → (q : Option Request) (t : ℕ) (on : Option ℕ) (b : Book) (ds : List Deed) → EachRead P q t on b ds → EachRead Q q t on b ds
+each-read f q t on b [] p = tt
+each-read f q t on b (d ∷ ds) p = (f on b d (p .0), each-read f q t (switchedOn d) (read q t d b) ds (p .1))
 
 -- every acknowledgement and every ring-back repeats what was asked
 pub answers-repeat : AnswersRepeat
 unfolding AnswersRepeat
-answers-repeat cfg set es before n after e = all-answered cfg es before n after e .repeats
-
-each-read : {P Q : Option ℕ → Book → Deed → Type 0} → ((on : Option ℕ) (b : Book) (d : Deed) → P on b d → Q on b d) → (t : ℕ) (on : Option ℕ) (b : Book) (ds : List Deed) → EachRead P t on b ds → EachRead Q t on b ds
-each-read f t on b [] p = tt
-each-read f t on b (d ∷ ds) p = (f on b d (p .0), each-read f t (switchedOn d) (read t d b) ds (p .1))
+answers-repeat cfg set es before n after e =
+    each-read (λ on b d p. p .0) (askedIn cfg n) _ none _ (n .deeds) (all-answered cfg es before n after e .fits _ none)
 
 -- and the second ring-back repeats the first
 pub second-ring-repeats : SecondRingRepeats
 unfolding SecondRingRepeats
 second-ring-repeats cfg set es before n after e =
-    each-read (λ on b d p. p .0) _ none _ (n .deeds) (all-answered cfg es before n after e .fits _ none)
+    each-read (λ on b d p. p .1 .0) (askedIn cfg n) _ none _ (n .deeds) (all-answered cfg es before n after e .fits _ none)
 
 -- and the number dialled is the one asked for
 pub dials-asked : DialsAsked
 unfolding DialsAsked
 dials-asked cfg set es before n after e =
-    each-read (λ on b d p. p .1) _ none _ (n .deeds) (all-answered cfg es before n after e .fits _ none)
+    each-read (λ on b d p. p .1 .1) (askedIn cfg n) _ none _ (n .deeds) (all-answered cfg es before n after e .fits _ none)

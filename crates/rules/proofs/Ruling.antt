@@ -5,7 +5,7 @@ use mathlib.Core.Bool.{Bool, true, false, cond}
 use mathlib.Core.Option.{Option, none, some}
 use Prim.Native.Nat.{ℕ}
 use Rattle.rules.specs.Rules.Words.{Party, Mode, simplex, duplex, Request}
-use Rattle.rules.specs.Rules.Station.{Kind, Stage, answeredAt, Dealing, Slot, pending, busy, Station, offerOf}
+use Rattle.rules.specs.Rules.Station.{Kind, isCalled, Stage, answeredAt, Dealing, Slot, pending, busy, Station, offerOf}
 use Rattle.rules.specs.Rules.Requests.{Out, ignored, owns, repeated, afresh, same, ruleB, redial, ruleC, bOrC}
 use Rattle.rules.specs.ListAlone.Book.{Stop, Column, blank}
 use Rattle.rules.specs.ListAlone.Reading.{again, tell, letGo, hush, stopOf, askedAgain}
@@ -22,7 +22,7 @@ pub data Ruling (i : ℕ) (st : Station) (r : Request) (cs : List Stop) : Slot �
       → Ruling i st r cs p (ignored st)
   repeats : (k : Kind) (o : Dealing) (d : ℕ) → tell (st .clock) r (again (r .who) (view (pending k o d))) ≡ view (pending k o d) → [] ≡ map owed cs
       → Ruling i st r cs (pending k o d) (repeated i st r)
-  renews : (k : Kind) (o : Dealing) (d : ℕ) → tell (st .clock) r (again (r .who) (view (pending k o d))) ≡ view (offerOf r st) → [] ≡ map owed cs
+  renews : (k : Kind) (o : Dealing) (d : ℕ) → isCalled k ≡ false → tell (st .clock) r (again (r .who) (view (pending k o d))) ≡ view (offerOf r st) → [] ≡ map owed cs
       → Ruling i st r cs (pending k o d) (afresh i st r)
   redials : (o : Dealing) (g : Stage) (c : Option ℕ)
       → (owns (r .who) (busy o g c) ≡ true → (hush (letGo (again (r .who) (view (busy o g c)))) ≡ blank) × (cs ≡ stopOf (st .clock) i (callIn (o .request) g)))
@@ -48,8 +48,8 @@ module _ (i : ℕ) (st : Station) (r : Request) where
   ruleB-ruling : (k : Kind) (o : Dealing) (d : ℕ) → Ruled (pending k o d)
   unfolding bOrC ruleB
   ruleB-ruling k o d = by-kind (λ x. Ruled (pending x o d))
-      (ruling-if (same r (o .request)) (repeated i st r) (afresh i st r) (λ h. repeats _ o d (rw (alike-same r (o .request), h) refl) refl) (λ h. renews _ o d (rw (alike-same r (o .request), h) refl) refl))
-      (renews _ o d refl refl) (renews _ o d refl refl) (renews _ o d refl refl) k
+      (ruling-if (same r (o .request)) (repeated i st r) (afresh i st r) (λ h. repeats _ o d (rw (alike-same r (o .request), h) refl) refl) (λ h. renews _ o d refl (rw (alike-same r (o .request), h) refl) refl))
+      (renews _ o d refl refl refl) (renews _ o d refl refl refl) (renews _ o d refl refl refl) (passes _ (λ h. (refl, refl))) (passes _ (λ h. (refl, refl))) (passes _ (λ h. (refl, refl))) k
 
   pub bOrC-ruling : (p : Slot) → Ruled p
   unfolding bOrC

@@ -10,7 +10,7 @@ use Rattle.rules.specs.Rules.Words.{Party, Config, What}
 use Rattle.rules.specs.Rules.Waits.{Due}
 use Rattle.rules.specs.ListAlone.Book.{Stop, Call, quiet, Column, Book, blank, column}
 use Rattle.rules.specs.ListAlone.Reading.{stopOf, callOf, askedAgain, stopsAgain, stopsAt}
-use Rattle.rules.proofs.Hears.{Hears, says-nothing, says-begun, says-over, says-end, Hearing, no-column, one-column, all-columns, event-hearing}
+use Rattle.rules.proofs.Hears.{Hears, says-nothing, says-begun, says-answered, says-over, says-end, Hearing, no-column, one-column, all-columns, event-hearing}
 use Rattle.rules.proofs.PlaceLaws.{and-true, each-append}
 
 -- of a stop that a call gives where it passes a test
@@ -31,6 +31,7 @@ module _ (cfg : Config) (t : ℕ) (P : Stop → Type 0) (fine : Call → Bool) (
   hears-stops : (i : ℕ) (e : What) (f : Column → Column) (s : Call → List Stop) → Hears t i e f s → (k : Call) → fine k ≡ true → Each P (s k)
   hears-stops i e _ _ (says-nothing f h) k g = tt
   hears-stops i e _ _ (says-begun h) k g = tt
+  hears-stops i e _ _ (says-answered h) k g = tt
   hears-stops i e _ _ says-over k g = one i k g
   hears-stops i e _ _ (says-end x) k g = stop-if (callOf x k) (stopOf t i k) (one i k g)
 

@@ -15,11 +15,11 @@ use Rattle.sequence.specs.Field.{durationOk}
 use Rattle.rules.specs.Rules.Places.{modAt, dropAt, all}
 use Rattle.rules.specs.Rules.Words.{Request, Config}
 use Rattle.rules.specs.Rules.Actions.{Action}
-use Rattle.rules.specs.Rules.Station.{Slot, Waiting, Station, theSlot, setSlot, setClock, setQueue, answeredAt, ringOf, offerOf}
+use Rattle.rules.specs.Rules.Station.{Slot, Waiting, Station, theSlot, setSlot, setClock, setQueue, answeredAt, ringOf, offerOf, calledOf}
 use Rattle.rules.specs.Rules.Sound.{requestKeeps, durationKeeps, slotKeeps, waitingKeeps}
 use Rattle.rules.specs.Rules.Requests.{rungBack, freedFor, freed, lasted, ruleD, ruleF}
 use Rattle.rules.proofs.PlaceLaws.{and-true, modAt-length, all-set, all-end, all-dropped}
-use Rattle.rules.proofs.Outcome.{becomes, Move, to-dial, to-agree, to-ring, to-stage, to-lose, to-regain, to-hold, to-take}
+use Rattle.rules.proofs.Outcome.{becomes, Move, to-dial, to-agree, to-ring, to-call, to-rings, to-answer, to-stage, to-lose, to-regain, to-hold, to-take}
 use Rattle.rules.proofs.Walk.{Closed}
 use Rattle.rules.proofs.Base.{slot-all}
 
@@ -65,7 +65,10 @@ module _ (cfg : Config) where
   -- the request of a slot is the one that it had
   turned-keeps : (i t : ℕ) (p q : Slot) (acts : List Action) → Move i t p (becomes q) acts → slotKeeps cfg p ≡ true → slotKeeps cfg q ≡ true
   turned-keeps i t _ _ _ (to-dial k r d z) h = h
-  turned-keeps i t _ _ _ (to-agree k r d) h = h
+  turned-keeps i t _ _ _ (to-agree k r d z) h = h
+  turned-keeps i t _ _ _ (to-call r d) h = h
+  turned-keeps i t _ _ _ (to-rings k r d z) h = h
+  turned-keeps i t _ _ _ (to-answer r d) h = h
   turned-keeps i t _ _ _ (to-ring r d) h = h
   turned-keeps i t _ _ _ (to-stage r n q c z) h = h
   turned-keeps i t _ _ _ (to-lose r g c) h = h
@@ -106,6 +109,7 @@ module _ (cfg : Config) where
     freeing = freed-stored;
     renewed = λ i st r h k o d e y s. set-stored i (offerOf r st) st h s;
     offering = λ i st r h n y s. set-stored i (offerOf r st) st h s;
+    calling = λ i st r h n y s. set-stored i (calledOf r st) st h s;
     joining = λ st r h n y f q s. ruleF-stored st r h s;
     replacing = λ k st r h y s. ruleD-stored k st r h s;
     dropping = λ k st s. queue-stored (dropAt k (st .queue)) st (all-dropped (waitingKeeps cfg) k (st .queue) (s .queue-keeps)) s;

@@ -2,15 +2,15 @@
 use mathlib.Core.Path.{_≡_, refl, sym, ap, _∙_}
 use mathlib.Core.List.{List, [], _∷_, _++_, map}
 use mathlib.Core.Bool.{Bool, true, false, cond}
-use mathlib.Core.Option.{none, some}
+use mathlib.Core.Option.{Option, none, some}
 use Prim.Native.Nat.{ℕ, zero, suc, _+_, _-_}
 use native.Mathlib.Omega.{arith}
 use lib.ListN.{getD}
 use Rattle.rules.specs.Rules.Places.{modAt}
-use Rattle.rules.specs.Rules.Words.{Party, is, Mode, Config, What, Deed}
-use Rattle.rules.specs.ListAlone.Book.{Note, Stop, after, holdTime, Call, quiet, dialled, talking, Column, Book, blank}
-use Rattle.rules.specs.ListAlone.Reading.{closed, close, pickUp, signOff, again, hear, read, reads, setNow, turn, stopsIn, talked, talkedBy, falling, moment, stopOf, callOf, askedAgain, stopsAgain}
-use Rattle.rules.proofs.Hears.{column-of, talk, Same, Leaves, elsewhere, at-column, read-leaves, Hears, says-nothing, says-begun, says-over, says-end, Hearing, no-column, one-column, all-columns, event-hearing}
+use Rattle.rules.specs.Rules.Words.{Party, is, Mode, Request, Config, What, Deed}
+use Rattle.rules.specs.ListAlone.Book.{Note, Stop, after, holdTime, Call, quiet, called, dialled, talking, Column, Book, blank}
+use Rattle.rules.specs.ListAlone.Reading.{closed, close, pickUp, comeUp, signOff, again, hear, read, reads, setNow, turn, stopsIn, talked, talkedBy, falling, moment, stopOf, callOf, askedAgain, stopsAgain, askedAt}
+use Rattle.rules.proofs.Hears.{column-of, talk, Same, Leaves, elsewhere, at-column, read-leaves, Hears, says-nothing, says-begun, says-answered, says-over, says-end, Hearing, no-column, one-column, all-columns, event-hearing}
 
 -- ── the answered calls of a list of columns, up to a time ──────────────────────
 
@@ -20,6 +20,7 @@ sum (c ∷ cs) = (c .stop .0 - c .start .0) + sum cs
 
 talked-talk : (t : ℕ) (c : Call) → talked t (talk c) ≡ talked t c
 talked-talk t quiet = refl
+talked-talk t (called r b) = refl
 talked-talk t (dialled x m o) = refl
 talked-talk t (talking x m b) = refl
 
@@ -31,17 +32,17 @@ keeps-at t f h (suc i) (l ∷ ls) = ap (λ n. talked t (l .call) + n) (keeps-at 
 
 -- ── what a deed says keeps every talked ──────────────────────────────────────
 
-read-keeps : (t u : ℕ) (d : Deed) (b : Book) → talkedBy t (read u d b .columns) ≡ talkedBy t (b .columns)
-read-keeps t u d b = go (read u d b .columns) (read-leaves u d b)
+read-keeps : (q : Option Request) (t u : ℕ) (d : Deed) (b : Book) → talkedBy t (read q u d b .columns) ≡ talkedBy t (b .columns)
+read-keeps q t u d b = go (read q u d b .columns) (read-leaves q u d b)
   where
     go : (ls : List Column) → Leaves (b .columns) ls → talkedBy t ls ≡ talkedBy t (b .columns)
     go _ elsewhere = refl
     go _ (at-column i f h) = keeps-at t f h i (b .columns)
 
-reads-keeps : (t u : ℕ) (ds : List Deed) (b : Book) → talkedBy t (reads u ds b .columns) ≡ talkedBy t (b .columns)
+reads-keeps : (q : Option Request) (t u : ℕ) (ds : List Deed) (b : Book) → talkedBy t (reads q u ds b .columns) ≡ talkedBy t (b .columns)
 unfolding reads
-reads-keeps t u [] b = refl
-reads-keeps t u (d ∷ ds) b = reads-keeps t u ds (read u d b) ∙ read-keeps t u d b
+reads-keeps q t u [] b = refl
+reads-keeps q t u (d ∷ ds) b = reads-keeps q t u ds (read q u d b) ∙ read-keeps q t u d b
 
 -- ── what an event says takes away what stops ─────────────────────────────────
 
@@ -51,6 +52,7 @@ close-takes t zero k (l ∷ ls) = go (l .call)
   where
     go : (c : Call) → sum (stopOf t k c) + (talked t (closed c) + talkedBy t ls) ≡ talked t c + talkedBy t ls
     go quiet = omega arith
+    go (called r b) = omega arith
     go (dialled x m o) = omega arith
     go (talking x m b) = omega arith
 close-takes t (suc i) k (l ∷ ls) = omega (arith, close-takes t i k ls)
@@ -69,6 +71,7 @@ signOff-takes t u x zero k (l ∷ ls) = go (l .call)
 
     go : (c : Call) → sum (cond (callOf x c) (stopOf t k c) []) + (talked t (signOff u x (column-of (l .said) (l .wait) c (l .gone)) .call) + talkedBy t ls) ≡ talked t c + talkedBy t ls
     go quiet = omega arith
+    go (called r b) = omega arith
     go (dialled y m o) = pick0 (is x y) y m o
     go (talking y m b) = pick (is x y) y m b
 signOff-takes t u x (suc i) k (l ∷ ls) = omega (arith, signOff-takes t u x i k ls)
@@ -83,6 +86,7 @@ again-takes t x k (l ∷ ls) = go (askedAgain x (l .call) (l .gone)) (l .call) (
 
     pick : (c : Call) → sum (stopOf t k c) + talked t (closed c) ≡ talked t c
     pick quiet = refl
+    pick (called r b) = refl
     pick (dialled y m o) = refl
     pick (talking y m b) = omega arith
 
@@ -97,13 +101,27 @@ pickUp-takes t zero (l ∷ ls) = go (l .call)
   where
     go : (c : Call) → talked t (pickUp t (column-of (l .said) (l .wait) c (l .gone)) .call) + talkedBy t ls ≡ talked t c + talkedBy t ls
     go quiet = refl
+    go (called r b) = refl
     go (dialled x m o) = omega arith
     go (talking x m b) = refl
 pickUp-takes t (suc i) (l ∷ ls) = ap (λ n. talked t (l .call) + n) (pickUp-takes t i ls)
 
+comeUp-takes : (t i : ℕ) (ls : List Column) → talkedBy t (modAt (comeUp t) i ls) ≡ talkedBy t ls
+comeUp-takes t i [] = refl
+comeUp-takes t zero (l ∷ ls) = go (l .call)
+  where
+    go : (c : Call) → talked t (comeUp t (column-of (l .said) (l .wait) c (l .gone)) .call) + talkedBy t ls ≡ talked t c + talkedBy t ls
+    go quiet = refl
+    go (called r false) = refl
+    go (called r true) = omega arith
+    go (dialled x m o) = refl
+    go (talking x m b) = refl
+comeUp-takes t (suc i) (l ∷ ls) = ap (λ n. talked t (l .call) + n) (comeUp-takes t i ls)
+
 hears-takes : (t i : ℕ) (e : What) (f : Column → Column) (s : Call → List Stop) → Hears t i e f s → (ls : List Column) → sum (s (getD ls i blank .call)) + talkedBy t (modAt f i ls) ≡ talkedBy t ls
 hears-takes t i e _ _ (says-nothing f h) ls = omega (arith, keeps-at t f h i ls)
 hears-takes t i e _ _ (says-begun h) ls = omega (arith, pickUp-takes t i ls)
+hears-takes t i e _ _ (says-answered h) ls = omega (arith, comeUp-takes t i ls)
 hears-takes t i e _ _ says-over ls = close-takes t i i ls
 hears-takes t i e _ _ (says-end x) ls = signOff-takes t t x i i ls
 
@@ -115,4 +133,4 @@ hearing-takes t e b _ _ (all-columns x) = again-takes t x 0 (b .columns)
 -- a law of the list alone: what an entry stops is taken from what runs, and nothing else is
 pub turn-takes : (cfg : Config) (b : Book) (n : Note) → sum (stopsIn cfg b n) + talkedBy (moment b (n .event)) (turn cfg b n .columns) ≡ talkedBy (moment b (n .event)) (b .columns)
 unfolding turn stopsIn
-turn-takes cfg b n = rw (reads-keeps (moment b (n .event)) (moment b (n .event)) (n .deeds) (hear cfg (moment b (n .event)) (falling b (n .event)) (n .event .what) (setNow (moment b (n .event)) b))) (hearing-takes (moment b (n .event)) (n .event .what) b _ _ (event-hearing cfg (moment b (n .event)) b (falling b (n .event)) (n .event .what)))
+turn-takes cfg b n = rw (reads-keeps (askedAt cfg (n .event .what)) (moment b (n .event)) (moment b (n .event)) (n .deeds) (hear cfg (moment b (n .event)) (falling b (n .event)) (n .event .what) (setNow (moment b (n .event)) b))) (hearing-takes (moment b (n .event)) (n .event .what) b _ _ (event-hearing cfg (moment b (n .event)) b (falling b (n .event)) (n .event .what)))

@@ -9,16 +9,16 @@ use lib.Dec.{eqb}
 use lib.ListN.{length, replicate}
 use borrow.Author.Tests.{leb-true}
 use Rattle.rules.specs.Rules.Places.{all}
-use Rattle.rules.specs.Rules.Words.{Party, Request, Config, What, Event, Deed, carrierOn, carrierOff, acknowledge, ringBack, unable, dial, releaseLine}
+use Rattle.rules.specs.Rules.Words.{Party, Request, Config, What, Event, Deed, carrierOn, carrierOff, acknowledge, callShip, unable, dial, releaseLine, ringingOn, ringingOff, busyTone}
 use Rattle.rules.specs.Rules.Actions.{Charge}
 use Rattle.rules.specs.Rules.Station.{Stage, Slot, Station, fresh, answeredAt, answeredIn}
 use Rattle.rules.specs.Rules.Calls.{act}
 use Rattle.rules.specs.Rules.Verdict.{verdict, play, final}
-use Rattle.rules.specs.ListAlone.Book.{Note, Stop, after, Call, quiet, dialled, talking, Book, atPlaces, blank}
+use Rattle.rules.specs.ListAlone.Book.{Note, Stop, after, Call, quiet, called, dialled, talking, Book, atPlaces, blank}
 use Rattle.rules.specs.ListAlone.Reading.{join, read, reads, turn, stopsIn, Numbered, numbered, isTalking, talkers, counted, talked, talkedBy, falling, moment}
 use Rattle.rules.specs.Statement.{notes, charged, owed, tenthsIn, unchargedFrom, unchargedSlot, unchargedSlots, unchargedTenths, TenthsAgree}
 use Rattle.rules.proofs.PlaceLaws.{and-true}
-use Rattle.rules.proofs.Base.{by-stage, callIn, view, seen, Calling, no-call, a-call, calling, fresh-mapped, begun, begunBy}
+use Rattle.rules.proofs.Base.{by-kind, by-stage, lineOf, callIn, view, seen, Calling, no-call, a-caller, a-call, calling, fresh-mapped, begun, begunBy}
 use Rattle.rules.proofs.Accepted.{accepted, sounds, begun-all}
 use Rattle.rules.proofs.Run.{noteOf, turn-is, stops-are, play-on, play-past, final-on, final-past, fresh-seen}
 use Rattle.rules.proofs.Talked.{sum, turn-takes}
@@ -30,6 +30,7 @@ use Rattle.rules.proofs.Hears.{Hearing, no-column, one-column, all-colu
 -- since when a call is answered, if it is
 abbrev answeredOf : Call → Option ℕ
 answeredOf quiet = none
+answeredOf (called r b) = none
 answeredOf (dialled x m o) = none
 answeredOf (talking x m b) = some b
 
@@ -44,6 +45,7 @@ slot-answered s = go s (view s .call) (calling s)
   where
     go : (s : Slot) (k : Call) → Calling s k → answeredOf k ≡ answeredIn s
     go _ _ (no-call s n) = sym n
+    go _ _ (a-caller k r d) = by-kind (λ z. answeredOf (lineOf z (r .request)) ≡ none) refl refl refl refl refl refl refl k
     go _ _ (a-call r g c) = call-answered (r .request) g
 
 pub since-slot : (t : ℕ) (s : Slot) → since t (view s .call) ≡ begunBy t s
@@ -51,6 +53,7 @@ since-slot t s = ap (begun t) (slot-answered s)
 
 talked-from : (t : ℕ) (k : Call) → talked t k ≡ unchargedFrom t (answeredOf k)
 talked-from t quiet = refl
+talked-from t (called r b) = refl
 talked-from t (dialled x m o) = refl
 talked-from t (talking x m b) = refl
 
@@ -63,6 +66,7 @@ uncharged-slots t (s ∷ ss) = rw (uncharged-slot t s, uncharged-slots t ss) ref
 
 advance-one : (c t : ℕ) → c ≤ t → (k : Call) → since c k ≡ true → talked t k ≡ talked c k + (t - c) * isTalking k
 advance-one c t h quiet e = omega arith
+advance-one c t h (called r b) e = omega arith
 advance-one c t h (dialled x m o) e = omega arith
 advance-one c t h (talking x m b) e = omega (arith, leb-true b c e)
 
@@ -87,23 +91,27 @@ pub uncharged-seen : (st : Station) → unchargedTenths st ≡ talkedBy (st .clo
 unfolding unchargedTenths seen
 uncharged-seen st = sym (uncharged-slots (st .clock) (st .slots))
 
-reads-now : (u : ℕ) (ds : List Deed) (b : Book) → reads u ds b .now ≡ b .now
+reads-now : (q : Option Request) (u : ℕ) (ds : List Deed) (b : Book) → reads q u ds b .now ≡ b .now
 unfolding reads
-reads-now u [] b = refl
-reads-now u (d ∷ ds) b = reads-now u ds (read u d b) ∙ one d
+reads-now q u [] b = refl
+reads-now q u (d ∷ ds) b = reads-now q u ds (read q u d b) ∙ one q d
   where
     queued-now : (n : ℕ) (x : Party) (c : Bool) → cond c (atPlaces (join u x) b) b .now ≡ b .now
     queued-now n x true = refl
     queued-now n x false = refl
 
-    one : (d : Deed) → read u d b .now ≡ b .now
-    one (carrierOn i) = refl
-    one (carrierOff i) = refl
-    one (acknowledge i r) = refl
-    one (ringBack i r) = refl
-    one (unable n x digits) = queued-now n x (eqb n 103)
-    one (dial i n) = refl
-    one (releaseLine i) = refl
+    one : (q : Option Request) (d : Deed) → read q u d b .now ≡ b .now
+    one q (carrierOn i) = refl
+    one q (carrierOff i) = refl
+    one q (acknowledge i r) = refl
+    one none (callShip i r) = refl
+    one (some o) (callShip i r) = refl
+    one q (unable n x digits) = queued-now n x (eqb n 103)
+    one q (dial i n) = refl
+    one q (releaseLine i) = refl
+    one q (ringingOn i) = refl
+    one q (ringingOff i) = refl
+    one q (busyTone i) = refl
 
 hearing-now : (u : ℕ) (e : What) (b k : Book) (cs : List Stop) → Hearing u e b k cs → k .now ≡ u
 hearing-now u e b _ _ (no-column ps) = refl
@@ -112,7 +120,7 @@ hearing-now u e b _ _ (all-columns x) = refl
 
 pub turn-now : (cfg : Config) (b : Book) (n : Note) → turn cfg b n .now ≡ moment b (n .event)
 unfolding turn
-turn-now cfg b n = reads-now _ (n .deeds) _ ∙ hearing-now _ _ b _ _ (event-hearing cfg (moment b (n .event)) b (falling b (n .event)) (n .event .what))
+turn-now cfg b n = reads-now _ _ (n .deeds) _ ∙ hearing-now _ _ b _ _ (event-hearing cfg (moment b (n .event)) b (falling b (n .event)) (n .event .what))
 
 -- the clock of the next station is the entry's moment
 pub clock-is : (cfg : Config) (st : Station) (e : Event) → verdict cfg st e ≡ none → act cfg st e .next .clock ≡ moment (seen st) e

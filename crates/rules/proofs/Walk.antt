@@ -1,42 +1,84 @@
 -- What every event keeps: a property of stations that is kept by each change which an event can make of a slot or of the queue.
 use mathlib.Core.Path.{_≡_, refl}
-use mathlib.Core.List.{List}
+use mathlib.Core.List.{List, [], _∷_}
 use mathlib.Core.Bool.{Bool, true, false, cond}
 use mathlib.Core.Option.{Option, none, some}
-use Prim.Native.Nat.{ℕ}
+use Prim.Native.Nat.{ℕ, zero}
+use borrow.Author.Tests.{eq-eqb}
 use lib.Dec.{ltb}
 use lib.ListN.{length}
-use Rattle.rules.specs.Rules.Places.{dropAt, lowest}
-use Rattle.rules.specs.Rules.Words.{is, Request, Config, Event}
-use Rattle.rules.specs.Rules.Heard.{Heard, callRequest}
-use Rattle.rules.specs.Rules.Station.{Dealing, Kind, Slot, pending, Station, theSlot, setSlot, setClock, setQueue, answeredAt, isFree, offerOf}
+use Rattle.rules.specs.Rules.Places.{dropAt, lowest, isSome}
+use Rattle.rules.specs.Rules.Words.{Party, is, Request, Config, What, tick, onChannel70, onSlot, fromAshore, ashoreIn, Event}
+use Rattle.rules.specs.Rules.Heard.{Heard, callRequest, ashoreRequest}
+use Rattle.rules.specs.Rules.Station.{Dealing, Kind, Slot, pending, Station, theSlot, setSlot, setClock, setQueue, answeredAt, isFree, offerOf, calledOf}
 use Rattle.rules.specs.Rules.Sound.{requestKeeps, queueRoom}
 use Rattle.rules.specs.Rules.Requests.{Out, freed, coastEnd, owns, slotOf, placeOf, standsAt, standing, ruleA, repeated, afresh, ruleD, offer, ruleF, ruleG, eToG, newcomer, dToG, redial, requested}
+use Rattle.rules.specs.Rules.Ashore.{keepsFor, engaged, calledFrom}
 use Rattle.rules.specs.Rules.Calls.{act}
-use Rattle.rules.specs.Rules.Verdict.{verdict}
+use Rattle.rules.specs.Rules.Verdict.{calledShip, callerNumber, calledEngaged, verdict}
 use Rattle.rules.specs.Rules.Actions.{Action}
 use Rattle.rules.specs.ListAlone.Book.{Stop, Column, Book}
-use Rattle.rules.specs.ListAlone.Reading.{closed, moment}
-use Rattle.rules.specs.ListAlone.ThreeWords.{Word}
+use Rattle.rules.specs.ListAlone.Reading.{closed, moment, askedAt}
+use Rattle.rules.specs.ListAlone.LineWords.{Word}
 use Rattle.rules.proofs.Readable.{heard-keeps}
-use Rattle.rules.proofs.Base.{seen, slot-lowest}
+use Rattle.rules.proofs.Base.{by-slot, seen, slot-lowest}
+use Rattle.rules.proofs.PlaceLaws.{or-false, shift-none}
 use Rattle.rules.proofs.Outcome.{stays, becomes, frees, Move, Outcome, passed, moved}
 use Rattle.rules.proofs.Ruling.{Ruling, passes, repeats, renews, redials, bOrC-ruling}
 use Rattle.rules.proofs.Accepted.{accepted, sounds}
 use Rattle.rules.proofs.Once.{countS, Once, distinct-once, none-count, coastEnd-gone}
-use Rattle.rules.proofs.Effect.{Effect, rests, drops, data-asked, call-asked, to-slot, act-effect, heard-at}
+use Rattle.rules.proofs.Effect.{Effect, rests, drops, data-asked, call-asked, to-slot, called-ashore, act-effect, heard-at}
 
 -- ── the changes ──────────────────────────────────────────────────────────────
 
 pub record Closed (cfg : Config) (P : Station → Type 0) : Type 0 where
   pub turning : (i : ℕ) (st : Station) (p q : Slot) (acts : List Action) → theSlot st i ≡ p → Move i (st .clock) p (becomes q) acts → P st → P (setSlot i q st)
   pub freeing : (i : ℕ) (st : Station) → P st → P (freed i st .next)
-  -- a request that keeps the rules: offered afresh to its ship, offered to a ship that stands nowhere, waiting, replaced
+  -- a request that keeps the rules: offered afresh to its ship; offered to a ship that stands nowhere, or called for it; waiting, replaced
   pub renewed : (i : ℕ) (st : Station) (r : Request) → requestKeeps cfg r ≡ true → (k : Kind) (o : Dealing) (d : ℕ) → theSlot st i ≡ pending k o d → is (r .who) (o .request .who) ≡ true → P st → P (setSlot i (offerOf r st) st)
   pub offering : (i : ℕ) (st : Station) (r : Request) → requestKeeps cfg r ≡ true → countS (r .who) (st .slots) ≡ 0 → placeOf (r .who) st ≡ none → P st → P (setSlot i (offerOf r st) st)
+  pub calling : (i : ℕ) (st : Station) (r : Request) → requestKeeps cfg r ≡ true → countS (r .who) (st .slots) ≡ 0 → placeOf (r .who) st ≡ none → P st → P (setSlot i (calledOf r st) st)
   pub joining : (st : Station) (r : Request) → requestKeeps cfg r ≡ true → countS (r .who) (st .slots) ≡ 0 → placeOf (r .who) st ≡ none → lowest isFree (st .slots) ≡ none → ltb (length (st .queue)) queueRoom ≡ true → P st → P (ruleF st r .next)
   pub replacing : (k : ℕ) (st : Station) (r : Request) → requestKeeps cfg r ≡ true → placeOf (r .who) st ≡ some k → P st → P (ruleD k st r .next)
   pub dropping : (k : ℕ) (st : Station) → P st → P (setQueue (dropAt k (st .queue)) st)
+
+-- a request from ashore that is not refused: it keeps the rules, and its ship stands nowhere
+pub record Callable (cfg : Config) (st : Station) (r : Request) : Type 0 where
+  pub keeps : requestKeeps cfg r ≡ true
+  pub no-slot : countS (r .who) (st .slots) ≡ 0
+  pub no-place : placeOf (r .who) st ≡ none
+
+-- a ship for which no request is kept has no slot
+kept-owned : (x : Party) (s : Slot) → keepsFor x s ≡ false → owns x s ≡ false
+kept-owned x = by-slot (λ s. keepsFor x s ≡ false → owns x s ≡ false) (λ h. h) (λ h. h) (λ k r d h. h) (λ r g c h. h) (λ r n d h. refl)
+
+kept-none : (x : Party) (ss : List Slot) → lowest (keepsFor x) ss ≡ none → lowest (owns x) ss ≡ none
+kept-none x [] h = refl
+kept-none x (s ∷ ss) h = go (keepsFor x s) refl (kept-none x ss)
+  where
+    go : (b : Bool) → keepsFor x s ≡ b → (lowest (keepsFor x) ss ≡ none → lowest (owns x) ss ≡ none) → lowest (owns x) (s ∷ ss) ≡ none
+    go true e ih = let k : _≡_ {A = Option ℕ} (some zero) none = rw e at h in cc
+    go false e ih = rw (kept-owned x s e, ih (shift-none _ (rw e at h))) refl
+
+is-none : (o : Option ℕ) → isSome o ≡ false → o ≡ none
+is-none none h = refl
+is-none (some n) h = cc
+
+pub asked-callable : (cfg : Config) (st : Station) (w : What) → calledShip (ashoreIn w) ≡ true → callerNumber (ashoreIn w) ≡ true → calledEngaged cfg st (ashoreIn w) ≡ false
+    → (r : Request) → askedAt cfg w ≡ some r → Callable cfg st r
+unfolding ashoreRequest requestKeeps engaged
+asked-callable cfg st tick s n g r e = record { keeps = cc; no-slot = cc; no-place = cc }
+asked-callable cfg st (onChannel70 m) s n g r e = record { keeps = cc; no-slot = cc; no-place = cc }
+asked-callable cfg st (onSlot i h) s n g r e = record { keeps = cc; no-slot = cc; no-place = cc }
+asked-callable cfg st (fromAshore a) s n g r e =
+    let y : ashoreRequest cfg a ≡ r = cc in
+    let x = ashoreRequest cfg a .who in
+    let k = or-false (isSome (lowest (keepsFor x) (st .slots))) _ g in
+    rw (← y) (record {
+      keeps = rw (s, eq-eqb (cfg .identity) (cfg .identity) refl, n) refl;
+      no-slot = none-count x (st .slots) (kept-none x (st .slots) (is-none _ (k .0)));
+      no-place = is-none _ (k .1);
+    })
 
 -- ── on a slot ────────────────────────────────────────────────────────────────
 
@@ -77,7 +119,7 @@ module _ (cfg : Config) (P : Station → Type 0) (closed : Closed cfg P) where
       unfolding repeated afresh redial
       ruling-kept cs _ _ (passes p a) e h = s
       ruling-kept cs _ _ (repeats k o d a b) e h = s
-      ruling-kept cs _ _ (renews k o d a b) e h = closed .renewed i st r keeps k o d e h s
+      ruling-kept cs _ _ (renews k o d z a b) e h = closed .renewed i st r keeps k o d e h s
       ruling-kept cs _ _ (redials o g c a) e h = dToG-kept (coastEnd i (o .request) (answeredAt g) st .next) (coastEnd-kept i (o .request) (answeredAt g) st s) (coastEnd-gone i (r .who) (o .request) (answeredAt g) st once (rw e h)) (placeOf (r .who) (coastEnd i (o .request) (answeredAt g) st .next)) refl
 
     request-kept : (st : Station) → P st → Once st → (o k : Option ℕ) → slotOf (r .who) st ≡ o → placeOf (r .who) st ≡ k → P (requested st r (standsAt o k) .next)
@@ -88,18 +130,20 @@ module _ (cfg : Config) (P : Station → Type 0) (closed : Closed cfg P) where
 
   -- ── an accepted event: where the property holds once the clock has moved ───
 
-  effect-kept : (st : Station) → P st → Once st → (b : Book) (ws : List Word) (cs : List Stop) (m : Heard) (o : Out) → Effect st b ws cs m o → ((r : Request) → m ≡ callRequest r → requestKeeps cfg r ≡ true) → P (o .next)
-  unfolding ruleA standing
-  effect-kept st s once _ _ _ _ _ (rests m n h) k = s
-  effect-kept st s once _ _ _ _ _ (drops j) k = closed .dropping j st s
-  effect-kept st s once _ _ _ _ _ (data-asked x n) k = s
-  effect-kept st s once _ _ _ _ _ (call-asked r) k = request-kept r (k r refl) st s once (slotOf (r .who) st) (placeOf (r .who) st) refl refl
-  effect-kept st s once _ _ _ _ _ (to-slot m i u e) k = outcome-kept i st (theSlot st i) u refl s
+  effect-kept : (st : Station) → P st → Once st → (q : Option Request) (b : Book) (ws : List Word) (cs : List Stop) (m : Heard) (o : Out) → Effect st q b ws cs m o → ((r : Request) → m ≡ callRequest r → requestKeeps cfg r ≡ true) → ((r : Request) → q ≡ some r → Callable cfg st r) → P (o .next)
+  unfolding ruleA standing calledFrom
+  effect-kept st s once _ _ _ _ _ _ (rests m n h) k f = s
+  effect-kept st s once _ _ _ _ _ _ (drops j) k f = closed .dropping j st s
+  effect-kept st s once _ _ _ _ _ _ (data-asked x n) k f = s
+  effect-kept st s once _ _ _ _ _ _ (call-asked r) k f = request-kept r (k r refl) st s once (slotOf (r .who) st) (placeOf (r .who) st) refl refl
+  effect-kept st s once _ _ _ _ _ _ (called-ashore r i h) k f = let c = f r refl in closed .calling i st r (c .keeps) (c .no-slot) (c .no-place) s
+  effect-kept st s once _ _ _ _ _ _ (to-slot m i u e) k f = outcome-kept i st (theSlot st i) u refl s
 
   pub act-kept : (st : Station) (e : Event) → verdict cfg st e ≡ none → P (setClock (moment (seen st) e) st) → P (act cfg st e .next)
   unfolding setClock
   act-kept st e v s =
       let a = accepted cfg st e v in
       let from = sounds cfg st (a .is-sound) in
-      effect-kept (setClock (moment (seen st) e) st) s (distinct-once st (from .no-twice)) _ _ _ _ _ (act-effect cfg st (e .time) (e .what))
+      effect-kept (setClock (moment (seen st) e) st) s (distinct-once st (from .no-twice)) _ _ _ _ _ _ (act-effect cfg st (e .time) (e .what))
       (heard-at cfg (λ m. (r : Request) → m ≡ callRequest r → requestKeeps cfg r ≡ true) (e .what) (a .readable) (λ r y. cc) (λ m d r y. heard-keeps cfg (from .config) m d r y))
+      (λ r y. let c = asked-callable cfg st (e .what) (a .ship) (a .number) (a .not-engaged) r y in record { keeps = c .keeps; no-slot = c .no-slot; no-place = c .no-place })

@@ -11,14 +11,14 @@ use borrow.Author.Tests.{leb-true, ltb-true}
 use Rattle.rules.specs.Rules.Places.{modAt, dropAt, all}
 use Rattle.rules.specs.Rules.Words.{Party, is, Request, Config}
 use Rattle.rules.specs.Rules.Actions.{Action}
-use Rattle.rules.specs.Rules.Station.{Dealing, Kind, Slot, pending, Waiting, Station, theSlot, setSlot, setQueue, dueAfter, queueWait, ringOf, offerOf}
+use Rattle.rules.specs.Rules.Station.{Dealing, Kind, Slot, pending, Waiting, Station, theSlot, setSlot, setQueue, dueAfter, queueWait, ringOf, offerOf, calledOf}
 use Rattle.rules.specs.Rules.Sound.{queueRoom, slotFits, placeFits}
 use Rattle.rules.specs.Rules.Requests.{rungBack, freedFor, freed, owns, waitsFor, placeOf, ruleD, ruleF}
 use Rattle.rules.proofs.PlaceLaws.{and-true, lowest-is, all-set, all-end, all-dropped, dropped-length}
-use Rattle.rules.proofs.Base.{is-true, slot-all, offer-fits, ring-fits, new-wait}
+use Rattle.rules.proofs.Base.{is-true, slot-all, offer-fits, call-fits, ring-fits, new-wait}
 use Rattle.rules.proofs.Accepted.{Sound}
 use Rattle.rules.proofs.Once.{bit, countS, countQ, Once, distinct-once, count-set, waiting-count}
-use Rattle.rules.proofs.Outcome.{becomes, Move, to-dial, to-agree, to-ring, to-stage, to-lose, to-regain, to-hold, to-take, turned-fits}
+use Rattle.rules.proofs.Outcome.{becomes, Move, to-dial, to-agree, to-ring, to-call, to-rings, to-answer, to-stage, to-lose, to-regain, to-hold, to-take, turned-fits}
 use Rattle.rules.proofs.Walk.{Closed}
 
 pub record Whole (st : Station) : Type 0 where
@@ -55,7 +55,10 @@ turn-whole i st p e w q f h = set-whole i q st w f (λ x. rw e (sum3 (countS x (
 -- and is no other ship's
 turned-owner : (i t : ℕ) (p q : Slot) (acts : List Action) → Move i t p (becomes q) acts → (x : Party) → bit (owns x q) ≤ bit (owns x p)
 turned-owner i t _ _ _ (to-dial k r d z) x = omega arith
-turned-owner i t _ _ _ (to-agree k r d) x = omega arith
+turned-owner i t _ _ _ (to-agree k r d z) x = omega arith
+turned-owner i t _ _ _ (to-call r d) x = omega arith
+turned-owner i t _ _ _ (to-rings k r d z) x = omega arith
+turned-owner i t _ _ _ (to-answer r d) x = omega arith
 turned-owner i t _ _ _ (to-ring r d) x = omega arith
 turned-owner i t _ _ _ (to-stage r n q c z) x = omega arith
 turned-owner i t _ _ _ (to-lose r g c) x = omega arith
@@ -140,8 +143,9 @@ module _ (st : Station) (r : Request) (here : countS (r .who) (st .slots) ≡ 0)
       more : (n : ℕ) → n < 32 → n + 1 ≤ 32
       more n h = omega arith
 
-  offer-whole : (i : ℕ) → Whole (setSlot i (offerOf r st) st)
-  offer-whole i = set-whole i (offerOf r st) st w (offer-fits r st) (λ x. weaker (bit (owns x (theSlot st i))) (countS x (st .slots) + countQ x (st .queue) + bit (is x (r .who))) (once-more x))
+  -- a slot that is given to it
+  given-whole : (i : ℕ) (q : Slot) → slotFits (st .clock) q ≡ true → ((x : Party) → owns x q ≡ is x (r .who)) → Whole (setSlot i q st)
+  given-whole i q f o = set-whole i q st w f (λ x. rw (o x) (weaker (bit (owns x (theSlot st i))) (countS x (st .slots) + countQ x (st .queue) + bit (is x (r .who))) (once-more x)))
     where
       weaker : (b n : ℕ) → n ≤ 1 → n ≤ 1 + b
       weaker b n h = omega arith
@@ -176,7 +180,8 @@ whole-closed cfg = record {
   turning = turned-whole;
   freeing = freed-whole;
   renewed = λ i st r k. renewed-whole i st r;
-  offering = λ i st r k n h w. offer-whole st r n h w i;
+  offering = λ i st r k n h w. given-whole st r n h w i (offerOf r st) (offer-fits r st) (λ x. refl);
+  calling = λ i st r k n h w. given-whole st r n h w i (calledOf r st) (call-fits r st) (λ x. refl);
   joining = λ st r k n h f q w. join-whole st r n h w q;
   replacing = λ k st r h. ruleD-whole k st r;
   dropping = dropped-whole;
