@@ -5,6 +5,7 @@ use mathlib.Core.Bool.{Bool, cond}
 use Prim.Native.Nat.{ℕ}
 use lib.ListN.{replicate, take, drop}
 use Rattle.units.specs.declared.Told.the-variants.{Nothing}
+use Rattle.sequence.specs.declared.Field.{Field}
 use Rattle.sequence.specs.declared.Field.the-variants.{Blank, Channel}
 use Rattle.sequence.specs.Layout.{valid, layout}
 use Rattle.rules.specs.Rules.Words.{Party, is, Mode, simplex, duplex, modeNumber, Config, Event, carrierOn}
@@ -14,12 +15,14 @@ use Rattle.rules.specs.Rules.Slots.{pending, held}
 use Rattle.rules.specs.Rules.Verdict.{step}
 use Rattle.rules.specs.Rules.Bytes.{numberOf, ableSaid, unableSaid, overSaid, blocks}
 use Rattle.rules.specs.Rules.Printed.{lines}
-use Rattle.rules.specs.Tables.Runs.{channel, station, seven, eight, nine, sends, usual, callsFor, calls, accepts, works, ends, ticks}
+use Rattle.rules.specs.Tables.Runs.{channel, station, seven, eight, nine, sends, usual, callsFor, calls, dataCalls, accepts, acceptsIn}
+use Rattle.rules.specs.Tables.Runs.{declines, caller, shoreCalls, shoreAsks, works, ends, ticks}
 use Rattle.rules.specs.Tables.Runs.{paid, says, saysOn, dialsOut, picksUp, hangs, regains, loses, reserves, restores, ticksIn, stationOf}
 use Rattle.rules.specs.Tables.Cases.{Row}
 use Rattle.rules.specs.Tables.Scripts.{gives, waits, waitingShips, charges, ackEight26, ackSeven26, ackSeven26Again}
 use Rattle.rules.specs.Tables.Scripts.{ackSeven26Simplex, ackSeven27, overSeven, overSevenByCoast, ringEight26}
 use Rattle.rules.specs.Tables.Scripts.{ringNine26, ringSeven26, unable102Nine, unable103Eight, unable103Seven}
+use Rattle.rules.specs.Tables.Scripts.{callSeven26, callSeven26Simplex, callSeven27}
 use Rattle.rules.specs.Tables.Phases.{waitingWith, phases}
 use Rattle.rules.specs.Tables.SoundCases.{kinds, asking, from, lasting, holding, asked, with, queued, setUp}
 use Rattle.rules.specs.Tables.SoundCases.{Judged, sounds, unsound, refused36}
@@ -43,6 +46,11 @@ asks station second end digits x m =
 -- a call request with a second telecommand
 abbrev pub callsAs : ℕ → List ℕ → ℕ → ℕ → Mode → Event
 callsAs second digits t x m = says t (asks 2001234 second 117 digits x m)
+
+-- the symbols of seven's BQ to a station, with a second telecommand of its own
+abbrev pub answers : ℕ → ℕ → Field → List ℕ
+answers station first field =
+    layout (record { address = station; sender = seven; first = first; second = 100; field = field; number = numberOf usual; end = 122 })
 
 -- another station, on the channels 60 and 88
 abbrev pub other : Config
@@ -193,6 +201,71 @@ waitOther = 123 ∷ 20 ∷ 0 ∷ 0 ∷ 0 ∷ 80 ∷ 100 ∷ 0 ∷ 79 ∷ 99 ∷ 
 abbrev pub ringOther : List ℕ
 ringOther = 123 ∷ 20 ∷ 0 ∷ 0 ∷ 0 ∷ 80 ∷ 100 ∷ 0 ∷ 79 ∷ 99 ∷ 99 ∷ 90 ∷ 101 ∷ 126 ∷ 90 ∷ 0 ∷ 60 ∷ 105 ∷ 5 ∷ 55 ∷ 12 ∷ 34 ∷ 117 ∷ 51 ∷ []
 
+-- end of call to seven, BQ, 0 0 4, the caller's number
+abbrev pub overSevenCaller4 : List ℕ
+overSevenCaller4 =
+    123 ∷ 20 ∷ 0 ∷ 0 ∷ 0 ∷ 70 ∷ 100 ∷ 0 ∷ 20 ∷ 1 ∷ 23 ∷ 40 ∷ 105 ∷ 126 ∷ 0 ∷ 0 ∷ 4 ∷ 106 ∷ 61 ∷ 23 ∷ 45 ∷ 122 ∷ 99 ∷ []
+
+-- call from ashore, channel 27, nine, in simplex
+abbrev pub callNine27Simplex : List ℕ
+callNine27Simplex =
+    123 ∷ 20 ∷ 0 ∷ 0 ∷ 0 ∷ 90 ∷ 100 ∷ 0 ∷ 20 ∷ 1 ∷ 23 ∷ 40 ∷ 100 ∷ 126 ∷ 90 ∷ 0 ∷ 27 ∷ 106 ∷ 61 ∷ 23 ∷ 45 ∷ 117 ∷ 56 ∷ []
+
+-- end of call to nine, 127, 0 0 2, the caller's number
+abbrev pub overNineCallerByCoast2 : List ℕ
+overNineCallerByCoast2 =
+    123 ∷ 20 ∷ 0 ∷ 0 ∷ 0 ∷ 90 ∷ 100 ∷ 0 ∷ 20 ∷ 1 ∷ 23 ∷ 40 ∷ 105 ∷ 126 ∷ 0 ∷ 0 ∷ 2 ∷ 106 ∷ 61 ∷ 23 ∷ 45 ∷ 127 ∷ 124 ∷ []
+
+-- call from ashore, channel 27, eight
+abbrev pub callEight27 : List ℕ
+callEight27 = 123 ∷ 20 ∷ 0 ∷ 0 ∷ 0 ∷ 80 ∷ 100 ∷ 0 ∷ 20 ∷ 1 ∷ 23 ∷ 40 ∷ 101 ∷ 126 ∷ 90 ∷ 0 ∷ 27 ∷ 106 ∷ 61 ∷ 23 ∷ 45 ∷ 117 ∷ 51 ∷ []
+
+-- end of call to eight, 127, 0 0 6, the caller's number
+abbrev pub overEightCallerByCoast6 : List ℕ
+overEightCallerByCoast6 =
+    123 ∷ 20 ∷ 0 ∷ 0 ∷ 0 ∷ 80 ∷ 100 ∷ 0 ∷ 20 ∷ 1 ∷ 23 ∷ 40 ∷ 105 ∷ 126 ∷ 0 ∷ 0 ∷ 6 ∷ 106 ∷ 61 ∷ 23 ∷ 45 ∷ 127 ∷ 114 ∷ []
+
+-- end of call to eight, 127, 0 0 2, the caller's number
+abbrev pub overEightCallerByCoast2 : List ℕ
+overEightCallerByCoast2 =
+    123 ∷ 20 ∷ 0 ∷ 0 ∷ 0 ∷ 80 ∷ 100 ∷ 0 ∷ 20 ∷ 1 ∷ 23 ∷ 40 ∷ 105 ∷ 126 ∷ 0 ∷ 0 ∷ 2 ∷ 106 ∷ 61 ∷ 23 ∷ 45 ∷ 127 ∷ 118 ∷ []
+
+-- call from ashore, channel 26, nine, in simplex
+abbrev pub callNine26Simplex : List ℕ
+callNine26Simplex =
+    123 ∷ 20 ∷ 0 ∷ 0 ∷ 0 ∷ 90 ∷ 100 ∷ 0 ∷ 20 ∷ 1 ∷ 23 ∷ 40 ∷ 100 ∷ 126 ∷ 90 ∷ 0 ∷ 26 ∷ 106 ∷ 61 ∷ 23 ∷ 45 ∷ 117 ∷ 57 ∷ []
+
+-- acknowledgement, channel 26, nine, in simplex
+abbrev pub ackNine26Simplex : List ℕ
+ackNine26Simplex =
+    123 ∷ 20 ∷ 0 ∷ 0 ∷ 0 ∷ 90 ∷ 100 ∷ 0 ∷ 20 ∷ 1 ∷ 23 ∷ 40 ∷ 100 ∷ 126 ∷ 90 ∷ 0 ∷ 26 ∷ 105 ∷ 5 ∷ 55 ∷ 12 ∷ 34 ∷ 122 ∷ 46 ∷ []
+
+-- end of call to eight, 127, 0 0 9, the caller's number
+abbrev pub overEightCallerByCoast9 : List ℕ
+overEightCallerByCoast9 =
+    123 ∷ 20 ∷ 0 ∷ 0 ∷ 0 ∷ 80 ∷ 100 ∷ 0 ∷ 20 ∷ 1 ∷ 23 ∷ 40 ∷ 105 ∷ 126 ∷ 0 ∷ 0 ∷ 9 ∷ 106 ∷ 61 ∷ 23 ∷ 45 ∷ 127 ∷ 125 ∷ []
+
+-- call from ashore of the station 007999999, channel 60, seven
+abbrev pub callOther : List ℕ
+callOther = 123 ∷ 20 ∷ 0 ∷ 0 ∷ 0 ∷ 70 ∷ 100 ∷ 0 ∷ 79 ∷ 99 ∷ 99 ∷ 90 ∷ 101 ∷ 126 ∷ 90 ∷ 0 ∷ 60 ∷ 106 ∷ 61 ∷ 23 ∷ 45 ∷ 117 ∷ 61 ∷ []
+
+-- its end of call to seven, 127, 0 0 1, the caller's number
+abbrev pub overOther : List ℕ
+overOther = 123 ∷ 20 ∷ 0 ∷ 0 ∷ 0 ∷ 70 ∷ 100 ∷ 0 ∷ 79 ∷ 99 ∷ 99 ∷ 90 ∷ 105 ∷ 126 ∷ 0 ∷ 0 ∷ 1 ∷ 106 ∷ 61 ∷ 23 ∷ 45 ∷ 127 ∷ 92 ∷ []
+
+-- call from ashore, channel 26, to the ship 200000000
+abbrev pub callFirstShip : List ℕ
+callFirstShip = 123 ∷ 20 ∷ 0 ∷ 0 ∷ 0 ∷ 0 ∷ 100 ∷ 0 ∷ 20 ∷ 1 ∷ 23 ∷ 40 ∷ 101 ∷ 126 ∷ 90 ∷ 0 ∷ 26 ∷ 106 ∷ 61 ∷ 23 ∷ 45 ∷ 117 ∷ 98 ∷ []
+
+-- and to the ship 799999999
+abbrev pub callLastShip : List ℕ
+callLastShip =
+    123 ∷ 79 ∷ 99 ∷ 99 ∷ 99 ∷ 90 ∷ 100 ∷ 0 ∷ 20 ∷ 1 ∷ 23 ∷ 40 ∷ 101 ∷ 126 ∷ 90 ∷ 0 ∷ 26 ∷ 106 ∷ 61 ∷ 23 ∷ 45 ∷ 117 ∷ 0 ∷ []
+
+-- call from ashore, channel 26, seven, in simplex, the number 09
+abbrev pub callSeven26SimplexOf09 : List ℕ
+callSeven26SimplexOf09 = 123 ∷ 20 ∷ 0 ∷ 0 ∷ 0 ∷ 70 ∷ 100 ∷ 0 ∷ 20 ∷ 1 ∷ 23 ∷ 40 ∷ 100 ∷ 126 ∷ 90 ∷ 0 ∷ 26 ∷ 106 ∷ 9 ∷ 117 ∷ 43 ∷ []
+
 -- ── whole scripts on other slots and places than the first ──────────────────────
 
 -- a whole day on the second slot, the first one taken: every action names it
@@ -329,6 +402,176 @@ secondSlotDialled = record {
       (1 ∷ 1410 ∷ 0 ∷ []) ∷ [];
 }
 
+-- the same slot, called from ashore: everything else before it rings and while it rings, answered, ended by its ship; then a ring-back
+abbrev pub secondSlotCalledScript : List Event
+secondSlotCalledScript =
+    reserves 50 0 ∷ shoreCalls 100 seven duplex ∷ regains 105 1 ∷ loses 106 1 ∷ picksUp 107 1 ∷ dialsOut 108 1 ∷
+    works 109 1 seven ∷ ends 110 1 seven ∷ accepts 111 27 eight ∷ declines 112 eight ∷ calls 113 seven duplex ∷
+    dataCalls 114 seven ∷ shoreCalls 115 seven duplex ∷ shoreCalls 116 nine duplex ∷ calls 117 eight duplex ∷
+    shoreCalls 118 eight duplex ∷ ticks 151 ∷ regains 155 1 ∷ accepts 160 27 seven ∷ accepts 165 27 seven ∷ loses 166 1 ∷
+    picksUp 167 1 ∷ dialsOut 168 1 ∷ works 169 1 seven ∷ calls 170 seven simplex ∷ dataCalls 171 seven ∷ declines 172 eight ∷
+    regains 200 1 ∷ regains 205 1 ∷ picksUp 206 1 ∷ dialsOut 207 1 ∷ works 208 1 seven ∷ loses 210 1 ∷ calls 215 seven duplex ∷
+    regains 220 1 ∷ declines 225 seven ∷ accepts 226 27 seven ∷
+    saysOn 227 1 (sends seven 104 122 Blank usual) ∷ ends 230 1 eight ∷ ends 240 1 seven ∷
+    shoreCalls 245 seven duplex ∷ ends 250 1 seven ∷ ticks 281 ∷ declines 290 eight ∷ hangs 295 1 ∷ regains 296 1 ∷ ticks 332 ∷
+    ticks 383 ∷ []
+
+abbrev pub secondSlotCalled : Row
+secondSlotCalled = record {
+  computed = tells 2 secondSlotCalledScript;
+  expected =
+      (0 ∷ 50 ∷ 0 ∷ []) ∷
+      (0 ∷ 100 ∷ 2 ∷ 151 ∷ []) ∷ (1 ∷ 1 ∷ []) ∷ (3 ∷ 1 ∷ callSeven27) ∷
+      (1 ∷ 105 ∷ 0 ∷ 151 ∷ []) ∷
+      (1 ∷ 106 ∷ 0 ∷ 151 ∷ []) ∷
+      (1 ∷ 107 ∷ 0 ∷ 151 ∷ []) ∷
+      (1 ∷ 108 ∷ 0 ∷ 151 ∷ []) ∷
+      (1 ∷ 109 ∷ 0 ∷ 151 ∷ []) ∷
+      (1 ∷ 110 ∷ 0 ∷ 151 ∷ []) ∷
+      (1 ∷ 111 ∷ 0 ∷ 151 ∷ []) ∷
+      (1 ∷ 112 ∷ 0 ∷ 151 ∷ []) ∷
+      (1 ∷ 113 ∷ 0 ∷ 151 ∷ []) ∷
+      (1 ∷ 114 ∷ 0 ∷ 151 ∷ []) ∷
+      (38 ∷ 114 ∷ 0 ∷ 151 ∷ []) ∷
+      (37 ∷ 114 ∷ 0 ∷ 151 ∷ []) ∷
+      (0 ∷ 117 ∷ 1 ∷ 151 ∷ []) ∷ (3 ∷ 255 ∷ unable103Eight) ∷
+      (38 ∷ 117 ∷ 0 ∷ 151 ∷ []) ∷
+      (0 ∷ 151 ∷ 1 ∷ 202 ∷ []) ∷ (3 ∷ 1 ∷ callSeven27) ∷
+      (1 ∷ 155 ∷ 0 ∷ 202 ∷ []) ∷
+      (0 ∷ 160 ∷ 1 ∷ 761 ∷ []) ∷ (8 ∷ 1 ∷ []) ∷
+      (1 ∷ 165 ∷ 0 ∷ 761 ∷ []) ∷
+      (1 ∷ 166 ∷ 0 ∷ 761 ∷ []) ∷
+      (1 ∷ 167 ∷ 0 ∷ 761 ∷ []) ∷
+      (1 ∷ 168 ∷ 0 ∷ 761 ∷ []) ∷
+      (1 ∷ 169 ∷ 0 ∷ 761 ∷ []) ∷
+      (1 ∷ 170 ∷ 0 ∷ 761 ∷ []) ∷
+      (1 ∷ 171 ∷ 0 ∷ 761 ∷ []) ∷
+      (1 ∷ 172 ∷ 0 ∷ 761 ∷ []) ∷
+      (0 ∷ 200 ∷ 1 ∷ 9118 ∷ []) ∷ (9 ∷ 1 ∷ []) ∷
+      (0 ∷ 205 ∷ 0 ∷ 9118 ∷ []) ∷
+      (1 ∷ 206 ∷ 0 ∷ 9118 ∷ []) ∷
+      (1 ∷ 207 ∷ 0 ∷ 9118 ∷ []) ∷
+      (1 ∷ 208 ∷ 0 ∷ 9118 ∷ []) ∷
+      (0 ∷ 210 ∷ 0 ∷ 261 ∷ []) ∷
+      (1 ∷ 215 ∷ 0 ∷ 261 ∷ []) ∷
+      (0 ∷ 220 ∷ 0 ∷ 9118 ∷ []) ∷
+      (1 ∷ 225 ∷ 0 ∷ 9118 ∷ []) ∷
+      (1 ∷ 226 ∷ 0 ∷ 9118 ∷ []) ∷
+      (1 ∷ 227 ∷ 0 ∷ 9118 ∷ []) ∷
+      (1 ∷ 230 ∷ 0 ∷ 9118 ∷ []) ∷
+      (0 ∷ 240 ∷ 4 ∷ 281 ∷ []) ∷ charges 1 seven 200 240 4 ∷ (6 ∷ 1 ∷ []) ∷ (4 ∷ 1 ∷ overSevenCaller4) ∷ (2 ∷ 1 ∷ []) ∷
+      (38 ∷ 240 ∷ 0 ∷ 281 ∷ []) ∷
+      (0 ∷ 250 ∷ 3 ∷ 281 ∷ []) ∷ (1 ∷ 1 ∷ []) ∷ (4 ∷ 1 ∷ overSevenCaller4) ∷ (2 ∷ 1 ∷ []) ∷
+      (0 ∷ 281 ∷ 2 ∷ 332 ∷ []) ∷ (1 ∷ 1 ∷ []) ∷ (3 ∷ 1 ∷ ringEight27) ∷
+      (1 ∷ 290 ∷ 0 ∷ 332 ∷ []) ∷
+      (1 ∷ 295 ∷ 0 ∷ 332 ∷ []) ∷
+      (1 ∷ 296 ∷ 0 ∷ 332 ∷ []) ∷
+      (0 ∷ 332 ∷ 1 ∷ 383 ∷ []) ∷ (3 ∷ 1 ∷ ringEight27) ∷
+      (0 ∷ 383 ∷ 1 ∷ []) ∷ (2 ∷ 1 ∷ []) ∷ [];
+}
+
+-- the same slot: unable, hung up and not answered in each phase, with a ship waiting and without; ended by rule c, carrier loss, on-hook
+abbrev pub secondSlotCalledAgainScript : List Event
+secondSlotCalledAgainScript =
+    reserves 50 0 ∷ shoreCalls 100 nine simplex ∷ declines 110 nine ∷ shoreCalls 120 nine simplex ∷ ticks 171 ∷ hangs 180 1 ∷
+    shoreCalls 200 nine simplex ∷ accepts 210 27 nine ∷ calls 220 seven duplex ∷ hangs 230 1 ∷ accepts 240 27 seven ∷
+    ticks 401 ∷ shoreCalls 410 nine simplex ∷ accepts 420 27 nine ∷ calls 425 seven duplex ∷ declines 430 nine ∷
+    works 435 1 seven ∷ ticks 481 ∷ ticks 532 ∷ shoreCalls 540 nine simplex ∷ accepts 550 27 nine ∷ regains 560 1 ∷
+    loses 570 1 ∷ calls 580 nine simplex ∷ works 590 1 nine ∷ hangs 600 1 ∷ shoreCalls 610 eight duplex ∷ ticks 9999 ∷
+    ticks 9999 ∷ shoreCalls 720 eight duplex ∷ acceptsIn simplex 730 27 eight ∷ ticks 1331 ∷ shoreCalls 1340 eight duplex ∷
+    acceptsIn simplex 1350 27 eight ∷ regains 1360 1 ∷ loses 1370 1 ∷ ticks 9999 ∷ shoreCalls 1430 eight duplex ∷
+    accepts 1440 27 eight ∷ regains 1450 1 ∷ hangs 1475 1 ∷ shoreCalls 1480 seven duplex ∷
+    ticks 1531 ∷ declines 1540 seven ∷ shoreCalls 1550 seven duplex ∷ hangs 1560 1 ∷ []
+
+abbrev pub secondSlotCalledAgain : Row
+secondSlotCalledAgain = record {
+  computed = tells 2 secondSlotCalledAgainScript;
+  expected =
+      (0 ∷ 50 ∷ 0 ∷ []) ∷
+      (0 ∷ 100 ∷ 2 ∷ 151 ∷ []) ∷ (1 ∷ 1 ∷ []) ∷ (3 ∷ 1 ∷ callNine27Simplex) ∷
+      (0 ∷ 110 ∷ 3 ∷ []) ∷ (2 ∷ 1 ∷ []) ∷ (10 ∷ 1 ∷ []) ∷ (6 ∷ 1 ∷ []) ∷
+      (0 ∷ 120 ∷ 2 ∷ 171 ∷ []) ∷ (1 ∷ 1 ∷ []) ∷ (3 ∷ 1 ∷ callNine27Simplex) ∷
+      (0 ∷ 171 ∷ 1 ∷ 222 ∷ []) ∷ (3 ∷ 1 ∷ callNine27Simplex) ∷
+      (0 ∷ 180 ∷ 2 ∷ []) ∷ (2 ∷ 1 ∷ []) ∷ (6 ∷ 1 ∷ []) ∷
+      (0 ∷ 200 ∷ 2 ∷ 251 ∷ []) ∷ (1 ∷ 1 ∷ []) ∷ (3 ∷ 1 ∷ callNine27Simplex) ∷
+      (0 ∷ 210 ∷ 1 ∷ 811 ∷ []) ∷ (8 ∷ 1 ∷ []) ∷
+      (0 ∷ 220 ∷ 1 ∷ 811 ∷ []) ∷ (3 ∷ 255 ∷ unable103Seven) ∷
+      (0 ∷ 230 ∷ 5 ∷ 281 ∷ []) ∷ (9 ∷ 1 ∷ []) ∷ (2 ∷ 1 ∷ []) ∷ (6 ∷ 1 ∷ []) ∷ (1 ∷ 1 ∷ []) ∷ (3 ∷ 1 ∷ ringSeven27) ∷
+      (0 ∷ 240 ∷ 0 ∷ 401 ∷ []) ∷
+      (0 ∷ 401 ∷ 1 ∷ []) ∷ (2 ∷ 1 ∷ []) ∷
+      (0 ∷ 410 ∷ 2 ∷ 461 ∷ []) ∷ (1 ∷ 1 ∷ []) ∷ (3 ∷ 1 ∷ callNine27Simplex) ∷
+      (0 ∷ 420 ∷ 1 ∷ 1021 ∷ []) ∷ (8 ∷ 1 ∷ []) ∷
+      (0 ∷ 425 ∷ 1 ∷ 1021 ∷ []) ∷ (3 ∷ 255 ∷ unable103Seven) ∷
+      (0 ∷ 430 ∷ 6 ∷ 481 ∷ []) ∷ (9 ∷ 1 ∷ []) ∷ (2 ∷ 1 ∷ []) ∷ (10 ∷ 1 ∷ []) ∷ (6 ∷ 1 ∷ []) ∷ (1 ∷ 1 ∷ []) ∷
+      (3 ∷ 1 ∷ ringSeven27) ∷
+      (1 ∷ 435 ∷ 0 ∷ 481 ∷ []) ∷
+      (0 ∷ 481 ∷ 1 ∷ 532 ∷ []) ∷ (3 ∷ 1 ∷ ringSeven27) ∷
+      (0 ∷ 532 ∷ 1 ∷ []) ∷ (2 ∷ 1 ∷ []) ∷
+      (0 ∷ 540 ∷ 2 ∷ 591 ∷ []) ∷ (1 ∷ 1 ∷ []) ∷ (3 ∷ 1 ∷ callNine27Simplex) ∷
+      (0 ∷ 550 ∷ 1 ∷ 1151 ∷ []) ∷ (8 ∷ 1 ∷ []) ∷
+      (0 ∷ 560 ∷ 1 ∷ []) ∷ (9 ∷ 1 ∷ []) ∷
+      (0 ∷ 570 ∷ 0 ∷ 1021 ∷ []) ∷
+      (0 ∷ 580 ∷ 6 ∷ 741 ∷ []) ∷ charges 1 nine 560 580 2 ∷ (6 ∷ 1 ∷ []) ∷ (4 ∷ 1 ∷ overNineCallerByCoast2) ∷ (2 ∷ 1 ∷ []) ∷
+      (1 ∷ 1 ∷ []) ∷ (3 ∷ 1 ∷ ackNine27Simplex) ∷
+      (0 ∷ 590 ∷ 1 ∷ 1191 ∷ []) ∷ (5 ∷ 1 ∷ usual) ∷
+      (0 ∷ 600 ∷ 3 ∷ []) ∷ (6 ∷ 1 ∷ []) ∷ (4 ∷ 1 ∷ overNineByCoast) ∷ (2 ∷ 1 ∷ []) ∷
+      (0 ∷ 610 ∷ 2 ∷ 661 ∷ []) ∷ (1 ∷ 1 ∷ []) ∷ (3 ∷ 1 ∷ callEight27) ∷
+      (0 ∷ 661 ∷ 1 ∷ 712 ∷ []) ∷ (3 ∷ 1 ∷ callEight27) ∷
+      (0 ∷ 712 ∷ 3 ∷ []) ∷ (2 ∷ 1 ∷ []) ∷ (10 ∷ 1 ∷ []) ∷ (6 ∷ 1 ∷ []) ∷
+      (0 ∷ 720 ∷ 2 ∷ 771 ∷ []) ∷ (1 ∷ 1 ∷ []) ∷ (3 ∷ 1 ∷ callEight27) ∷
+      (0 ∷ 730 ∷ 1 ∷ 1331 ∷ []) ∷ (8 ∷ 1 ∷ []) ∷
+      (0 ∷ 1331 ∷ 4 ∷ []) ∷ (9 ∷ 1 ∷ []) ∷ (2 ∷ 1 ∷ []) ∷ (10 ∷ 1 ∷ []) ∷ (6 ∷ 1 ∷ []) ∷
+      (0 ∷ 1340 ∷ 2 ∷ 1391 ∷ []) ∷ (1 ∷ 1 ∷ []) ∷ (3 ∷ 1 ∷ callEight27) ∷
+      (0 ∷ 1350 ∷ 1 ∷ 1951 ∷ []) ∷ (8 ∷ 1 ∷ []) ∷
+      (0 ∷ 1360 ∷ 1 ∷ []) ∷ (9 ∷ 1 ∷ []) ∷
+      (0 ∷ 1370 ∷ 0 ∷ 1421 ∷ []) ∷
+      (0 ∷ 1421 ∷ 4 ∷ []) ∷ charges 1 eight 1360 1421 6 ∷ (6 ∷ 1 ∷ []) ∷ (4 ∷ 1 ∷ overEightCallerByCoast6) ∷ (2 ∷ 1 ∷ []) ∷
+      (0 ∷ 1430 ∷ 2 ∷ 1481 ∷ []) ∷ (1 ∷ 1 ∷ []) ∷ (3 ∷ 1 ∷ callEight27) ∷
+      (0 ∷ 1440 ∷ 1 ∷ 2041 ∷ []) ∷ (8 ∷ 1 ∷ []) ∷
+      (0 ∷ 1450 ∷ 1 ∷ []) ∷ (9 ∷ 1 ∷ []) ∷
+      (0 ∷ 1475 ∷ 4 ∷ []) ∷ charges 1 eight 1450 1475 2 ∷ (6 ∷ 1 ∷ []) ∷ (4 ∷ 1 ∷ overEightCallerByCoast2) ∷ (2 ∷ 1 ∷ []) ∷
+      (0 ∷ 1480 ∷ 2 ∷ 1531 ∷ []) ∷ (1 ∷ 1 ∷ []) ∷ (3 ∷ 1 ∷ callSeven27) ∷
+      (0 ∷ 1531 ∷ 1 ∷ 1582 ∷ []) ∷ (3 ∷ 1 ∷ callSeven27) ∷
+      (0 ∷ 1540 ∷ 3 ∷ []) ∷ (2 ∷ 1 ∷ []) ∷ (10 ∷ 1 ∷ []) ∷ (6 ∷ 1 ∷ []) ∷
+      (0 ∷ 1550 ∷ 2 ∷ 1601 ∷ []) ∷ (1 ∷ 1 ∷ []) ∷ (3 ∷ 1 ∷ callSeven27) ∷
+      (0 ∷ 1560 ∷ 2 ∷ []) ∷ (2 ∷ 1 ∷ []) ∷ (6 ∷ 1 ∷ []) ∷ [];
+}
+
+-- two ships called at once: each its own BQ, ringing, transmission and end
+abbrev pub bothCalledScript : List Event
+bothCalledScript =
+    shoreCalls 100 seven simplex ∷ shoreCalls 110 eight duplex ∷ accepts 120 26 eight ∷ accepts 121 27 seven ∷
+    accepts 125 27 eight ∷ ticks 151 ∷ declines 155 nine ∷ acceptsIn simplex 160 26 seven ∷ regains 170 1 ∷ hangs 175 0 ∷
+    shoreCalls 180 nine simplex ∷ regains 185 0 ∷ accepts 190 26 nine ∷ accepts 191 26 nine ∷ regains 200 0 ∷ loses 210 0 ∷
+    loses 215 1 ∷ calls 220 nine simplex ∷ ticks 300 ∷ ticks 400 ∷ []
+
+abbrev pub bothCalled : Row
+bothCalled = record {
+  computed = tells 2 bothCalledScript;
+  expected =
+      (0 ∷ 100 ∷ 2 ∷ 151 ∷ []) ∷ (1 ∷ 0 ∷ []) ∷ (3 ∷ 0 ∷ callSeven26Simplex) ∷
+      (0 ∷ 110 ∷ 2 ∷ 151 ∷ []) ∷ (1 ∷ 1 ∷ []) ∷ (3 ∷ 1 ∷ callEight27) ∷
+      (1 ∷ 120 ∷ 0 ∷ 151 ∷ []) ∷
+      (1 ∷ 121 ∷ 0 ∷ 151 ∷ []) ∷
+      (0 ∷ 125 ∷ 1 ∷ 151 ∷ []) ∷ (8 ∷ 1 ∷ []) ∷
+      (0 ∷ 151 ∷ 1 ∷ 202 ∷ []) ∷ (3 ∷ 0 ∷ callSeven26Simplex) ∷
+      (1 ∷ 155 ∷ 0 ∷ 202 ∷ []) ∷
+      (0 ∷ 160 ∷ 1 ∷ 726 ∷ []) ∷ (8 ∷ 0 ∷ []) ∷
+      (0 ∷ 170 ∷ 1 ∷ 761 ∷ []) ∷ (9 ∷ 1 ∷ []) ∷
+      (0 ∷ 175 ∷ 3 ∷ []) ∷ (9 ∷ 0 ∷ []) ∷ (2 ∷ 0 ∷ []) ∷ (6 ∷ 0 ∷ []) ∷
+      (0 ∷ 180 ∷ 2 ∷ 231 ∷ []) ∷ (1 ∷ 0 ∷ []) ∷ (3 ∷ 0 ∷ callNine26Simplex) ∷
+      (1 ∷ 185 ∷ 0 ∷ 231 ∷ []) ∷
+      (0 ∷ 190 ∷ 1 ∷ 791 ∷ []) ∷ (8 ∷ 0 ∷ []) ∷
+      (1 ∷ 191 ∷ 0 ∷ 791 ∷ []) ∷
+      (0 ∷ 200 ∷ 1 ∷ []) ∷ (9 ∷ 0 ∷ []) ∷
+      (0 ∷ 210 ∷ 0 ∷ 661 ∷ []) ∷
+      (0 ∷ 215 ∷ 0 ∷ 266 ∷ []) ∷
+      (0 ∷ 220 ∷ 6 ∷ 266 ∷ []) ∷ charges 0 nine 200 220 2 ∷ (6 ∷ 0 ∷ []) ∷ (4 ∷ 0 ∷ overNineCallerByCoast2) ∷ (2 ∷ 0 ∷ []) ∷
+      (1 ∷ 0 ∷ []) ∷ (3 ∷ 0 ∷ ackNine26Simplex) ∷
+      (0 ∷ 266 ∷ 4 ∷ 381 ∷ []) ∷ charges 1 eight 170 266 9 ∷ (6 ∷ 1 ∷ []) ∷ (4 ∷ 1 ∷ overEightCallerByCoast9) ∷ (2 ∷ 1 ∷ []) ∷
+      (0 ∷ 381 ∷ 1 ∷ []) ∷ (2 ∷ 0 ∷ []) ∷ [];
+}
+
 -- two slots taken: the third is offered, and its waits are its own
 abbrev pub thirdSlotScript : List Event
 thirdSlotScript =
@@ -423,6 +666,27 @@ otherStation = record {
       (0 ∷ 120 ∷ 0 ∷ 261 ∷ []) ∷
       (0 ∷ 130 ∷ 1 ∷ 261 ∷ []) ∷ (3 ∷ 255 ∷ waitOther) ∷
       (0 ∷ 261 ∷ 3 ∷ 312 ∷ []) ∷ (2 ∷ 0 ∷ []) ∷ (1 ∷ 0 ∷ []) ∷ (3 ∷ 0 ∷ ringOther) ∷ [];
+}
+
+-- and a call from ashore goes out in its name; a BQ and a 104 to another station are ignored
+abbrev pub otherCallsScript : List Event
+otherCallsScript =
+    shoreCalls 100 seven duplex ∷ says 110 (answers 2001234 101 (Channel (channel 60))) ∷ says 111 (answers 2001234 104 Blank) ∷
+    says 120 (answers 7999999 100 (Channel (channel 60))) ∷ regains 130 0 ∷ hangs 140 0 ∷ shoreCalls 200 seven duplex ∷
+    says 210 (answers 7999999 104 Blank) ∷ []
+
+abbrev pub otherCalls : Row
+otherCalls = record {
+  computed = printedAll other otherCallsScript (fresh other);
+  expected =
+      (0 ∷ 100 ∷ 2 ∷ 151 ∷ []) ∷ (1 ∷ 0 ∷ []) ∷ (3 ∷ 0 ∷ callOther) ∷
+      (1 ∷ 110 ∷ 0 ∷ 151 ∷ []) ∷
+      (1 ∷ 111 ∷ 0 ∷ 151 ∷ []) ∷
+      (0 ∷ 120 ∷ 1 ∷ 721 ∷ []) ∷ (8 ∷ 0 ∷ []) ∷
+      (0 ∷ 130 ∷ 1 ∷ []) ∷ (9 ∷ 0 ∷ []) ∷
+      (0 ∷ 140 ∷ 4 ∷ []) ∷ charges 0 seven 130 140 1 ∷ (6 ∷ 0 ∷ []) ∷ (4 ∷ 0 ∷ overOther) ∷ (2 ∷ 0 ∷ []) ∷
+      (0 ∷ 200 ∷ 2 ∷ 251 ∷ []) ∷ (1 ∷ 0 ∷ []) ∷ (3 ∷ 0 ∷ callOther) ∷
+      (0 ∷ 210 ∷ 3 ∷ []) ∷ (2 ∷ 0 ∷ []) ∷ (10 ∷ 0 ∷ []) ∷ (6 ∷ 0 ∷ []) ∷ [];
 }
 
 -- ── identical or not ────────────────────────────────────────────────────────────
@@ -663,6 +927,64 @@ addressedBelow = record {
   expected = (1 ∷ 100 ∷ 0 ∷ []) ∷ [];
 }
 
+-- a BQ of the ship that is called, with the telecommand of data, with RQ, with 127, naming no channel: ignored
+abbrev pub bqDataCalled : Row
+bqDataCalled = record {
+  computed = gives 1 (shoreCalls 100 seven duplex ∷ says 130 (sends seven 106 122 (Channel (channel 26)) usual) ∷ []);
+  expected = (1 ∷ 130 ∷ 0 ∷ 151 ∷ []) ∷ [];
+}
+
+abbrev pub bqAsRqCalled : Row
+bqAsRqCalled = record {
+  computed = gives 1 (shoreCalls 100 seven duplex ∷ says 130 (sends seven 101 117 (Channel (channel 26)) usual) ∷ []);
+  expected = (1 ∷ 130 ∷ 0 ∷ 151 ∷ []) ∷ [];
+}
+
+abbrev pub bqAs127Called : Row
+bqAs127Called = record {
+  computed = gives 1 (shoreCalls 100 seven duplex ∷ says 130 (sends seven 101 127 (Channel (channel 26)) usual) ∷ []);
+  expected = (1 ∷ 130 ∷ 0 ∷ 151 ∷ []) ∷ [];
+}
+
+abbrev pub bqUnnamedCalled : Row
+bqUnnamedCalled = record {
+  computed = gives 1 (shoreCalls 100 seven duplex ∷ says 130 (sends seven 101 122 Blank usual) ∷ []);
+  expected = (1 ∷ 130 ∷ 0 ∷ 151 ∷ []) ∷ [];
+}
+
+-- 104 with RQ, with 127: ignored
+abbrev pub unableAsRq : Row
+unableAsRq = record {
+  computed = gives 1 (shoreCalls 100 seven duplex ∷ says 130 (sends seven 104 117 Blank usual) ∷ []);
+  expected = (1 ∷ 130 ∷ 0 ∷ 151 ∷ []) ∷ [];
+}
+
+abbrev pub unableAs127 : Row
+unableAs127 = record {
+  computed = gives 1 (shoreCalls 100 seven duplex ∷ says 130 (sends seven 104 127 Blank usual) ∷ []);
+  expected = (1 ∷ 130 ∷ 0 ∷ 151 ∷ []) ∷ [];
+}
+
+-- a working call and an end of call on channel 70: ignored
+abbrev pub working70Called : Row
+working70Called = record {
+  computed = gives 1 (shoreCalls 100 seven duplex ∷ says 130 (sends seven 101 127 Blank usual) ∷ []);
+  expected = (1 ∷ 130 ∷ 0 ∷ 151 ∷ []) ∷ [];
+}
+
+abbrev pub over70Called : Row
+over70Called = record {
+  computed = gives 1 (shoreCalls 100 seven duplex ∷ says 130 (sends seven 105 117 Blank usual) ∷ []);
+  expected = (1 ∷ 130 ∷ 0 ∷ 151 ∷ []) ∷ [];
+}
+
+-- an end of call with BQ is no 104
+abbrev pub overAsBqCalled : Row
+overAsBqCalled = record {
+  computed = gives 1 (shoreCalls 100 seven duplex ∷ says 130 (sends seven 105 122 Blank usual) ∷ []);
+  expected = (1 ∷ 130 ∷ 0 ∷ 151 ∷ []) ∷ [];
+}
+
 -- ── waits ───────────────────────────────────────────────────────────────────────
 
 -- no reply while the carrier is absent: the reply wait is due first, and the coast ends the call
@@ -753,6 +1075,104 @@ accepted33 = record {
   expected = (0 ∷ 260 ∷ 1 ∷ 261 ∷ []) ∷ (3 ∷ 255 ∷ unable103Eight) ∷ [];
 }
 
+-- 33: a call from ashore when a wait is due, and one tenth before it
+abbrev pub refused33Called : Row
+refused33Called = record {
+  computed = gives 2 (calls 100 seven duplex ∷ shoreCalls 261 eight duplex ∷ []);
+  expected = (33 ∷ 100 ∷ 0 ∷ 261 ∷ []) ∷ [];
+}
+
+abbrev pub accepted33Called : Row
+accepted33Called = record {
+  computed = gives 2 (calls 100 seven duplex ∷ shoreCalls 260 eight duplex ∷ []);
+  expected = (0 ∷ 260 ∷ 2 ∷ 261 ∷ []) ∷ (1 ∷ 1 ∷ []) ∷ (3 ∷ 1 ∷ callEight27) ∷ [];
+}
+
+-- 30, 31: a call from ashore without its room, and past the limit
+abbrev pub refused30Called : Row
+refused30Called = record {
+  computed = gives 1 (record { time = 100; room = 319; what = shoreCalls 100 seven duplex .what } ∷ []);
+  expected = (30 ∷ 0 ∷ 0 ∷ []) ∷ [];
+}
+
+abbrev pub refused31Called : Row
+refused31Called = record {
+  computed = gives 1 (shoreCalls 4000000001 seven duplex ∷ []);
+  expected = (31 ∷ 0 ∷ 0 ∷ []) ∷ [];
+}
+
+-- 15: ships from 200000000 to 799999999
+abbrev pub acceptedFirstShip : Row
+acceptedFirstShip = record {
+  computed = gives 1 (shoreAsks caller 100 200000000 101 ∷ []);
+  expected = (0 ∷ 100 ∷ 2 ∷ 151 ∷ []) ∷ (1 ∷ 0 ∷ []) ∷ (3 ∷ 0 ∷ callFirstShip) ∷ [];
+}
+
+abbrev pub acceptedLastShip : Row
+acceptedLastShip = record {
+  computed = gives 1 (shoreAsks caller 100 799999999 101 ∷ []);
+  expected = (0 ∷ 100 ∷ 2 ∷ 151 ∷ []) ∷ (1 ∷ 0 ∷ []) ∷ (3 ∷ 0 ∷ callLastShip) ∷ [];
+}
+
+abbrev pub refused15Above : Row
+refused15Above = record {
+  computed = gives 1 (shoreAsks caller 100 800000000 101 ∷ []);
+  expected = (15 ∷ 0 ∷ 0 ∷ []) ∷ [];
+}
+
+-- 17: one below 100, and one above 101
+abbrev pub refused17Below : Row
+refused17Below = record {
+  computed = gives 1 (shoreAsks caller 100 seven 99 ∷ []);
+  expected = (17 ∷ 0 ∷ 0 ∷ []) ∷ [];
+}
+
+abbrev pub refused17Above : Row
+refused17Above = record {
+  computed = gives 1 (shoreAsks caller 100 seven 102 ∷ []);
+  expected = (17 ∷ 0 ∷ 0 ∷ []) ∷ [];
+}
+
+-- 19: digits to 9; the first is one over it
+abbrev pub acceptedNine : Row
+acceptedNine = record {
+  computed = gives 1 (shoreAsks (0 ∷ 9 ∷ []) 100 seven 100 ∷ []);
+  expected = (0 ∷ 100 ∷ 2 ∷ 151 ∷ []) ∷ (1 ∷ 0 ∷ []) ∷ (3 ∷ 0 ∷ callSeven26SimplexOf09) ∷ [];
+}
+
+abbrev pub refused19First : Row
+refused19First = record {
+  computed = gives 1 (shoreAsks (10 ∷ 6 ∷ []) 100 seven 101 ∷ []);
+  expected = (19 ∷ 0 ∷ 0 ∷ []) ∷ [];
+}
+
+-- what a call from ashore prints at the clock 1000
+abbrev pub calledIn : ℕ → Station → ℕ → List (List ℕ)
+calledIn n st x = lines (station n) (step (station n) st (shoreCalls 1000 x duplex))
+
+-- 38: it waits behind another ship, and beside a free slot; a third ship is called
+abbrev pub refused38Behind : Row
+refused38Behind = record {
+  computed = calledIn 1 (holding (free ∷ []) (waits eight 2000 ∷ waits seven 2000 ∷ [])) seven
+      ++ calledIn 1 (holding (free ∷ []) (waits eight 2000 ∷ waits nine 2000 ∷ [])) seven;
+  expected = (38 ∷ 1000 ∷ 0 ∷ 2000 ∷ []) ∷ (0 ∷ 1000 ∷ 2 ∷ 1051 ∷ []) ∷ (1 ∷ 0 ∷ []) ∷ (3 ∷ 0 ∷ callSeven26) ∷ [];
+}
+
+-- 38: the second slot is in its hold; in another ship's hold it is not
+abbrev pub refused38HeldSecond : Row
+refused38HeldSecond = record {
+  computed = calledIn 2 (holding (free ∷ held (from seven duplex) Nothing 1041 ∷ []) []) seven
+      ++ calledIn 2 (holding (free ∷ held (from eight duplex) Nothing 1041 ∷ []) []) seven;
+  expected = (38 ∷ 1000 ∷ 0 ∷ 1041 ∷ []) ∷ (0 ∷ 1000 ∷ 2 ∷ 1041 ∷ []) ∷ (1 ∷ 0 ∷ []) ∷ (3 ∷ 0 ∷ callSeven26) ∷ [];
+}
+
+-- 37: both slots are in use, one by another ship's hold, one by the operator
+abbrev pub refused37Held : Row
+refused37Held = record {
+  computed = calledIn 2 (holding (taken ∷ held (from eight duplex) Nothing 1041 ∷ []) []) seven;
+  expected = (37 ∷ 1000 ∷ 0 ∷ 1041 ∷ []) ∷ [];
+}
+
 -- 34: dialling ended on no such slot
 abbrev pub refused34DialsOut : Row
 refused34DialsOut = record {
@@ -834,7 +1254,12 @@ sentValid = record {
 
 abbrev pub boundCases : List Row
 boundCases =
-    secondSlot ∷ secondSlotAgain ∷ secondSlotQueued ∷ secondSlotDialled ∷ thirdSlot ∷ places ∷ oldestFirst ∷ secondKept ∷
+    secondSlot ∷ secondSlotAgain ∷ secondSlotQueued ∷ secondSlotDialled ∷ secondSlotCalled ∷ secondSlotCalledAgain ∷
+    bothCalled ∷ otherCalls ∷ bqDataCalled ∷ bqAsRqCalled ∷ bqAs127Called ∷ bqUnnamedCalled ∷ unableAsRq ∷ unableAs127 ∷
+    working70Called ∷ over70Called ∷
+    overAsBqCalled ∷ refused33Called ∷ accepted33Called ∷ refused30Called ∷ refused31Called ∷ acceptedFirstShip ∷ acceptedLastShip ∷
+    refused15Above ∷ refused17Below ∷ refused17Above ∷ acceptedNine ∷ refused19First ∷ refused38Behind ∷ refused38HeldSecond ∷
+    refused37Held ∷ thirdSlot ∷ places ∷ oldestFirst ∷ secondKept ∷
     otherStation ∷ secondDiffers ∷ secondLower ∷ secondSame ∷ simplexRepeated ∷ simplexThenDuplex ∷ numberLonger ∷
     numberShorter ∷ firstDigitHigher ∷ lastDigitLower ∷ ringBackTwiceAsked ∷ sameShip ∷ ruleCDialled ∷ ruleCDialledPresent ∷
     ruleCDialledDuplex ∷ ruleCDialledOut ∷ ruleCDialledOutPresent ∷ holdAsked ∷ requestWithChannel ∷ bqSimplex ∷ bqData ∷
@@ -901,4 +1326,4 @@ boundSounds =
     -- of each kind: a request to another station
     ∷ map (λ k. unsound (with (pending k (asking seven 2001235 duplex 126 usual) 1051))) kinds
     -- a ship that waits and has a slot, from its offer to its answered call
-    ++ map (λ p. unsound (asked (station 2) (holding (free ∷ p .slot ∷ []) (waits seven 2000 ∷ [])))) (take 12 (drop 2 phases))
+    ++ map (λ p. unsound (asked (station 2) (holding (free ∷ p .slot ∷ []) (waits seven 2000 ∷ [])))) (take 15 (drop 2 phases))

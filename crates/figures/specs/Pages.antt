@@ -1,28 +1,34 @@
--- What the list alone tells after each entry: its book, its three words, its stops and its tenths.
+-- What the list alone tells after each entry: its book, its line's words, its stops and its tenths.
 use mathlib.Core.List.{List, [], _∷_, _++_, map}
-use mathlib.Core.Bool.{Bool, true, false}
+use mathlib.Core.Bool.{Bool, true, false, cond}
 use mathlib.Core.Option.{Option, none, some}
 use Prim.Native.Nat.{ℕ, _+_}
-use lib.ListN.{length, getD, take}
+use lib.ListN.{length, getD, take, replicate}
 use Rattle.units.specs.declared.Told.the-variants.{Nothing}
 use Rattle.sequence.specs.declared.Field.the-variants.{Blank}
 use Rattle.rules.specs.Rules.Words.{Party, simplex, duplex, modeNumber, Request, Config, Event}
-use Rattle.rules.specs.Rules.Words.{Deed, carrierOn, carrierOff, acknowledge, ringBack, unable, dial, releaseLine}
-use Rattle.rules.specs.Rules.Heard.{Heard, callRequest, dataRequest, bq, workingCall, endOfCall, nothing}
+use Rattle.rules.specs.Rules.Words.{Deed, carrierOn, carrierOff, acknowledge, callShip, unable, dial, releaseLine}
+use Rattle.rules.specs.Rules.Words.{ringingOn, ringingOff, busyTone}
+use Rattle.rules.specs.Rules.Heard.{Heard, callRequest, dataRequest, bq, workingCall, endOfCall, declined, nothing}
 use Rattle.rules.specs.Rules.Actions.{theShip, Action, does, over, charge}
 use Rattle.rules.specs.ListAlone.Book.{Note, Said, silent, toldBQ, toldRQ, settled}
-use Rattle.rules.specs.ListAlone.Book.{Call, quiet, dialled, talking, Column, Place, Book, blankBook, alike}
+use Rattle.rules.specs.ListAlone.Book.{Call, quiet, called, dialled, talking, Column, Place, Book, blankBook, alike}
 use Rattle.rules.specs.ListAlone.Reading.{turn, numbered, counted, countedByCalls}
-use Rattle.rules.specs.ListAlone.ThreeWords.{Word, idle, ringing, since, wordHeard, wordsDone, wordAfter, wordOf}
+use Rattle.rules.specs.ListAlone.LineWords.{Line, idle, outward, inward, since, Word, worded, unused}
+use Rattle.rules.specs.ListAlone.LineWords.{wordHeard, wordsDone, wordAfter, wordOf, rungsDone, rungAfter, ringSwitches, change}
+use Rattle.rules.specs.ListAlone.LineWords.{release, releases}
+use Rattle.rules.specs.ListAlone.BeingCalled.{isFor, columnsAfter}
 use Rattle.rules.specs.Statement.{deedsOf, chargesOf, charged, runOf, stationAfter, listOf, stopsOf, tenthsIn, unchargedTenths, eventsOf}
 use Rattle.rules.specs.ListAlone.Repeated.{toldToWait, lastAsked, switchedOn}
-use Rattle.rules.specs.Tables.Runs.{station, seven, eight, nine, sends, usual, callsFor, calls, accepts, works, ends, ticks, paid}
+use Rattle.rules.specs.Tables.Runs.{station, seven, eight, nine, sends, usual, callsFor, calls, dataCalls, accepts, acceptsIn, declines}
+use Rattle.rules.specs.Tables.Runs.{caller, shoreCalls, works, ends, ticks, paid}
 use Rattle.rules.specs.Tables.Runs.{Run, says, dialsOut, picksUp, hangs, regains, loses, reserves, restores}
 use Rattle.rules.specs.Tables.Cases.{Row}
 use Rattle.rules.specs.Rules.Requests.{same}
 use Rattle.rules.specs.Tables.SoundCases.{asking, from}
 use Rattle.rules.specs.Tables.Phases.{phases}
-use Rattle.figures.specs.BoundCases.{told, callsAs, secondSlotDialledScript}
+use Rattle.figures.specs.BoundCases.{told, callsAs, secondSlotDialledScript, secondSlotCalledScript}
+use Rattle.figures.specs.BoundCases.{secondSlotCalledAgainScript, bothCalledScript}
 
 -- ── a book as numbers ────────────────────────────────────────────────────────
 
@@ -40,9 +46,10 @@ said (toldBQ r) = 1 ∷ request r
 said (toldRQ r) = 2 ∷ request r
 said (settled r) = 3 ∷ request r
 
--- a line that is dialled: ship, mode, whether its dialling has ended
+-- a line that is dialled: ship, mode, whether its dialling has ended; a call from ashore: what is asked, whether it rings
 abbrev pub call : Call → List ℕ
 call quiet = 0 ∷ []
+call (called r rings) = 3 ∷ (request r ++ told rings ∷ [])
 call (dialled x m e) = 1 ∷ x .ship ∷ modeNumber m ∷ told e ∷ []
 call (talking x m b) = 2 ∷ x .ship ∷ modeNumber m ∷ b ∷ []
 
@@ -69,20 +76,35 @@ pagesFrom c (n ∷ ns) b = page (turn c b n) ++ pagesFrom c ns (turn c b n)
 abbrev pub pages : ℕ → List Event → List (List ℕ)
 pages n es = pagesFrom (station n) (listOf (station n) es) (blankBook (station n))
 
--- ── the three words as numbers ───────────────────────────────────────────────
+-- ── the line's words as numbers ──────────────────────────────────────────────
 
+abbrev pub line : Line → List ℕ
+line idle = 0 ∷ []
+line outward = 1 ∷ []
+line (since b) = 2 ∷ b ∷ []
+line inward = 3 ∷ []
+
+-- an 8 behind it where it rings at the caller's
 abbrev pub word : Word → List ℕ
-word idle = 0 ∷ []
-word ringing = 1 ∷ []
-word (since b) = 2 ∷ b ∷ []
+word v = line (v .line) ++ cond (v .rings) (8 ∷ []) []
 
-abbrev pub wordsFrom : ℕ → List Note → Word → List (List ℕ)
-wordsFrom i [] v = []
-wordsFrom i (n ∷ ns) v = word (wordAfter i (n ∷ []) v) ∷ wordsFrom i ns (wordAfter i (n ∷ []) v)
+abbrev pub wordsFrom : Config → ℕ → List Note → Word → List (List ℕ)
+wordsFrom c i [] v = []
+wordsFrom c i (n ∷ ns) v = word (wordAfter c i (n ∷ []) v) ∷ wordsFrom c i ns (wordAfter c i (n ∷ []) v)
 
 -- of a slot after each entry of a run
 abbrev pub words : ℕ → ℕ → List Event → List (List ℕ)
-words n i es = wordsFrom i (listOf (station n) es) idle
+words n i es = wordsFrom (station n) i (listOf (station n) es) unused
+
+-- a line dialled, one taken from ashore, one taken from ashore that rings
+abbrev pub dialledWord : Word
+dialledWord = worded outward false
+
+abbrev pub calledWord : Word
+calledWord = worded inward false
+
+abbrev pub ringingWord : Word
+ringingWord = worded inward true
 
 -- the answered tenths: charged and held, counted by time, counted by calls
 abbrev pub tenths : ℕ → List Event → List ℕ
@@ -294,6 +316,215 @@ dialledRun = record {
   owing = paid 16 1 seven 1340 1360 2 ∷ [];
 }
 
+-- ── the second slot, called from ashore ──────────────────────────────────────
+
+abbrev pub calledPages : Row
+calledPages = record {
+  computed = pages 2 secondSlotCalledScript;
+  expected =
+      (50 ∷ []) ∷ still ∷ still ∷ [] ∷
+      (100 ∷ []) ∷ still ∷ (0 ∷ 1 ∷ 151 ∷ 3 ∷ seven ∷ 101 ∷ 126 ∷ 6 ∷ 0 ∷ 0 ∷ []) ∷ [] ∷
+      (105 ∷ []) ∷ still ∷ (0 ∷ 1 ∷ 151 ∷ 3 ∷ seven ∷ 101 ∷ 126 ∷ 6 ∷ 0 ∷ 0 ∷ []) ∷ [] ∷
+      (106 ∷ []) ∷ still ∷ (0 ∷ 1 ∷ 151 ∷ 3 ∷ seven ∷ 101 ∷ 126 ∷ 6 ∷ 0 ∷ 0 ∷ []) ∷ [] ∷
+      (107 ∷ []) ∷ still ∷ (0 ∷ 1 ∷ 151 ∷ 3 ∷ seven ∷ 101 ∷ 126 ∷ 6 ∷ 0 ∷ 0 ∷ []) ∷ [] ∷
+      (108 ∷ []) ∷ still ∷ (0 ∷ 1 ∷ 151 ∷ 3 ∷ seven ∷ 101 ∷ 126 ∷ 6 ∷ 0 ∷ 0 ∷ []) ∷ [] ∷
+      (109 ∷ []) ∷ still ∷ (0 ∷ 1 ∷ 151 ∷ 3 ∷ seven ∷ 101 ∷ 126 ∷ 6 ∷ 0 ∷ 0 ∷ []) ∷ [] ∷
+      (110 ∷ []) ∷ still ∷ (0 ∷ 1 ∷ 151 ∷ 3 ∷ seven ∷ 101 ∷ 126 ∷ 6 ∷ 0 ∷ 0 ∷ []) ∷ [] ∷
+      (111 ∷ []) ∷ still ∷ (0 ∷ 1 ∷ 151 ∷ 3 ∷ seven ∷ 101 ∷ 126 ∷ 6 ∷ 0 ∷ 0 ∷ []) ∷ [] ∷
+      (112 ∷ []) ∷ still ∷ (0 ∷ 1 ∷ 151 ∷ 3 ∷ seven ∷ 101 ∷ 126 ∷ 6 ∷ 0 ∷ 0 ∷ []) ∷ [] ∷
+      (113 ∷ []) ∷ still ∷ (0 ∷ 1 ∷ 151 ∷ 3 ∷ seven ∷ 101 ∷ 126 ∷ 6 ∷ 0 ∷ 0 ∷ []) ∷ [] ∷
+      (114 ∷ []) ∷ still ∷ (0 ∷ 1 ∷ 151 ∷ 3 ∷ seven ∷ 101 ∷ 126 ∷ 6 ∷ 0 ∷ 0 ∷ []) ∷ [] ∷
+      (117 ∷ []) ∷ still ∷ (0 ∷ 1 ∷ 151 ∷ 3 ∷ seven ∷ 101 ∷ 126 ∷ 6 ∷ 0 ∷ 0 ∷ []) ∷ (eight ∷ 9118 ∷ []) ∷
+      (151 ∷ []) ∷ still ∷ (0 ∷ 1 ∷ 202 ∷ 3 ∷ seven ∷ 101 ∷ 126 ∷ 6 ∷ 0 ∷ 0 ∷ []) ∷ (eight ∷ 9118 ∷ []) ∷
+      (155 ∷ []) ∷ still ∷ (0 ∷ 1 ∷ 202 ∷ 3 ∷ seven ∷ 101 ∷ 126 ∷ 6 ∷ 0 ∷ 0 ∷ []) ∷ (eight ∷ 9118 ∷ []) ∷
+      (160 ∷ []) ∷ still ∷ (0 ∷ 1 ∷ 761 ∷ 3 ∷ seven ∷ 101 ∷ 126 ∷ 6 ∷ 1 ∷ 0 ∷ []) ∷ (eight ∷ 9118 ∷ []) ∷
+      (165 ∷ []) ∷ still ∷ (0 ∷ 1 ∷ 761 ∷ 3 ∷ seven ∷ 101 ∷ 126 ∷ 6 ∷ 1 ∷ 0 ∷ []) ∷ (eight ∷ 9118 ∷ []) ∷
+      (166 ∷ []) ∷ still ∷ (0 ∷ 1 ∷ 761 ∷ 3 ∷ seven ∷ 101 ∷ 126 ∷ 6 ∷ 1 ∷ 0 ∷ []) ∷ (eight ∷ 9118 ∷ []) ∷
+      (167 ∷ []) ∷ still ∷ (0 ∷ 1 ∷ 761 ∷ 3 ∷ seven ∷ 101 ∷ 126 ∷ 6 ∷ 1 ∷ 0 ∷ []) ∷ (eight ∷ 9118 ∷ []) ∷
+      (168 ∷ []) ∷ still ∷ (0 ∷ 1 ∷ 761 ∷ 3 ∷ seven ∷ 101 ∷ 126 ∷ 6 ∷ 1 ∷ 0 ∷ []) ∷ (eight ∷ 9118 ∷ []) ∷
+      (169 ∷ []) ∷ still ∷ (0 ∷ 1 ∷ 761 ∷ 3 ∷ seven ∷ 101 ∷ 126 ∷ 6 ∷ 1 ∷ 0 ∷ []) ∷ (eight ∷ 9118 ∷ []) ∷
+      (170 ∷ []) ∷ still ∷ (0 ∷ 1 ∷ 761 ∷ 3 ∷ seven ∷ 101 ∷ 126 ∷ 6 ∷ 1 ∷ 0 ∷ []) ∷ (eight ∷ 9118 ∷ []) ∷
+      (171 ∷ []) ∷ still ∷ (0 ∷ 1 ∷ 761 ∷ 3 ∷ seven ∷ 101 ∷ 126 ∷ 6 ∷ 1 ∷ 0 ∷ []) ∷ (eight ∷ 9118 ∷ []) ∷
+      (172 ∷ []) ∷ still ∷ (0 ∷ 1 ∷ 761 ∷ 3 ∷ seven ∷ 101 ∷ 126 ∷ 6 ∷ 1 ∷ 0 ∷ []) ∷ (eight ∷ 9118 ∷ []) ∷
+      (200 ∷ []) ∷ still ∷ (0 ∷ 0 ∷ 2 ∷ seven ∷ 101 ∷ 200 ∷ 0 ∷ []) ∷ (eight ∷ 9118 ∷ []) ∷
+      (205 ∷ []) ∷ still ∷ (0 ∷ 0 ∷ 2 ∷ seven ∷ 101 ∷ 200 ∷ 0 ∷ []) ∷ (eight ∷ 9118 ∷ []) ∷
+      (206 ∷ []) ∷ still ∷ (0 ∷ 0 ∷ 2 ∷ seven ∷ 101 ∷ 200 ∷ 0 ∷ []) ∷ (eight ∷ 9118 ∷ []) ∷
+      (207 ∷ []) ∷ still ∷ (0 ∷ 0 ∷ 2 ∷ seven ∷ 101 ∷ 200 ∷ 0 ∷ []) ∷ (eight ∷ 9118 ∷ []) ∷
+      (208 ∷ []) ∷ still ∷ (0 ∷ 0 ∷ 2 ∷ seven ∷ 101 ∷ 200 ∷ 0 ∷ []) ∷ (eight ∷ 9118 ∷ []) ∷
+      (210 ∷ []) ∷ still ∷ (0 ∷ 0 ∷ 2 ∷ seven ∷ 101 ∷ 200 ∷ 1 ∷ 261 ∷ []) ∷ (eight ∷ 9118 ∷ []) ∷
+      (215 ∷ []) ∷ still ∷ (0 ∷ 0 ∷ 2 ∷ seven ∷ 101 ∷ 200 ∷ 1 ∷ 261 ∷ []) ∷ (eight ∷ 9118 ∷ []) ∷
+      (220 ∷ []) ∷ still ∷ (0 ∷ 0 ∷ 2 ∷ seven ∷ 101 ∷ 200 ∷ 0 ∷ []) ∷ (eight ∷ 9118 ∷ []) ∷
+      (225 ∷ []) ∷ still ∷ (0 ∷ 0 ∷ 2 ∷ seven ∷ 101 ∷ 200 ∷ 0 ∷ []) ∷ (eight ∷ 9118 ∷ []) ∷
+      (226 ∷ []) ∷ still ∷ (0 ∷ 0 ∷ 2 ∷ seven ∷ 101 ∷ 200 ∷ 0 ∷ []) ∷ (eight ∷ 9118 ∷ []) ∷
+      (227 ∷ []) ∷ still ∷ (0 ∷ 0 ∷ 2 ∷ seven ∷ 101 ∷ 200 ∷ 0 ∷ []) ∷ (eight ∷ 9118 ∷ []) ∷
+      (230 ∷ []) ∷ still ∷ (0 ∷ 0 ∷ 2 ∷ seven ∷ 101 ∷ 200 ∷ 0 ∷ []) ∷ (eight ∷ 9118 ∷ []) ∷
+      (240 ∷ []) ∷ still ∷ (0 ∷ 1 ∷ 281 ∷ 0 ∷ 0 ∷ []) ∷ (eight ∷ 9118 ∷ []) ∷
+      (250 ∷ []) ∷ still ∷ (0 ∷ 1 ∷ 281 ∷ 0 ∷ 0 ∷ []) ∷ (eight ∷ 9118 ∷ []) ∷
+      (281 ∷ []) ∷ still ∷ (2 ∷ eight ∷ 101 ∷ 126 ∷ 7 ∷ 1 ∷ 332 ∷ 0 ∷ 0 ∷ []) ∷ [] ∷
+      (290 ∷ []) ∷ still ∷ (2 ∷ eight ∷ 101 ∷ 126 ∷ 7 ∷ 1 ∷ 332 ∷ 0 ∷ 0 ∷ []) ∷ [] ∷
+      (295 ∷ []) ∷ still ∷ (2 ∷ eight ∷ 101 ∷ 126 ∷ 7 ∷ 1 ∷ 332 ∷ 0 ∷ 0 ∷ []) ∷ [] ∷
+      (296 ∷ []) ∷ still ∷ (2 ∷ eight ∷ 101 ∷ 126 ∷ 7 ∷ 1 ∷ 332 ∷ 0 ∷ 0 ∷ []) ∷ [] ∷
+      (332 ∷ []) ∷ still ∷ (2 ∷ eight ∷ 101 ∷ 126 ∷ 7 ∷ 1 ∷ 383 ∷ 0 ∷ 0 ∷ []) ∷ [] ∷
+      (383 ∷ []) ∷ still ∷ still ∷ [] ∷ [];
+}
+
+abbrev pub calledWords : Row
+calledWords = record {
+  computed = words 2 1 secondSlotCalledScript;
+  expected =
+      (0 ∷ []) ∷ (3 ∷ []) ∷ (3 ∷ []) ∷ (3 ∷ []) ∷ (3 ∷ []) ∷ (3 ∷ []) ∷ (3 ∷ []) ∷ (3 ∷ []) ∷ (3 ∷ []) ∷ (3 ∷ []) ∷ (3 ∷ []) ∷
+      (3 ∷ []) ∷ (3 ∷ []) ∷ (3 ∷ []) ∷ (3 ∷ []) ∷ (3 ∷ 8 ∷ []) ∷ (3 ∷ 8 ∷ []) ∷ (3 ∷ 8 ∷ []) ∷ (3 ∷ 8 ∷ []) ∷ (3 ∷ 8 ∷ []) ∷
+      (3 ∷ 8 ∷ []) ∷ (3 ∷ 8 ∷ []) ∷ (3 ∷ 8 ∷ []) ∷ (3 ∷ 8 ∷ []) ∷ (2 ∷ 200 ∷ []) ∷ (2 ∷ 200 ∷ []) ∷ (2 ∷ 200 ∷ []) ∷
+      (2 ∷ 200 ∷ []) ∷ (2 ∷ 200 ∷ []) ∷ (2 ∷ 200 ∷ []) ∷ (2 ∷ 200 ∷ []) ∷ (2 ∷ 200 ∷ []) ∷ (2 ∷ 200 ∷ []) ∷ (2 ∷ 200 ∷ []) ∷
+      (2 ∷ 200 ∷ []) ∷ (2 ∷ 200 ∷ []) ∷ (0 ∷ []) ∷ (0 ∷ []) ∷ (0 ∷ []) ∷ (0 ∷ []) ∷ (0 ∷ []) ∷ (0 ∷ []) ∷ (0 ∷ []) ∷ (0 ∷ []) ∷ [];
+}
+
+abbrev pub calledTenths : Row
+calledTenths = record {
+  computed = tenths 2 secondSlotCalledScript ∷ [];
+  expected = (40 ∷ 40 ∷ 40 ∷ []) ∷ [];
+}
+
+abbrev pub calledRun : Run
+calledRun = record {
+  slots = 2;
+  events = secondSlotCalledScript;
+  owing = paid 36 1 seven 200 240 4 ∷ [];
+}
+
+abbrev pub calledAgainPages : Row
+calledAgainPages = record {
+  computed = pages 2 secondSlotCalledAgainScript;
+  expected =
+      (50 ∷ []) ∷ still ∷ still ∷ [] ∷
+      (100 ∷ []) ∷ still ∷ (0 ∷ 1 ∷ 151 ∷ 3 ∷ nine ∷ 100 ∷ 126 ∷ 6 ∷ 0 ∷ 0 ∷ []) ∷ [] ∷
+      (110 ∷ []) ∷ still ∷ still ∷ [] ∷
+      (120 ∷ []) ∷ still ∷ (0 ∷ 1 ∷ 171 ∷ 3 ∷ nine ∷ 100 ∷ 126 ∷ 6 ∷ 0 ∷ 0 ∷ []) ∷ [] ∷
+      (171 ∷ []) ∷ still ∷ (0 ∷ 1 ∷ 222 ∷ 3 ∷ nine ∷ 100 ∷ 126 ∷ 6 ∷ 0 ∷ 0 ∷ []) ∷ [] ∷
+      (180 ∷ []) ∷ still ∷ still ∷ [] ∷
+      (200 ∷ []) ∷ still ∷ (0 ∷ 1 ∷ 251 ∷ 3 ∷ nine ∷ 100 ∷ 126 ∷ 6 ∷ 0 ∷ 0 ∷ []) ∷ [] ∷
+      (210 ∷ []) ∷ still ∷ (0 ∷ 1 ∷ 811 ∷ 3 ∷ nine ∷ 100 ∷ 126 ∷ 6 ∷ 1 ∷ 0 ∷ []) ∷ [] ∷
+      (220 ∷ []) ∷ still ∷ (0 ∷ 1 ∷ 811 ∷ 3 ∷ nine ∷ 100 ∷ 126 ∷ 6 ∷ 1 ∷ 0 ∷ []) ∷ (seven ∷ 9221 ∷ []) ∷
+      (230 ∷ []) ∷ still ∷ (2 ∷ seven ∷ 101 ∷ 126 ∷ 7 ∷ 1 ∷ 281 ∷ 0 ∷ 0 ∷ []) ∷ [] ∷
+      (240 ∷ []) ∷ still ∷ (3 ∷ seven ∷ 101 ∷ 126 ∷ 7 ∷ 1 ∷ 401 ∷ 0 ∷ 0 ∷ []) ∷ [] ∷
+      (401 ∷ []) ∷ still ∷ still ∷ [] ∷
+      (410 ∷ []) ∷ still ∷ (0 ∷ 1 ∷ 461 ∷ 3 ∷ nine ∷ 100 ∷ 126 ∷ 6 ∷ 0 ∷ 0 ∷ []) ∷ [] ∷
+      (420 ∷ []) ∷ still ∷ (0 ∷ 1 ∷ 1021 ∷ 3 ∷ nine ∷ 100 ∷ 126 ∷ 6 ∷ 1 ∷ 0 ∷ []) ∷ [] ∷
+      (425 ∷ []) ∷ still ∷ (0 ∷ 1 ∷ 1021 ∷ 3 ∷ nine ∷ 100 ∷ 126 ∷ 6 ∷ 1 ∷ 0 ∷ []) ∷ (seven ∷ 9426 ∷ []) ∷
+      (430 ∷ []) ∷ still ∷ (2 ∷ seven ∷ 101 ∷ 126 ∷ 7 ∷ 1 ∷ 481 ∷ 0 ∷ 0 ∷ []) ∷ [] ∷
+      (435 ∷ []) ∷ still ∷ (2 ∷ seven ∷ 101 ∷ 126 ∷ 7 ∷ 1 ∷ 481 ∷ 0 ∷ 0 ∷ []) ∷ [] ∷
+      (481 ∷ []) ∷ still ∷ (2 ∷ seven ∷ 101 ∷ 126 ∷ 7 ∷ 1 ∷ 532 ∷ 0 ∷ 0 ∷ []) ∷ [] ∷
+      (532 ∷ []) ∷ still ∷ still ∷ [] ∷
+      (540 ∷ []) ∷ still ∷ (0 ∷ 1 ∷ 591 ∷ 3 ∷ nine ∷ 100 ∷ 126 ∷ 6 ∷ 0 ∷ 0 ∷ []) ∷ [] ∷
+      (550 ∷ []) ∷ still ∷ (0 ∷ 1 ∷ 1151 ∷ 3 ∷ nine ∷ 100 ∷ 126 ∷ 6 ∷ 1 ∷ 0 ∷ []) ∷ [] ∷
+      (560 ∷ []) ∷ still ∷ (0 ∷ 0 ∷ 2 ∷ nine ∷ 100 ∷ 560 ∷ 0 ∷ []) ∷ [] ∷
+      (570 ∷ []) ∷ still ∷ (0 ∷ 0 ∷ 2 ∷ nine ∷ 100 ∷ 560 ∷ 1 ∷ 1021 ∷ []) ∷ [] ∷
+      (580 ∷ []) ∷ still ∷ (1 ∷ nine ∷ 100 ∷ 126 ∷ 7 ∷ 1 ∷ 741 ∷ 0 ∷ 0 ∷ []) ∷ [] ∷
+      (590 ∷ []) ∷ still ∷ (0 ∷ 1 ∷ 1191 ∷ 1 ∷ nine ∷ 100 ∷ 0 ∷ 0 ∷ []) ∷ [] ∷
+      (600 ∷ []) ∷ still ∷ still ∷ [] ∷
+      (610 ∷ []) ∷ still ∷ (0 ∷ 1 ∷ 661 ∷ 3 ∷ eight ∷ 101 ∷ 126 ∷ 6 ∷ 0 ∷ 0 ∷ []) ∷ [] ∷
+      (661 ∷ []) ∷ still ∷ (0 ∷ 1 ∷ 712 ∷ 3 ∷ eight ∷ 101 ∷ 126 ∷ 6 ∷ 0 ∷ 0 ∷ []) ∷ [] ∷
+      (712 ∷ []) ∷ still ∷ still ∷ [] ∷
+      (720 ∷ []) ∷ still ∷ (0 ∷ 1 ∷ 771 ∷ 3 ∷ eight ∷ 101 ∷ 126 ∷ 6 ∷ 0 ∷ 0 ∷ []) ∷ [] ∷
+      (730 ∷ []) ∷ still ∷ (0 ∷ 1 ∷ 1331 ∷ 3 ∷ eight ∷ 101 ∷ 126 ∷ 6 ∷ 1 ∷ 0 ∷ []) ∷ [] ∷
+      (1331 ∷ []) ∷ still ∷ still ∷ [] ∷
+      (1340 ∷ []) ∷ still ∷ (0 ∷ 1 ∷ 1391 ∷ 3 ∷ eight ∷ 101 ∷ 126 ∷ 6 ∷ 0 ∷ 0 ∷ []) ∷ [] ∷
+      (1350 ∷ []) ∷ still ∷ (0 ∷ 1 ∷ 1951 ∷ 3 ∷ eight ∷ 101 ∷ 126 ∷ 6 ∷ 1 ∷ 0 ∷ []) ∷ [] ∷
+      (1360 ∷ []) ∷ still ∷ (0 ∷ 0 ∷ 2 ∷ eight ∷ 101 ∷ 1360 ∷ 0 ∷ []) ∷ [] ∷
+      (1370 ∷ []) ∷ still ∷ (0 ∷ 0 ∷ 2 ∷ eight ∷ 101 ∷ 1360 ∷ 1 ∷ 1421 ∷ []) ∷ [] ∷
+      (1421 ∷ []) ∷ still ∷ still ∷ [] ∷
+      (1430 ∷ []) ∷ still ∷ (0 ∷ 1 ∷ 1481 ∷ 3 ∷ eight ∷ 101 ∷ 126 ∷ 6 ∷ 0 ∷ 0 ∷ []) ∷ [] ∷
+      (1440 ∷ []) ∷ still ∷ (0 ∷ 1 ∷ 2041 ∷ 3 ∷ eight ∷ 101 ∷ 126 ∷ 6 ∷ 1 ∷ 0 ∷ []) ∷ [] ∷
+      (1450 ∷ []) ∷ still ∷ (0 ∷ 0 ∷ 2 ∷ eight ∷ 101 ∷ 1450 ∷ 0 ∷ []) ∷ [] ∷
+      (1475 ∷ []) ∷ still ∷ still ∷ [] ∷
+      (1480 ∷ []) ∷ still ∷ (0 ∷ 1 ∷ 1531 ∷ 3 ∷ seven ∷ 101 ∷ 126 ∷ 6 ∷ 0 ∷ 0 ∷ []) ∷ [] ∷
+      (1531 ∷ []) ∷ still ∷ (0 ∷ 1 ∷ 1582 ∷ 3 ∷ seven ∷ 101 ∷ 126 ∷ 6 ∷ 0 ∷ 0 ∷ []) ∷ [] ∷
+      (1540 ∷ []) ∷ still ∷ still ∷ [] ∷
+      (1550 ∷ []) ∷ still ∷ (0 ∷ 1 ∷ 1601 ∷ 3 ∷ seven ∷ 101 ∷ 126 ∷ 6 ∷ 0 ∷ 0 ∷ []) ∷ [] ∷
+      (1560 ∷ []) ∷ still ∷ still ∷ [] ∷ [];
+}
+
+abbrev pub calledAgainWords : Row
+calledAgainWords = record {
+  computed = words 2 1 secondSlotCalledAgainScript;
+  expected =
+      (0 ∷ []) ∷ (3 ∷ []) ∷ (0 ∷ []) ∷ (3 ∷ []) ∷ (3 ∷ []) ∷ (0 ∷ []) ∷ (3 ∷ []) ∷ (3 ∷ 8 ∷ []) ∷ (3 ∷ 8 ∷ []) ∷ (0 ∷ []) ∷
+      (0 ∷ []) ∷ (0 ∷ []) ∷ (3 ∷ []) ∷ (3 ∷ 8 ∷ []) ∷ (3 ∷ 8 ∷ []) ∷ (0 ∷ []) ∷ (0 ∷ []) ∷ (0 ∷ []) ∷ (0 ∷ []) ∷ (3 ∷ []) ∷
+      (3 ∷ 8 ∷ []) ∷ (2 ∷ 560 ∷ []) ∷ (2 ∷ 560 ∷ []) ∷ (0 ∷ []) ∷ (1 ∷ []) ∷ (0 ∷ []) ∷ (3 ∷ []) ∷ (3 ∷ []) ∷ (0 ∷ []) ∷
+      (3 ∷ []) ∷ (3 ∷ 8 ∷ []) ∷ (0 ∷ []) ∷ (3 ∷ []) ∷ (3 ∷ 8 ∷ []) ∷ (2 ∷ 1360 ∷ []) ∷ (2 ∷ 1360 ∷ []) ∷ (0 ∷ []) ∷ (3 ∷ []) ∷
+      (3 ∷ 8 ∷ []) ∷ (2 ∷ 1450 ∷ []) ∷ (0 ∷ []) ∷ (3 ∷ []) ∷ (3 ∷ []) ∷ (0 ∷ []) ∷ (3 ∷ []) ∷ (0 ∷ []) ∷ [];
+}
+
+abbrev pub calledAgainTenths : Row
+calledAgainTenths = record {
+  computed = tenths 2 secondSlotCalledAgainScript ∷ [];
+  expected = (106 ∷ 106 ∷ 106 ∷ []) ∷ [];
+}
+
+abbrev pub calledAgainRun : Run
+calledAgainRun = record {
+  slots = 2;
+  events = secondSlotCalledAgainScript;
+  owing = paid 23 1 nine 560 580 2 ∷ paid 36 1 eight 1360 1421 6 ∷ paid 40 1 eight 1450 1475 2 ∷ [];
+}
+
+abbrev pub bothCalledPages : Row
+bothCalledPages = record {
+  computed = pages 2 bothCalledScript;
+  expected =
+      (100 ∷ []) ∷ (0 ∷ 1 ∷ 151 ∷ 3 ∷ seven ∷ 100 ∷ 126 ∷ 6 ∷ 0 ∷ 0 ∷ []) ∷ still ∷ [] ∷
+      (110 ∷ []) ∷ (0 ∷ 1 ∷ 151 ∷ 3 ∷ seven ∷ 100 ∷ 126 ∷ 6 ∷ 0 ∷ 0 ∷ []) ∷ (0 ∷ 1 ∷ 161 ∷ 3 ∷ eight ∷ 101 ∷ 126 ∷ 6 ∷ 0 ∷ 0 ∷ []) ∷ [] ∷
+      (120 ∷ []) ∷ (0 ∷ 1 ∷ 151 ∷ 3 ∷ seven ∷ 100 ∷ 126 ∷ 6 ∷ 0 ∷ 0 ∷ []) ∷ (0 ∷ 1 ∷ 161 ∷ 3 ∷ eight ∷ 101 ∷ 126 ∷ 6 ∷ 0 ∷ 0 ∷ []) ∷ [] ∷
+      (121 ∷ []) ∷ (0 ∷ 1 ∷ 151 ∷ 3 ∷ seven ∷ 100 ∷ 126 ∷ 6 ∷ 0 ∷ 0 ∷ []) ∷ (0 ∷ 1 ∷ 161 ∷ 3 ∷ eight ∷ 101 ∷ 126 ∷ 6 ∷ 0 ∷ 0 ∷ []) ∷ [] ∷
+      (125 ∷ []) ∷ (0 ∷ 1 ∷ 151 ∷ 3 ∷ seven ∷ 100 ∷ 126 ∷ 6 ∷ 0 ∷ 0 ∷ []) ∷ (0 ∷ 1 ∷ 726 ∷ 3 ∷ eight ∷ 101 ∷ 126 ∷ 6 ∷ 1 ∷ 0 ∷ []) ∷ [] ∷
+      (151 ∷ []) ∷ (0 ∷ 1 ∷ 202 ∷ 3 ∷ seven ∷ 100 ∷ 126 ∷ 6 ∷ 0 ∷ 0 ∷ []) ∷ (0 ∷ 1 ∷ 726 ∷ 3 ∷ eight ∷ 101 ∷ 126 ∷ 6 ∷ 1 ∷ 0 ∷ []) ∷ [] ∷
+      (155 ∷ []) ∷ (0 ∷ 1 ∷ 202 ∷ 3 ∷ seven ∷ 100 ∷ 126 ∷ 6 ∷ 0 ∷ 0 ∷ []) ∷ (0 ∷ 1 ∷ 726 ∷ 3 ∷ eight ∷ 101 ∷ 126 ∷ 6 ∷ 1 ∷ 0 ∷ []) ∷ [] ∷
+      (160 ∷ []) ∷ (0 ∷ 1 ∷ 761 ∷ 3 ∷ seven ∷ 100 ∷ 126 ∷ 6 ∷ 1 ∷ 0 ∷ []) ∷ (0 ∷ 1 ∷ 726 ∷ 3 ∷ eight ∷ 101 ∷ 126 ∷ 6 ∷ 1 ∷ 0 ∷ []) ∷ [] ∷
+      (170 ∷ []) ∷ (0 ∷ 1 ∷ 761 ∷ 3 ∷ seven ∷ 100 ∷ 126 ∷ 6 ∷ 1 ∷ 0 ∷ []) ∷ (0 ∷ 0 ∷ 2 ∷ eight ∷ 101 ∷ 170 ∷ 0 ∷ []) ∷ [] ∷
+      (175 ∷ []) ∷ still ∷ (0 ∷ 0 ∷ 2 ∷ eight ∷ 101 ∷ 170 ∷ 0 ∷ []) ∷ [] ∷
+      (180 ∷ []) ∷ (0 ∷ 1 ∷ 231 ∷ 3 ∷ nine ∷ 100 ∷ 126 ∷ 6 ∷ 0 ∷ 0 ∷ []) ∷ (0 ∷ 0 ∷ 2 ∷ eight ∷ 101 ∷ 170 ∷ 0 ∷ []) ∷ [] ∷
+      (185 ∷ []) ∷ (0 ∷ 1 ∷ 231 ∷ 3 ∷ nine ∷ 100 ∷ 126 ∷ 6 ∷ 0 ∷ 0 ∷ []) ∷ (0 ∷ 0 ∷ 2 ∷ eight ∷ 101 ∷ 170 ∷ 0 ∷ []) ∷ [] ∷
+      (190 ∷ []) ∷ (0 ∷ 1 ∷ 791 ∷ 3 ∷ nine ∷ 100 ∷ 126 ∷ 6 ∷ 1 ∷ 0 ∷ []) ∷ (0 ∷ 0 ∷ 2 ∷ eight ∷ 101 ∷ 170 ∷ 0 ∷ []) ∷ [] ∷
+      (191 ∷ []) ∷ (0 ∷ 1 ∷ 791 ∷ 3 ∷ nine ∷ 100 ∷ 126 ∷ 6 ∷ 1 ∷ 0 ∷ []) ∷ (0 ∷ 0 ∷ 2 ∷ eight ∷ 101 ∷ 170 ∷ 0 ∷ []) ∷ [] ∷
+      (200 ∷ []) ∷ (0 ∷ 0 ∷ 2 ∷ nine ∷ 100 ∷ 200 ∷ 0 ∷ []) ∷ (0 ∷ 0 ∷ 2 ∷ eight ∷ 101 ∷ 170 ∷ 0 ∷ []) ∷ [] ∷
+      (210 ∷ []) ∷ (0 ∷ 0 ∷ 2 ∷ nine ∷ 100 ∷ 200 ∷ 1 ∷ 661 ∷ []) ∷ (0 ∷ 0 ∷ 2 ∷ eight ∷ 101 ∷ 170 ∷ 0 ∷ []) ∷ [] ∷
+      (215 ∷ []) ∷ (0 ∷ 0 ∷ 2 ∷ nine ∷ 100 ∷ 200 ∷ 1 ∷ 661 ∷ []) ∷ (0 ∷ 0 ∷ 2 ∷ eight ∷ 101 ∷ 170 ∷ 1 ∷ 266 ∷ []) ∷ [] ∷
+      (220 ∷ []) ∷ (1 ∷ nine ∷ 100 ∷ 126 ∷ 7 ∷ 1 ∷ 381 ∷ 0 ∷ 0 ∷ []) ∷ (0 ∷ 0 ∷ 2 ∷ eight ∷ 101 ∷ 170 ∷ 1 ∷ 266 ∷ []) ∷ [] ∷
+      (266 ∷ []) ∷ (1 ∷ nine ∷ 100 ∷ 126 ∷ 7 ∷ 1 ∷ 381 ∷ 0 ∷ 0 ∷ []) ∷ still ∷ [] ∷
+      (381 ∷ []) ∷ still ∷ still ∷ [] ∷ [];
+}
+
+abbrev pub bothCalledWords : Row
+bothCalledWords = record {
+  computed = words 2 1 bothCalledScript;
+  expected =
+      (0 ∷ []) ∷ (3 ∷ []) ∷ (3 ∷ []) ∷ (3 ∷ []) ∷ (3 ∷ 8 ∷ []) ∷ (3 ∷ 8 ∷ []) ∷ (3 ∷ 8 ∷ []) ∷ (3 ∷ 8 ∷ []) ∷ (2 ∷ 170 ∷ []) ∷
+      (2 ∷ 170 ∷ []) ∷ (2 ∷ 170 ∷ []) ∷ (2 ∷ 170 ∷ []) ∷ (2 ∷ 170 ∷ []) ∷ (2 ∷ 170 ∷ []) ∷ (2 ∷ 170 ∷ []) ∷ (2 ∷ 170 ∷ []) ∷
+      (2 ∷ 170 ∷ []) ∷ (2 ∷ 170 ∷ []) ∷ (0 ∷ []) ∷ (0 ∷ []) ∷ [];
+}
+
+abbrev pub bothCalledWordsOfFirst : Row
+bothCalledWordsOfFirst = record {
+  computed = words 2 0 bothCalledScript;
+  expected =
+      (3 ∷ []) ∷ (3 ∷ []) ∷ (3 ∷ []) ∷ (3 ∷ []) ∷ (3 ∷ []) ∷ (3 ∷ []) ∷ (3 ∷ []) ∷ (3 ∷ 8 ∷ []) ∷ (3 ∷ 8 ∷ []) ∷ (0 ∷ []) ∷
+      (3 ∷ []) ∷ (3 ∷ []) ∷ (3 ∷ 8 ∷ []) ∷ (3 ∷ 8 ∷ []) ∷ (2 ∷ 200 ∷ []) ∷ (2 ∷ 200 ∷ []) ∷ (2 ∷ 200 ∷ []) ∷ (0 ∷ []) ∷
+      (0 ∷ []) ∷ (0 ∷ []) ∷ [];
+}
+
+abbrev pub bothCalledTenths : Row
+bothCalledTenths = record {
+  computed = tenths 2 bothCalledScript ∷ [];
+  expected = (116 ∷ 116 ∷ 116 ∷ []) ∷ [];
+}
+
+abbrev pub bothCalledRun : Run
+bothCalledRun = record {
+  slots = 2;
+  events = bothCalledScript;
+  owing = paid 17 0 nine 200 220 2 ∷ paid 18 1 eight 170 266 9 ∷ [];
+}
+
 -- ── the queue ─────────────────────────────────────────────────────────────────
 
 -- the queue: joined, asked again, due in its order, rung back and let go; data; a request to another station
@@ -485,13 +716,14 @@ talkingOn = record {
   expected = (50 ∷ 50 ∷ 50 ∷ []) ∷ [];
 }
 
--- what the book says of a call, in the three words
+-- what the book says of a call, in the line's words
 abbrev pub wordsOf : Row
 wordsOf = record {
   computed = word (wordOf quiet) ∷ word (wordOf (dialled party simplex false)) ∷ word (wordOf (dialled party duplex false)) ∷
       word (wordOf (dialled party simplex true)) ∷ word (wordOf (dialled party duplex true)) ∷
-      word (wordOf (talking party simplex 300)) ∷ word (wordOf (talking party duplex 300)) ∷ [];
-  expected = (0 ∷ []) ∷ (1 ∷ []) ∷ (1 ∷ []) ∷ (1 ∷ []) ∷ (1 ∷ []) ∷ (2 ∷ 300 ∷ []) ∷ (2 ∷ 300 ∷ []) ∷ [];
+      word (wordOf (talking party simplex 300)) ∷ word (wordOf (talking party duplex 300)) ∷
+      word (wordOf (called (from seven simplex) false)) ∷ word (wordOf (called (from seven simplex) true)) ∷ [];
+  expected = (0 ∷ []) ∷ (1 ∷ []) ∷ (1 ∷ []) ∷ (1 ∷ []) ∷ (1 ∷ []) ∷ (2 ∷ 300 ∷ []) ∷ (2 ∷ 300 ∷ []) ∷ (3 ∷ []) ∷ (3 ∷ 8 ∷ []) ∷ [];
 }
 
 -- before the first entry
@@ -506,6 +738,13 @@ abbrev pub dialledOnly : Row
 dialledOnly = record {
   computed = tenths 2 (take 4 twoCalls) ∷ [];
   expected = (0 ∷ 0 ∷ 0 ∷ []) ∷ [];
+}
+
+-- nor are calls from ashore before their answer: seven is called, eight rings
+abbrev pub calledOnly : Row
+calledOnly = record {
+  computed = tenths 2 (take 2 bothCalledScript) ∷ tenths 2 (take 5 bothCalledScript) ∷ [];
+  expected = (0 ∷ 0 ∷ 0 ∷ []) ∷ (0 ∷ 0 ∷ 0 ∷ []) ∷ [];
 }
 
 -- of a station with two slots in every phase the answered calls alone are still to be charged: six, since 900
@@ -531,30 +770,152 @@ eventsShown = record {
 
 -- every deed, on another slot than the second
 abbrev pub deeds : List Deed
-deeds = carrierOn 0 ∷ carrierOff 0 ∷ acknowledge 0 (from seven duplex) ∷ ringBack 0 (from seven duplex) ∷ dial 0 usual ∷
-    releaseLine 0 ∷ unable 103 party usual ∷ []
+deeds = carrierOn 0 ∷ carrierOff 0 ∷ acknowledge 0 (from seven duplex) ∷ callShip 0 (from seven duplex) ∷ dial 0 usual ∷
+    releaseLine 0 ∷ ringingOn 0 ∷ ringingOff 0 ∷ ringingOn 0 ∷ busyTone 0 ∷ unable 103 party usual ∷ []
 
 -- dial and release on the slot itself change its word, whatever is done before
 abbrev pub wordsByDeeds : Row
 wordsByDeeds = record {
-  computed = word (wordsDone 1 (deeds ++ dial 1 usual ∷ []) idle) ∷ word (wordsDone 1 (deeds ++ releaseLine 1 ∷ []) ringing) ∷
-      word (wordsDone 1 (releaseLine 1 ∷ []) idle) ∷ [];
+  computed = word (wordsDone none 1 (deeds ++ dial 1 usual ∷ []) unused) ∷
+      word (wordsDone none 1 (deeds ++ releaseLine 1 ∷ []) dialledWord) ∷ word (wordsDone none 1 (releaseLine 1 ∷ []) unused) ∷ [];
   expected = (1 ∷ []) ∷ (0 ∷ []) ∷ (0 ∷ []) ∷ [];
 }
+
+-- a call to the ship takes the line where somebody asks ashore, and not else; 8 and 9 tell whether it rings, and the tone nothing
+abbrev pub wordsByCalls : Row
+wordsByCalls = record {
+  computed = word (wordsDone (some (from seven duplex)) 1 (deeds ++ callShip 1 (from seven duplex) ∷ []) unused) ∷
+      word (wordsDone (some (from seven duplex)) 1 deeds unused) ∷
+      word (wordsDone none 1 (deeds ++ callShip 1 (from seven duplex) ∷ []) unused) ∷
+      word (wordsDone none 1 (callShip 1 (from seven duplex) ∷ []) calledWord) ∷
+      word (wordsDone (some (from seven duplex)) 1 (callShip 1 (from seven duplex) ∷ []) ringingWord) ∷
+      word (wordsDone none 1 (deeds ++ ringingOn 1 ∷ []) calledWord) ∷ word (wordsDone none 1 (deeds ++ ringingOff 1 ∷ []) ringingWord) ∷
+      word (wordsDone none 1 deeds ringingWord) ∷ word (wordsDone none 1 deeds calledWord) ∷
+      word (wordsDone none 1 (busyTone 1 ∷ carrierOn 1 ∷ carrierOff 1 ∷ acknowledge 1 (from seven duplex) ∷ []) ringingWord) ∷
+      word (wordsDone none 1 (busyTone 1 ∷ carrierOn 1 ∷ carrierOff 1 ∷ acknowledge 1 (from seven duplex) ∷ []) calledWord) ∷
+      word (wordsDone none 1 (releaseLine 1 ∷ []) calledWord) ∷ word (wordsDone none 1 (releaseLine 1 ∷ []) ringingWord) ∷
+      word (wordsDone none 1 (dial 1 usual ∷ []) ringingWord) ∷ word (wordsDone none 1 (ringingOff 1 ∷ []) (worded (since 150) true)) ∷
+      word (wordsDone none 1 (ringingOn 1 ∷ []) unused) ∷ [];
+  expected = (3 ∷ []) ∷ (0 ∷ []) ∷ (0 ∷ []) ∷ (3 ∷ []) ∷ (3 ∷ 8 ∷ []) ∷ (3 ∷ 8 ∷ []) ∷ (3 ∷ []) ∷ (3 ∷ 8 ∷ []) ∷ (3 ∷ []) ∷
+      (3 ∷ 8 ∷ []) ∷ (3 ∷ []) ∷ (0 ∷ []) ∷ (0 ∷ 8 ∷ []) ∷ (1 ∷ 8 ∷ []) ∷ (2 ∷ 150 ∷ []) ∷ (0 ∷ 8 ∷ []) ∷ [];
+}
+
+-- every deed on a slot
+abbrev pub everyDeed : ℕ → List Deed
+everyDeed i = carrierOn i ∷ carrierOff i ∷ acknowledge i (from seven duplex) ∷ callShip i (from seven duplex) ∷ unable 103 party usual ∷
+    dial i usual ∷ releaseLine i ∷ ringingOn i ∷ ringingOff i ∷ busyTone i ∷ []
+
+-- and what it makes of the word of slot 1, where somebody asks ashore or not
+abbrev pub byEach : ℕ → Option Request → Word → List (List ℕ)
+byEach i q v = map (λ d. word (wordsDone q 1 (d ∷ []) v)) (everyDeed i)
+
+abbrev pub wordsByEach : Row
+wordsByEach = record {
+  computed = byEach 1 (some (from seven duplex)) unused ++ byEach 1 (some (from seven duplex)) ringingWord ++
+      byEach 1 none unused ++ byEach 1 none ringingWord ++
+      byEach 0 (some (from seven duplex)) unused ++ byEach 0 (some (from seven duplex)) ringingWord ++
+      byEach 2 (some (from seven duplex)) unused ++ byEach 2 (some (from seven duplex)) ringingWord;
+  expected =
+      ((0 ∷ []) ∷ (0 ∷ []) ∷ (0 ∷ []) ∷ (3 ∷ []) ∷ (0 ∷ []) ∷ (1 ∷ []) ∷ (0 ∷ []) ∷ (0 ∷ 8 ∷ []) ∷ (0 ∷ []) ∷ (0 ∷ []) ∷ []) ++
+      ((3 ∷ 8 ∷ []) ∷ (3 ∷ 8 ∷ []) ∷ (3 ∷ 8 ∷ []) ∷ (3 ∷ 8 ∷ []) ∷ (3 ∷ 8 ∷ []) ∷ (1 ∷ 8 ∷ []) ∷ (0 ∷ 8 ∷ []) ∷ (3 ∷ 8 ∷ []) ∷ (3 ∷ []) ∷
+      (3 ∷ 8 ∷ []) ∷ []) ++
+      ((0 ∷ []) ∷ (0 ∷ []) ∷ (0 ∷ []) ∷ (0 ∷ []) ∷ (0 ∷ []) ∷ (1 ∷ []) ∷ (0 ∷ []) ∷ (0 ∷ 8 ∷ []) ∷ (0 ∷ []) ∷ (0 ∷ []) ∷ []) ++
+      ((3 ∷ 8 ∷ []) ∷ (3 ∷ 8 ∷ []) ∷ (3 ∷ 8 ∷ []) ∷ (3 ∷ 8 ∷ []) ∷ (3 ∷ 8 ∷ []) ∷ (1 ∷ 8 ∷ []) ∷ (0 ∷ 8 ∷ []) ∷ (3 ∷ 8 ∷ []) ∷ (3 ∷ []) ∷
+      (3 ∷ 8 ∷ []) ∷ []) ++
+      replicate 10 (0 ∷ []) ++ replicate 10 (3 ∷ 8 ∷ []) ++ replicate 10 (0 ∷ []) ++ replicate 10 (3 ∷ 8 ∷ []);
+}
+
+-- whether slot 1 rings by each deed alone, by each with a deed after it, and after the entries of a run
+abbrev pub rungByEach : ℕ → List Deed → Bool → List ℕ
+rungByEach i ds b = map (λ d. told (rungsDone 1 (d ∷ ds) b)) (everyDeed i)
+
+abbrev pub rungShown : Row
+rungShown = record {
+  computed = rungByEach 1 [] false ∷ rungByEach 1 [] true ∷ rungByEach 0 [] false ∷ rungByEach 0 [] true ∷ rungByEach 2 [] false ∷
+      rungByEach 2 [] true ∷ rungByEach 1 (ringingOn 1 ∷ []) false ∷ rungByEach 1 (ringingOff 1 ∷ []) true ∷
+      rungByEach 1 (ringingOn 0 ∷ []) false ∷ rungByEach 1 (ringingOff 0 ∷ []) true ∷
+      map (λ n. told (rungAfter 1 (listOf (station 2) (take n bothCalledScript)) false)) (0 ∷ 2 ∷ 5 ∷ 8 ∷ 9 ∷ []) ∷
+      map (λ n. told (rungAfter 0 (listOf (station 2) (take n bothCalledScript)) false)) (0 ∷ 2 ∷ 5 ∷ 8 ∷ 9 ∷ 10 ∷ []) ∷
+      map (λ n. told (rungAfter 1 (listOf (station 2) (take n bothCalledScript)) true)) (0 ∷ 2 ∷ 9 ∷ []) ∷ [];
+  expected = (0 ∷ 0 ∷ 0 ∷ 0 ∷ 0 ∷ 0 ∷ 0 ∷ 1 ∷ 0 ∷ 0 ∷ []) ∷ (1 ∷ 1 ∷ 1 ∷ 1 ∷ 1 ∷ 1 ∷ 1 ∷ 1 ∷ 0 ∷ 1 ∷ []) ∷ replicate 10 0 ∷ replicate 10 1 ∷
+      replicate 10 0 ∷ replicate 10 1 ∷ replicate 10 1 ∷ replicate 10 0 ∷
+      (0 ∷ 0 ∷ 0 ∷ 0 ∷ 0 ∷ 0 ∷ 0 ∷ 1 ∷ 0 ∷ 0 ∷ []) ∷ (1 ∷ 1 ∷ 1 ∷ 1 ∷ 1 ∷ 1 ∷ 1 ∷ 1 ∷ 0 ∷ 1 ∷ []) ∷
+      (0 ∷ 0 ∷ 1 ∷ 1 ∷ 0 ∷ []) ∷
+      (0 ∷ 0 ∷ 0 ∷ 1 ∷ 1 ∷ 0 ∷ []) ∷
+      (1 ∷ 1 ∷ 0 ∷ []) ∷ [];
+}
+
+-- the 8s and 9s on slot 1: of each deed with an 8 after it, of all, in their order; and what is to be given
+abbrev pub switchesShown : Row
+switchesShown = record {
+  computed = map (λ d. map told (ringSwitches 1 (d ∷ []))) (everyDeed 1) ++
+      map (λ d. map told (ringSwitches 1 (d ∷ ringingOn 1 ∷ []))) (everyDeed 1) ++
+      map told (ringSwitches 1 (everyDeed 0 ++ everyDeed 2)) ∷ map told (ringSwitches 1 (everyDeed 1 ++ everyDeed 1)) ∷
+      map told (change false false) ∷ map told (change false true) ∷ map told (change true false) ∷ map told (change true true) ∷ [];
+  expected = replicate 7 [] ++ (1 ∷ []) ∷ (0 ∷ []) ∷ [] ∷ replicate 7 (1 ∷ []) ++ (1 ∷ 1 ∷ []) ∷ (0 ∷ 1 ∷ []) ∷ (1 ∷ []) ∷
+      [] ∷ (1 ∷ 0 ∷ 1 ∷ 0 ∷ []) ∷ [] ∷ (1 ∷ []) ∷ (0 ∷ []) ∷ [] ∷ [];
+}
+
+-- how often the line of slot 1 is released: by each deed, by each with two releases after it
+abbrev pub releasesShown : Row
+releasesShown = record {
+  computed = map (release 1) (everyDeed 1) ∷ map (release 1) (everyDeed 0) ∷ map (release 1) (everyDeed 2) ∷
+      map (λ d. releases 1 (d ∷ releaseLine 1 ∷ releaseLine 0 ∷ releaseLine 1 ∷ [])) (everyDeed 1) ∷ (releases 1 [] ∷ []) ∷ [];
+  expected = (0 ∷ 0 ∷ 0 ∷ 0 ∷ 0 ∷ 0 ∷ 1 ∷ 0 ∷ 0 ∷ 0 ∷ []) ∷ replicate 10 0 ∷ replicate 10 0 ∷
+      (2 ∷ 2 ∷ 2 ∷ 2 ∷ 2 ∷ 2 ∷ 3 ∷ 2 ∷ 2 ∷ 2 ∷ []) ∷ (0 ∷ []) ∷ [];
+}
+
+-- for whom a call from ashore is, ringing or not; a dialled line and an answered one are for nobody; and the columns after some entries
+abbrev pub isForShown : Row
+isForShown = record {
+  computed = map (λ k. told (isFor party k)) (quiet ∷ called (from seven duplex) false ∷ called (from seven simplex) true ∷
+      called (from eight duplex) false ∷ called (from eight duplex) true ∷ dialled party duplex false ∷ dialled party simplex true ∷
+      talking party duplex 300 ∷ talking party simplex 300 ∷ []) ∷
+      map column (columnsAfter (station 2) (listOf (station 2) (take 2 bothCalledScript)));
+  expected = (0 ∷ 1 ∷ 1 ∷ 0 ∷ 0 ∷ 0 ∷ 0 ∷ 0 ∷ 0 ∷ []) ∷
+      (0 ∷ 1 ∷ 151 ∷ 3 ∷ seven ∷ 100 ∷ 126 ∷ 6 ∷ 0 ∷ 0 ∷ []) ∷ (0 ∷ 1 ∷ 161 ∷ 3 ∷ eight ∷ 101 ∷ 126 ∷ 6 ∷ 0 ∷ 0 ∷ []) ∷ [];
+}
+
+-- each word of a line, ringing and not, and as numbers
+abbrev pub lineWords : List Word
+lineWords = ringingWord ∷ calledWord ∷ unused ∷ worded idle true ∷ dialledWord ∷ worded outward true ∷ worded (since 150) false ∷
+    worded (since 150) true ∷ []
+
+abbrev pub wordsAsTheyAre : List (List ℕ)
+wordsAsTheyAre = (3 ∷ 8 ∷ []) ∷ (3 ∷ []) ∷ (0 ∷ []) ∷ (0 ∷ 8 ∷ []) ∷ (1 ∷ []) ∷ (1 ∷ 8 ∷ []) ∷ (2 ∷ 150 ∷ []) ∷ (2 ∷ 150 ∷ 8 ∷ []) ∷ []
 
 -- an off-hook on the slot itself, and on those beside it
 abbrev pub wordsPickedUp : Row
 wordsPickedUp = record {
-  computed = word (wordHeard 1 300 (picksUp 300 1 .what) ringing) ∷ word (wordHeard 1 300 (picksUp 300 0 .what) ringing) ∷
-      word (wordHeard 1 300 (picksUp 300 2 .what) ringing) ∷ [];
+  computed = word (wordHeard 1 300 (picksUp 300 1 .what) dialledWord) ∷ word (wordHeard 1 300 (picksUp 300 0 .what) dialledWord) ∷
+      word (wordHeard 1 300 (picksUp 300 2 .what) dialledWord) ∷ [];
   expected = (2 ∷ 300 ∷ []) ∷ (1 ∷ []) ∷ (1 ∷ []) ∷ [];
+}
+
+-- a carrier up on a line from ashore that rings, on one that does not, on those beside it, on any other line; off-hook on each
+abbrev pub wordsTransmitted : Row
+wordsTransmitted = record {
+  computed = map (λ v. word (wordHeard 1 300 (regains 300 1 .what) v)) lineWords ++
+      map (λ v. word (wordHeard 1 300 (regains 300 0 .what) v)) lineWords ++
+      map (λ v. word (wordHeard 1 300 (regains 300 2 .what) v)) lineWords ++
+      map (λ v. word (wordHeard 1 300 (picksUp 300 1 .what) v)) lineWords ++
+      map (λ v. word (wordHeard 1 300 (loses 300 1 .what) v)) lineWords ++
+      map (λ v. word (wordHeard 1 300 (hangs 300 1 .what) v)) lineWords ++
+      map (λ v. word (wordHeard 1 300 (dialsOut 300 1 .what) v)) lineWords ++
+      map (λ v. word (wordHeard 1 300 (shoreCalls 300 seven duplex .what) v)) lineWords;
+  expected = ((2 ∷ 300 ∷ 8 ∷ []) ∷ (3 ∷ []) ∷ (0 ∷ []) ∷ (0 ∷ 8 ∷ []) ∷ (1 ∷ []) ∷ (1 ∷ 8 ∷ []) ∷ (2 ∷ 150 ∷ []) ∷
+      (2 ∷ 150 ∷ 8 ∷ []) ∷ []) ++
+      wordsAsTheyAre ++ wordsAsTheyAre ++
+      ((3 ∷ 8 ∷ []) ∷ (3 ∷ []) ∷ (0 ∷ []) ∷ (0 ∷ 8 ∷ []) ∷ (2 ∷ 300 ∷ []) ∷ (2 ∷ 300 ∷ 8 ∷ []) ∷ (2 ∷ 150 ∷ []) ∷
+      (2 ∷ 150 ∷ 8 ∷ []) ∷ []) ++
+      wordsAsTheyAre ++ wordsAsTheyAre ++ wordsAsTheyAre ++ wordsAsTheyAre;
 }
 
 -- the words of both slots after a whole list
 abbrev pub wordsAtOnce : Row
 wordsAtOnce = record {
-  computed = word (wordAfter 0 (listOf (station 2) (take 8 twoCalls)) idle) ∷
-      word (wordAfter 1 (listOf (station 2) (take 8 twoCalls)) idle) ∷ [];
+  computed = word (wordAfter (station 2) 0 (listOf (station 2) (take 8 twoCalls)) unused) ∷
+      word (wordAfter (station 2) 1 (listOf (station 2) (take 8 twoCalls)) unused) ∷ [];
   expected = (2 ∷ 130 ∷ []) ∷ (2 ∷ 140 ∷ []) ∷ [];
 }
 
@@ -649,12 +1010,145 @@ diallingAlone = record {
       (1 ∷ seven ∷ 101 ∷ 126 ∷ 7 ∷ 0 ∷ 0 ∷ 0 ∷ []) ∷ [];
 }
 
+-- a line from ashore on which nothing has changed
+abbrev pub callsStill : List ℕ
+callsStill = 0 ∷ 1 ∷ 5000 ∷ 3 ∷ seven ∷ 100 ∷ 126 ∷ 7 ∷ 0 ∷ 1 ∷ 6000 ∷ []
+
+abbrev pub ringsStill : List ℕ
+ringsStill = 0 ∷ 1 ∷ 5000 ∷ 3 ∷ seven ∷ 100 ∷ 126 ∷ 7 ∷ 1 ∷ 1 ∷ 6000 ∷ []
+
+-- a call from ashore to seven, before it rings and while it rings
+abbrev pub callsSeven : Call
+callsSeven = called (from seven simplex) false
+
+abbrev pub ringsSeven : Call
+ringsSeven = called (from seven simplex) true
+
+-- the column after a deed of an entry in which somebody asks ashore
+abbrev pub afterShore : Deed → Book → List ℕ
+afterShore d b = getD (map column (turn (station 1) b (record { event = shoreCalls 200 seven duplex; deeds = d ∷ [] }) .columns)) 0 []
+
+-- the column of a ringing line after a deed with the line's release after it
+abbrev pub afterBehind : Deed → List ℕ
+afterBehind d =
+    getD
+    (map column
+    (turn (station 1) (filled silent ringsSeven) (record { event = ticks 200; deeds = d ∷ releaseLine 0 ∷ [] }) .columns)) 0 []
+
+-- what happens on a line from ashore: the ship's first BQ rings, its first carrier up then answers; a carrier up is present, and nothing
+-- else changes it
+abbrev pub shoreAlone : Row
+shoreAlone = record {
+  computed =
+      afterEvent (accepts 200 26 seven) (filled silent callsSeven) ∷
+      afterEvent (acceptsIn simplex 200 26 seven) (filled silent callsSeven) ∷
+      afterEvent (accepts 200 26 eight) (filled silent callsSeven) ∷ afterEvent (accepts 200 26 seven) (filled silent ringsSeven) ∷
+      afterEvent (regains 200 0) (filled silent callsSeven) ∷ afterEvent (regains 200 0) (filled silent ringsSeven) ∷
+      afterEvent (regains 200 0) (filled (toldBQ (from eight duplex)) ringsSeven) ∷
+      afterEvent (loses 200 0) (heardWell silent callsSeven) ∷ afterEvent (loses 200 0) (heardWell silent ringsSeven) ∷
+      afterEvent (picksUp 200 0) (filled silent callsSeven) ∷ afterEvent (picksUp 200 0) (filled silent ringsSeven) ∷
+      afterEvent (dialsOut 200 0) (filled silent callsSeven) ∷ afterEvent (dialsOut 200 0) (filled silent ringsSeven) ∷
+      afterEvent (hangs 200 0) (filled silent callsSeven) ∷ afterEvent (hangs 200 0) (filled silent ringsSeven) ∷
+      afterEvent (ends 200 0 seven) (filled silent callsSeven) ∷ afterEvent (ends 200 0 seven) (filled silent ringsSeven) ∷
+      afterEvent (calls 200 seven simplex) (filled silent callsSeven) ∷ afterEvent (calls 200 seven simplex) (filled silent ringsSeven) ∷
+      afterEvent (declines 200 seven) (filled silent callsSeven) ∷ afterEvent (declines 200 seven) (filled silent ringsSeven) ∷
+      afterEvent (dataCalls 200 seven) (filled silent ringsSeven) ∷ afterEvent (shoreCalls 200 seven duplex) (filled silent ringsSeven) ∷
+      afterEvent (ticks 5000) (filled silent callsSeven) ∷ afterEvent (ticks 5000) (filled silent ringsSeven) ∷
+      afterEvent (accepts 200 26 seven) (filled (toldBQ (from eight duplex)) callsSeven) ∷
+      afterEvent (regains 200 0) (filled silent quiet) ∷ afterEvent (accepts 200 26 seven) (filled silent quiet) ∷ [];
+  expected =
+      (0 ∷ 1 ∷ 801 ∷ 3 ∷ seven ∷ 100 ∷ 126 ∷ 7 ∷ 1 ∷ 1 ∷ 6000 ∷ []) ∷ (0 ∷ 1 ∷ 801 ∷ 3 ∷ seven ∷ 100 ∷ 126 ∷ 7 ∷ 1 ∷ 1 ∷ 6000 ∷ []) ∷
+      callsStill ∷ ringsStill ∷
+      (0 ∷ 1 ∷ 5000 ∷ 3 ∷ seven ∷ 100 ∷ 126 ∷ 7 ∷ 0 ∷ 0 ∷ []) ∷ (0 ∷ 0 ∷ 2 ∷ seven ∷ 100 ∷ 200 ∷ 0 ∷ []) ∷
+      (1 ∷ eight ∷ 101 ∷ 126 ∷ 7 ∷ 0 ∷ 2 ∷ seven ∷ 100 ∷ 200 ∷ 0 ∷ []) ∷
+      (0 ∷ 1 ∷ 5000 ∷ 3 ∷ seven ∷ 100 ∷ 126 ∷ 7 ∷ 0 ∷ 0 ∷ []) ∷ (0 ∷ 1 ∷ 5000 ∷ 3 ∷ seven ∷ 100 ∷ 126 ∷ 7 ∷ 1 ∷ 0 ∷ []) ∷
+      callsStill ∷ ringsStill ∷ callsStill ∷ ringsStill ∷ callsStill ∷ ringsStill ∷ callsStill ∷ ringsStill ∷ callsStill ∷ ringsStill ∷
+      callsStill ∷ ringsStill ∷ ringsStill ∷ ringsStill ∷
+      (0 ∷ 0 ∷ 3 ∷ seven ∷ 100 ∷ 126 ∷ 7 ∷ 0 ∷ 1 ∷ 6000 ∷ []) ∷ (0 ∷ 0 ∷ 3 ∷ seven ∷ 100 ∷ 126 ∷ 7 ∷ 1 ∷ 1 ∷ 6000 ∷ []) ∷
+      (1 ∷ eight ∷ 101 ∷ 126 ∷ 7 ∷ 1 ∷ 801 ∷ 3 ∷ seven ∷ 100 ∷ 126 ∷ 7 ∷ 1 ∷ 1 ∷ 6000 ∷ []) ∷
+      (0 ∷ 1 ∷ 5000 ∷ 0 ∷ 0 ∷ []) ∷ (0 ∷ 1 ∷ 5000 ∷ 0 ∷ 1 ∷ 6000 ∷ []) ∷ [];
+}
+
+-- a call to the ship takes the line where somebody asks ashore; else it is the call once more, or a ring-back; release ends it; ringing
+-- and tone say nothing
+abbrev pub shoreDeeds : Row
+shoreDeeds = record {
+  computed =
+      afterShore (callShip 0 (from nine duplex)) (filled (toldBQ (from seven duplex)) quiet) ∷
+      afterShore (callShip 0 (from nine duplex)) (filled silent callsSeven) ∷
+      afterShore (callShip 0 (from nine duplex)) (filled silent ringsSeven) ∷
+      afterShore (callShip 0 (from nine duplex)) (filled silent ringsEight) ∷
+      afterShore (callShip 0 (from nine duplex)) (filled silent (dialled (from eight duplex .who) duplex false)) ∷
+      afterShore (callShip 0 (from nine duplex)) (filled silent ringsOut) ∷
+      afterShore (callShip 0 (from nine duplex)) (filled silent ringsOutDuplex) ∷
+      afterShore (callShip 0 (from nine duplex)) (filled silent talksEight) ∷
+      afterShore (callShip 0 (from nine duplex)) (filled silent (talking (from eight simplex .who) simplex 150)) ∷
+      afterDeed (callShip 0 (from nine duplex)) (filled (toldBQ (from seven duplex)) quiet) ∷
+      afterDeed (callShip 0 (from nine duplex)) (filled (toldBQ (from seven duplex)) callsSeven) ∷
+      afterDeed (callShip 0 (from nine duplex)) (filled silent ringsSeven) ∷
+      afterDeed (callShip 0 (from nine duplex)) (filled silent (dialled (from eight duplex .who) duplex false)) ∷
+      afterDeed (callShip 0 (from nine duplex)) (filled silent ringsOut) ∷
+      afterDeed (callShip 0 (from nine duplex)) (filled silent ringsOutDuplex) ∷
+      afterDeed (callShip 0 (from nine duplex)) (filled silent talksEight) ∷
+      afterDeed (callShip 0 (from nine duplex)) (filled silent (talking (from eight simplex .who) simplex 150)) ∷
+      afterDeed (releaseLine 0) (filled silent callsSeven) ∷ afterDeed (releaseLine 0) (filled silent ringsSeven) ∷
+      afterDeed (releaseLine 0) (filled (toldBQ (from eight duplex)) ringsSeven) ∷
+      afterDeed (ringingOn 0) (filled silent callsSeven) ∷ afterDeed (ringingOff 0) (filled silent ringsSeven) ∷
+      afterDeed (busyTone 0) (filled silent ringsSeven) ∷ afterDeed (carrierOff 0) (filled silent ringsSeven) ∷
+      afterDeed (carrierOn 0) (filled silent callsSeven) ∷
+      afterDeed (dial 0 usual) (filled (toldBQ (from eight duplex)) callsSeven) ∷
+      afterDeed (dial 0 usual) (filled (toldBQ (from eight duplex)) ringsSeven) ∷
+      afterDeed (acknowledge 0 (from eight duplex)) (filled silent ringsSeven) ∷ [];
+  expected =
+      (0 ∷ 1 ∷ 251 ∷ 3 ∷ nine ∷ 101 ∷ 126 ∷ 7 ∷ 0 ∷ 0 ∷ []) ∷ (0 ∷ 1 ∷ 251 ∷ 3 ∷ nine ∷ 101 ∷ 126 ∷ 7 ∷ 0 ∷ 0 ∷ []) ∷
+      (0 ∷ 1 ∷ 251 ∷ 3 ∷ nine ∷ 101 ∷ 126 ∷ 7 ∷ 1 ∷ 0 ∷ []) ∷ (0 ∷ 1 ∷ 251 ∷ 3 ∷ nine ∷ 101 ∷ 126 ∷ 7 ∷ 0 ∷ 0 ∷ []) ∷
+      (0 ∷ 1 ∷ 251 ∷ 3 ∷ nine ∷ 101 ∷ 126 ∷ 7 ∷ 0 ∷ 0 ∷ []) ∷ (0 ∷ 1 ∷ 251 ∷ 3 ∷ nine ∷ 101 ∷ 126 ∷ 7 ∷ 0 ∷ 0 ∷ []) ∷
+      (0 ∷ 1 ∷ 251 ∷ 3 ∷ nine ∷ 101 ∷ 126 ∷ 7 ∷ 0 ∷ 0 ∷ []) ∷
+      (0 ∷ 1 ∷ 251 ∷ 2 ∷ eight ∷ 101 ∷ 150 ∷ 0 ∷ []) ∷ (0 ∷ 1 ∷ 251 ∷ 2 ∷ eight ∷ 100 ∷ 150 ∷ 0 ∷ []) ∷
+      (2 ∷ nine ∷ 101 ∷ 126 ∷ 7 ∷ 1 ∷ 251 ∷ 0 ∷ 1 ∷ 6000 ∷ []) ∷
+      (0 ∷ 1 ∷ 251 ∷ 3 ∷ nine ∷ 101 ∷ 126 ∷ 7 ∷ 0 ∷ 0 ∷ []) ∷ (0 ∷ 1 ∷ 251 ∷ 3 ∷ nine ∷ 101 ∷ 126 ∷ 7 ∷ 1 ∷ 0 ∷ []) ∷
+      (2 ∷ nine ∷ 101 ∷ 126 ∷ 7 ∷ 1 ∷ 251 ∷ 1 ∷ eight ∷ 101 ∷ 0 ∷ 1 ∷ 6000 ∷ []) ∷
+      (2 ∷ nine ∷ 101 ∷ 126 ∷ 7 ∷ 1 ∷ 251 ∷ 1 ∷ eight ∷ 100 ∷ 1 ∷ 1 ∷ 6000 ∷ []) ∷
+      (2 ∷ nine ∷ 101 ∷ 126 ∷ 7 ∷ 1 ∷ 251 ∷ 1 ∷ eight ∷ 101 ∷ 1 ∷ 1 ∷ 6000 ∷ []) ∷
+      (2 ∷ nine ∷ 101 ∷ 126 ∷ 7 ∷ 1 ∷ 251 ∷ 2 ∷ eight ∷ 101 ∷ 150 ∷ 1 ∷ 6000 ∷ []) ∷
+      (2 ∷ nine ∷ 101 ∷ 126 ∷ 7 ∷ 1 ∷ 251 ∷ 2 ∷ eight ∷ 100 ∷ 150 ∷ 1 ∷ 6000 ∷ []) ∷
+      still ∷ still ∷ (1 ∷ eight ∷ 101 ∷ 126 ∷ 7 ∷ 0 ∷ 0 ∷ 0 ∷ []) ∷
+      callsStill ∷ ringsStill ∷ ringsStill ∷ ringsStill ∷ callsStill ∷
+      (0 ∷ 1 ∷ 801 ∷ 1 ∷ eight ∷ 101 ∷ 0 ∷ 0 ∷ []) ∷ (0 ∷ 1 ∷ 801 ∷ 1 ∷ eight ∷ 101 ∷ 0 ∷ 0 ∷ []) ∷
+      (1 ∷ eight ∷ 101 ∷ 126 ∷ 7 ∷ 1 ∷ 361 ∷ 3 ∷ seven ∷ 100 ∷ 126 ∷ 7 ∷ 1 ∷ 1 ∷ 6000 ∷ []) ∷ [];
+}
+
+-- every other deed of such an entry says what it says in any; what comes after a ringing deed is read
+abbrev pub shoreOthers : Row
+shoreOthers = record {
+  computed =
+      afterShore (carrierOn 0) (filled (toldBQ (from seven duplex)) ringsEight) ∷
+      afterShore (carrierOff 0) (filled (toldBQ (from seven duplex)) ringsEight) ∷
+      afterShore (acknowledge 0 (from nine duplex)) (filled (toldBQ (from seven duplex)) ringsEight) ∷
+      afterShore (dial 0 usual) (filled (toldBQ (from seven duplex)) ringsEight) ∷
+      afterShore (releaseLine 0) (filled (toldBQ (from seven duplex)) ringsEight) ∷
+      afterShore (ringingOn 0) (filled (toldBQ (from seven duplex)) ringsEight) ∷
+      afterShore (ringingOff 0) (filled (toldBQ (from seven duplex)) ringsEight) ∷
+      afterShore (busyTone 0) (filled (toldBQ (from seven duplex)) ringsEight) ∷
+      afterBehind (ringingOn 0) ∷ afterBehind (ringingOff 0) ∷ afterBehind (busyTone 0) ∷ [];
+  expected =
+      (1 ∷ seven ∷ 101 ∷ 126 ∷ 7 ∷ 1 ∷ 5000 ∷ 1 ∷ eight ∷ 100 ∷ 0 ∷ 1 ∷ 6000 ∷ []) ∷
+      (0 ∷ 1 ∷ 5000 ∷ 1 ∷ eight ∷ 100 ∷ 0 ∷ 1 ∷ 6000 ∷ []) ∷
+      (1 ∷ nine ∷ 101 ∷ 126 ∷ 7 ∷ 1 ∷ 361 ∷ 1 ∷ eight ∷ 100 ∷ 0 ∷ 1 ∷ 6000 ∷ []) ∷
+      (0 ∷ 1 ∷ 801 ∷ 1 ∷ seven ∷ 101 ∷ 0 ∷ 0 ∷ []) ∷
+      (1 ∷ seven ∷ 101 ∷ 126 ∷ 7 ∷ 0 ∷ 0 ∷ 0 ∷ []) ∷
+      (1 ∷ seven ∷ 101 ∷ 126 ∷ 7 ∷ 1 ∷ 5000 ∷ 1 ∷ eight ∷ 100 ∷ 0 ∷ 1 ∷ 6000 ∷ []) ∷
+      (1 ∷ seven ∷ 101 ∷ 126 ∷ 7 ∷ 1 ∷ 5000 ∷ 1 ∷ eight ∷ 100 ∷ 0 ∷ 1 ∷ 6000 ∷ []) ∷
+      (1 ∷ seven ∷ 101 ∷ 126 ∷ 7 ∷ 1 ∷ 5000 ∷ 1 ∷ eight ∷ 100 ∷ 0 ∷ 1 ∷ 6000 ∷ []) ∷
+      still ∷ still ∷ still ∷ [];
+}
+
 -- so does a deed
 abbrev pub deedsAlone : Row
 deedsAlone = record {
   computed =
       afterDeed (acknowledge 0 (from nine duplex)) (filled (toldBQ (from seven duplex)) ringsEight) ∷
-      afterDeed (ringBack 0 (from nine duplex)) (filled (toldBQ (from seven duplex)) ringsEight) ∷
+      afterDeed (callShip 0 (from nine duplex)) (filled (toldBQ (from seven duplex)) ringsEight) ∷
       afterDeed (carrierOff 0) (filled (toldBQ (from seven duplex)) ringsEight) ∷
       afterDeed (carrierOn 0) (filled (toldBQ (from seven duplex)) ringsEight) ∷
       afterDeed (dial 0 usual) (filled (toldBQ (from seven duplex)) ringsEight) ∷
@@ -678,11 +1172,12 @@ deedsAlone = record {
       (1 ∷ seven ∷ 101 ∷ 126 ∷ 7 ∷ 1 ∷ 5000 ∷ 2 ∷ eight ∷ 100 ∷ 150 ∷ 1 ∷ 6000 ∷ []) ∷ [];
 }
 
--- of the three words too: dial on a slot that rings or talks, on-hook on one that rings
+-- of the line's words too: dial on a slot that is dialled or talks, on-hook on one that is dialled
 abbrev pub wordsAlone : Row
 wordsAlone = record {
-  computed = word (wordsDone 1 (dial 1 usual ∷ []) ringing) ∷ word (wordsDone 1 (dial 1 usual ∷ []) (since 150)) ∷
-      word (wordHeard 1 300 (hangs 300 1 .what) ringing) ∷ [];
+  computed = word (wordsDone none 1 (dial 1 usual ∷ []) dialledWord) ∷
+      word (wordsDone none 1 (dial 1 usual ∷ []) (worded (since 150) false)) ∷
+      word (wordHeard 1 300 (hangs 300 1 .what) dialledWord) ∷ [];
   expected = (1 ∷ []) ∷ (1 ∷ []) ∷ (1 ∷ []) ∷ [];
 }
 
@@ -699,8 +1194,9 @@ toldToWaitShown = record {
 abbrev pub switchedOnShown : Row
 switchedOnShown = record {
   computed = map (λ d. due (switchedOn d)) (carrierOn 1 ∷ carrierOff 1 ∷ acknowledge 1 (from seven duplex) ∷
-      ringBack 1 (from seven duplex) ∷ unable 103 party usual ∷ dial 1 usual ∷ releaseLine 1 ∷ []);
-  expected = (1 ∷ 1 ∷ []) ∷ (0 ∷ []) ∷ (0 ∷ []) ∷ (0 ∷ []) ∷ (0 ∷ []) ∷ (0 ∷ []) ∷ (0 ∷ []) ∷ [];
+      callShip 1 (from seven duplex) ∷ unable 103 party usual ∷ dial 1 usual ∷ releaseLine 1 ∷ ringingOn 1 ∷ ringingOff 1 ∷
+      busyTone 1 ∷ []);
+  expected = (1 ∷ 1 ∷ []) ∷ (0 ∷ []) ∷ (0 ∷ []) ∷ (0 ∷ []) ∷ (0 ∷ []) ∷ (0 ∷ []) ∷ (0 ∷ []) ∷ (0 ∷ []) ∷ (0 ∷ []) ∷ (0 ∷ []) ∷ [];
 }
 
 -- what is heard, as numbers
@@ -710,15 +1206,15 @@ heardShown (dataRequest x n) = 2 ∷ x .ship ∷ []
 heardShown (bq i x) = 3 ∷ i ∷ x .ship ∷ []
 heardShown (workingCall x) = 4 ∷ x .ship ∷ []
 heardShown (endOfCall x) = 5 ∷ x .ship ∷ []
+heardShown (declined x) = 6 ∷ x .ship ∷ []
 heardShown nothing = 0 ∷ []
 
 -- what a ship was last told to wait with, whatever was heard before
 abbrev pub lastAskedShown : Row
 lastAskedShown = record {
   computed = map (λ o. heardShown (lastAsked (station 1) party o (listOf (station 1) (take 2 inQueue)))) (nothing ∷
-      callRequest (from eight duplex) ∷ dataRequest party usual ∷ bq 0 party ∷ workingCall party ∷ endOfCall party ∷ []);
-  expected = (1 ∷ seven ∷ 101 ∷ 126 ∷ 7 ∷ []) ∷ (1 ∷ seven ∷ 101 ∷ 126 ∷ 7 ∷ []) ∷ (1 ∷ seven ∷ 101 ∷ 126 ∷ 7 ∷ []) ∷ (1 ∷ seven ∷
-      101 ∷ 126 ∷ 7 ∷ []) ∷ (1 ∷ seven ∷ 101 ∷ 126 ∷ 7 ∷ []) ∷ (1 ∷ seven ∷ 101 ∷ 126 ∷ 7 ∷ []) ∷ [];
+      callRequest (from eight duplex) ∷ dataRequest party usual ∷ bq 0 party ∷ workingCall party ∷ endOfCall party ∷ declined party ∷ []);
+  expected = replicate 7 (1 ∷ seven ∷ 101 ∷ 126 ∷ 7 ∷ []);
 }
 
 -- a ship that was not told to wait
@@ -731,16 +1227,17 @@ lastAskedNever = record {
 
 -- a charge behind every other action is found, and the deeds alone are
 abbrev pub given : List Action
-given = does (carrierOn 0) ∷ does (carrierOff 0) ∷ does (acknowledge 0 (from seven duplex)) ∷ does (ringBack 0 (from seven duplex)) ∷
-    does (unable 103 party usual) ∷ does (dial 0 usual) ∷ does (releaseLine 0) ∷ over 0 theShip party usual Nothing ∷
+given = does (carrierOn 0) ∷ does (carrierOff 0) ∷ does (acknowledge 0 (from seven duplex)) ∷ does (callShip 0 (from seven duplex)) ∷
+    does (unable 103 party usual) ∷ does (dial 0 usual) ∷ does (releaseLine 0) ∷ does (ringingOn 0) ∷ does (ringingOff 0) ∷
+    does (busyTone 0) ∷ over 0 theShip party usual Nothing ∷
     charge (paid 0 0 seven 1 2 3 .it) ∷
     does (dial 1 usual) ∷ []
 
--- one charge, eight deeds
+-- one charge, eleven deeds
 abbrev pub chargesFound : Row
 chargesFound = record {
   computed = (length (chargesOf given) ∷ length (deedsOf given) ∷ []) ∷ [];
-  expected = (1 ∷ 8 ∷ []) ∷ [];
+  expected = (1 ∷ 11 ∷ []) ∷ [];
 }
 
 -- a ship that is told 104/102 does not wait
@@ -785,11 +1282,14 @@ alikeShown = record {
 abbrev pub pageCases : List Row
 pageCases =
     onSecondPages ∷ onSecondWords ∷ onSecondTenths ∷ againPages ∷ againWords ∷ againTenths ∷ dialledPages ∷ dialledWords ∷
-    dialledTenths ∷ inQueuePages ∷ inQueueWords ∷ inQueueTenths ∷ twoCallsPages ∷ twoCallsWords ∷ twoCallsWordsOfFirst ∷
+    dialledTenths ∷ calledPages ∷ calledWords ∷ calledTenths ∷ calledAgainPages ∷ calledAgainWords ∷ calledAgainTenths ∷
+    bothCalledPages ∷ bothCalledWords ∷ bothCalledWordsOfFirst ∷ bothCalledTenths ∷ wordsByCalls ∷ wordsTransmitted ∷ shoreAlone ∷
+    shoreDeeds ∷ shoreOthers ∷ wordsByEach ∷ calledOnly ∷ rungShown ∷ switchesShown ∷ releasesShown ∷ isForShown ∷
+    inQueuePages ∷ inQueueWords ∷ inQueueTenths ∷ twoCallsPages ∷ twoCallsWords ∷ twoCallsWordsOfFirst ∷
     twoCallsTenths ∷ onThirdPages ∷ onThirdWords ∷ onThirdTenths ∷ dialledOnly ∷ unchargedShown ∷ stopsNumbered ∷
     eventsShown ∷ wordsByDeeds ∷ wordsPickedUp ∷ wordsAtOnce ∷ eventsAlone ∷ diallingAlone ∷ deedsAlone ∷ wordsAlone ∷
     toldToWaitShown ∷ switchedOnShown ∷ lastAskedShown ∷ lastAskedNever ∷ chargesFound ∷ talkingOn ∷ wordsOf ∷ blankPage ∷
     told102 ∷ sameShown ∷ alikeShown ∷ []
 
 abbrev pub pageRuns : List Run
-pageRuns = onSecondRun ∷ againRun ∷ dialledRun ∷ inQueueRun ∷ twoCallsRun ∷ onThirdRun ∷ []
+pageRuns = onSecondRun ∷ againRun ∷ dialledRun ∷ calledRun ∷ calledAgainRun ∷ bothCalledRun ∷ inQueueRun ∷ twoCallsRun ∷ onThirdRun ∷ []

@@ -4,6 +4,7 @@ pub mod Cases
 pub mod Scripts
 pub mod RequestCases
 pub mod CallCases
+pub mod AshoreCases
 pub mod RefusalCases
 pub mod SoundCases
 pub mod Phases

@@ -6,14 +6,15 @@ use Rattle.units.specs.declared.Told.the-variants.{Nothing}
 use Rattle.sequence.specs.declared.Field.the-variants.{Blank, Channel}
 use Rattle.rules.specs.Rules.Words.{simplex, duplex, Request, heard, diallingEnded, offHook, onHook, carrierUp, carrierDown}
 use Rattle.rules.specs.Rules.Words.{takes, givesBack, What, tick, onChannel70, onSlot, Event}
-use Rattle.rules.specs.Rules.Station.{offered, firstRing, secondRing, acknowledged, dialling, dialledOut, answered}
+use Rattle.rules.specs.Rules.Station.{offered, firstRing, secondRing, acknowledged, firstCall, secondCall, ringing}
+use Rattle.rules.specs.Rules.Station.{dialling, dialledOut, answered}
 use Rattle.rules.specs.Rules.Station.{Slot, free, taken, Waiting, Station}
 use Rattle.rules.specs.Rules.Slots.{pending, busy, held}
 use Rattle.rules.specs.Rules.Requests.{Out}
 use Rattle.rules.specs.Rules.Verdict.{step}
 use Rattle.rules.specs.Rules.Bytes.{kindNumber}
 use Rattle.rules.specs.Rules.Printed.{lines}
-use Rattle.rules.specs.Tables.Runs.{channel, station, seven, eight, sends, at, usual}
+use Rattle.rules.specs.Tables.Runs.{channel, station, seven, eight, sends, at, usual, declines, shoreCalls}
 use Rattle.rules.specs.Tables.SoundCases.{from}
 
 -- the answer, and the kinds of the actions
@@ -70,6 +71,14 @@ happenings =
     ∷ onChannel70 (sends eight 101 122 (Channel (channel 26)) usual)
     -- a sequence that is none of these
     ∷ onSlot 0 (heard (sends seven 104 122 Blank usual))
+    -- its BQ with 104
+    ∷ declines 1000 seven .what
+    -- another ship's BQ with 104
+    ∷ declines 1000 eight .what
+    -- a call from ashore to it
+    ∷ shoreCalls 1000 seven duplex .what
+    -- to another ship
+    ∷ shoreCalls 1000 eight duplex .what
     ∷ []
 
 -- what the tick gives at which the slot's wait is due, and then each of them
@@ -80,9 +89,10 @@ pub record Phase : Type 0 where
   pub slot : Slot
   pub gives : List (List ℕ)
 
--- on five lines: the tick, the ship's working call and end; the five signals; the operator's hand; its request, BQ and data;
--- another ship's three, and none of these.
--- 0 done, 1 ignored, 35 refused; then 1 carrier on, 2 carrier off, 3 channel 70, 4 working channel, 5 dial, 6 release, 7 charge
+-- on six lines: the tick, the ship's working call and end; the five signals; the operator's hand; its request, BQ and data;
+-- another ship's three, and none of these; the two BQs with 104, the two calls from ashore.
+-- 0 done, 1 ignored, 35, 37 and 38 refused; then 1 carrier on, 2 carrier off, 3 channel 70, 4 working channel, 5 dial, 6 release, 7 charge,
+-- 8 ringing on, 9 ringing off, 10 the tone
 abbrev pub phases : List Phase
 phases =
     -- free
@@ -92,7 +102,8 @@ phases =
           ∷ (1 ∷ []) ∷ (1 ∷ []) ∷ (1 ∷ []) ∷ (1 ∷ []) ∷ (1 ∷ [])
           ∷ (0 ∷ []) ∷ (35 ∷ [])
           ∷ (0 ∷ 1 ∷ 3 ∷ []) ∷ (1 ∷ []) ∷ (0 ∷ 3 ∷ [])
-          ∷ (1 ∷ []) ∷ (1 ∷ []) ∷ (1 ∷ []) ∷ (1 ∷ []) ∷ [];
+          ∷ (1 ∷ []) ∷ (1 ∷ []) ∷ (1 ∷ []) ∷ (1 ∷ [])
+          ∷ (1 ∷ []) ∷ (1 ∷ []) ∷ (0 ∷ 1 ∷ 3 ∷ []) ∷ (0 ∷ 1 ∷ 3 ∷ []) ∷ [];
     }
     -- taken
     ∷ record {
@@ -101,7 +112,8 @@ phases =
           ∷ (1 ∷ []) ∷ (1 ∷ []) ∷ (1 ∷ []) ∷ (1 ∷ []) ∷ (1 ∷ [])
           ∷ (35 ∷ []) ∷ (0 ∷ [])
           ∷ (0 ∷ 3 ∷ []) ∷ (1 ∷ []) ∷ (0 ∷ 3 ∷ [])
-          ∷ (1 ∷ []) ∷ (1 ∷ []) ∷ (1 ∷ []) ∷ (1 ∷ []) ∷ [];
+          ∷ (1 ∷ []) ∷ (1 ∷ []) ∷ (1 ∷ []) ∷ (1 ∷ [])
+          ∷ (1 ∷ []) ∷ (1 ∷ []) ∷ (37 ∷ []) ∷ (37 ∷ []) ∷ [];
     }
     -- offered
     ∷ record {
@@ -110,7 +122,8 @@ phases =
           ∷ (1 ∷ []) ∷ (1 ∷ []) ∷ (1 ∷ []) ∷ (1 ∷ []) ∷ (1 ∷ [])
           ∷ (35 ∷ []) ∷ (35 ∷ [])
           ∷ (0 ∷ 3 ∷ []) ∷ (1 ∷ []) ∷ (0 ∷ 3 ∷ [])
-          ∷ (1 ∷ []) ∷ (1 ∷ []) ∷ (1 ∷ []) ∷ (1 ∷ []) ∷ [];
+          ∷ (1 ∷ []) ∷ (1 ∷ []) ∷ (1 ∷ []) ∷ (1 ∷ [])
+          ∷ (1 ∷ []) ∷ (1 ∷ []) ∷ (38 ∷ []) ∷ (37 ∷ []) ∷ [];
     }
     -- in ring-back
     ∷ record {
@@ -119,7 +132,8 @@ phases =
           ∷ (1 ∷ []) ∷ (1 ∷ []) ∷ (1 ∷ []) ∷ (1 ∷ []) ∷ (1 ∷ [])
           ∷ (35 ∷ []) ∷ (35 ∷ [])
           ∷ (0 ∷ 3 ∷ []) ∷ (0 ∷ []) ∷ (0 ∷ 3 ∷ [])
-          ∷ (1 ∷ []) ∷ (1 ∷ []) ∷ (1 ∷ []) ∷ (1 ∷ []) ∷ [];
+          ∷ (1 ∷ []) ∷ (1 ∷ []) ∷ (1 ∷ []) ∷ (1 ∷ [])
+          ∷ (1 ∷ []) ∷ (1 ∷ []) ∷ (38 ∷ []) ∷ (37 ∷ []) ∷ [];
     }
     -- in ring-back, sent again
     ∷ record {
@@ -128,7 +142,8 @@ phases =
           ∷ (1 ∷ []) ∷ (1 ∷ []) ∷ (1 ∷ []) ∷ (1 ∷ []) ∷ (1 ∷ [])
           ∷ (35 ∷ []) ∷ (35 ∷ [])
           ∷ (0 ∷ 3 ∷ []) ∷ (0 ∷ []) ∷ (0 ∷ 3 ∷ [])
-          ∷ (1 ∷ []) ∷ (1 ∷ []) ∷ (1 ∷ []) ∷ (1 ∷ []) ∷ [];
+          ∷ (1 ∷ []) ∷ (1 ∷ []) ∷ (1 ∷ []) ∷ (1 ∷ [])
+          ∷ (1 ∷ []) ∷ (1 ∷ []) ∷ (38 ∷ []) ∷ (37 ∷ []) ∷ [];
     }
     -- acknowledged
     ∷ record {
@@ -137,7 +152,38 @@ phases =
           ∷ (1 ∷ []) ∷ (1 ∷ []) ∷ (1 ∷ []) ∷ (1 ∷ []) ∷ (1 ∷ [])
           ∷ (35 ∷ []) ∷ (35 ∷ [])
           ∷ (0 ∷ 3 ∷ []) ∷ (1 ∷ []) ∷ (0 ∷ 3 ∷ [])
-          ∷ (1 ∷ []) ∷ (1 ∷ []) ∷ (1 ∷ []) ∷ (1 ∷ []) ∷ [];
+          ∷ (1 ∷ []) ∷ (1 ∷ []) ∷ (1 ∷ []) ∷ (1 ∷ [])
+          ∷ (1 ∷ []) ∷ (1 ∷ []) ∷ (38 ∷ []) ∷ (37 ∷ []) ∷ [];
+    }
+    -- called from ashore
+    ∷ record {
+      slot = pending firstCall asked 1020;
+      gives = (0 ∷ 3 ∷ []) ∷ (1 ∷ []) ∷ (1 ∷ [])
+          ∷ (1 ∷ []) ∷ (1 ∷ []) ∷ (0 ∷ 2 ∷ 6 ∷ []) ∷ (1 ∷ []) ∷ (1 ∷ [])
+          ∷ (35 ∷ []) ∷ (35 ∷ [])
+          ∷ (1 ∷ []) ∷ (0 ∷ 8 ∷ []) ∷ (1 ∷ [])
+          ∷ (1 ∷ []) ∷ (1 ∷ []) ∷ (1 ∷ []) ∷ (1 ∷ [])
+          ∷ (0 ∷ 2 ∷ 10 ∷ 6 ∷ []) ∷ (1 ∷ []) ∷ (38 ∷ []) ∷ (37 ∷ []) ∷ [];
+    }
+    -- called from ashore, sent again
+    ∷ record {
+      slot = pending secondCall asked 1020;
+      gives = (0 ∷ 2 ∷ 10 ∷ 6 ∷ []) ∷ (1 ∷ []) ∷ (1 ∷ [])
+          ∷ (1 ∷ []) ∷ (1 ∷ []) ∷ (0 ∷ 2 ∷ 6 ∷ []) ∷ (1 ∷ []) ∷ (1 ∷ [])
+          ∷ (35 ∷ []) ∷ (35 ∷ [])
+          ∷ (1 ∷ []) ∷ (0 ∷ 8 ∷ []) ∷ (1 ∷ [])
+          ∷ (1 ∷ []) ∷ (1 ∷ []) ∷ (1 ∷ []) ∷ (1 ∷ [])
+          ∷ (0 ∷ 2 ∷ 10 ∷ 6 ∷ []) ∷ (1 ∷ []) ∷ (38 ∷ []) ∷ (37 ∷ []) ∷ [];
+    }
+    -- called from ashore, ringing
+    ∷ record {
+      slot = pending ringing asked 1020;
+      gives = (0 ∷ 9 ∷ 2 ∷ 10 ∷ 6 ∷ []) ∷ (1 ∷ []) ∷ (1 ∷ [])
+          ∷ (1 ∷ []) ∷ (1 ∷ []) ∷ (0 ∷ 9 ∷ 2 ∷ 6 ∷ []) ∷ (0 ∷ 9 ∷ []) ∷ (1 ∷ [])
+          ∷ (35 ∷ []) ∷ (35 ∷ [])
+          ∷ (1 ∷ []) ∷ (1 ∷ []) ∷ (1 ∷ [])
+          ∷ (1 ∷ []) ∷ (1 ∷ []) ∷ (1 ∷ []) ∷ (1 ∷ [])
+          ∷ (0 ∷ 9 ∷ 2 ∷ 10 ∷ 6 ∷ []) ∷ (1 ∷ []) ∷ (38 ∷ []) ∷ (37 ∷ []) ∷ [];
     }
     -- dialling
     ∷ record {
@@ -146,7 +192,8 @@ phases =
           ∷ (0 ∷ []) ∷ (0 ∷ []) ∷ (0 ∷ 6 ∷ 4 ∷ 2 ∷ []) ∷ (0 ∷ []) ∷ (0 ∷ [])
           ∷ (35 ∷ []) ∷ (35 ∷ [])
           ∷ (1 ∷ []) ∷ (1 ∷ []) ∷ (0 ∷ 3 ∷ [])
-          ∷ (1 ∷ []) ∷ (1 ∷ []) ∷ (1 ∷ []) ∷ (1 ∷ []) ∷ [];
+          ∷ (1 ∷ []) ∷ (1 ∷ []) ∷ (1 ∷ []) ∷ (1 ∷ [])
+          ∷ (1 ∷ []) ∷ (1 ∷ []) ∷ (38 ∷ []) ∷ (37 ∷ []) ∷ [];
     }
     -- dialling, carrier absent
     ∷ record {
@@ -155,7 +202,8 @@ phases =
           ∷ (0 ∷ []) ∷ (0 ∷ []) ∷ (0 ∷ 6 ∷ 4 ∷ 2 ∷ []) ∷ (0 ∷ []) ∷ (0 ∷ [])
           ∷ (35 ∷ []) ∷ (35 ∷ [])
           ∷ (1 ∷ []) ∷ (1 ∷ []) ∷ (0 ∷ 3 ∷ [])
-          ∷ (1 ∷ []) ∷ (1 ∷ []) ∷ (1 ∷ []) ∷ (1 ∷ []) ∷ [];
+          ∷ (1 ∷ []) ∷ (1 ∷ []) ∷ (1 ∷ []) ∷ (1 ∷ [])
+          ∷ (1 ∷ []) ∷ (1 ∷ []) ∷ (38 ∷ []) ∷ (37 ∷ []) ∷ [];
     }
     -- dialled out
     ∷ record {
@@ -164,7 +212,8 @@ phases =
           ∷ (1 ∷ []) ∷ (0 ∷ []) ∷ (0 ∷ 6 ∷ 4 ∷ 2 ∷ []) ∷ (0 ∷ []) ∷ (0 ∷ [])
           ∷ (35 ∷ []) ∷ (35 ∷ [])
           ∷ (1 ∷ []) ∷ (1 ∷ []) ∷ (0 ∷ 3 ∷ [])
-          ∷ (1 ∷ []) ∷ (1 ∷ []) ∷ (1 ∷ []) ∷ (1 ∷ []) ∷ [];
+          ∷ (1 ∷ []) ∷ (1 ∷ []) ∷ (1 ∷ []) ∷ (1 ∷ [])
+          ∷ (1 ∷ []) ∷ (1 ∷ []) ∷ (38 ∷ []) ∷ (37 ∷ []) ∷ [];
     }
     -- dialled out, carrier absent
     ∷ record {
@@ -173,7 +222,8 @@ phases =
           ∷ (1 ∷ []) ∷ (0 ∷ []) ∷ (0 ∷ 6 ∷ 4 ∷ 2 ∷ []) ∷ (0 ∷ []) ∷ (0 ∷ [])
           ∷ (35 ∷ []) ∷ (35 ∷ [])
           ∷ (1 ∷ []) ∷ (1 ∷ []) ∷ (0 ∷ 3 ∷ [])
-          ∷ (1 ∷ []) ∷ (1 ∷ []) ∷ (1 ∷ []) ∷ (1 ∷ []) ∷ [];
+          ∷ (1 ∷ []) ∷ (1 ∷ []) ∷ (1 ∷ []) ∷ (1 ∷ [])
+          ∷ (1 ∷ []) ∷ (1 ∷ []) ∷ (38 ∷ []) ∷ (37 ∷ []) ∷ [];
     }
     -- dialled out in simplex, carrier absent
     ∷ record {
@@ -182,7 +232,8 @@ phases =
           ∷ (1 ∷ []) ∷ (0 ∷ []) ∷ (0 ∷ 6 ∷ 4 ∷ 2 ∷ []) ∷ (0 ∷ []) ∷ (0 ∷ [])
           ∷ (35 ∷ []) ∷ (35 ∷ [])
           ∷ (0 ∷ 6 ∷ 4 ∷ 2 ∷ 1 ∷ 3 ∷ []) ∷ (1 ∷ []) ∷ (0 ∷ 3 ∷ [])
-          ∷ (1 ∷ []) ∷ (1 ∷ []) ∷ (1 ∷ []) ∷ (1 ∷ []) ∷ [];
+          ∷ (1 ∷ []) ∷ (1 ∷ []) ∷ (1 ∷ []) ∷ (1 ∷ [])
+          ∷ (1 ∷ []) ∷ (1 ∷ []) ∷ (38 ∷ []) ∷ (37 ∷ []) ∷ [];
     }
     -- answered
     ∷ record {
@@ -191,7 +242,8 @@ phases =
           ∷ (1 ∷ []) ∷ (1 ∷ []) ∷ (0 ∷ 7 ∷ 6 ∷ 4 ∷ 2 ∷ []) ∷ (0 ∷ []) ∷ (0 ∷ [])
           ∷ (35 ∷ []) ∷ (35 ∷ [])
           ∷ (1 ∷ []) ∷ (1 ∷ []) ∷ (0 ∷ 3 ∷ [])
-          ∷ (1 ∷ []) ∷ (1 ∷ []) ∷ (1 ∷ []) ∷ (1 ∷ []) ∷ [];
+          ∷ (1 ∷ []) ∷ (1 ∷ []) ∷ (1 ∷ []) ∷ (1 ∷ [])
+          ∷ (1 ∷ []) ∷ (1 ∷ []) ∷ (38 ∷ []) ∷ (37 ∷ []) ∷ [];
     }
     -- answered, carrier absent
     ∷ record {
@@ -200,7 +252,8 @@ phases =
           ∷ (1 ∷ []) ∷ (1 ∷ []) ∷ (0 ∷ 7 ∷ 6 ∷ 4 ∷ 2 ∷ []) ∷ (0 ∷ []) ∷ (0 ∷ [])
           ∷ (35 ∷ []) ∷ (35 ∷ [])
           ∷ (1 ∷ []) ∷ (1 ∷ []) ∷ (0 ∷ 3 ∷ [])
-          ∷ (1 ∷ []) ∷ (1 ∷ []) ∷ (1 ∷ []) ∷ (1 ∷ []) ∷ [];
+          ∷ (1 ∷ []) ∷ (1 ∷ []) ∷ (1 ∷ []) ∷ (1 ∷ [])
+          ∷ (1 ∷ []) ∷ (1 ∷ []) ∷ (38 ∷ []) ∷ (37 ∷ []) ∷ [];
     }
     -- answered in simplex, carrier absent
     ∷ record {
@@ -209,7 +262,8 @@ phases =
           ∷ (1 ∷ []) ∷ (1 ∷ []) ∷ (0 ∷ 7 ∷ 6 ∷ 4 ∷ 2 ∷ []) ∷ (0 ∷ []) ∷ (0 ∷ [])
           ∷ (35 ∷ []) ∷ (35 ∷ [])
           ∷ (0 ∷ 7 ∷ 6 ∷ 4 ∷ 2 ∷ 1 ∷ 3 ∷ []) ∷ (1 ∷ []) ∷ (0 ∷ 3 ∷ [])
-          ∷ (1 ∷ []) ∷ (1 ∷ []) ∷ (1 ∷ []) ∷ (1 ∷ []) ∷ [];
+          ∷ (1 ∷ []) ∷ (1 ∷ []) ∷ (1 ∷ []) ∷ (1 ∷ [])
+          ∷ (1 ∷ []) ∷ (1 ∷ []) ∷ (38 ∷ []) ∷ (37 ∷ []) ∷ [];
     }
     -- in its hold
     ∷ record {
@@ -218,6 +272,7 @@ phases =
           ∷ (1 ∷ []) ∷ (1 ∷ []) ∷ (1 ∷ []) ∷ (1 ∷ []) ∷ (1 ∷ [])
           ∷ (35 ∷ []) ∷ (35 ∷ [])
           ∷ (0 ∷ 3 ∷ []) ∷ (1 ∷ []) ∷ (0 ∷ 3 ∷ [])
-          ∷ (1 ∷ []) ∷ (1 ∷ []) ∷ (1 ∷ []) ∷ (1 ∷ []) ∷ [];
+          ∷ (1 ∷ []) ∷ (1 ∷ []) ∷ (1 ∷ []) ∷ (1 ∷ [])
+          ∷ (1 ∷ []) ∷ (1 ∷ []) ∷ (38 ∷ []) ∷ (37 ∷ []) ∷ [];
     }
     ∷ []

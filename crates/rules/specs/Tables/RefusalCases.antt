@@ -1,9 +1,10 @@
 -- A case for each refusal, and for their order.
 use mathlib.Core.List.{List, [], _∷_}
-use lib.ListN.{take}
+use lib.ListN.{take, replicate}
 use Rattle.rules.specs.Rules.Places.{modAt}
 use Rattle.rules.specs.Rules.Words.{duplex}
-use Rattle.rules.specs.Tables.Runs.{seven, calls, ticks, says, saysOn, reserves, restores, ticksIn}
+use Rattle.rules.specs.Tables.Runs.{seven, eight, caller, calls, accepts, works, ends, shoreCalls, shoreAsks, ticks, says, saysOn}
+use Rattle.rules.specs.Tables.Runs.{dialsOut, picksUp, reserves, restores, ticksIn}
 use Rattle.rules.specs.Tables.Cases.{Row}
 use Rattle.rules.specs.Tables.Scripts.{gives, call7, rechecked}
 
@@ -142,6 +143,129 @@ refused35Back = record {
   expected = (35 ∷ 0 ∷ 0 ∷ []) ∷ [];
 }
 
+-- ── of a call from ashore (02, no. 2) ─────────────────────────────────────────
+
+-- 15: no ship's identity
+abbrev pub refused15Called : Row
+refused15Called = record {
+  computed = gives 1 (shoreAsks caller 100 199999999 101 ∷ []);
+  expected = (15 ∷ 0 ∷ 0 ∷ []) ∷ [];
+}
+
+-- 17: neither 100 nor 101; here data
+abbrev pub refused17Called : Row
+refused17Called = record {
+  computed = gives 1 (shoreAsks caller 100 seven 106 ∷ []);
+  expected = (17 ∷ 0 ∷ 0 ∷ []) ∷ [];
+}
+
+-- 19: no digit
+abbrev pub refused19None : Row
+refused19None = record {
+  computed = gives 1 (shoreAsks [] 100 seven 101 ∷ []);
+  expected = (19 ∷ 0 ∷ 0 ∷ []) ∷ [];
+}
+
+-- 19: seventeen
+abbrev pub refused19Many : Row
+refused19Many = record {
+  computed = gives 1 (shoreAsks (replicate 17 9) 100 seven 101 ∷ []);
+  expected = (19 ∷ 0 ∷ 0 ∷ []) ∷ [];
+}
+
+-- 19: a digit over 9
+abbrev pub refused19Digit : Row
+refused19Digit = record {
+  computed = gives 1 (shoreAsks (6 ∷ 10 ∷ []) 100 seven 101 ∷ []);
+  expected = (19 ∷ 0 ∷ 0 ∷ []) ∷ [];
+}
+
+-- 38: the ship is offered a slot; another slot is free
+abbrev pub refused38Offered : Row
+refused38Offered = record {
+  computed = gives 2 (calls 100 seven duplex ∷ shoreCalls 110 seven duplex ∷ []);
+  expected = (38 ∷ 100 ∷ 0 ∷ 261 ∷ []) ∷ [];
+}
+
+-- 38: it is rung back
+abbrev pub refused38RungBack : Row
+refused38RungBack = record {
+  computed = gives 2 (reserves 50 0 ∷ reserves 51 1 ∷ calls 100 seven duplex ∷ restores 200 1 ∷ restores 210 0
+      ∷ shoreCalls 220 seven duplex ∷ []);
+  expected = (38 ∷ 210 ∷ 0 ∷ 251 ∷ []) ∷ [];
+}
+
+-- 38: and has answered
+abbrev pub refused38Acknowledged : Row
+refused38Acknowledged = record {
+  computed = gives 2 (reserves 50 0 ∷ reserves 51 1 ∷ calls 100 seven duplex ∷ restores 200 1 ∷ restores 210 0
+      ∷ accepts 220 27 seven ∷ shoreCalls 230 seven duplex ∷ []);
+  expected = (38 ∷ 220 ∷ 0 ∷ 381 ∷ []) ∷ [];
+}
+
+-- 38: it waits
+abbrev pub refused38Waiting : Row
+refused38Waiting = record {
+  computed = gives 1 (reserves 50 0 ∷ calls 100 seven duplex ∷ shoreCalls 110 seven duplex ∷ []);
+  expected = (38 ∷ 100 ∷ 0 ∷ 9101 ∷ []) ∷ [];
+}
+
+-- 38: it is being dialled for
+abbrev pub refused38Dialling : Row
+refused38Dialling = record {
+  computed = gives 2 (calls 100 seven duplex ∷ works 200 0 seven ∷ shoreCalls 210 seven duplex ∷ []);
+  expected = (38 ∷ 200 ∷ 0 ∷ 801 ∷ []) ∷ [];
+}
+
+-- 38: the exchange has dialled
+abbrev pub refused38DialledOut : Row
+refused38DialledOut = record {
+  computed = gives 2 (calls 100 seven duplex ∷ works 200 0 seven ∷ dialsOut 300 0 ∷ shoreCalls 310 seven duplex ∷ []);
+  expected = (38 ∷ 300 ∷ 0 ∷ 901 ∷ []) ∷ [];
+}
+
+-- 38: it talks
+abbrev pub refused38Answered : Row
+refused38Answered = record {
+  computed = gives 2 (calls 100 seven duplex ∷ works 200 0 seven ∷ picksUp 300 0 ∷ shoreCalls 310 seven duplex ∷ []);
+  expected = (38 ∷ 300 ∷ 0 ∷ []) ∷ [];
+}
+
+-- 38: it is in its hold
+abbrev pub refused38Held : Row
+refused38Held = record {
+  computed = gives 2 (calls 100 seven duplex ∷ works 200 0 seven ∷ ends 300 0 seven ∷ shoreCalls 340 seven duplex ∷ []);
+  expected = (38 ∷ 300 ∷ 0 ∷ 341 ∷ []) ∷ [];
+}
+
+-- 38: it is being called
+abbrev pub refused38Called : Row
+refused38Called = record {
+  computed = gives 2 (shoreCalls 100 seven duplex ∷ shoreCalls 110 seven duplex ∷ []);
+  expected = (38 ∷ 100 ∷ 0 ∷ 151 ∷ []) ∷ [];
+}
+
+-- 38: once more
+abbrev pub refused38CalledAgain : Row
+refused38CalledAgain = record {
+  computed = gives 2 (shoreCalls 100 seven duplex ∷ ticks 151 ∷ shoreCalls 160 seven duplex ∷ []);
+  expected = (38 ∷ 151 ∷ 0 ∷ 202 ∷ []) ∷ [];
+}
+
+-- 38: it rings
+abbrev pub refused38Ringing : Row
+refused38Ringing = record {
+  computed = gives 2 (shoreCalls 100 seven duplex ∷ accepts 130 26 seven ∷ shoreCalls 140 seven duplex ∷ []);
+  expected = (38 ∷ 130 ∷ 0 ∷ 731 ∷ []) ∷ [];
+}
+
+-- 37: no slot is free
+abbrev pub refused37 : Row
+refused37 = record {
+  computed = gives 2 (reserves 50 0 ∷ calls 100 eight duplex ∷ shoreCalls 110 seven duplex ∷ []);
+  expected = (37 ∷ 100 ∷ 0 ∷ 261 ∷ []) ∷ [];
+}
+
 -- ── and in this order ─────────────────────────────────────────────────────────
 
 -- 30 before 31
@@ -172,10 +296,56 @@ order11 = record {
   expected = (11 ∷ 0 ∷ 0 ∷ []) ∷ [];
 }
 
+-- 32 before 15
+abbrev pub order32Called : Row
+order32Called = record {
+  computed = gives 1 (ticks 100 ∷ shoreAsks caller 99 0 101 ∷ []);
+  expected = (32 ∷ 100 ∷ 0 ∷ []) ∷ [];
+}
+
+-- 33 before 15
+abbrev pub order33Called : Row
+order33Called = record {
+  computed = gives 1 (calls 100 seven duplex ∷ shoreAsks caller 261 0 101 ∷ []);
+  expected = (33 ∷ 100 ∷ 0 ∷ 261 ∷ []) ∷ [];
+}
+
+-- 15 before 17
+abbrev pub order15Called : Row
+order15Called = record {
+  computed = gives 1 (shoreAsks caller 100 0 106 ∷ []);
+  expected = (15 ∷ 0 ∷ 0 ∷ []) ∷ [];
+}
+
+-- 17 before 19
+abbrev pub order17Called : Row
+order17Called = record {
+  computed = gives 1 (shoreAsks [] 100 seven 106 ∷ []);
+  expected = (17 ∷ 0 ∷ 0 ∷ []) ∷ [];
+}
+
+-- 19 before 38
+abbrev pub order19Called : Row
+order19Called = record {
+  computed = gives 1 (calls 100 seven duplex ∷ shoreAsks [] 110 seven 101 ∷ []);
+  expected = (19 ∷ 100 ∷ 0 ∷ 261 ∷ []) ∷ [];
+}
+
+-- 38 before 37
+abbrev pub order38Called : Row
+order38Called = record {
+  computed = gives 1 (calls 100 seven duplex ∷ shoreCalls 110 seven duplex ∷ []);
+  expected = (38 ∷ 100 ∷ 0 ∷ 261 ∷ []) ∷ [];
+}
+
 -- ── all of them ──────────────────────────────────────────────────────────────
 
 abbrev pub refusalCases : List Row
 refusalCases =
     refused11 ∷ refused12 ∷ refused13 ∷ refused14 ∷ refused15 ∷ refused16 ∷ refused17 ∷ refused18 ∷ refused19
     ∷ refused20 ∷ refused30 ∷ accepted320 ∷ refused31 ∷ acceptedLimit ∷ refused32 ∷ refused33 ∷ refused34
-    ∷ refused35 ∷ refused35Back ∷ order30 ∷ order33 ∷ order34 ∷ order11 ∷ []
+    ∷ refused35 ∷ refused35Back ∷ refused15Called ∷ refused17Called ∷ refused19None ∷ refused19Many ∷ refused19Digit
+    ∷ refused38Offered ∷ refused38RungBack ∷ refused38Acknowledged ∷ refused38Waiting ∷ refused38Dialling
+    ∷ refused38DialledOut ∷ refused38Answered ∷ refused38Held ∷ refused38Called ∷ refused38CalledAgain ∷ refused38Ringing
+    ∷ refused37 ∷ order30 ∷ order33 ∷ order34 ∷ order11 ∷ order32Called ∷ order33Called ∷ order15Called ∷ order17Called
+    ∷ order19Called ∷ order38Called ∷ []

@@ -7,7 +7,7 @@ use Rattle.sequence.specs.declared.Field.{Field}
 use Rattle.sequence.specs.declared.Field.the-variants.{Blank, Channel}
 use Rattle.sequence.specs.Layout.{layout}
 use Rattle.rules.specs.Rules.Words.{Mode, simplex, duplex, modeNumber, Config, Happened, heard, diallingEnded, offHook, onHook}
-use Rattle.rules.specs.Rules.Words.{carrierUp, carrierDown, takes, givesBack, tick, onChannel70, onSlot, What, Event}
+use Rattle.rules.specs.Rules.Words.{carrierUp, carrierDown, takes, givesBack, tick, onChannel70, onSlot, fromAshore, What, Event}
 use Rattle.rules.specs.Rules.Actions.{Charge, chargeOf}
 use Rattle.rules.specs.Rules.Bytes.{numberOf}
 use Rattle.rules.specs.Rules.Verdict.{roomNeeded}
@@ -63,9 +63,26 @@ calls t x m = callsFor usual t x m
 abbrev pub dataCalls : ℕ → ℕ → Event
 dataCalls t x = says t (sends x 106 117 Blank usual)
 
--- a BQ that names a channel
+-- a BQ that names a channel, in duplex; in either mode
 abbrev pub accepts : ℕ → ℕ → ℕ → Event
 accepts t n x = says t (sends x 101 122 (Channel (channel n)) usual)
+
+abbrev pub acceptsIn : Mode → ℕ → ℕ → ℕ → Event
+acceptsIn m t n x = says t (sends x (modeNumber m) 122 (Channel (channel n)) usual)
+
+-- a BQ with 104
+abbrev pub declines : ℕ → ℕ → Event
+declines t x = says t (sends x 104 122 Blank usual)
+
+-- a caller ashore, and his call to a ship; with any mode and any digits
+abbrev pub caller : List ℕ
+caller = 6 ∷ 1 ∷ 2 ∷ 3 ∷ 4 ∷ 5 ∷ []
+
+abbrev pub shoreCalls : ℕ → ℕ → Mode → Event
+shoreCalls t x m = at t (fromAshore (record { ship = x; mode = modeNumber m; digits = caller }))
+
+abbrev pub shoreAsks : List ℕ → ℕ → ℕ → ℕ → Event
+shoreAsks digits t x m = at t (fromAshore (record { ship = x; mode = m; digits = digits }))
 
 -- what happens on a slot: symbols on its working channel, a signal, the operator's hand
 abbrev pub on : ℕ → ℕ → Happened → Event
@@ -172,6 +189,54 @@ slowExchange = record {
   events = calls 100 seven duplex ∷ works 200 0 seven ∷ dialsOut 790 0 ∷ dialsOut 800 0 ∷ picksUp 1390 0 ∷ dialsOut 1400 0
       ∷ hangs 1500 0 ∷ [];
   owing = paid 6 0 seven 1390 1500 11 ∷ [];
+}
+
+-- ── calls from ashore (02, no. 2) ─────────────────────────────────────────────
+
+-- answered: charged from the first carrier up while it rings, and not from the call, from either BQ, from a carrier before the ringing
+-- or from off-hook; ended by its ship
+abbrev pub shoreAnswered : Run
+shoreAnswered = record {
+  slots = 1;
+  events = shoreCalls 100 seven duplex ∷ regains 110 0 ∷ ticks 151 ∷ accepts 170 26 seven ∷ accepts 180 26 seven ∷ picksUp 190 0
+      ∷ regains 200 0 ∷ regains 210 0 ∷ picksUp 220 0 ∷ ends 512 0 seven ∷ ends 520 0 seven ∷ ticks 553 ∷ [];
+  owing = paid 9 0 seven 200 512 31 ∷ [];
+}
+
+-- never answered, though a carrier was heard before it rang and the caller's handset is off: dropped; the waiting ship's call is charged
+abbrev pub shoreDropped : Run
+shoreDropped = record {
+  slots = 1;
+  events = shoreCalls 100 seven simplex ∷ calls 110 eight duplex ∷ regains 120 0 ∷ accepts 130 26 seven ∷ picksUp 140 0 ∷ ticks 731
+      ∷ accepts 740 26 eight ∷ works 750 0 eight ∷ picksUp 760 0 ∷ hangs 863 0 ∷ [];
+  owing = paid 9 0 eight 760 863 10 ∷ [];
+}
+
+-- unable, and a caller who hangs up: nothing is charged
+abbrev pub shoreUnable : Run
+shoreUnable = record {
+  slots = 1;
+  events = shoreCalls 100 seven duplex ∷ accepts 130 26 seven ∷ declines 140 seven ∷ shoreCalls 200 eight duplex ∷ accepts 230 26 eight
+      ∷ hangs 240 0 ∷ shoreCalls 300 nine duplex ∷ hangs 310 0 ∷ [];
+  owing = [];
+}
+
+-- two at once: the later one answers first; the duplex one by its carrier loss, the simplex one by rule c
+abbrev pub shoreTwo : Run
+shoreTwo = record {
+  slots = 2;
+  events = shoreCalls 100 seven simplex ∷ shoreCalls 110 eight duplex ∷ accepts 120 27 eight ∷ acceptsIn simplex 130 26 seven
+      ∷ regains 140 1 ∷ calls 145 seven simplex ∷ regains 150 0 ∷ loses 400 1 ∷ loses 410 0 ∷ ticks 9999 ∷ calls 500 seven simplex ∷ [];
+  owing = paid 9 1 eight 140 451 31 ∷ paid 10 0 seven 150 500 35 ∷ [];
+}
+
+-- by the caller's on-hook; then a call of the ship itself on that slot
+abbrev pub shoreHung : Run
+shoreHung = record {
+  slots = 1;
+  events = shoreCalls 100 seven duplex ∷ accepts 130 26 seven ∷ regains 200 0 ∷ hangs 309 0 ∷ calls 320 seven duplex ∷ works 330 0 seven
+      ∷ regains 340 0 ∷ picksUp 350 0 ∷ hangs 450 0 ∷ [];
+  owing = paid 3 0 seven 200 309 10 ∷ paid 8 0 seven 350 450 10 ∷ [];
 }
 
 -- ── late ticks, and waits due together ────────────────────────────────────────
@@ -292,6 +357,32 @@ ringing = record {
   owing = paid 7 0 seven 120 300 18 ∷ paid 10 1 eight 121 356 23 ∷ [];
 }
 
+-- the call from ashore: its repeat, by the first of two late ticks, and its drop
+abbrev pub calling : Run
+calling = record {
+  slots = 2;
+  events = calls 100 eight duplex ∷ works 110 0 eight ∷ picksUp 120 0 ∷ shoreCalls 200 seven duplex ∷ loses 205 0 ∷ ticks 300
+      ∷ ticks 300 ∷ [];
+  owing = paid 6 0 eight 120 256 13 ∷ [];
+}
+
+abbrev pub callingAgain : Run
+callingAgain = record {
+  slots = 2;
+  events = calls 100 eight duplex ∷ works 110 0 eight ∷ picksUp 120 0 ∷ shoreCalls 200 seven duplex ∷ ticks 251 ∷ loses 256 0 ∷ ticks 400
+      ∷ ticks 400 ∷ [];
+  owing = paid 7 0 eight 120 307 18 ∷ [];
+}
+
+-- its minute of ringing, from the first BQ and not from the second
+abbrev pub ringingUp : Run
+ringingUp = record {
+  slots = 2;
+  events = calls 100 eight duplex ∷ works 110 0 eight ∷ picksUp 120 0 ∷ shoreCalls 200 seven duplex ∷ accepts 210 27 seven
+      ∷ accepts 220 27 seven ∷ loses 765 0 ∷ ticks 900 ∷ ticks 900 ∷ [];
+  owing = paid 8 0 eight 120 816 69 ∷ [];
+}
+
 -- ── a long call ──────────────────────────────────────────────────────────────
 
 -- a call of 100 hours is charged all its seconds
@@ -304,5 +395,6 @@ hundredHours = record {
 
 abbrev pub runs : List Run
 runs =
-    shipEnded ∷ hungUp ∷ silent ∷ redialled ∷ slowExchange ∷ late ∷ anewSimplex ∷ anewDuplex ∷ together ∷ hurried
-    ∷ unanswered ∷ repeated ∷ renumbered ∷ holding ∷ replying ∷ dialledReplying ∷ queueing ∷ ringing ∷ hundredHours ∷ []
+    shipEnded ∷ hungUp ∷ silent ∷ redialled ∷ slowExchange ∷ shoreAnswered ∷ shoreDropped ∷ shoreUnable ∷ shoreTwo ∷ shoreHung
+    ∷ late ∷ anewSimplex ∷ anewDuplex ∷ together ∷ hurried ∷ unanswered ∷ repeated ∷ renumbered ∷ holding ∷ replying
+    ∷ dialledReplying ∷ queueing ∷ ringing ∷ calling ∷ callingAgain ∷ ringingUp ∷ hundredHours ∷ []

@@ -151,3 +151,50 @@ overSevenByCoast0 = 123 ∷ 20 ∷ 0 ∷ 0 ∷ 0 ∷ 70 ∷ 100 ∷ 0 ∷ 20 ∷
 -- ring-back, channel 26, seven
 abbrev pub ringSeven26 : List ℕ
 ringSeven26 = 123 ∷ 20 ∷ 0 ∷ 0 ∷ 0 ∷ 70 ∷ 100 ∷ 0 ∷ 20 ∷ 1 ∷ 23 ∷ 40 ∷ 101 ∷ 126 ∷ 90 ∷ 0 ∷ 26 ∷ 105 ∷ 5 ∷ 55 ∷ 12 ∷ 34 ∷ 117 ∷ 60 ∷ []
+
+-- ── the sequences sent, of a call from ashore (02, no. 2) ────────────────────
+
+-- call from ashore, channel 26, seven, the caller's number 612345
+abbrev pub callSeven26 : List ℕ
+callSeven26 = 123 ∷ 20 ∷ 0 ∷ 0 ∷ 0 ∷ 70 ∷ 100 ∷ 0 ∷ 20 ∷ 1 ∷ 23 ∷ 40 ∷ 101 ∷ 126 ∷ 90 ∷ 0 ∷ 26 ∷ 106 ∷ 61 ∷ 23 ∷ 45 ∷ 117 ∷ 36 ∷ []
+
+-- the same in simplex
+abbrev pub callSeven26Simplex : List ℕ
+callSeven26Simplex = 123 ∷ 20 ∷ 0 ∷ 0 ∷ 0 ∷ 70 ∷ 100 ∷ 0 ∷ 20 ∷ 1 ∷ 23 ∷ 40 ∷ 100 ∷ 126 ∷ 90 ∷ 0 ∷ 26 ∷ 106 ∷ 61 ∷ 23 ∷ 45 ∷ 117 ∷ 37 ∷ []
+
+-- call from ashore, channel 26, seven, the caller's number 7
+abbrev pub callSeven26Of7 : List ℕ
+callSeven26Of7 = 123 ∷ 20 ∷ 0 ∷ 0 ∷ 0 ∷ 70 ∷ 100 ∷ 0 ∷ 20 ∷ 1 ∷ 23 ∷ 40 ∷ 101 ∷ 126 ∷ 90 ∷ 0 ∷ 26 ∷ 105 ∷ 7 ∷ 117 ∷ 39 ∷ []
+
+-- call from ashore, channel 26, seven, the caller's number of sixteen digits
+abbrev pub callSeven26Longest : List ℕ
+callSeven26Longest =
+    123 ∷ 20 ∷ 0 ∷ 0 ∷ 0 ∷ 70 ∷ 100 ∷ 0 ∷ 20 ∷ 1 ∷ 23 ∷ 40 ∷ 101 ∷ 126 ∷ 90 ∷ 0 ∷ 26 ∷ 106 ∷ 98 ∷ 76 ∷ 54 ∷ 32 ∷ 10 ∷
+    12 ∷ 34 ∷ 56 ∷ 117 ∷ 7 ∷ []
+
+-- call from ashore, channel 27, seven
+abbrev pub callSeven27 : List ℕ
+callSeven27 = 123 ∷ 20 ∷ 0 ∷ 0 ∷ 0 ∷ 70 ∷ 100 ∷ 0 ∷ 20 ∷ 1 ∷ 23 ∷ 40 ∷ 101 ∷ 126 ∷ 90 ∷ 0 ∷ 27 ∷ 106 ∷ 61 ∷ 23 ∷ 45 ∷ 117 ∷ 37 ∷ []
+
+-- call from ashore, channel 26, eight
+abbrev pub callEight26 : List ℕ
+callEight26 = 123 ∷ 20 ∷ 0 ∷ 0 ∷ 0 ∷ 80 ∷ 100 ∷ 0 ∷ 20 ∷ 1 ∷ 23 ∷ 40 ∷ 101 ∷ 126 ∷ 90 ∷ 0 ∷ 26 ∷ 106 ∷ 61 ∷ 23 ∷ 45 ∷ 117 ∷ 50 ∷ []
+
+-- end of call to seven, BQ, 0 6 51, the caller's number
+abbrev pub overSevenCaller411 : List ℕ
+overSevenCaller411 = 123 ∷ 20 ∷ 0 ∷ 0 ∷ 0 ∷ 70 ∷ 100 ∷ 0 ∷ 20 ∷ 1 ∷ 23 ∷ 40 ∷ 105 ∷ 126 ∷ 0 ∷ 6 ∷ 51 ∷ 106 ∷ 61 ∷ 23 ∷ 45 ∷ 122 ∷ 82 ∷ []
+
+-- end of call to seven, 127, 0 6 51, the caller's number
+abbrev pub overSevenCallerByCoast411 : List ℕ
+overSevenCallerByCoast411 =
+    123 ∷ 20 ∷ 0 ∷ 0 ∷ 0 ∷ 70 ∷ 100 ∷ 0 ∷ 20 ∷ 1 ∷ 23 ∷ 40 ∷ 105 ∷ 126 ∷ 0 ∷ 6 ∷ 51 ∷ 106 ∷ 61 ∷ 23 ∷ 45 ∷ 127 ∷ 87 ∷ []
+
+-- end of call to seven, 127, 0 0 15, the caller's number
+abbrev pub overSevenCallerByCoast15 : List ℕ
+overSevenCallerByCoast15 =
+    123 ∷ 20 ∷ 0 ∷ 0 ∷ 0 ∷ 70 ∷ 100 ∷ 0 ∷ 20 ∷ 1 ∷ 23 ∷ 40 ∷ 105 ∷ 126 ∷ 0 ∷ 0 ∷ 15 ∷ 106 ∷ 61 ∷ 23 ∷ 45 ∷ 127 ∷ 109 ∷ []
+
+-- 104/109 to eight
+abbrev pub unable109Eight : List ℕ
+unable109Eight =
+    123 ∷ 20 ∷ 0 ∷ 0 ∷ 0 ∷ 80 ∷ 100 ∷ 0 ∷ 20 ∷ 1 ∷ 23 ∷ 40 ∷ 104 ∷ 109 ∷ 126 ∷ 126 ∷ 126 ∷ 105 ∷ 5 ∷ 55 ∷ 12 ∷ 34 ∷ 122 ∷ 5 ∷ []

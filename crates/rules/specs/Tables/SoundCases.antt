@@ -6,11 +6,12 @@ use lib.ListN.{replicate}
 use Rattle.units.specs.declared.Told.{Told}
 use Rattle.units.specs.declared.Told.the-variants.{Nothing, Lasting}
 use Rattle.rules.specs.Rules.Words.{Mode, simplex, duplex, Request, Config}
-use Rattle.rules.specs.Rules.Station.{Kind, offered, firstRing, secondRing, acknowledged, dialling, dialledOut, answered}
+use Rattle.rules.specs.Rules.Station.{Kind, offered, firstRing, secondRing, acknowledged, firstCall, secondCall, ringing}
+use Rattle.rules.specs.Rules.Station.{dialling, dialledOut, answered}
 use Rattle.rules.specs.Rules.Station.{Slot, free, Waiting, Station}
 use Rattle.rules.specs.Rules.Slots.{pending, busy, held}
 use Rattle.rules.specs.Rules.Verdict.{verdict, setUpVerdict}
-use Rattle.rules.specs.Tables.Runs.{station, seven, usual, ticks, stationOf}
+use Rattle.rules.specs.Tables.Runs.{station, seven, eight, usual, ticks, stationOf}
 use Rattle.rules.specs.Tables.Scripts.{waits, waitingShips}
 
 -- ── how a case is written ────────────────────────────────────────────────────
@@ -27,7 +28,7 @@ lasting h m s = Lasting (record { hours = h; minutes = m; seconds = s })
 
 -- each kind of a slot before its line is dialled
 abbrev pub kinds : List Kind
-kinds = offered ∷ firstRing ∷ secondRing ∷ acknowledged ∷ []
+kinds = offered ∷ firstRing ∷ secondRing ∷ acknowledged ∷ firstCall ∷ secondCall ∷ ringing ∷ []
 
 -- at the clock 1000, on two channels
 abbrev pub holding : List Slot → List Waiting → Station
@@ -112,6 +113,12 @@ storedCases =
     ∷ sounds (with (pending offered (asking seven 2001234 duplex 126 (replicate 16 9)) 1161))
     -- seventeen
     ∷ unsound (with (pending offered (asking seven 2001234 duplex 126 (replicate 17 9)) 1161))
+    -- to another, in a call from ashore
+    ∷ unsound (with (pending firstCall (asking seven 2001235 duplex 126 usual) 1051))
+    -- with no digit
+    ∷ unsound (with (pending ringing (asking seven 2001234 duplex 126 []) 1601))
+    -- to no ship
+    ∷ unsound (with (pending secondCall (asking 2001235 2001234 duplex 126 usual) 1051))
     -- in a call
     ∷ unsound (with (busy (asking seven 2001235 duplex 126 usual) (answered 900) none))
     -- in a hold
@@ -149,6 +156,20 @@ countCases =
     -- one of them dialled out
     ∷ unsound (asked (station 2)
     (holding (busy (from seven duplex) (dialledOut 1601) none ∷ pending offered (from seven duplex) 1161 ∷ []) []))
+    -- a ship is called from ashore and waits
+    ∷ unsound (asked (station 2) (holding (pending firstCall (from seven duplex) 1051 ∷ free ∷ []) (waits seven 2000 ∷ [])))
+    -- and has a slot: called twice, called and offered, ringing and in a call
+    ∷ unsound (asked (station 2)
+    (holding (pending firstCall (from seven duplex) 1051 ∷ pending secondCall (from seven duplex) 1051 ∷ []) []))
+    ∷ unsound (asked (station 2)
+    (holding (pending offered (from seven duplex) 1161 ∷ pending secondCall (from seven duplex) 1051 ∷ []) []))
+    ∷ unsound (asked (station 2)
+    (holding (pending ringing (from seven duplex) 1601 ∷ busy (from seven duplex) (answered 900) none ∷ []) []))
+    -- two ships are called
+    ∷ sounds (asked (station 2)
+    (holding (pending ringing (from seven duplex) 1601 ∷ pending firstCall (from eight duplex) 1051 ∷ []) []))
+    -- a called ship may have a slot in its hold
+    ∷ sounds (asked (station 2) (holding (held (from seven duplex) Nothing 1041 ∷ pending firstCall (from seven duplex) 1051 ∷ []) []))
     -- a ship in its hold may wait, and may have a slot
     ∷ sounds (asked (station 2) (holding (held (from seven duplex) Nothing 1041 ∷ pending offered (from seven duplex) 1161 ∷ []) []))
     ∷ []
@@ -192,6 +213,30 @@ timeCases =
     ∷ sounds (with (pending acknowledged (from seven duplex) 1161))
     -- one tenth further
     ∷ unsound (with (pending acknowledged (from seven duplex) 1162))
+    -- a call from ashore, from the clock
+    ∷ sounds (with (pending firstCall (from seven duplex) 1000))
+    -- before it
+    ∷ unsound (with (pending firstCall (from seven duplex) 999))
+    -- to the clock plus its wait and 1
+    ∷ sounds (with (pending firstCall (from seven duplex) 1051))
+    -- one tenth further
+    ∷ unsound (with (pending firstCall (from seven duplex) 1052))
+    -- a call from ashore sent again, from the clock
+    ∷ sounds (with (pending secondCall (from seven duplex) 1000))
+    -- before it
+    ∷ unsound (with (pending secondCall (from seven duplex) 999))
+    -- to the clock plus its wait and 1
+    ∷ sounds (with (pending secondCall (from seven duplex) 1051))
+    -- one tenth further
+    ∷ unsound (with (pending secondCall (from seven duplex) 1052))
+    -- a call from ashore that rings, from the clock
+    ∷ sounds (with (pending ringing (from seven duplex) 1000))
+    -- before it
+    ∷ unsound (with (pending ringing (from seven duplex) 999))
+    -- to the clock plus its wait and 1
+    ∷ sounds (with (pending ringing (from seven duplex) 1601))
+    -- one tenth further
+    ∷ unsound (with (pending ringing (from seven duplex) 1602))
     -- a line being dialled, from the clock
     ∷ sounds (with (busy (from seven duplex) (dialling 1000) none))
     -- before it
