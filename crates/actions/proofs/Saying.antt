@@ -12,17 +12,19 @@ use Rattle.sequence.proofs.Tests.{both-true}
 use Rattle.rules.specs.Rules.Places.{all, Each, lowest}
 use Rattle.rules.specs.Rules.Words.{Request, Config, unable}
 use Rattle.rules.specs.Rules.Actions.{Action, Ender, theShip, theCoast, does}
-use Rattle.rules.specs.Rules.Station.{Slot, pending, busy, Waiting, Station, theSlot, answeredAt, isFree}
+use Rattle.rules.specs.Rules.Station.{rings, Slot, pending, busy, Waiting, Station, theSlot, answeredAt, isFree}
 use Rattle.rules.specs.Rules.Sound.{configKeeps, requestKeeps, durationKeeps, slotKeeps, waitingKeeps, queueRoom}
 use Rattle.rules.specs.Rules.Requests.{Out, rungBack, freedFor, freed, lasted, endActs, coastEnd, Standing, nowhere, holds, waits, placeOf, repeated, afresh, ruleD, offer, ruleF, ruleG, eToG, newcomer, dToG, redial, requested}
+use Rattle.rules.specs.Rules.Ashore.{calledFrom}
+use Rattle.rules.specs.Rules.Calls.{dropActs}
 use Rattle.rules.specs.ListAlone.Book.{Stop, Column}
-use Rattle.rules.specs.ListAlone.ThreeWords.{Word}
+use Rattle.rules.specs.ListAlone.LineWords.{Word}
 use Rattle.rules.proofs.PlaceLaws.{each-append, lowest-there}
-use Rattle.rules.proofs.Outcome.{Next, stays, becomes, frees, Move, to-dial, to-agree, to-ring, to-drop, to-stage, to-lose, to-regain, to-hold, to-end, to-repeat, to-run-out, to-take, to-give, Outcome, passed, moved}
+use Rattle.rules.proofs.Outcome.{Next, stays, becomes, frees, Move, to-dial, to-agree, to-ring, to-call, to-rings, to-answer, to-let-go, to-drop, to-stage, to-lose, to-regain, to-hold, to-end, to-repeat, to-run-out, to-take, to-give, Outcome, passed, moved}
 use Rattle.rules.proofs.Ruling.{Ruling, passes, repeats, renews, redials, bOrC-ruling}
 use Rattle.rules.proofs.Stored.{Stored, stored-closed, lasted-keeps}
 use Rattle.rules.proofs.Base.{slot-all, slot-there}
-use Rattle.actions.proofs.Speaking.{Speaks, small, acknowledge-speaks, ringBack-speaks, unable-speaks, over-speaks}
+use Rattle.actions.proofs.Speaking.{Speaks, small, acknowledge-speaks, callShip-speaks, unable-speaks, over-speaks}
 
 -- ── the pieces ───────────────────────────────────────────────────────────────
 
@@ -37,6 +39,12 @@ module _ (c : Config) (good : configKeeps c ≡ true) where
   end-says : (i : ℕ) → i < length (c .channels) → (e : Ender) (r : Request) (b : Option ℕ) (t : ℕ) → requestKeeps c r ≡ true → Each (Speaks c) (endActs i e r b t)
   end-says i h e r none t k = let b = small c good i h in ((refl, b), (over-speaks c good r k i h e (lasted none t) (lasted-keeps none t), ((refl, b), tt)))
   end-says i h e r (some a) t k = let b = small c good i h in ((refl, b), ((refl, b), (over-speaks c good r k i h e (lasted (some a) t) (lasted-keeps (some a) t), ((refl, b), tt))))
+
+  drop-says : (i : ℕ) → i < length (c .channels) → (ringing tone : Bool) → Each (Speaks c) (dropActs i ringing tone)
+  drop-says i h true true = let b = small c good i h in ((refl, b), ((refl, b), ((refl, b), ((refl, b), tt))))
+  drop-says i h true false = let b = small c good i h in ((refl, b), ((refl, b), ((refl, b), tt)))
+  drop-says i h false true = let b = small c good i h in ((refl, b), ((refl, b), ((refl, b), tt)))
+  drop-says i h false false = let b = small c good i h in ((refl, b), ((refl, b), tt))
 
   -- a stored request
   module _ (st : Station) (s : Stored c st) where
@@ -53,7 +61,7 @@ module _ (c : Config) (good : configKeeps c ≡ true) where
       freedFor-says : (q : List Waiting) → all (waitingKeeps c) q ≡ true → Says c (freedFor i st q)
       unfolding freedFor rungBack
       freedFor-says [] h = tt
-      freedFor-says (w ∷ q) h = ((refl, small c good i there), (ringBack-speaks c good (w .request) (both-true (waitingKeeps c w) (all (waitingKeeps c) q) h .0) i there, tt))
+      freedFor-says (w ∷ q) h = ((refl, small c good i there), (callShip-speaks c good (w .request) (both-true (waitingKeeps c w) (all (waitingKeeps c) q) h .0) i there, tt))
 
       freed-says : Says c (freed i st)
       unfolding freed
@@ -86,6 +94,13 @@ module _ (c : Config) (good : configKeeps c ≡ true) where
           ((refl, small c good i h), (acknowledge-speaks c good r kept i h, tt))
       eToG-says none e = says-if (ltb (length (st .queue)) queueRoom) (ruleF st r) (ruleG st r) (queued, tt) (full, tt)
 
+      -- 02, no. 2: it is asked for ashore
+      pub called-says : (i : ℕ) → lowest isFree (st .slots) ≡ some i → Says c (calledFrom st r (some i))
+      unfolding calledFrom
+      called-says i e =
+          let h = known st s i (lowest-there isFree (st .slots) i e) in
+          ((refl, small c good i h), (callShip-speaks c good r kept i h, tt))
+
       dToG-says : (k : Option ℕ) → Says c (dToG st r k)
       unfolding dToG newcomer ruleD
       dToG-says none = eToG-says (lowest isFree (st .slots)) refl
@@ -100,7 +115,7 @@ module _ (c : Config) (good : configKeeps c ≡ true) where
       unfolding repeated
       ruling-says cs _ _ (passes p a) e = tt
       ruling-says cs _ _ (repeats k o d a b) e = (acknowledge-speaks c good r kept i (placed st s i (pending k o d) e refl), tt)
-      ruling-says cs _ _ (renews k o d a b) e = afresh-says st i (placed st s i (pending k o d) e refl)
+      ruling-says cs _ _ (renews k o d z a b) e = afresh-says st i (placed st s i (pending k o d) e refl)
       ruling-says cs _ _ (redials o g l a) e = redial-says (o .request) (answeredAt g) (placed st s i (busy o g l) e refl) (slot-keeps st s i (busy o g l) e)
 
     pub requested-says : (st : Station) → Stored c st → (o : Standing) → Says c (requested st r o)
@@ -113,9 +128,13 @@ module _ (c : Config) (good : configKeeps c ≡ true) where
 
   move-says : (i t : ℕ) (p : Slot) (n : Next) (acts : List Action) → Move i t p n acts → (isFree p ≡ false → i < length (c .channels)) → slotKeeps c p ≡ true → Each (Speaks c) acts
   move-says i t _ _ _ (to-dial k r d z) h e = ((refl, small c good i (h refl)), tt)
-  move-says i t _ _ _ (to-agree k r d) h e = tt
-  move-says i t _ _ _ (to-ring r d) h e = (ringBack-speaks c good (r .request) e i (h refl), tt)
-  move-says i t _ _ _ (to-drop k r d) h e = ((refl, small c good i (h refl)), tt)
+  move-says i t _ _ _ (to-agree k r d z) h e = tt
+  move-says i t _ _ _ (to-ring r d) h e = (callShip-speaks c good (r .request) e i (h refl), tt)
+  move-says i t _ _ _ (to-call r d) h e = (callShip-speaks c good (r .request) e i (h refl), tt)
+  move-says i t _ _ _ (to-rings k r d z) h e = ((refl, small c good i (h refl)), tt)
+  move-says i t _ _ _ (to-answer r d) h e = ((refl, small c good i (h refl)), tt)
+  move-says i t _ _ _ (to-let-go k r d tone) h e = drop-says i (h refl) (rings k) tone
+  move-says i t _ _ _ (to-drop k r d z) h e = ((refl, small c good i (h refl)), tt)
   move-says i t _ _ _ (to-stage r n q l z) h e = tt
   move-says i t _ _ _ (to-lose r g l) h e = tt
   move-says i t _ _ _ (to-regain r g l) h e = tt
@@ -131,7 +150,8 @@ module _ (c : Config) (good : configKeeps c ≡ true) where
 
   -- only a slot in use is freed
   move-frees : (i t : ℕ) (p : Slot) (acts : List Action) → Move i t p frees acts → isFree p ≡ false
-  move-frees i t _ _ (to-drop k r d) = refl
+  move-frees i t _ _ (to-let-go k r d tone) = refl
+  move-frees i t _ _ (to-drop k r d z) = refl
   move-frees i t _ _ (to-end r g l) = refl
   move-frees i t _ _ (to-run-out r n d) = refl
   move-frees i t _ _ to-give = refl

@@ -15,7 +15,7 @@ use Rattle.sequence.specs.Field.{unableSecond, channelOk}
 use Rattle.sequence.specs.Layout.{endOk}
 use Rattle.sequence.proofs.Tests.{both-true}
 use Rattle.rules.specs.Rules.Places.{all, Each}
-use Rattle.rules.specs.Rules.Words.{Request, Config, carrierOn, carrierOff, acknowledge, ringBack, unable, dial, releaseLine, ours, Ours}
+use Rattle.rules.specs.Rules.Words.{Request, Config, carrierOn, carrierOff, acknowledge, callShip, unable, dial, releaseLine, ringingOn, ringingOff, busyTone, ours, Ours}
 use Rattle.rules.specs.Rules.Actions.{Ender, Action, does, over, charge}
 use Rattle.rules.specs.Rules.Bytes.{channelAt, kindNumber, slotNumber, payloadOf, block, blockOf, blocks}
 use Rattle.rules.specs.Rules.Sound.{identityKeeps, channelsKeep, configKeeps, numberKeeps, requestKeeps, durationKeeps}
@@ -38,10 +38,13 @@ unfolding sentBlock sentOn sentPayload blockOf payloadOf sent
 sent-block c (does (carrierOn i)) h = refl
 sent-block c (does (carrierOff i)) h = refl
 sent-block c (does (acknowledge i r)) h = rw h
-sent-block c (does (ringBack i r)) h = rw h
+sent-block c (does (callShip i r)) h = rw h
 sent-block c (does (unable n x digits)) h = rw h
 sent-block c (does (dial i digits)) h = refl
 sent-block c (does (releaseLine i)) h = refl
+sent-block c (does (ringingOn i)) h = refl
+sent-block c (does (ringingOff i)) h = refl
+sent-block c (does (busyTone i)) h = refl
 sent-block c (over i e x digits n) h = rw h
 sent-block c (charge h) t = refl
 
@@ -86,9 +89,9 @@ module _ (c : Config) (keeps : configKeeps c ≡ true) where
     unfolding endOk
     acknowledge-speaks i h = (able-valid c coast r kept (channelAt c i) (channel-good i h) 122 refl, small i h)
 
-    pub ringBack-speaks : (i : ℕ) → i < length (c .channels) → Speaks c (does (ringBack i r))
+    pub callShip-speaks : (i : ℕ) → i < length (c .channels) → Speaks c (does (callShip i r))
     unfolding endOk
-    ringBack-speaks i h = (able-valid c coast r kept (channelAt c i) (channel-good i h) 117 refl, small i h)
+    callShip-speaks i h = (able-valid c coast r kept (channelAt c i) (channel-good i h) 117 refl, small i h)
 
     pub unable-speaks : (second : ℕ) → unableSecond second ≡ true → Speaks c (does (unable second (r .who) (r .number)))
     unfolding requestKeeps

@@ -6,7 +6,9 @@ use Rattle.units.specs.declared.Channel.{Channel}
 use Rattle.sequence.specs.declared.Meaning.{Meaning}
 use Rattle.sequence.specs.Figures.{endRq, endBq}
 use Rattle.sequence.specs.Layout.{valid, layout}
-use Rattle.rules.specs.Rules.Words.{Party, Config, carrierOn, carrierOff, acknowledge, ringBack, unable, dial, releaseLine}
+use Rattle.rules.specs.Rules.Words.{Party, Config}
+use Rattle.rules.specs.Rules.Words.{carrierOn, carrierOff, acknowledge, callShip, unable, dial, releaseLine, ringingOn, ringingOff}
+use Rattle.rules.specs.Rules.Words.{busyTone}
 use Rattle.rules.specs.Rules.Actions as R
 use Rattle.rules.specs.Rules.Actions.{theShip, theCoast, does, over, charge, chargeNumbers}
 use Rattle.rules.specs.Rules.Bytes.{ableSaid, unableSaid, overSaid, channelAt, kindNumber, slotNumber, block, fours}
@@ -28,10 +30,13 @@ unfoldable pub sentPayload : Channel → R.Action → List ℕ
 sentPayload channel (does (carrierOn i)) = []
 sentPayload channel (does (carrierOff i)) = []
 sentPayload channel (does (acknowledge i r)) = sent (ableSaid channel endBq r)
-sentPayload channel (does (ringBack i r)) = sent (ableSaid channel endRq r)
+sentPayload channel (does (callShip i r)) = sent (ableSaid channel endRq r)
 sentPayload channel (does (unable n x digits)) = sent (unableSaid n x digits)
 sentPayload channel (does (dial i digits)) = digits
 sentPayload channel (does (releaseLine i)) = []
+sentPayload channel (does (ringingOn i)) = []
+sentPayload channel (does (ringingOff i)) = []
+sentPayload channel (does (busyTone i)) = []
 sentPayload channel (over i e x digits n) = sent (overSaid e x digits n)
 sentPayload channel (charge h) = fours (chargeNumbers h)
 
@@ -46,9 +51,12 @@ abbrev pub speaks : Config → R.Action → Bool
 speaks c (does (carrierOn i)) = true
 speaks c (does (carrierOff i)) = true
 speaks c (does (acknowledge i r)) = valid (ableSaid (channelAt c i) endBq r)
-speaks c (does (ringBack i r)) = valid (ableSaid (channelAt c i) endRq r)
+speaks c (does (callShip i r)) = valid (ableSaid (channelAt c i) endRq r)
 speaks c (does (unable n x digits)) = valid (unableSaid n x digits)
 speaks c (does (dial i digits)) = true
 speaks c (does (releaseLine i)) = true
+speaks c (does (ringingOn i)) = true
+speaks c (does (ringingOff i)) = true
+speaks c (does (busyTone i)) = true
 speaks c (over i e x digits n) = valid (overSaid e x digits n)
 speaks c (charge h) = true

@@ -1,4 +1,4 @@
-// The actions that send no sequence: carrier, line, dialling, charge.
+// The actions that send no sequence: carrier, line, ringing, busy tone, dialling, charge.
 ghost use mathlib.Core.Path.{_≡_};
 ghost use mathlib.Core.List.{[]};
 ghost use Prim.Native.Nat.{_-_};
@@ -45,6 +45,30 @@ pub fn release_line(i: SlotNumber) -> Action
     ensures { λ r. ⌜ actionBlock r ≡ block 6 (i .0) [] ⌝ }
 {
     plain(6, i)
+}
+
+// Document 02, no. 2: "8 ringing on"
+pub fn ringing_on(i: SlotNumber) -> Action
+    ensures { λ r. ⌜ r ≡ actionOf 8 (i .0) [] ⌝ }
+    ensures { λ r. ⌜ actionBlock r ≡ block 8 (i .0) [] ⌝ }
+{
+    plain(8, i)
+}
+
+// "9 ringing off"
+pub fn ringing_off(i: SlotNumber) -> Action
+    ensures { λ r. ⌜ r ≡ actionOf 9 (i .0) [] ⌝ }
+    ensures { λ r. ⌜ actionBlock r ≡ block 9 (i .0) [] ⌝ }
+{
+    plain(9, i)
+}
+
+// "10 five seconds of busy tone"
+pub fn busy_tone(i: SlotNumber) -> Action
+    ensures { λ r. ⌜ r ≡ actionOf 10 (i .0) [] ⌝ }
+    ensures { λ r. ⌜ actionBlock r ≡ block 10 (i .0) [] ⌝ }
+{
+    plain(10, i)
 }
 
 // "digits, one a byte"

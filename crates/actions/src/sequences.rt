@@ -101,8 +101,8 @@ pub fn acknowledgement(i: SlotNumber, channel: Channel, q: Request) -> Action
     able(i, channel, END_BQ, q)
 }
 
-// "the able answer but with RQ"
-pub fn ring_back(i: SlotNumber, channel: Channel, q: Request) -> Action
+// "the able answer but with RQ": a ring-back, or a call from ashore
+pub fn call_ship(i: SlotNumber, channel: Channel, q: Request) -> Action
     ensures { λ r. ⌜ r ≡ actionOf 3 (i .0) (sent (ableSaid channel endRq (requestOf q))) ⌝ }
     ensures { λ r. ⌜ actionBlock r ≡ block 3 (i .0) (sent (ableSaid channel endRq (requestOf q))) ⌝ }
 {

@@ -2,6 +2,7 @@
 use Prim.Native.Nat.{ℕ}
 use mathlib.Core.Bool.{cond}
 use lib.Dec.{eqb}
+use Rattle.units.specs.declared.Tenths.{Tenths}
 use Rattle.units.specs.declared.Told.{Told}
 use Rattle.units.specs.declared.Told.the-variants.{Nothing, Lasting}
 use Rattle.units.specs.Units.{greatest}
@@ -9,7 +10,7 @@ use Rattle.slots.specs.declared.Carrier.{Carrier}
 use Rattle.slots.specs.declared.Carrier.the-variants.{Present, Lost}
 use Rattle.slots.specs.declared.Phase.{Phase}
 use Rattle.slots.specs.declared.Phase.the-variants.{Free, Offered, RingBack, RingAgain, Acknowledged}
-use Rattle.slots.specs.declared.Phase.the-variants.{Dialling, Answered, Hold, Taken, DialledOut}
+use Rattle.slots.specs.declared.Phase.the-variants.{Dialling, Answered, Hold, Taken, DialledOut, Called, CalledAgain, Ringing}
 use Rattle.slots.specs.Images.{tenths}
 use Rattle.phase_fields.specs.declared.CarrierFields.{CarrierFields}
 use Rattle.phase_fields.specs.declared.ToldFields.{ToldFields}
@@ -38,6 +39,9 @@ phaseFields (Answered t c) = fieldsOf 6 (t .0) c Nothing
 phaseFields (Hold t n) = fieldsOf 7 (t .0) Present n
 phaseFields Taken = fieldsOf 8 0 Present Nothing
 phaseFields (DialledOut t c) = fieldsOf 9 (t .0) c Nothing
+phaseFields (Called t) = fieldsOf 10 (t .0) Present Nothing
+phaseFields (CalledAgain t) = fieldsOf 11 (t .0) Present Nothing
+phaseFields (Ringing t) = fieldsOf 12 (t .0) Present Nothing
 
 -- marks that are none give a time and a duration that no station may have: 29
 unfoldable pub carrierFrom : CarrierFields → Carrier
@@ -48,6 +52,13 @@ toldFrom f =
     cond (eqb (f .mark) 0) Nothing
     (cond (eqb (f .mark) 1) (Lasting (record { hours = f .hours; minutes = f .minutes; seconds = f .seconds }))
     (Lasting (record { hours = 255; minutes = 255; seconds = 255 })))
+
+-- 02, no. 2: the phases of a call from ashore; a number over 12 gives a time that no station may have: 29
+unfoldable pub ashoreFrom : ℕ → Tenths → Phase
+ashoreFrom kind t =
+    cond (eqb kind 10) (Called t)
+    (cond (eqb kind 11) (CalledAgain t)
+    (cond (eqb kind 12) (Ringing t) (Offered (tenths greatest))))
 
 unfoldable pub phaseFrom : PhaseFields → Phase
 phaseFrom f =
@@ -60,4 +71,5 @@ phaseFrom f =
     (cond (eqb (f .kind) 6) (Answered (tenths (f .time)) (carrierFrom (f .carrier)))
     (cond (eqb (f .kind) 7) (Hold (tenths (f .time)) (toldFrom (f .told)))
     (cond (eqb (f .kind) 8) Taken
-    (cond (eqb (f .kind) 9) (DialledOut (tenths (f .time)) (carrierFrom (f .carrier))) (Offered (tenths greatest)))))))))))
+    (cond (eqb (f .kind) 9) (DialledOut (tenths (f .time)) (carrierFrom (f .carrier)))
+    (ashoreFrom (f .kind) (tenths (f .time))))))))))))

@@ -2,7 +2,8 @@
 ghost use mathlib.Core.Path.{_≡_};
 ghost use Rattle.units.specs.declared.Told.the-variants.{Nothing};
 ghost use Rattle.slots.specs.declared.Carrier.the-variants.{Present};
-ghost use Rattle.phase_fields.specs.Phases.{carrierFields, toldFields, fieldsOf, phaseFields, carrierFrom, toldFrom, phaseFrom};
+ghost use Rattle.phase_fields.specs.Phases.{carrierFields, toldFields, fieldsOf, phaseFields, carrierFrom, toldFrom};
+ghost use Rattle.phase_fields.specs.Phases.{ashoreFrom, phaseFrom};
 use slots::Carrier;
 use slots::Phase;
 use units::Duration;
@@ -91,6 +92,9 @@ pub fn phase_fields(p: Phase) -> PhaseFields
         Phase::Hold(t, n) => fields_of(7, t, Carrier::Present, n),
         Phase::Taken => plain(8, Tenths(0)),
         Phase::DialledOut(t, c) => fields_of(9, t, c, Told::Nothing),
+        Phase::Called(t) => plain(10, t),
+        Phase::CalledAgain(t) => plain(11, t),
+        Phase::Ringing(t) => plain(12, t),
     }
 }
 
@@ -124,6 +128,22 @@ fn told_from(f: ToldFields) -> Told
         minutes: 255,
         seconds: 255,
     })
+}
+
+// The phases of a call from ashore.
+fn ashore_from(kind: u8, time: Tenths) -> Phase
+    ensures { λ r. ⌜ r ≡ ashoreFrom kind time ⌝ }
+{
+    if kind == 10 {
+        return Phase::Called(time);
+    }
+    if kind == 11 {
+        return Phase::CalledAgain(time);
+    }
+    if kind == 12 {
+        return Phase::Ringing(time);
+    }
+    Phase::Offered(Tenths(GREATEST))
 }
 
 pub fn phase_from(f: PhaseFields) -> Phase
@@ -166,5 +186,5 @@ pub fn phase_from(f: PhaseFields) -> Phase
         let c = carrier_from(carrier);
         return Phase::DialledOut(Tenths(f.time), c);
     }
-    Phase::Offered(Tenths(GREATEST))
+    ashore_from(kind, Tenths(f.time))
 }

@@ -1,4 +1,4 @@
-// A slot or a place looked for: the lowest free, the one whose channel is named, the one where a ship stands.
+// A slot or a place looked for: the lowest free, the one whose channel is named, the one where a ship stands or that keeps its request.
 ghost use mathlib.Core.Path.{_≡_};
 ghost use Prim.Native.Nat.{_<_};
 ghost use mathlib.Core.Option.{none};
@@ -6,6 +6,7 @@ ghost use Rattle.rules.specs.Rules.Places.{lowest};
 ghost use Rattle.rules.specs.Rules.Heard.{sameChannel};
 ghost use Rattle.rules.specs.Rules.Station.{isFree};
 ghost use Rattle.rules.specs.Rules.Requests.{owns, waitsFor, standsAt};
+ghost use Rattle.rules.specs.Rules.Ashore.{keepsFor};
 ghost use Rattle.requests.specs.Views.{viewed, left, partyOf};
 ghost use Rattle.slots.specs.Views.{slotView, waitingView, channelOf, foundView, placeView, standingView};
 ghost use Rattle.searches.specs.Searches.{lowestFrom};
@@ -23,6 +24,7 @@ use slots::Standing;
 use slots::Waiting;
 use slots::has_ship;
 use slots::is_free;
+use slots::stores;
 use units::Channel;
 use units::SlotNumber;
 
@@ -86,6 +88,33 @@ fn slot_from(slots: [Slot; SLOTS], count: u8, from: SlotNumber, ship: u32, stati
     while i < end {
         let slot = slots[i as usize];
         if is_of(slot, ship, station) {
+            return Found::At(SlotNumber(i));
+        }
+        i += 1;
+    }
+    Found::Nothing
+}
+
+fn keeps_for(slot: Slot, ship: u32, station: u32) -> bool
+    ensures { λ r. ⌜ r ≡ keepsFor (partyOf ship station) (slotView slot) ⌝ }
+{
+    let phase = slot.phase;
+    let request = slot.request;
+    if stores(phase) {
+        return is_by(request, ship, station);
+    }
+    false
+}
+
+// Document 02, no. 2: "that ship already has a slot (a hold included)": the lowest slot that keeps a request of the ship.
+pub fn kept_for(slots: [Slot; SLOTS], count: u8, ship: u32, station: u32) -> Found
+    ensures { λ r. ⌜ foundView r ≡ lowest (keepsFor (partyOf ship station)) (viewed slotView count slots) ⌝ }
+{
+    let end = least(count, MOST_SLOTS) as u32;
+    let mut i: u32 = 0;
+    while i < end {
+        let slot = slots[i as usize];
+        if keeps_for(slot, ship, station) {
             return Found::At(SlotNumber(i));
         }
         i += 1;

@@ -13,16 +13,17 @@ use Rattle.rules.specs.Rules.Words as W
 use Rattle.rules.specs.Rules.Words.{is, Party, Config}
 use Rattle.rules.specs.Rules.Places.{isSome}
 use Rattle.rules.specs.Rules.Station as R
-use Rattle.rules.specs.Rules.Station.{dealing, free, taken, pending, busy, held, offered, firstRing, secondRing, acknowledged, dialling, dialledOut, answered, shipOf, answeredIn, lossDue, mainDue}
+use Rattle.rules.specs.Rules.Station.{dealing, free, taken, pending, busy, held, offered, firstRing, secondRing, acknowledged, firstCall, secondCall, ringing, dialling, dialledOut, answered, shipOf, keptFor, isCalledIn, answeredIn, lossDue, mainDue}
 use Rattle.rules.specs.Rules.Requests.{isOf, owns}
+use Rattle.rules.specs.Rules.Ashore.{keepsFor}
 use Rattle.rules.proofs.PlaceLaws.{and-true}
 use Rattle.rules.specs.Rules.Sound.{listed, owner, requestKeeps, durationKeeps, slotKeeps, lossFits, slotFits}
 use Rattle.requests.specs.Images.{requestImage, blankRequest}
 use Rattle.slots.specs.declared.Carrier.{Carrier}
 use Rattle.slots.specs.declared.Carrier.the-variants.{Present, Lost}
 use Rattle.slots.specs.declared.Phase.{Phase}
-use Rattle.slots.specs.declared.Phase.the-variants.{Free, Offered, RingBack, RingAgain, Acknowledged, Dialling, Answered, Hold, Taken, DialledOut}
-use Rattle.slots.specs.Phases.{carrierOf, phaseView, carrierImage, phaseImage, keptIn, stored, owned, answeredSince, toldIn, spanOf, dueIn, spanFits, carrierIn}
+use Rattle.slots.specs.declared.Phase.the-variants.{Free, Offered, RingBack, RingAgain, Acknowledged, Dialling, Answered, Hold, Taken, DialledOut, Called, CalledAgain, Ringing}
+use Rattle.slots.specs.Phases.{carrierOf, phaseView, carrierImage, phaseImage, keptIn, stored, owned, calledIn, answeredSince, toldIn, spanOf, dueIn, spanFits, carrierIn}
 use Rattle.slots.specs.Images.{imageOr, storedImage, Short, ShortSlot}
 use Rattle.slots.proofs.Phase as phase
 
@@ -38,17 +39,23 @@ pub by-phase : (P : Phase → Type 0)
     → ((t : Tenths) (n : Told) → P (Hold t n))
     → P Taken
     → ((t : Tenths) (c : Carrier) → P (DialledOut t c))
+    → ((t : Tenths) → P (Called t))
+    → ((t : Tenths) → P (CalledAgain t))
+    → ((t : Tenths) → P (Ringing t))
     → (p : Phase) → P p
-by-phase P a b c d e x y z w v Free = a
-by-phase P a b c d e x y z w v (Offered t) = b t
-by-phase P a b c d e x y z w v (RingBack t) = c t
-by-phase P a b c d e x y z w v (RingAgain t) = d t
-by-phase P a b c d e x y z w v (Acknowledged t) = e t
-by-phase P a b c d e x y z w v (Dialling t l) = x t l
-by-phase P a b c d e x y z w v (Answered t l) = y t l
-by-phase P a b c d e x y z w v (Hold t n) = z t n
-by-phase P a b c d e x y z w v Taken = w
-by-phase P a b c d e x y z w v (DialledOut t l) = v t l
+by-phase P a b c d e x y z w v f g h Free = a
+by-phase P a b c d e x y z w v f g h (Offered t) = b t
+by-phase P a b c d e x y z w v f g h (RingBack t) = c t
+by-phase P a b c d e x y z w v f g h (RingAgain t) = d t
+by-phase P a b c d e x y z w v f g h (Acknowledged t) = e t
+by-phase P a b c d e x y z w v f g h (Dialling t l) = x t l
+by-phase P a b c d e x y z w v f g h (Answered t l) = y t l
+by-phase P a b c d e x y z w v f g h (Hold t n) = z t n
+by-phase P a b c d e x y z w v f g h Taken = w
+by-phase P a b c d e x y z w v f g h (DialledOut t l) = v t l
+by-phase P a b c d e x y z w v f g h (Called t) = f t
+by-phase P a b c d e x y z w v f g h (CalledAgain t) = g t
+by-phase P a b c d e x y z w v f g h (Ringing t) = h t
 
 -- ── an arm for several variants, or for all that are left: it is right where it is right for each of them ──
 
@@ -64,7 +71,7 @@ where-held ks n {C} h = go (hasKey ks n) refl
     go true e c = c
     go false e c = absurd (miss ks n (rw e tt) h)
 
--- the ten phases by their numbers
+-- the thirteen phases by their numbers
 abbrev pub EachPhase : {A : Type 0} → List ℕ → A → (Phase → A) → Type 0
 EachPhase ks a f =
     Where (hasKey ks 0) (a ≡ f Free)
@@ -77,6 +84,9 @@ EachPhase ks a f =
     × ((t : Tenths) (n : Told) → Where (hasKey ks 7) (a ≡ f (Hold t n)))
     × Where (hasKey ks 8) (a ≡ f Taken)
     × ((t : Tenths) (c : Carrier) → Where (hasKey ks 9) (a ≡ f (DialledOut t c)))
+    × ((t : Tenths) → Where (hasKey ks 10) (a ≡ f (Called t)))
+    × ((t : Tenths) → Where (hasKey ks 11) (a ≡ f (CalledAgain t)))
+    × ((t : Tenths) → Where (hasKey ks 12) (a ≡ f (Ringing t)))
 
 pub phase-arm : {A : Type 0} (ks : List ℕ) (a : A) (f : Phase → A) → EachPhase ks a f → (p : Phase) → OneOf ks (tagOf phase.the-type p) → a ≡ f p
 phase-arm ks a f e Free h = where-held ks 0 h (e .0)
@@ -89,6 +99,9 @@ phase-arm ks a f e (Answered t c) h = where-held ks 6 h (e .6 t c)
 phase-arm ks a f e (Hold t n) h = where-held ks 7 h (e .7 t n)
 phase-arm ks a f e Taken h = where-held ks 8 h (e .8)
 phase-arm ks a f e (DialledOut t c) h = where-held ks 9 h (e .9 t c)
+phase-arm ks a f e (Called t) h = where-held ks 10 h (e .10 t)
+phase-arm ks a f e (CalledAgain t) h = where-held ks 11 h (e .11 t)
+phase-arm ks a f e (Ringing t) h = where-held ks 12 h (e .12 t)
 
 -- ── laid out again it is the phase, and what was laid out is found again ──
 
@@ -97,7 +110,7 @@ carrier-back Present = refl
 carrier-back (Lost t) = refl
 
 pub phase-back : (p : Phase) (r : W.Request) → phaseImage (phaseView p r) ≡ p
-phase-back p r = by-phase (λ p. phaseImage (phaseView p r) ≡ p) refl (λ t. refl) (λ t. refl) (λ t. refl) (λ t. refl) (λ t c. rw (carrier-back c)) (λ t c. rw (carrier-back c)) (λ t n. refl) refl (λ t c. rw (carrier-back c)) p
+phase-back p r = by-phase (λ p. phaseImage (phaseView p r) ≡ p) refl (λ t. refl) (λ t. refl) (λ t. refl) (λ t. refl) (λ t c. rw (carrier-back c)) (λ t c. rw (carrier-back c)) (λ t n. refl) refl (λ t c. rw (carrier-back c)) (λ t. refl) (λ t. refl) (λ t. refl) p
 
 carrier-there : (c : Option ℕ) → carrierOf (carrierImage c) ≡ c
 carrier-there none = refl
@@ -115,6 +128,9 @@ phase-there (pending offered r t) q h = ap (λ x. pending offered (dealing x) t)
 phase-there (pending firstRing r t) q h = ap (λ x. pending firstRing (dealing x) t) h
 phase-there (pending secondRing r t) q h = ap (λ x. pending secondRing (dealing x) t) h
 phase-there (pending acknowledged r t) q h = ap (λ x. pending acknowledged (dealing x) t) h
+phase-there (pending firstCall r t) q h = ap (λ x. pending firstCall (dealing x) t) h
+phase-there (pending secondCall r t) q h = ap (λ x. pending secondCall (dealing x) t) h
+phase-there (pending ringing r t) q h = ap (λ x. pending ringing (dealing x) t) h
 phase-there (busy r (dialling d) l) q h = rw (h, carrier-there l)
 phase-there (busy r (dialledOut d) l) q h = rw (h, carrier-there l)
 phase-there (busy r (answered d) l) q h = rw (h, carrier-there l)
@@ -123,7 +139,7 @@ phase-there (held r n t) q h = ap (λ x. held (dealing x) n t) h
 -- ── a request is kept where the phase stores one ──
 
 kept-view : (p : Phase) (r : W.Request) → keptIn (phaseView p r) ≡ cond (stored p) (some r) none
-kept-view p r = by-phase (λ p. keptIn (phaseView p r) ≡ cond (stored p) (some r) none) refl (λ t. refl) (λ t. refl) (λ t. refl) (λ t. refl) (λ t c. refl) (λ t c. refl) (λ t n. refl) refl (λ t c. refl) p
+kept-view p r = by-phase (λ p. keptIn (phaseView p r) ≡ cond (stored p) (some r) none) refl (λ t. refl) (λ t. refl) (λ t. refl) (λ t. refl) (λ t c. refl) (λ t c. refl) (λ t n. refl) refl (λ t c. refl) (λ t. refl) (λ t. refl) (λ t. refl) p
 
 pub stored-image : (p : Phase) (r : W.Request) → storedImage (phaseView p r) ≡ cond (stored p) (requestImage r) blankRequest
 stored-image p r = rw (kept-view p r) (go (stored p))
@@ -139,18 +155,32 @@ stored-kept (pending offered r t) = refl
 stored-kept (pending firstRing r t) = refl
 stored-kept (pending secondRing r t) = refl
 stored-kept (pending acknowledged r t) = refl
+stored-kept (pending firstCall r t) = refl
+stored-kept (pending secondCall r t) = refl
+stored-kept (pending ringing r t) = refl
 stored-kept (busy r (dialling d) l) = refl
 stored-kept (busy r (dialledOut d) l) = refl
 stored-kept (busy r (answered d) l) = refl
 stored-kept (held r n t) = refl
 
--- ── whose a slot is, and since when its call is answered ──
+-- ── whose a slot is, whether its ship is being called, and since when its call is answered ──
 
 ship-view : (p : Phase) (r : W.Request) → shipOf (phaseView p r) ≡ cond (owned p) (some (r .who)) none
-ship-view p r = by-phase (λ p. shipOf (phaseView p r) ≡ cond (owned p) (some (r .who)) none) refl (λ t. refl) (λ t. refl) (λ t. refl) (λ t. refl) (λ t c. refl) (λ t c. refl) (λ t n. refl) refl (λ t c. refl) p
+ship-view p r = by-phase (λ p. shipOf (phaseView p r) ≡ cond (owned p) (some (r .who)) none) refl (λ t. refl) (λ t. refl) (λ t. refl) (λ t. refl) (λ t c. refl) (λ t c. refl) (λ t n. refl) refl (λ t c. refl) (λ t. refl) (λ t. refl) (λ t. refl) p
 
 pub owns-view : (x : Party) (p : Phase) (r : W.Request) → owns x (phaseView p r) ≡ cond (owned p) (is x (r .who)) false
 owns-view x p r = rw (ship-view p r) (go (owned p))
+  where
+    go : (b : Bool) → isOf x (cond b (some (r .who)) none) ≡ cond b (is x (r .who)) false
+    go true = refl
+    go false = refl
+
+-- the ship whose request it keeps, in a hold too
+kept-for-view : (p : Phase) (r : W.Request) → keptFor (phaseView p r) ≡ cond (stored p) (some (r .who)) none
+kept-for-view p r = by-phase (λ p. keptFor (phaseView p r) ≡ cond (stored p) (some (r .who)) none) refl (λ t. refl) (λ t. refl) (λ t. refl) (λ t. refl) (λ t c. refl) (λ t c. refl) (λ t n. refl) refl (λ t c. refl) (λ t. refl) (λ t. refl) (λ t. refl) p
+
+pub keeps-for-view : (x : Party) (p : Phase) (r : W.Request) → keepsFor x (phaseView p r) ≡ cond (stored p) (is x (r .who)) false
+keeps-for-view x p r = rw (kept-for-view p r) (go (stored p))
   where
     go : (b : Bool) → isOf x (cond b (some (r .who)) none) ≡ cond b (is x (r .who)) false
     go true = refl
@@ -164,7 +194,10 @@ owner-view p r l = rw (ship-view p r) (go (owned p))
     go false = refl
 
 pub since-view : (p : Phase) (r : W.Request) → answeredSince p ≡ answeredIn (phaseView p r)
-since-view p r = by-phase (λ p. answeredSince p ≡ answeredIn (phaseView p r)) refl (λ t. refl) (λ t. refl) (λ t. refl) (λ t. refl) (λ t c. refl) (λ t c. refl) (λ t n. refl) refl (λ t c. refl) p
+since-view p r = by-phase (λ p. answeredSince p ≡ answeredIn (phaseView p r)) refl (λ t. refl) (λ t. refl) (λ t. refl) (λ t. refl) (λ t c. refl) (λ t c. refl) (λ t n. refl) refl (λ t c. refl) (λ t. refl) (λ t. refl) (λ t. refl) p
+
+pub called-view : (p : Phase) (r : W.Request) → calledIn p ≡ isCalledIn (phaseView p r)
+called-view p r = by-phase (λ p. calledIn p ≡ isCalledIn (phaseView p r)) refl (λ t. refl) (λ t. refl) (λ t. refl) (λ t. refl) (λ t c. refl) (λ t c. refl) (λ t n. refl) refl (λ t c. refl) (λ t. refl) (λ t. refl) (λ t. refl) p
 
 -- ── it keeps the rules, and its times fit, where what it stores and tells and its times do ──
 
@@ -176,10 +209,10 @@ either-way false false = refl
 
 pub keeps-view : (c : Config) (p : Phase) (r : W.Request) → slotKeeps c (phaseView p r) ≡ cond (stored p) (durationKeeps (toldIn p) && requestKeeps c r) true
 unfolding durationKeeps
-keeps-view c p r = by-phase (λ p. slotKeeps c (phaseView p r) ≡ cond (stored p) (durationKeeps (toldIn p) && requestKeeps c r) true) refl (λ t. refl) (λ t. refl) (λ t. refl) (λ t. refl) (λ t l. refl) (λ t l. refl) (λ t n. either-way (requestKeeps c r) (durationKeeps n)) refl (λ t l. refl) p
+keeps-view c p r = by-phase (λ p. slotKeeps c (phaseView p r) ≡ cond (stored p) (durationKeeps (toldIn p) && requestKeeps c r) true) refl (λ t. refl) (λ t. refl) (λ t. refl) (λ t. refl) (λ t l. refl) (λ t l. refl) (λ t n. either-way (requestKeeps c r) (durationKeeps n)) refl (λ t l. refl) (λ t. refl) (λ t. refl) (λ t. refl) p
 
 pub owned-stored : (p : Phase) → owned p ≡ true → stored p ≡ true
-owned-stored = by-phase (λ p. owned p ≡ true → stored p ≡ true) (λ h. h) (λ t h. refl) (λ t h. refl) (λ t h. refl) (λ t h. refl) (λ t c h. refl) (λ t c h. refl) (λ t n h. refl) (λ h. h) (λ t c h. refl)
+owned-stored = by-phase (λ p. owned p ≡ true → stored p ≡ true) (λ h. h) (λ t h. refl) (λ t h. refl) (λ t h. refl) (λ t h. refl) (λ t c h. refl) (λ t c h. refl) (λ t n h. refl) (λ h. h) (λ t c h. refl) (λ t h. refl) (λ t h. refl) (λ t h. refl)
 
 pub fits-view : (c : ℕ) (p : Phase) (r : W.Request) → slotFits c (phaseView p r) ≡ (lossFits c (r .mode) (carrierOf (carrierIn p)) && spanFits c (spanOf p))
 fits-view c p r =
@@ -188,15 +221,16 @@ fits-view c p r =
     (λ t l. either-way (spanFits c (spanOf (Dialling t l))) (lossFits c (r .mode) (carrierOf l)))
     (λ t l. either-way (spanFits c (spanOf (Answered t l))) (lossFits c (r .mode) (carrierOf l)))
     (λ t n. refl) refl
-    (λ t l. either-way (spanFits c (spanOf (DialledOut t l))) (lossFits c (r .mode) (carrierOf l))) p
+    (λ t l. either-way (spanFits c (spanOf (DialledOut t l))) (lossFits c (r .mode) (carrierOf l)))
+    (λ t. refl) (λ t. refl) (λ t. refl) p
 
 -- ── when its waits fall due ──
 
 pub loss-view : (p : Phase) (r : W.Request) → lossDue (phaseView p r) ≡ carrierOf (carrierIn p)
-loss-view p r = by-phase (λ p. lossDue (phaseView p r) ≡ carrierOf (carrierIn p)) refl (λ t. refl) (λ t. refl) (λ t. refl) (λ t. refl) (λ t l. refl) (λ t l. refl) (λ t n. refl) refl (λ t c. refl) p
+loss-view p r = by-phase (λ p. lossDue (phaseView p r) ≡ carrierOf (carrierIn p)) refl (λ t. refl) (λ t. refl) (λ t. refl) (λ t. refl) (λ t l. refl) (λ t l. refl) (λ t n. refl) refl (λ t c. refl) (λ t. refl) (λ t. refl) (λ t. refl) p
 
 pub main-view : (p : Phase) (r : W.Request) → mainDue (phaseView p r) ≡ dueIn (spanOf p)
-main-view p r = by-phase (λ p. mainDue (phaseView p r) ≡ dueIn (spanOf p)) refl (λ t. refl) (λ t. refl) (λ t. refl) (λ t. refl) (λ t l. refl) (λ t l. refl) (λ t n. refl) refl (λ t c. refl) p
+main-view p r = by-phase (λ p. mainDue (phaseView p r) ≡ dueIn (spanOf p)) refl (λ t. refl) (λ t. refl) (λ t. refl) (λ t. refl) (λ t l. refl) (λ t l. refl) (λ t n. refl) refl (λ t c. refl) (λ t. refl) (λ t. refl) (λ t. refl) p
 
 -- what a slot stores is short where every request is that keeps the rules
 pub short-slot : (c : Config) → ((r : W.Request) → requestKeeps c r ≡ true → Short r) → (s : R.Slot) → slotKeeps c s ≡ true → ShortSlot s

@@ -9,6 +9,7 @@ use Rattle.slots.proofs.laying.tidy_slot.Reads as tidy-slot
 use Rattle.slots.proofs.laying.tidy_waiting.Reads as tidy-waiting
 use Rattle.slots.proofs.stores.Reads as stores
 use Rattle.slots.proofs.has_ship.Reads as has-ship
+use Rattle.slots.proofs.is_called.Reads as is-called
 use Rattle.slots.proofs.is_free.Reads as is-free
 use Rattle.slots.proofs.is_taken.Reads as is-taken
 use Rattle.slots.proofs.loss_of.Reads as loss-of
@@ -39,6 +40,9 @@ stores-settled κs a r r' s s' p q = p ∙ sym q
 
 pub has-ship-settled : (κs : Lfts 0) (a : _) (r r' : _) (s s' : _) → has-ship.Post κs a r s → has-ship.Post κs a r' s' → r ≡ r'
 has-ship-settled κs a r r' s s' p q = p ∙ sym q
+
+pub is-called-settled : (κs : Lfts 0) (a : _) (r r' : _) (s s' : _) → is-called.Post κs a r s → is-called.Post κs a r' s' → r ≡ r'
+is-called-settled κs a r r' s s' p q = p ∙ sym q
 
 pub is-free-settled : (κs : Lfts 0) (a : _) (r r' : _) (s s' : _) → is-free.Post κs a r s → is-free.Post κs a r' s' → r ≡ r'
 is-free-settled κs a r r' s s' p q = p ∙ sym q

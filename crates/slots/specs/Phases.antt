@@ -8,6 +8,7 @@ use Rattle.units.specs.declared.Told.the-variants.{Nothing}
 use Rattle.rules.specs.Rules.Words as W
 use Rattle.rules.specs.Rules.Station as R
 use Rattle.rules.specs.Rules.Station.{dealing, free, taken, pending, busy, held, offered, firstRing, secondRing, acknowledged}
+use Rattle.rules.specs.Rules.Station.{firstCall, secondCall, ringing}
 use Rattle.rules.specs.Rules.Station.{dialling, dialledOut, answered, kindWait, diallingWait, replyWait, holdWait}
 use Rattle.rules.specs.Rules.Sound.{fits}
 use Rattle.slots.specs.declared.Carrier.{Carrier}
@@ -16,7 +17,7 @@ use Rattle.slots.specs.declared.Span.{Span}
 use Rattle.slots.specs.declared.Span.the-variants.{Untimed, Until, Since}
 use Rattle.slots.specs.declared.Phase.{Phase}
 use Rattle.slots.specs.declared.Phase.the-variants.{Free, Offered, RingBack, RingAgain, Acknowledged}
-use Rattle.slots.specs.declared.Phase.the-variants.{Dialling, DialledOut, Answered, Hold, Taken}
+use Rattle.slots.specs.declared.Phase.the-variants.{Dialling, DialledOut, Answered, Hold, Taken, Called, CalledAgain, Ringing}
 
 -- ── what it stands for, beside the request that its slot stores ──────────────
 
@@ -35,6 +36,9 @@ phaseView (DialledOut t c) r = busy (dealing r) (dialledOut (t .0)) (carrierOf c
 phaseView (Answered t c) r = busy (dealing r) (answered (t .0)) (carrierOf c)
 phaseView (Hold t n) r = held (dealing r) n (t .0)
 phaseView Taken r = taken
+phaseView (Called t) r = pending firstCall (dealing r) (t .0)
+phaseView (CalledAgain t) r = pending secondCall (dealing r) (t .0)
+phaseView (Ringing t) r = pending ringing (dealing r) (t .0)
 
 -- ── how it is laid out ───────────────────────────────────────────────────────
 
@@ -47,6 +51,9 @@ pendingImage offered t = Offered (record { 0 = t })
 pendingImage firstRing t = RingBack (record { 0 = t })
 pendingImage secondRing t = RingAgain (record { 0 = t })
 pendingImage acknowledged t = Acknowledged (record { 0 = t })
+pendingImage firstCall t = Called (record { 0 = t })
+pendingImage secondCall t = CalledAgain (record { 0 = t })
+pendingImage ringing t = Ringing (record { 0 = t })
 
 abbrev pub stageImage : R.Stage → Carrier → Phase
 stageImage (dialling t) c = Dialling (record { 0 = t }) c
@@ -82,6 +89,9 @@ stored (DialledOut t c) = true
 stored (Answered t c) = true
 stored (Hold t n) = true
 stored Taken = false
+stored (Called t) = true
+stored (CalledAgain t) = true
+stored (Ringing t) = true
 
 -- a phase in which the slot is its ship's
 abbrev pub owned : Phase → Bool
@@ -95,6 +105,25 @@ owned (DialledOut t c) = true
 owned (Answered t c) = true
 owned (Hold t n) = false
 owned Taken = false
+owned (Called t) = true
+owned (CalledAgain t) = true
+owned (Ringing t) = true
+
+-- 02, no. 2: a phase in which its ship is being called
+abbrev pub calledIn : Phase → Bool
+calledIn Free = false
+calledIn (Offered t) = false
+calledIn (RingBack t) = false
+calledIn (RingAgain t) = false
+calledIn (Acknowledged t) = false
+calledIn (Dialling t c) = false
+calledIn (DialledOut t c) = false
+calledIn (Answered t c) = false
+calledIn (Hold t n) = false
+calledIn Taken = false
+calledIn (Called t) = true
+calledIn (CalledAgain t) = true
+calledIn (Ringing t) = true
 
 -- since when its call is answered, if it is
 abbrev pub answeredSince : Phase → Option ℕ
@@ -108,6 +137,9 @@ answeredSince (DialledOut t c) = none
 answeredSince (Answered t c) = some (t .0)
 answeredSince (Hold t n) = none
 answeredSince Taken = none
+answeredSince (Called t) = none
+answeredSince (CalledAgain t) = none
+answeredSince (Ringing t) = none
 
 -- the duration that a hold tells
 abbrev pub toldIn : Phase → Told
@@ -121,6 +153,9 @@ toldIn (DialledOut t c) = Nothing
 toldIn (Answered t c) = Nothing
 toldIn (Hold t n) = n
 toldIn Taken = Nothing
+toldIn (Called t) = Nothing
+toldIn (CalledAgain t) = Nothing
+toldIn (Ringing t) = Nothing
 
 -- its time, and how long its wait is
 abbrev pub spanOf : Phase → Span
@@ -134,6 +169,9 @@ spanOf (DialledOut t c) = Until t (record { 0 = replyWait })
 spanOf (Answered t c) = Since t
 spanOf (Hold t n) = Until t (record { 0 = holdWait })
 spanOf Taken = Untimed
+spanOf (Called t) = Until t (record { 0 = kindWait firstCall })
+spanOf (CalledAgain t) = Until t (record { 0 = kindWait secondCall })
+spanOf (Ringing t) = Until t (record { 0 = kindWait ringing })
 
 -- when a wait falls due in it
 abbrev pub dueIn : Span → Option ℕ
@@ -158,3 +196,6 @@ carrierIn (DialledOut t c) = c
 carrierIn (Answered t c) = c
 carrierIn (Hold t n) = Present
 carrierIn Taken = Present
+carrierIn (Called t) = Present
+carrierIn (CalledAgain t) = Present
+carrierIn (Ringing t) = Present

@@ -4,7 +4,7 @@ pub mod mast;
 
 ghost use mathlib.Core.Path.{_≡_};
 ghost use Rattle.rules.specs.Rules.Station.{isFree, isTaken, lossDue, mainDue};
-ghost use Rattle.slots.specs.Phases.{carrierOf, stored, owned, toldIn, spanOf, dueIn, carrierIn};
+ghost use Rattle.slots.specs.Phases.{carrierOf, stored, owned, calledIn, toldIn, spanOf, dueIn, carrierIn};
 ghost use Rattle.slots.specs.Views.{slotView, whenView};
 use requests::Request;
 use units::Channel;
@@ -34,6 +34,12 @@ pub const DIALLING_WAIT: Tenths = Tenths(600);
 // "at it a new wait of 600 begins"
 pub const REPLY_WAIT: Tenths = Tenths(600);
 
+// Document 02, no. 2: "one repeat after 5 s, dropped after another 5 s"
+pub const CALL_WAIT: Tenths = Tenths(50);
+
+// "a wait of one minute"
+pub const RINGING_WAIT: Tenths = Tenths(600);
+
 // "hold for 40"
 pub const HOLD_WAIT: Tenths = Tenths(40);
 
@@ -55,6 +61,9 @@ pub enum Phase {
     Hold(Tenths, Told),
     Taken,
     DialledOut(Tenths, Carrier),
+    Called(Tenths),
+    CalledAgain(Tenths),
+    Ringing(Tenths),
 }
 
 // The time of a phase: none; the due time of a wait, and how long that is; since when a call is answered.
@@ -145,6 +154,9 @@ pub fn stores(p: Phase) -> bool
         Phase::Answered(_, _) => true,
         Phase::Hold(_, _) => true,
         Phase::Taken => false,
+        Phase::Called(_) => true,
+        Phase::CalledAgain(_) => true,
+        Phase::Ringing(_) => true,
     }
 }
 
@@ -163,6 +175,30 @@ pub fn has_ship(p: Phase) -> bool
         Phase::Answered(_, _) => true,
         Phase::Hold(_, _) => false,
         Phase::Taken => false,
+        Phase::Called(_) => true,
+        Phase::CalledAgain(_) => true,
+        Phase::Ringing(_) => true,
+    }
+}
+
+// Document 02, no. 2, "a ship being called": a phase before the ship's transmission in a call from ashore.
+pub fn is_called(p: Phase) -> bool
+    ensures { λ r. ⌜ r ≡ calledIn p ⌝ }
+{
+    match p {
+        Phase::Free => false,
+        Phase::Offered(_) => false,
+        Phase::RingBack(_) => false,
+        Phase::RingAgain(_) => false,
+        Phase::Acknowledged(_) => false,
+        Phase::Dialling(_, _) => false,
+        Phase::DialledOut(_, _) => false,
+        Phase::Answered(_, _) => false,
+        Phase::Hold(_, _) => false,
+        Phase::Taken => false,
+        Phase::Called(_) => true,
+        Phase::CalledAgain(_) => true,
+        Phase::Ringing(_) => true,
     }
 }
 
@@ -181,6 +217,9 @@ pub fn is_free(s: Slot) -> bool
         Phase::Answered(_, _) => false,
         Phase::Hold(_, _) => false,
         Phase::Taken => false,
+        Phase::Called(_) => false,
+        Phase::CalledAgain(_) => false,
+        Phase::Ringing(_) => false,
     }
 }
 
@@ -199,6 +238,9 @@ pub fn is_taken(s: Slot) -> bool
         Phase::Answered(_, _) => false,
         Phase::Hold(_, _) => false,
         Phase::Taken => true,
+        Phase::Called(_) => false,
+        Phase::CalledAgain(_) => false,
+        Phase::Ringing(_) => false,
     }
 }
 
@@ -217,6 +259,9 @@ pub fn told_in(p: Phase) -> Told
         Phase::Answered(_, _) => Told::Nothing,
         Phase::Hold(_, t) => t,
         Phase::Taken => Told::Nothing,
+        Phase::Called(_) => Told::Nothing,
+        Phase::CalledAgain(_) => Told::Nothing,
+        Phase::Ringing(_) => Told::Nothing,
     }
 }
 
@@ -234,6 +279,9 @@ pub fn span_of(p: Phase) -> Span
         Phase::Answered(t, _) => Span::Since(t),
         Phase::Hold(t, _) => Span::Until(t, HOLD_WAIT),
         Phase::Taken => Span::Untimed,
+        Phase::Called(t) => Span::Until(t, CALL_WAIT),
+        Phase::CalledAgain(t) => Span::Until(t, CALL_WAIT),
+        Phase::Ringing(t) => Span::Until(t, RINGING_WAIT),
     }
 }
 
@@ -252,6 +300,9 @@ pub fn carrier_in(p: Phase) -> Carrier
         Phase::Answered(_, c) => c,
         Phase::Hold(_, _) => Carrier::Present,
         Phase::Taken => Carrier::Present,
+        Phase::Called(_) => Carrier::Present,
+        Phase::CalledAgain(_) => Carrier::Present,
+        Phase::Ringing(_) => Carrier::Present,
     }
 }
 

@@ -32,5 +32,14 @@ returns-9 c = rw (c .before .enum-told2 .given .1) (c .plain6 .ensures)
 returns-10 : tie.Need-returns-10
 returns-10 c = rw (c .before .before .p8 .given .1) (c .fields-of4 .ensures)
 
+returns-11 : tie.Need-returns-11
+returns-11 c = rw (c .before .before .p9 .given .1) (c .plain7 .ensures)
+
+returns-12 : tie.Need-returns-12
+returns-12 c = rw (c .before .before .p10 .given .1) (c .plain8 .ensures)
+
+returns-13 : tie.Need-returns-13
+returns-13 c = rw (c .before .before .p11 .given .1) (c .plain9 .ensures)
+
 pub phase-fields-spec : {M : Type 1} → statement M
-phase-fields-spec = tie.close (tie.spec (λ c. search needs) (λ c κs. search needs) (λ c. search needs) (λ c κs. search needs) (λ c. search needs) (λ c κs. search needs) (λ c. search needs) (λ c κs. search needs) (λ c. search needs) (λ c κs. search needs) (λ c. search needs) (λ c κs. search needs) (λ c. search needs) (λ c κs. search needs) (λ c. search needs) (λ c κs. search needs) (λ c. search needs) (λ c κs. search needs) (λ c. search needs) (λ c κs. search needs) returns returns-2 returns-3 returns-4 returns-5 returns-6 returns-7 returns-8 returns-9 returns-10)
+phase-fields-spec = tie.close (tie.spec (λ c. search needs) (λ c κs. search needs) (λ c. search needs) (λ c κs. search needs) (λ c. search needs) (λ c κs. search needs) (λ c. search needs) (λ c κs. search needs) (λ c. search needs) (λ c κs. search needs) (λ c. search needs) (λ c κs. search needs) (λ c. search needs) (λ c κs. search needs) (λ c. search needs) (λ c κs. search needs) (λ c. search needs) (λ c κs. search needs) (λ c. search needs) (λ c κs. search needs) (λ c. search needs) (λ c κs. search needs) (λ c. search needs) (λ c κs. search needs) (λ c. search needs) (λ c κs. search needs) returns returns-2 returns-3 returns-4 returns-5 returns-6 returns-7 returns-8 returns-9 returns-10 returns-11 returns-12 returns-13)

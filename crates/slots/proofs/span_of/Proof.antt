@@ -26,10 +26,22 @@ returns-8 c = rw (c .before .p7 .given .1)
 returns-9 : tie.Need-returns-9
 returns-9 c = rw (c .before .p8 .given .1)
 
+returns-11 : tie.Need-returns-11
+returns-11 c = rw (c .before .p9 .given .1)
+
+returns-12 : tie.Need-returns-12
+returns-12 c = rw (c .before .p10 .given .1)
+
+returns-13 : tie.Need-returns-13
+returns-13 c = rw (c .before .p11 .given .1)
+
 pub span-of-spec : {M : Type 1} → statement M
 span-of-spec =
     tie.close
     (tie.spec
+    (λ c. search needs)
+    (λ c. search needs)
+    (λ c. search needs)
     (λ c. search needs)
     (λ c. search needs)
     (λ c. search needs)
@@ -49,4 +61,7 @@ span-of-spec =
     returns-7
     returns-8
     returns-9
-    (λ c. search needs))
+    (λ c. search needs)
+    returns-11
+    returns-12
+    returns-13)
