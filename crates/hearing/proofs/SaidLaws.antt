@@ -9,10 +9,10 @@ use Rattle.sequence.specs.declared.Meaning.{Meaning}
 use Rattle.rules.specs.Rules.Words as W
 use Rattle.rules.specs.Rules.Words.{simplex, duplex}
 use Rattle.rules.specs.Rules.Heard as H
-use Rattle.rules.specs.Rules.Heard.{callRequest, dataRequest, bq, workingCall, endOfCall, nothing, isBlank, says, requestIn}
+use Rattle.rules.specs.Rules.Heard.{callRequest, dataRequest, bq, declined, workingCall, endOfCall, nothing, isBlank, says, requestIn}
 use Rattle.requests.specs.Views.{viewed, digitsOf, modeOf, requestOf}
 use Rattle.hearing.specs.declared.Kind.{Kind}
-use Rattle.hearing.specs.declared.Kind.the-variants.{CallRequest, DataRequest, Bq, WorkingCall, EndOfCall, Nothing}
+use Rattle.hearing.specs.declared.Kind.the-variants.{CallRequest, DataRequest, Bq, Declined, WorkingCall, EndOfCall, Nothing}
 use Rattle.hearing.specs.declared.Heard.{Heard}
 use Rattle.hearing.specs.Said.{modeIn, askedIn, heardAs, heardOf}
 
@@ -39,6 +39,7 @@ abbrev kindIn : H.Heard → Kind
 kindIn (callRequest r) = CallRequest
 kindIn (dataRequest x n) = DataRequest
 kindIn (bq i x) = Bq (record { 0 = i })
+kindIn (declined x) = Declined
 kindIn (workingCall x) = WorkingCall
 kindIn (endOfCall x) = EndOfCall
 kindIn nothing = Nothing
@@ -47,6 +48,7 @@ kind-back : (k : Kind) (r : W.Request) → kindIn (heardAs k r) ≡ k
 kind-back CallRequest r = refl
 kind-back DataRequest r = refl
 kind-back (Bq i) r = refl
+kind-back Declined r = refl
 kind-back WorkingCall r = refl
 kind-back EndOfCall r = refl
 kind-back Nothing r = refl

@@ -5,13 +5,13 @@ use lib.Dec.{eqb}
 use Rattle.sequence.specs.declared.Meaning.{Meaning}
 use Rattle.rules.specs.Rules.Words as W
 use Rattle.rules.specs.Rules.Heard as H
-use Rattle.rules.specs.Rules.Heard.{callRequest, dataRequest, bq, workingCall, endOfCall, nothing}
+use Rattle.rules.specs.Rules.Heard.{callRequest, dataRequest, bq, declined, workingCall, endOfCall, nothing}
 use Rattle.requests.specs.declared.Mode.{Mode}
 use Rattle.requests.specs.declared.Mode.the-variants.{Simplex, Duplex}
 use Rattle.requests.specs.declared.Request.{Request}
 use Rattle.requests.specs.Views.{requestOf}
 use Rattle.hearing.specs.declared.Kind.{Kind}
-use Rattle.hearing.specs.declared.Kind.the-variants.{CallRequest, DataRequest, Bq, WorkingCall, EndOfCall, Nothing}
+use Rattle.hearing.specs.declared.Kind.the-variants.{CallRequest, DataRequest, Bq, Declined, WorkingCall, EndOfCall, Nothing}
 use Rattle.hearing.specs.declared.Heard.{Heard}
 
 -- "101 duplex"
@@ -27,6 +27,7 @@ abbrev pub heardAs : Kind → W.Request → H.Heard
 heardAs CallRequest r = callRequest r
 heardAs DataRequest r = dataRequest (r .who) (r .number)
 heardAs (Bq i) r = bq (i .0) (r .who)
+heardAs Declined r = declined (r .who)
 heardAs WorkingCall r = workingCall (r .who)
 heardAs EndOfCall r = endOfCall (r .who)
 heardAs Nothing r = nothing

@@ -19,6 +19,7 @@ use sequence::FIRST_DATA;
 use sequence::FIRST_DUPLEX;
 use sequence::FIRST_OVER;
 use sequence::FIRST_SIMPLEX;
+use sequence::FIRST_UNABLE;
 use sequence::Field;
 use sequence::Meaning;
 use slots::Found;
@@ -28,11 +29,12 @@ use slots::mast::Mast;
 use slots::mast::is_ours;
 use units::SlotNumber;
 
-// Document 01's kinds of sequences; a BQ names the channel of a slot.
+// Document 01's kinds of sequences, and 02's "BQ with 104"; another BQ names the channel of a slot.
 pub enum Kind {
     CallRequest,
     DataRequest,
     Bq(SlotNumber),
+    Declined,
     WorkingCall,
     EndOfCall,
     Nothing,
@@ -140,7 +142,7 @@ fn bq_on(slot: Found) -> Kind
     }
 }
 
-// Which of document 01's kinds it is, where its field names the slot.
+// Which of the documents' kinds it is, where its field names the slot.
 fn kind_of(meaning: Meaning, slot: Found) -> Kind
     ensures { λ r. ⌜
         ((c : Config) → foundView slot ≡ slotNamed c (meaning .field) → heardAs r (requestOf (askedIn meaning)) ≡ kindOf c meaning)
@@ -163,6 +165,9 @@ fn kind_of(meaning: Meaning, slot: Found) -> Kind
     }
     if agrees(meaning) {
         return bq_on(slot);
+    }
+    if says(meaning, END_BQ, FIRST_UNABLE) {
+        return Kind::Declined;
     }
     Kind::Nothing
 }

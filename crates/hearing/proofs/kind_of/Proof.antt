@@ -33,7 +33,11 @@ returns-6 c = λ g e. rw (← c .before .before .before .before .before .before 
 
 returns-7 : tie.Need-returns-7
 unfolding kindOf
-returns-7 c = λ g e. rw (← c .before .before .before .before .before .before .before .before .before .before .before .says .ensures, c .before .before .before .before .before .before .before .before .before .before .if1 .left, ← c .before .before .before .before .before .before .before .before .before .says2 .ensures, c .before .before .before .before .before .before .before .before .if2 .left, ← c .before .before .before .before .before .before .before .says3 .ensures, c .before .before .before .before .before .before .if3 .left, ← c .before .before .before .before .before .works .ensures, c .before .before .before .before .if4 .left, ← c .before .before .before .says4 .ensures, c .before .before .if5 .left, ← c .before .agrees .ensures, c .if6 .left)
+returns-7 c = λ g e. rw (← c .before .before .before .before .before .before .before .before .before .before .before .before .before .says .ensures, c .before .before .before .before .before .before .before .before .before .before .before .before .if1 .left, ← c .before .before .before .before .before .before .before .before .before .before .before .says2 .ensures, c .before .before .before .before .before .before .before .before .before .before .if2 .left, ← c .before .before .before .before .before .before .before .before .before .says3 .ensures, c .before .before .before .before .before .before .before .before .if3 .left, ← c .before .before .before .before .before .before .before .works .ensures, c .before .before .before .before .before .before .if4 .left, ← c .before .before .before .before .before .says4 .ensures, c .before .before .before .before .if5 .left, ← c .before .before .before .agrees .ensures, c .before .before .if6 .left, ← c .before .says5 .ensures, c .if7 .taken, asked-is (c .before .before .before .before .before .before .before .before .before .before .before .before .before .before .args .meaning))
+
+returns-8 : tie.Need-returns-8
+unfolding kindOf
+returns-8 c = λ g e. rw (← c .before .before .before .before .before .before .before .before .before .before .before .before .before .says .ensures, c .before .before .before .before .before .before .before .before .before .before .before .before .if1 .left, ← c .before .before .before .before .before .before .before .before .before .before .before .says2 .ensures, c .before .before .before .before .before .before .before .before .before .before .if2 .left, ← c .before .before .before .before .before .before .before .before .before .says3 .ensures, c .before .before .before .before .before .before .before .before .if3 .left, ← c .before .before .before .before .before .before .before .works .ensures, c .before .before .before .before .before .before .if4 .left, ← c .before .before .before .before .before .says4 .ensures, c .before .before .before .before .if5 .left, ← c .before .before .before .agrees .ensures, c .before .before .if6 .left, ← c .before .says5 .ensures, c .if7 .left)
 
 pub kind-of-spec : {M : Type 1} → statement M
 kind-of-spec =
@@ -52,4 +56,6 @@ kind-of-spec =
     (λ c κs. search needs)
     (λ c κs. search needs)
     returns-6
-    returns-7)
+    (λ c κs. search needs)
+    returns-7
+    returns-8)
