@@ -13,8 +13,8 @@ use Rattle.rules.specs.Rules.Words.{Party, is, Request, simplex, duplex}
 use Rattle.rules.specs.Rules.Waits.{ofQueue}
 use Rattle.rules.specs.Rules.Station as R
 use Rattle.rules.specs.Rules.Station.{setClock, kindWait, replyWait, carrierWait, queueWait, isFree}
-use Rattle.rules.specs.Rules.Requests.{coastEnd, same, placeOf, ruleA, ruleB, ruleC, ruleF, ruleG, redial, bOrC, eToG, newcomer, dToG}
-use Rattle.rules.specs.Rules.Calls.{workingOn, workingKind, bqFor, bqKind, agreed, dialledOutOn, dialledOutStage, offHookOn, offHookStage, startLoss, downOn, upOn, shipEnd, shipEndOn, endOn, signalOn, takeOn, giveOn, handOn, pendingDue, replyDue, mainOn, fire, ticked}
+use Rattle.rules.specs.Rules.Requests.{ignored, coastEnd, same, placeOf, ruleA, ruleB, ruleC, ruleF, ruleG, redial, bOrC, eToG, newcomer, dToG}
+use Rattle.rules.specs.Rules.Calls.{workingOn, workingKind, bqFor, bqKind, agreed, startsRinging, dropped, declinedOn, declinedKind, dialledOutOn, dialledOutStage, offHookOn, offHookStage, startLoss, downOn, upOn, upKind, shipEnd, shipEndOn, endOn, hungOn, hungKind, signalOn, takeOn, giveOn, handOn, pendingDue, replyDue, mainOn, fire, ticked}
 use Rattle.requests.specs.declared.Mode.{Mode}
 use Rattle.requests.specs.declared.Mode.the-variants.{Simplex, Duplex}
 use Rattle.requests.specs.Views.{modeOf}
@@ -34,7 +34,7 @@ use Rattle.outcomes.specs.declared.Talk.the-variants.{Unanswered, Since}
 use Rattle.outcomes.specs.declared.Outcome.the-variants.{Passes, Redials, Joins, Replaces, Unable, Drops}
 use Rattle.outcomes.specs.Does.{sinceOf, outOf, behind, withoutSlot, wholeOf, timeOf}
 use Rattle.outcomes.proofs.WaitLaws.{wait-fits}
-use Rattle.deciding.specs.Decides.{dialledOutBy, offHookBy, upBy, lossFrom, downBy, coastEndBy, workingBy, shipEndBy, bqBy, bySignal, takeBy, giveBackBy, byHand, mainDueBy, ruleBBy, ruleCBy, askedAgainBy, newcomerBy}
+use Rattle.deciding.specs.Decides.{dialledOutBy, offHookBy, upBy, lossFrom, downBy, coastEndBy, hungBy, declinedBy, dataBy, workingBy, shipEndBy, bqBy, bySignal, takeBy, giveBackBy, byHand, mainDueBy, ruleBBy, ruleCBy, askedAgainBy, newcomerBy}
 
 carrier-short : (m : W.Mode) → carrierWait m ≤ queueWait
 carrier-short simplex = omega arith
@@ -45,15 +45,15 @@ module _ (i : ℕ) (st : R.Station) (r q : Request) where
 
   dialled-out-is : st .clock ≤ limit → (p : Phase) → outOf i r q (dialledOutBy (timeOf st) p) st ≡ dialledOutOn i st (phaseView p r)
   unfolding outOf dialledOutOn dialledOutStage
-  dialled-out-is h = by-phase _ refl (λ t. refl) (λ t. refl) (λ t. refl) (λ t. refl) (λ t l. rw (wait-fits (st .clock) replyWait h (omega arith)) refl) (λ t l. refl) (λ t n. refl) refl (λ t l. refl)
+  dialled-out-is h = by-phase _ refl (λ t. refl) (λ t. refl) (λ t. refl) (λ t. refl) (λ t l. rw (wait-fits (st .clock) replyWait h (omega arith)) refl) (λ t l. refl) (λ t n. refl) refl (λ t l. refl) (λ t. refl) (λ t. refl) (λ t. refl)
 
   off-hook-is : (p : Phase) → outOf i r q (offHookBy (timeOf st) p) st ≡ offHookOn i st (phaseView p r)
   unfolding outOf offHookOn offHookStage
-  off-hook-is = by-phase _ refl (λ t. refl) (λ t. refl) (λ t. refl) (λ t. refl) (λ t l. refl) (λ t l. refl) (λ t n. refl) refl (λ t l. refl)
+  off-hook-is = by-phase _ refl (λ t. refl) (λ t. refl) (λ t. refl) (λ t. refl) (λ t l. refl) (λ t l. refl) (λ t n. refl) refl (λ t l. refl) (λ t. refl) (λ t. refl) (λ t. refl)
 
   up-is : (p : Phase) → outOf i r q (upBy p) st ≡ upOn i st (phaseView p r)
-  unfolding outOf upOn
-  up-is = by-phase _ refl (λ t. refl) (λ t. refl) (λ t. refl) (λ t. refl) (λ t l. refl) (λ t l. refl) (λ t n. refl) refl (λ t l. refl)
+  unfolding outOf upOn upKind
+  up-is = by-phase _ refl (λ t. refl) (λ t. refl) (λ t. refl) (λ t. refl) (λ t l. refl) (λ t l. refl) (λ t n. refl) refl (λ t l. refl) (λ t. refl) (λ t. refl) (λ t. refl)
 
   loss-is : (m : Mode) → modeOf m ≡ r .mode → st .clock ≤ limit → (l : Carrier) → carrierOf (lossFrom (timeOf st) m l) ≡ startLoss (st .clock) (r .mode) (carrierOf l)
   loss-is m e h Present = rw e (ap some (wait-fits (st .clock) (carrierWait (r .mode)) h (carrier-short (r .mode))))
@@ -61,24 +61,32 @@ module _ (i : ℕ) (st : R.Station) (r q : Request) where
 
   down-is : (m : Mode) → modeOf m ≡ r .mode → st .clock ≤ limit → (p : Phase) → outOf i r q (downBy (timeOf st) m p) st ≡ downOn i st (phaseView p r)
   unfolding outOf downOn
-  down-is m e h = by-phase _ refl (λ t. refl) (λ t. refl) (λ t. refl) (λ t. refl) (λ t l. rw (loss-is m e h l) refl) (λ t l. rw (loss-is m e h l) refl) (λ t n. refl) refl (λ t l. rw (loss-is m e h l) refl)
+  down-is m e h = by-phase _ refl (λ t. refl) (λ t. refl) (λ t. refl) (λ t. refl) (λ t l. rw (loss-is m e h l) refl) (λ t l. rw (loss-is m e h l) refl) (λ t n. refl) refl (λ t l. rw (loss-is m e h l) refl) (λ t. refl) (λ t. refl) (λ t. refl)
 
   pub coast-end-is : (p : Phase) → outOf i r q (coastEndBy p) st ≡ endOn i st (phaseView p r)
   unfolding outOf endOn coastEnd
-  coast-end-is = by-phase _ refl (λ t. refl) (λ t. refl) (λ t. refl) (λ t. refl) (λ t l. refl) (λ t l. refl) (λ t n. refl) refl (λ t l. refl)
+  coast-end-is = by-phase _ refl (λ t. refl) (λ t. refl) (λ t. refl) (λ t. refl) (λ t l. refl) (λ t l. refl) (λ t n. refl) refl (λ t l. refl) (λ t. refl) (λ t. refl) (λ t. refl)
+
+  hung-is : (p : Phase) → outOf i r q (hungBy p) st ≡ hungOn i st (phaseView p r)
+  unfolding outOf hungOn hungKind dropped coastEnd
+  hung-is = by-phase _ refl (λ t. refl) (λ t. refl) (λ t. refl) (λ t. refl) (λ t l. refl) (λ t l. refl) (λ t n. refl) refl (λ t l. refl) (λ t. refl) (λ t. refl) (λ t. refl)
+
+  pub declined-is : (p : Phase) → outOf i r q (declinedBy p) st ≡ declinedOn i st (phaseView p r)
+  unfolding outOf declinedOn declinedKind dropped
+  declined-is = by-phase _ refl (λ t. refl) (λ t. refl) (λ t. refl) (λ t. refl) (λ t l. refl) (λ t l. refl) (λ t n. refl) refl (λ t l. refl) (λ t. refl) (λ t. refl) (λ t. refl)
 
   take-is : (p : Phase) → outOf i r q (takeBy p) st ≡ takeOn i st (phaseView p r)
   unfolding outOf takeOn
-  take-is = by-phase _ refl (λ t. refl) (λ t. refl) (λ t. refl) (λ t. refl) (λ t l. refl) (λ t l. refl) (λ t n. refl) refl (λ t l. refl)
+  take-is = by-phase _ refl (λ t. refl) (λ t. refl) (λ t. refl) (λ t. refl) (λ t l. refl) (λ t l. refl) (λ t n. refl) refl (λ t l. refl) (λ t. refl) (λ t. refl) (λ t. refl)
 
   give-back-is : (p : Phase) → outOf i r q (giveBackBy p) st ≡ giveOn i st (phaseView p r)
   unfolding outOf giveOn
-  give-back-is = by-phase _ refl (λ t. refl) (λ t. refl) (λ t. refl) (λ t. refl) (λ t l. refl) (λ t l. refl) (λ t n. refl) refl (λ t l. refl)
+  give-back-is = by-phase _ refl (λ t. refl) (λ t. refl) (λ t. refl) (λ t. refl) (λ t l. refl) (λ t l. refl) (λ t n. refl) refl (λ t l. refl) (λ t. refl) (λ t. refl) (λ t. refl)
 
   pub signal-is : (m : Mode) → modeOf m ≡ r .mode → st .clock ≤ limit → (g : Signal) (p : Phase) → outOf i r q (bySignal g (timeOf st) m p) st ≡ signalOn i st (phaseView p r) (signalView g)
   signal-is m e h LineDialledOut p = dialled-out-is h p
   signal-is m e h LineLifted p = off-hook-is p
-  signal-is m e h LineHung p = coast-end-is p
+  signal-is m e h LineHung p = hung-is p
   signal-is m e h CarrierHeard p = up-is p
   signal-is m e h CarrierLost p = down-is m e h p
 
@@ -87,28 +95,34 @@ module _ (i : ℕ) (st : R.Station) (r q : Request) where
   hand-is GivesBack p = give-back-is p
 
   pub main-due-is : (p : Phase) → outOf i r q (mainDueBy p) st ≡ mainOn i st (phaseView p r)
-  unfolding outOf mainOn pendingDue replyDue coastEnd
-  main-due-is = by-phase _ refl (λ t. refl) (λ t. refl) (λ t. refl) (λ t. refl) (λ t l. refl) (λ t l. refl) (λ t n. refl) refl (λ t l. refl)
+  unfolding outOf mainOn pendingDue dropped replyDue coastEnd
+  main-due-is = by-phase _ refl (λ t. refl) (λ t. refl) (λ t. refl) (λ t. refl) (λ t l. refl) (λ t l. refl) (λ t n. refl) refl (λ t l. refl) (λ t. refl) (λ t. refl) (λ t. refl)
 
   -- ── heard from the ship x ──
 
   module _ (x : Party) where
     pub working-is : (own : Bool) → is x (r .who) ≡ own → (p : Phase) → outOf i r q (workingBy own p) st ≡ workingOn i x st (phaseView p r)
     unfolding outOf workingOn workingKind
-    working-is true e = by-phase _ refl (λ t. rw e refl) (λ t. rw e refl) (λ t. rw e refl) (λ t. rw e refl) (λ t l. refl) (λ t l. refl) (λ t n. refl) refl (λ t l. refl)
-    working-is false e = by-phase _ refl (λ t. rw e refl) (λ t. rw e refl) (λ t. rw e refl) (λ t. rw e refl) (λ t l. refl) (λ t l. refl) (λ t n. refl) refl (λ t l. refl)
+    working-is true e = by-phase _ refl (λ t. rw e refl) (λ t. rw e refl) (λ t. rw e refl) (λ t. rw e refl) (λ t l. refl) (λ t l. refl) (λ t n. refl) refl (λ t l. refl) (λ t. rw e refl) (λ t. rw e refl) (λ t. rw e refl)
+    working-is false e = by-phase _ refl (λ t. rw e refl) (λ t. rw e refl) (λ t. rw e refl) (λ t. rw e refl) (λ t l. refl) (λ t l. refl) (λ t n. refl) refl (λ t l. refl) (λ t. rw e refl) (λ t. rw e refl) (λ t. rw e refl)
 
     pub ship-end-is : (own : Bool) → is x (r .who) ≡ own → (p : Phase) → outOf i r q (shipEndBy own p) st ≡ shipEndOn i x st (phaseView p r)
     unfolding outOf shipEndOn shipEnd
-    ship-end-is true e = by-phase _ refl (λ t. refl) (λ t. refl) (λ t. refl) (λ t. refl) (λ t l. rw e refl) (λ t l. rw e refl) (λ t n. rw e refl) refl (λ t l. rw e refl)
-    ship-end-is false e = by-phase _ refl (λ t. refl) (λ t. refl) (λ t. refl) (λ t. refl) (λ t l. rw e refl) (λ t l. rw e refl) (λ t n. rw e refl) refl (λ t l. rw e refl)
+    ship-end-is true e = by-phase _ refl (λ t. refl) (λ t. refl) (λ t. refl) (λ t. refl) (λ t l. rw e refl) (λ t l. rw e refl) (λ t n. rw e refl) refl (λ t l. rw e refl) (λ t. refl) (λ t. refl) (λ t. refl)
+    ship-end-is false e = by-phase _ refl (λ t. refl) (λ t. refl) (λ t. refl) (λ t. refl) (λ t l. rw e refl) (λ t l. rw e refl) (λ t n. rw e refl) refl (λ t l. rw e refl) (λ t. refl) (λ t. refl) (λ t. refl)
 
     pub bq-is : (own : Bool) → is x (r .who) ≡ own → st .clock ≤ limit → (p : Phase) → outOf i r q (bqBy own (timeOf st) p) st ≡ bqFor i x st (phaseView p r)
     unfolding outOf bqFor bqKind agreed
-    bq-is true e h = by-phase _ refl (λ t. rw e refl) (λ t. rw (e, wait-fits (st .clock) (kindWait R.acknowledged) h (omega arith)) refl) (λ t. rw (e, wait-fits (st .clock) (kindWait R.acknowledged) h (omega arith)) refl) (λ t. rw e refl) (λ t l. refl) (λ t l. refl) (λ t n. refl) refl (λ t l. refl)
-    bq-is false e h = by-phase _ refl (λ t. rw e refl) (λ t. rw e refl) (λ t. rw e refl) (λ t. rw e refl) (λ t l. refl) (λ t l. refl) (λ t n. refl) refl (λ t l. refl)
+    bq-is true e h = by-phase _ refl (λ t. rw e refl) (λ t. rw (e, wait-fits (st .clock) (kindWait R.acknowledged) h (omega arith)) refl) (λ t. rw (e, wait-fits (st .clock) (kindWait R.acknowledged) h (omega arith)) refl) (λ t. rw e refl) (λ t l. refl) (λ t l. refl) (λ t n. refl) refl (λ t l. refl) (λ t. rw e refl) (λ t. rw e refl) (λ t. rw e refl)
+    bq-is false e h = by-phase _ refl (λ t. rw e refl) (λ t. rw e refl) (λ t. rw e refl) (λ t. rw e refl) (λ t l. refl) (λ t l. refl) (λ t n. refl) refl (λ t l. refl) (λ t. rw e refl) (λ t. rw e refl) (λ t. rw e refl)
 
   -- ── a call request ──
+
+  -- a
+  pub data-is : (called : Bool) → outOf i r q (dataBy called) st ≡ cond called (ignored st) (ruleA st (q .who) (q .number))
+  unfolding outOf ruleA
+  data-is true = refl
+  data-is false = refl
 
   rule-b-is : (s : Bool) → same q r ≡ s → wholeOf i r q (ruleBBy s R.offered) st ≡ ruleB i R.offered r st q
   unfolding wholeOf outOf ruleB
@@ -127,7 +141,7 @@ module _ (i : ℕ) (st : R.Station) (r q : Request) where
   -- b and c: the mode is that of the slot's own request
   pub asked-again-is : (m : Mode) → r .mode ≡ modeOf m → (s : Bool) → same q r ≡ s → (p : Phase) → wholeOf i r q (askedAgainBy m s p) st ≡ bOrC i (phaseView p r) st q
   unfolding wholeOf outOf bOrC ruleB
-  asked-again-is m e s h = by-phase _ refl (λ t. rule-b-is s h) (λ t. refl) (λ t. refl) (λ t. refl) (λ t l. rule-c-is m e Unanswered l) (λ t l. rule-c-is m e (Since t) l) (λ t n. refl) refl (λ t l. rule-c-is m e Unanswered l)
+  asked-again-is m e s h = by-phase _ refl (λ t. rule-b-is s h) (λ t. refl) (λ t. refl) (λ t. refl) (λ t l. rule-c-is m e Unanswered l) (λ t l. rule-c-is m e (Since t) l) (λ t n. refl) refl (λ t l. rule-c-is m e Unanswered l) (λ t. refl) (λ t. refl) (λ t. refl)
 
   -- e: i is the lowest free slot; f and g: none is free
   pub offers-is : (waiting : ℕ) → some i ≡ lowest isFree (st .slots) → outOf i r q (newcomerBy true waiting) st ≡ newcomer st q

@@ -7,6 +7,8 @@ use Rattle.deciding.proofs.coast_end.Reads as coast-end
 use Rattle.deciding.proofs.working_call.Reads as working-call
 use Rattle.deciding.proofs.ship_end.Reads as ship-end
 use Rattle.deciding.proofs.bq.Reads as bq
+use Rattle.deciding.proofs.declined.Reads as declined
+use Rattle.deciding.proofs.data_asked.Reads as data-asked
 use Rattle.deciding.proofs.main_due.Reads as main-due
 use Rattle.deciding.proofs.asked_again.Reads as asked-again
 use Rattle.deciding.proofs.newcomer.Reads as newcomer
@@ -28,6 +30,12 @@ ship-end-settled κs a r r' s s' p q = p ∙ sym q
 
 pub bq-settled : (κs : Lfts 0) (a : _) (r r' : _) (s s' : _) → bq.Post κs a r s → bq.Post κs a r' s' → r ≡ r'
 bq-settled κs a r r' s s' p q = p ∙ sym q
+
+pub declined-settled : (κs : Lfts 0) (a : _) (r r' : _) (s s' : _) → declined.Post κs a r s → declined.Post κs a r' s' → r ≡ r'
+declined-settled κs a r r' s s' p q = p ∙ sym q
+
+pub data-asked-settled : (κs : Lfts 0) (a : _) (r r' : _) (s s' : _) → data-asked.Post κs a r s → data-asked.Post κs a r' s' → r ≡ r'
+data-asked-settled κs a r r' s s' p q = p ∙ sym q
 
 pub main-due-settled : (κs : Lfts 0) (a : _) (r r' : _) (s s' : _) → main-due.Post κs a r s → main-due.Post κs a r' s' → r ≡ r'
 main-due-settled κs a r r' s s' p q = p ∙ sym q

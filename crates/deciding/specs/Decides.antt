@@ -1,10 +1,12 @@
 -- What each event does to a slot, by its phase: one row for an event, one column for a kind of phase, as in the rules.
 use Prim.Native.Nat.{ℕ}
-use mathlib.Core.Bool.{Bool, cond}
+use mathlib.Core.Bool.{Bool, true, false, cond}
 use lib.Dec.{ltb}
 use Rattle.units.specs.declared.Tenths.{Tenths}
 use Rattle.units.specs.declared.Told.{Told}
-use Rattle.rules.specs.Rules.Station.{Kind, offered, firstRing, secondRing, acknowledged, kindWait, replyWait, carrierWait}
+use Rattle.rules.specs.Rules.Station.{Kind, offered, firstRing, secondRing, acknowledged, firstCall, secondCall, ringing, kindWait}
+use Rattle.rules.specs.Rules.Station.{replyWait}
+use Rattle.rules.specs.Rules.Station.{carrierWait}
 use Rattle.rules.specs.Rules.Sound.{queueRoom}
 use Rattle.requests.specs.declared.Mode.{Mode}
 use Rattle.requests.specs.declared.Mode.the-variants.{Simplex, Duplex}
@@ -13,7 +15,7 @@ use Rattle.slots.specs.declared.Carrier.{Carrier}
 use Rattle.slots.specs.declared.Carrier.the-variants.{Present, Lost}
 use Rattle.slots.specs.declared.Phase.{Phase}
 use Rattle.slots.specs.declared.Phase.the-variants.{Free, Offered, RingBack, RingAgain, Acknowledged}
-use Rattle.slots.specs.declared.Phase.the-variants.{Dialling, DialledOut, Answered, Hold, Taken}
+use Rattle.slots.specs.declared.Phase.the-variants.{Dialling, DialledOut, Answered, Hold, Taken, Called, CalledAgain, Ringing}
 use Rattle.slots.specs.declared.Signal.{Signal}
 use Rattle.slots.specs.declared.Signal.the-variants.{LineDialledOut, LineLifted, LineHung, CarrierHeard, CarrierLost}
 use Rattle.slots.specs.declared.Hand.{Hand}
@@ -23,9 +25,10 @@ use Rattle.outcomes.specs.declared.Talk.the-variants.{Unanswered, Since}
 use Rattle.outcomes.specs.declared.Outcome.{Outcome}
 use Rattle.outcomes.specs.declared.Outcome.the-variants.{Ignored, Turns, Dials, RingsAgain, Frees, Clears, CoastEnds}
 use Rattle.outcomes.specs.declared.Outcome.the-variants.{ShipEnds, SaysAgain, Repeats, Renews, Redials, Offers, Joins, Unable}
+use Rattle.outcomes.specs.declared.Outcome.the-variants.{CallsAgain, StartsRinging, Transmits, DropsCall}
 use Rattle.outcomes.specs.Does.{waitFrom}
 
--- the columns: free; taken; before the line is dialled; dialling; dialled out; answered; in the hold
+-- the columns: free; taken; before the line is dialled, or called from ashore; dialling; dialled out; answered; in the hold
 abbrev pub on : Outcome → Outcome → (Kind → Outcome) → (Tenths → Carrier → Outcome) → (Tenths → Carrier → Outcome)
     → (Tenths → Carrier → Outcome) → (Told → Outcome) → Phase → Outcome
 on a b k d o c h Free = a
@@ -38,6 +41,9 @@ on a b k d o c h (DialledOut t l) = o t l
 on a b k d o c h (Answered t l) = c t l
 on a b k d o c h (Hold t n) = h n
 on a b k d o c h Taken = b
+on a b k d o c h (Called t) = k firstCall
+on a b k d o c h (CalledAgain t) = k secondCall
+on a b k d o c h (Ringing t) = k ringing
 
 -- an event that only a slot with a call knows
 abbrev pub onCall : (Tenths → Carrier → Outcome) → (Tenths → Carrier → Outcome) → (Tenths → Carrier → Outcome) → Phase → Outcome
@@ -55,9 +61,21 @@ dialledOutBy t = onCall (λ d l. Turns (DialledOut (waitFrom t replyWait) l)) (�
 abbrev pub offHookBy : Tenths → Phase → Outcome
 offHookBy t = onCall (λ d l. Turns (Answered t l)) (λ d l. Turns (Answered t l)) (λ b l. Ignored)
 
+-- 02, no. 2: "The first carrier up while it rings is the ship's transmission"
+abbrev pub upKindBy : Kind → Outcome
+upKindBy offered = Ignored
+upKindBy firstRing = Ignored
+upKindBy secondRing = Ignored
+upKindBy acknowledged = Ignored
+upKindBy firstCall = Ignored
+upKindBy secondCall = Ignored
+upKindBy ringing = Transmits
+
 -- "carrier up ends it"
 abbrev pub upBy : Phase → Outcome
-upBy = onCall (λ d l. Turns (Dialling d Present)) (λ d l. Turns (DialledOut d Present)) (λ b l. Turns (Answered b Present))
+upBy =
+    on Ignored Ignored upKindBy (λ d l. Turns (Dialling d Present)) (λ d l. Turns (DialledOut d Present))
+    (λ b l. Turns (Answered b Present)) (λ n. Ignored)
 
 -- "a second down doesn't restart it"
 abbrev pub lossFrom : Tenths → Mode → Carrier → Carrier
@@ -69,14 +87,28 @@ downBy t m =
     onCall (λ d l. Turns (Dialling d (lossFrom t m l))) (λ d l. Turns (DialledOut d (lossFrom t m l)))
     (λ b l. Turns (Answered b (lossFrom t m l)))
 
--- on-hook, carrier loss
+-- carrier loss
 abbrev pub coastEndBy : Phase → Outcome
 coastEndBy = onCall (λ d l. CoastEnds Unanswered) (λ d l. CoastEnds Unanswered) (λ b l. CoastEnds (Since b))
+
+-- on-hook; 02, no. 2: "The caller's on-hook before that drops the call too"
+abbrev pub hungKindBy : Kind → Outcome
+hungKindBy offered = Ignored
+hungKindBy firstRing = Ignored
+hungKindBy secondRing = Ignored
+hungKindBy acknowledged = Ignored
+hungKindBy firstCall = DropsCall false false
+hungKindBy secondCall = DropsCall false false
+hungKindBy ringing = DropsCall true false
+
+abbrev pub hungBy : Phase → Outcome
+hungBy =
+    on Ignored Ignored hungKindBy (λ d l. CoastEnds Unanswered) (λ d l. CoastEnds Unanswered) (λ b l. CoastEnds (Since b)) (λ n. Ignored)
 
 abbrev pub bySignal : Signal → Tenths → Mode → Phase → Outcome
 bySignal LineDialledOut t m p = dialledOutBy t p
 bySignal LineLifted t m p = offHookBy t p
-bySignal LineHung t m p = coastEndBy p
+bySignal LineHung t m p = hungBy p
 bySignal CarrierHeard t m p = upBy p
 bySignal CarrierLost t m p = downBy t m p
 
@@ -91,6 +123,9 @@ workingKindBy offered = Dials
 workingKindBy firstRing = Ignored
 workingKindBy secondRing = Ignored
 workingKindBy acknowledged = Dials
+workingKindBy firstCall = Ignored
+workingKindBy secondCall = Ignored
+workingKindBy ringing = Ignored
 
 abbrev pub workingBy : Bool → Phase → Outcome
 workingBy own p = ifOwn own (on Ignored Ignored workingKindBy (λ d l. Ignored) (λ d l. Ignored) (λ b l. Ignored) (λ n. Ignored) p)
@@ -102,15 +137,31 @@ shipEndBy own p =
     (on Ignored Ignored (λ k. Ignored) (λ d l. ShipEnds Unanswered) (λ d l. ShipEnds Unanswered) (λ b l. ShipEnds (Since b))
     (λ n. SaysAgain n) p)
 
--- "acknowledged, wait 160"
+-- "acknowledged, wait 160"; 02, no. 2: "The ship's first BQ .. starts the ringing"
 abbrev pub bqKindBy : Tenths → Kind → Outcome
 bqKindBy t offered = Ignored
 bqKindBy t firstRing = Turns (Acknowledged (waitFrom t (kindWait acknowledged)))
 bqKindBy t secondRing = Turns (Acknowledged (waitFrom t (kindWait acknowledged)))
 bqKindBy t acknowledged = Ignored
+bqKindBy t firstCall = StartsRinging
+bqKindBy t secondCall = StartsRinging
+bqKindBy t ringing = Ignored
 
 abbrev pub bqBy : Bool → Tenths → Phase → Outcome
 bqBy own t p = ifOwn own (on Ignored Ignored (bqKindBy t) (λ d l. Ignored) (λ d l. Ignored) (λ b l. Ignored) (λ n. Ignored) p)
+
+-- 02, no. 2: "its BQ with 104 before its transmission, ringing or not, drops the call"
+abbrev pub declinedKindBy : Kind → Outcome
+declinedKindBy offered = Ignored
+declinedKindBy firstRing = Ignored
+declinedKindBy secondRing = Ignored
+declinedKindBy acknowledged = Ignored
+declinedKindBy firstCall = DropsCall false true
+declinedKindBy secondCall = DropsCall false true
+declinedKindBy ringing = DropsCall true true
+
+abbrev pub declinedBy : Phase → Outcome
+declinedBy = on Ignored Ignored declinedKindBy (λ d l. Ignored) (λ d l. Ignored) (λ b l. Ignored) (λ n. Ignored)
 
 -- ── operator ─────────────────────────────────────────────────────────────────
 
@@ -131,11 +182,18 @@ dueKindBy offered = Clears
 dueKindBy firstRing = RingsAgain
 dueKindBy secondRing = Clears
 dueKindBy acknowledged = Clears
+dueKindBy firstCall = CallsAgain
+dueKindBy secondCall = DropsCall false true
+dueKindBy ringing = DropsCall true true
 
 abbrev pub mainDueBy : Phase → Outcome
 mainDueBy = on Ignored Ignored dueKindBy (λ d l. CoastEnds Unanswered) (λ d l. CoastEnds Unanswered) (λ b l. Ignored) (λ n. Frees)
 
 -- ── a call request of the ship that has the slot ─────────────────────────────
+
+-- 02, no. 2: "A request from a ship being called .. is ignored, before rule a"; a. "Data: answer 104/109."
+abbrev pub dataBy : Bool → Outcome
+dataBy called = cond called Ignored (Unable 109)
 
 -- b. "offered a slot by an identical request .. If it differs, or the slot is in ring-back or acknowledged"
 abbrev pub ruleBBy : Bool → Kind → Outcome
@@ -143,6 +201,9 @@ ruleBBy same offered = cond same Repeats Renews
 ruleBBy same firstRing = Renews
 ruleBBy same secondRing = Renews
 ruleBBy same acknowledged = Renews
+ruleBBy same firstCall = Ignored
+ruleBBy same secondCall = Ignored
+ruleBBy same ringing = Ignored
 
 -- c. "ignored if duplex or if its carrier is present"
 abbrev pub ruleCBy : Mode → Talk → Carrier → Outcome

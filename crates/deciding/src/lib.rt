@@ -1,7 +1,9 @@
 // What each event does: by the slot's phase, and for a ship that stands nowhere; what the documents do not name is ignored. No rule
 // holds a station.
 ghost use mathlib.Core.Path.{_≡_};
-ghost use Rattle.deciding.specs.Decides.{dialledOutBy, offHookBy, upBy, lossFrom, downBy, coastEndBy, workingBy, shipEndBy, bqBy};
+ghost use Rattle.deciding.specs.Decides.{dialledOutBy, offHookBy, upBy, lossFrom, downBy, coastEndBy, hungBy, workingBy};
+ghost use Rattle.deciding.specs.Decides.{shipEndBy, bqBy};
+ghost use Rattle.deciding.specs.Decides.{declinedBy, dataBy};
 ghost use Rattle.deciding.specs.Decides.{bySignal, takeBy, giveBackBy, byHand, mainDueBy, ruleCBy, askedAgainBy};
 ghost use Rattle.deciding.specs.Decides.{newcomerBy};
 use due_times::carrier_wait;
@@ -43,7 +45,7 @@ fn off_hook(time: Tenths, phase: Phase) -> Outcome
     }
 }
 
-// "carrier up ends it"
+// "carrier up ends it"; 02, no. 2: "The first carrier up while it rings is the ship's transmission"
 fn carrier_up(phase: Phase) -> Outcome
     ensures { λ r. ⌜ r ≡ upBy phase ⌝ }
 {
@@ -51,6 +53,7 @@ fn carrier_up(phase: Phase) -> Outcome
         Phase::Dialling(due, _) => Outcome::Turns(Phase::Dialling(due, Carrier::Present)),
         Phase::DialledOut(due, _) => Outcome::Turns(Phase::DialledOut(due, Carrier::Present)),
         Phase::Answered(since, _) => Outcome::Turns(Phase::Answered(since, Carrier::Present)),
+        Phase::Ringing(_) => Outcome::Transmits,
         _ => Outcome::Ignored,
     }
 }
@@ -87,7 +90,7 @@ fn carrier_down(time: Tenths, mode: Mode, phase: Phase) -> Outcome
     }
 }
 
-// On-hook, and a carrier loss.
+// A carrier loss.
 pub fn coast_end(phase: Phase) -> Outcome
     ensures { λ r. ⌜ r ≡ coastEndBy phase ⌝ }
 {
@@ -98,13 +101,26 @@ pub fn coast_end(phase: Phase) -> Outcome
     }
 }
 
+// On-hook; 02, no. 2: "The caller's on-hook before that drops the call too".
+fn on_hook(phase: Phase) -> Outcome
+    ensures { λ r. ⌜ r ≡ hungBy phase ⌝ }
+{
+    match phase {
+        Phase::Dialling(_, _) | Phase::DialledOut(_, _) => Outcome::CoastEnds(Talk::Unanswered),
+        Phase::Answered(since, _) => Outcome::CoastEnds(Talk::Since(since)),
+        Phase::Called(_) | Phase::CalledAgain(_) => Outcome::DropsCall(false, false),
+        Phase::Ringing(_) => Outcome::DropsCall(true, false),
+        _ => Outcome::Ignored,
+    }
+}
+
 pub fn by_signal(signal: Signal, time: Tenths, mode: Mode, phase: Phase) -> Outcome
     ensures { λ r. ⌜ r ≡ bySignal signal time mode phase ⌝ }
 {
     match signal {
         Signal::LineDialledOut => dialling_ended(time, phase),
         Signal::LineLifted => off_hook(time, phase),
-        Signal::LineHung => coast_end(phase),
+        Signal::LineHung => on_hook(phase),
         Signal::CarrierHeard => carrier_up(phase),
         Signal::CarrierLost => carrier_down(time, mode, phase),
     }
@@ -138,7 +154,7 @@ pub fn ship_end(own: bool, phase: Phase) -> Outcome
     Outcome::Ignored
 }
 
-// Ring-back acknowledged: "wait 160".
+// Ring-back acknowledged: "wait 160"; 02, no. 2: "The ship's first BQ .. starts the ringing".
 pub fn bq(own: bool, time: Tenths, phase: Phase) -> Outcome
     ensures { λ r. ⌜ r ≡ bqBy own time phase ⌝ }
 {
@@ -148,10 +164,32 @@ pub fn bq(own: bool, time: Tenths, phase: Phase) -> Outcome
                 let due = due_after(time, OFFER_WAIT);
                 Outcome::Turns(Phase::Acknowledged(due))
             }
+            Phase::Called(_) | Phase::CalledAgain(_) => Outcome::StartsRinging,
             _ => Outcome::Ignored,
         };
     }
     Outcome::Ignored
+}
+
+// 02, no. 2: "its BQ with 104 before its transmission, ringing or not, drops the call"
+pub fn declined(phase: Phase) -> Outcome
+    ensures { λ r. ⌜ r ≡ declinedBy phase ⌝ }
+{
+    match phase {
+        Phase::Called(_) | Phase::CalledAgain(_) => Outcome::DropsCall(false, true),
+        Phase::Ringing(_) => Outcome::DropsCall(true, true),
+        _ => Outcome::Ignored,
+    }
+}
+
+// a. "Data: answer 104/109", to a ship that is not being called.
+pub fn data_asked(called: bool) -> Outcome
+    ensures { λ r. ⌜ r ≡ dataBy called ⌝ }
+{
+    if called {
+        return Outcome::Ignored;
+    }
+    Outcome::Unable(109)
 }
 
 // The operator "takes a free slot".
@@ -190,6 +228,9 @@ pub fn main_due(phase: Phase) -> Outcome
     match phase {
         Phase::Offered(_) | Phase::RingAgain(_) | Phase::Acknowledged(_) => Outcome::Clears,
         Phase::RingBack(_) => Outcome::RingsAgain,
+        Phase::Called(_) => Outcome::CallsAgain,
+        Phase::CalledAgain(_) => Outcome::DropsCall(false, true),
+        Phase::Ringing(_) => Outcome::DropsCall(true, true),
         Phase::Dialling(_, _) | Phase::DialledOut(_, _) => Outcome::CoastEnds(Talk::Unanswered),
         Phase::Hold(_, _) => Outcome::Frees,
         _ => Outcome::Ignored,

@@ -1,5 +1,6 @@
 -- An arm for several outcomes, or for all that are left: it is right where it is right for each of them.
 use Prim.Native.Nat.{ℕ}
+use mathlib.Core.Bool.{Bool}
 use mathlib.Core.List.{List}
 use mathlib.Core.Path.{_≡_}
 use mir.Val.{hasKey}
@@ -11,10 +12,10 @@ use Rattle.slots.specs.declared.QueuePlace.{QueuePlace}
 use Rattle.slots.proofs.PhaseLaws.{Where, where-held}
 use Rattle.outcomes.specs.declared.Talk.{Talk}
 use Rattle.outcomes.specs.declared.Outcome.{Outcome}
-use Rattle.outcomes.specs.declared.Outcome.the-variants.{Ignored, Passes, Turns, Dials, RingsAgain, Frees, Clears, CoastEnds, ShipEnds, SaysAgain, Repeats, Renews, Redials, Offers, Joins, Replaces, Unable, Drops}
+use Rattle.outcomes.specs.declared.Outcome.the-variants.{Ignored, Passes, Turns, Dials, RingsAgain, Frees, Clears, CoastEnds, ShipEnds, SaysAgain, Repeats, Renews, Redials, Offers, Joins, Replaces, Unable, Drops, Calls, CallsAgain, StartsRinging, Transmits, DropsCall}
 use Rattle.outcomes.proofs.Outcome as outcome
 
--- the eighteen outcomes by their numbers
+-- every outcome by its number
 abbrev pub EachOutcome : {A : Type 0} → List ℕ → A → (Outcome → A) → Type 0
 EachOutcome ks a f =
     Where (hasKey ks 0) (a ≡ f Ignored)
@@ -35,6 +36,11 @@ EachOutcome ks a f =
     × ((x : QueuePlace) → Where (hasKey ks 15) (a ≡ f (Replaces x)))
     × ((x : ℕ) → Where (hasKey ks 16) (a ≡ f (Unable x)))
     × ((x : QueuePlace) → Where (hasKey ks 17) (a ≡ f (Drops x)))
+    × Where (hasKey ks 18) (a ≡ f Calls)
+    × Where (hasKey ks 19) (a ≡ f CallsAgain)
+    × Where (hasKey ks 20) (a ≡ f StartsRinging)
+    × Where (hasKey ks 21) (a ≡ f Transmits)
+    × ((x y : Bool) → Where (hasKey ks 22) (a ≡ f (DropsCall x y)))
 
 pub outcome-arm : {A : Type 0} (ks : List ℕ) (a : A) (f : Outcome → A) → EachOutcome ks a f → (o : Outcome) → OneOf ks (tagOf outcome.the-type o) → a ≡ f o
 outcome-arm ks a f e Ignored h = where-held ks 0 h (e .0)
@@ -55,3 +61,8 @@ outcome-arm ks a f e Joins h = where-held ks 14 h (e .14)
 outcome-arm ks a f e (Replaces x) h = where-held ks 15 h (e .15 x)
 outcome-arm ks a f e (Unable x) h = where-held ks 16 h (e .16 x)
 outcome-arm ks a f e (Drops x) h = where-held ks 17 h (e .17 x)
+outcome-arm ks a f e Calls h = where-held ks 18 h (e .18)
+outcome-arm ks a f e CallsAgain h = where-held ks 19 h (e .19)
+outcome-arm ks a f e StartsRinging h = where-held ks 20 h (e .20)
+outcome-arm ks a f e Transmits h = where-held ks 21 h (e .21)
+outcome-arm ks a f e (DropsCall x y) h = where-held ks 22 h (e .22 x y)

@@ -1,5 +1,6 @@
 -- An outcome in the words of the rules is its parts together: the answer, the actions, and the station with its slot and its queue so changed.
 use Prim.Native.Nat.{ℕ, _≤_}
+use mathlib.Core.Bool.{Bool}
 use mathlib.Core.List.{List, [], _∷_}
 use mathlib.Core.Path.{_≡_, refl, ap}
 use native.Mathlib.Omega.{arith}
@@ -9,10 +10,11 @@ use Rattle.rules.specs.Rules.Station as R
 use Rattle.rules.specs.Rules.Station.{kindWait, diallingWait, holdWait, queueWait}
 use Rattle.rules.specs.Rules.Sound.{limit}
 use Rattle.rules.specs.Rules.Requests.{also, rungBack, freedFor, freed, endActs, coastEnd, repeated, afresh, ruleD, offer, ruleF}
-use Rattle.rules.specs.Rules.Calls.{dialNow, shipEnd, sayAgain, offerDue, ringAgain, fire}
+use Rattle.rules.specs.Rules.Ashore.{calledFrom}
+use Rattle.rules.specs.Rules.Calls.{dialNow, startsRinging, dropActs, transmitted, shipEnd, sayAgain, offerDue, ringAgain, callAgain, fire}
 use Rattle.outcomes.specs.declared.Talk.{Talk}
 use Rattle.outcomes.specs.declared.Outcome.{Outcome}
-use Rattle.outcomes.specs.declared.Outcome.the-variants.{Ignored, Passes, Turns, Dials, RingsAgain, Frees, Clears, CoastEnds, ShipEnds, SaysAgain, Repeats, Renews, Redials, Offers, Joins, Replaces, Unable, Drops}
+use Rattle.outcomes.specs.declared.Outcome.the-variants.{Ignored, Passes, Turns, Dials, RingsAgain, Frees, Clears, CoastEnds, ShipEnds, SaysAgain, Repeats, Renews, Redials, Offers, Joins, Replaces, Unable, Drops, Calls, CallsAgain, StartsRinging, Transmits, DropsCall}
 use Rattle.outcomes.specs.Does.{sinceOf, outOf, sceneOf, actsOf, turned, requeued, applied}
 use Rattle.outcomes.proofs.WaitLaws.{wait-fits}
 
@@ -39,8 +41,12 @@ module _ (i : ℕ) (own asked : Request) (st : R.Station) (h : st .clock ≤ lim
   unfolding applied actsOf
   redials-applied k = ends-applied k
 
+  drops-call-applied : (rung tone : Bool) → also (dropActs i rung tone) (freed i st) ≡ applied (sceneOf i own asked st) (DropsCall rung tone) st
+  unfolding applied actsOf sceneOf
+  drops-call-applied rung tone = also-frees (dropActs i rung tone)
+
   pub outcome-applied : (o : Outcome) → outOf i own asked o st ≡ applied (sceneOf i own asked st) o st
-  unfolding outOf applied sceneOf actsOf turned requeued dialNow ringAgain shipEnd sayAgain repeated afresh offer ruleD ruleF fire
+  unfolding outOf applied sceneOf actsOf turned requeued dialNow ringAgain shipEnd sayAgain repeated afresh offer ruleD ruleF fire calledFrom callAgain startsRinging transmitted
   outcome-applied Ignored = refl
   outcome-applied Passes = refl
   outcome-applied (Turns p) = refl
@@ -59,3 +65,8 @@ module _ (i : ℕ) (own asked : Request) (st : R.Station) (h : st .clock ≤ lim
   outcome-applied (Replaces k) = refl
   outcome-applied (Unable n) = refl
   outcome-applied (Drops k) = refl
+  outcome-applied Calls = rw (wait-fits (st .clock) (kindWait R.firstCall) h (omega arith)) refl
+  outcome-applied CallsAgain = rw (wait-fits (st .clock) (kindWait R.secondCall) h (omega arith)) refl
+  outcome-applied StartsRinging = rw (wait-fits (st .clock) (kindWait R.ringing) h (omega arith)) refl
+  outcome-applied Transmits = refl
+  outcome-applied (DropsCall rung tone) = drops-call-applied rung tone

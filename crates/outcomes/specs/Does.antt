@@ -7,17 +7,19 @@ use lib.ListN.{length, getD}
 use Rattle.units.specs.declared.Tenths.{Tenths}
 use Rattle.units.specs.declared.Told.{Told}
 use Rattle.rules.specs.Rules.Places.{modAt, dropAt}
-use Rattle.rules.specs.Rules.Words.{Request, carrierOn, carrierOff, acknowledge, ringBack, unable, dial}
+use Rattle.rules.specs.Rules.Words.{Request, carrierOn, carrierOff, acknowledge, callShip, unable, dial, ringingOn, ringingOff}
 use Rattle.rules.specs.Rules.Actions.{Action, does, over, theShip, theCoast}
 use Rattle.rules.specs.Rules.Station as R
-use Rattle.rules.specs.Rules.Station.{dealing, offered, firstRing, secondRing, setSlot, setQueue}
+use Rattle.rules.specs.Rules.Station.{dealing, offered, firstRing, secondRing, firstCall, secondCall, ringing, setSlot, setQueue}
 use Rattle.rules.specs.Rules.Station.{dueAfter, kindWait, diallingWait, holdWait, queueWait}
 use Rattle.rules.specs.Rules.Requests.{Out, done, ignored, saying, also, freed, lasted, endActs, coastEnd}
 use Rattle.rules.specs.Rules.Requests.{placeOf, repeated, afresh, ruleD, offer, ruleF, dToG}
-use Rattle.rules.specs.Rules.Calls.{dialNow, shipEnd, sayAgain, offerDue, ringAgain, fire}
+use Rattle.rules.specs.Rules.Ashore.{calledFrom}
+use Rattle.rules.specs.Rules.Calls.{dialNow, startsRinging, dropActs, transmitted, shipEnd, sayAgain, offerDue, ringAgain, callAgain, fire}
 use Rattle.rules.specs.Rules.Waits.{ofQueue}
 use Rattle.slots.specs.declared.Carrier.the-variants.{Present}
-use Rattle.slots.specs.declared.Phase.the-variants.{Free, Offered, RingBack, RingAgain, Dialling, Hold}
+use Rattle.slots.specs.declared.Phase.the-variants.{Free, Offered, RingBack, RingAgain, Dialling, Answered, Hold}
+use Rattle.slots.specs.declared.Phase.the-variants.{Called, CalledAgain, Ringing}
 use Rattle.requests.specs.declared.Request.{Request as Stored}
 use Rattle.slots.specs.declared.Waiting.{Waiting}
 use Rattle.slots.specs.Phases.{phaseView}
@@ -29,6 +31,7 @@ use Rattle.outcomes.specs.declared.Outcome.{Outcome}
 use Rattle.outcomes.specs.declared.Outcome.the-variants.{Ignored, Passes, Turns, Dials, RingsAgain, Frees, Clears}
 use Rattle.outcomes.specs.declared.Outcome.the-variants.{CoastEnds, ShipEnds, SaysAgain, Repeats, Renews, Redials}
 use Rattle.outcomes.specs.declared.Outcome.the-variants.{Offers, Joins, Replaces, Unable, Drops}
+use Rattle.outcomes.specs.declared.Outcome.the-variants.{Calls, CallsAgain, StartsRinging, Transmits, DropsCall}
 use Rattle.outcomes.specs.declared.Turn.{Turn}
 use Rattle.outcomes.specs.declared.Turn.the-variants.{Stays, Own, Asked, Oldest}
 use Rattle.outcomes.specs.declared.QueueChange.{QueueChange}
@@ -62,6 +65,11 @@ outOf i own asked Joins st = ruleF st asked
 outOf i own asked (Replaces k) st = ruleD (k .0) st asked
 outOf i own asked (Unable n) st = saying (unable n (asked .who) (asked .number)) st
 outOf i own asked (Drops k) st = fire st (ofQueue (k .0))
+outOf i own asked Calls st = calledFrom st asked (some i)
+outOf i own asked CallsAgain st = callAgain i (dealing own) st
+outOf i own asked StartsRinging st = startsRinging i (dealing own) st
+outOf i own asked Transmits st = transmitted i (dealing own) st
+outOf i own asked (DropsCall rung tone) st = also (dropActs i rung tone) (freed i st)
 
 -- c. "then d to g apply"
 abbrev pub goesOn : Outcome → Bool
@@ -83,6 +91,11 @@ goesOn Joins = false
 goesOn (Replaces k) = false
 goesOn (Unable n) = false
 goesOn (Drops k) = false
+goesOn Calls = false
+goesOn CallsAgain = false
+goesOn StartsRinging = false
+goesOn Transmits = false
+goesOn (DropsCall rung tone) = false
 
 -- one rule, and another behind it on the station that it leaves
 unfoldable pub behind : (R.Station → Out) → (R.Station → Out) → R.Station → Out
@@ -137,11 +150,16 @@ answerOf Joins = 0
 answerOf (Replaces k) = 0
 answerOf (Unable n) = 0
 answerOf (Drops k) = 0
+answerOf Calls = 0
+answerOf CallsAgain = 0
+answerOf StartsRinging = 0
+answerOf Transmits = 0
+answerOf (DropsCall rung tone) = 0
 
 -- a slot is freed: the oldest of so many is rung back
 abbrev pub ringActs : ℕ → Request → ℕ → List Action
 ringActs i oldest zero = []
-ringActs i oldest (suc n) = does (carrierOn i) ∷ does (ringBack i oldest) ∷ []
+ringActs i oldest (suc n) = does (carrierOn i) ∷ does (callShip i oldest) ∷ []
 
 abbrev pub freeActs : Scene → List Action
 freeActs sc = ringActs (sc .slot) (sc .oldest) (sc .waiting)
@@ -155,7 +173,7 @@ actsOf sc Ignored = []
 actsOf sc Passes = []
 actsOf sc (Turns p) = []
 actsOf sc Dials = does (dial (sc .slot) (sc .own .number)) ∷ []
-actsOf sc RingsAgain = does (ringBack (sc .slot) (sc .own)) ∷ []
+actsOf sc RingsAgain = does (callShip (sc .slot) (sc .own)) ∷ []
 actsOf sc Frees = freeActs sc
 actsOf sc Clears = does (carrierOff (sc .slot)) ∷ freeActs sc
 actsOf sc (CoastEnds k) = endActs (sc .slot) theCoast (sc .own) (sinceOf k) (sc .clock) ++ freeActs sc
@@ -170,6 +188,11 @@ actsOf sc Joins = unableActs 103 sc
 actsOf sc (Replaces k) = unableActs 103 sc
 actsOf sc (Unable n) = unableActs n sc
 actsOf sc (Drops k) = []
+actsOf sc Calls = does (carrierOn (sc .slot)) ∷ does (callShip (sc .slot) (sc .asked)) ∷ []
+actsOf sc CallsAgain = does (callShip (sc .slot) (sc .own)) ∷ []
+actsOf sc StartsRinging = does (ringingOn (sc .slot)) ∷ []
+actsOf sc Transmits = does (ringingOff (sc .slot)) ∷ []
+actsOf sc (DropsCall rung tone) = dropActs (sc .slot) rung tone ++ freeActs sc
 
 abbrev pub timeOf : R.Station → Tenths
 timeOf st = record { 0 = st .clock }
@@ -206,6 +229,11 @@ turnOf t waiting Joins = Stays
 turnOf t waiting (Replaces k) = Stays
 turnOf t waiting (Unable n) = Stays
 turnOf t waiting (Drops k) = Stays
+turnOf t waiting Calls = Asked (Called (waitFrom t (kindWait firstCall)))
+turnOf t waiting CallsAgain = Own (CalledAgain (waitFrom t (kindWait secondCall)))
+turnOf t waiting StartsRinging = Own (Ringing (waitFrom t (kindWait ringing)))
+turnOf t waiting Transmits = Own (Answered t Present)
+turnOf t waiting (DropsCall rung tone) = freeTurn t waiting
 
 abbrev pub freeChange : ℕ → QueueChange
 freeChange zero = Same
@@ -231,6 +259,11 @@ queueChange t waiting Joins = L.Joins (waitFrom t queueWait)
 queueChange t waiting (Replaces k) = L.Replaces k
 queueChange t waiting (Unable n) = Same
 queueChange t waiting (Drops k) = Leaves k
+queueChange t waiting Calls = Same
+queueChange t waiting CallsAgain = Same
+queueChange t waiting StartsRinging = Same
+queueChange t waiting Transmits = Same
+queueChange t waiting (DropsCall rung tone) = freeChange waiting
 
 -- a slot and a queue so changed
 unfoldable pub turned : Scene → Turn → R.Station → R.Station

@@ -32,6 +32,11 @@ pub enum Outcome {
     Replaces(QueuePlace), // rule d
     Unable(u8), // rules a and g
     Drops(QueuePlace), // a queue entry due
+    Calls, // from ashore
+    CallsAgain, // the first call from ashore due
+    StartsRinging, // the ship agrees to it
+    Transmits, // the ship answers it
+    DropsCall(bool, bool), // it is dropped: whether it rings, and whether the caller gets the tone
 }
 
 // What becomes of the slot: another phase, with its own request, the one asked, or the oldest waiting ship's.

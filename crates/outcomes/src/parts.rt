@@ -9,6 +9,7 @@ use actions::deeds::lasted;
 use due_times::QUEUE_WAIT;
 use due_times::due_after;
 use requests::Request;
+use slots::CALL_WAIT;
 use slots::Carrier;
 use slots::DIALLING_WAIT;
 use slots::HOLD_WAIT;
@@ -16,6 +17,7 @@ use slots::OFFER_WAIT;
 use slots::Phase;
 use slots::QueuePlace;
 use slots::RING_WAIT;
+use slots::RINGING_WAIT;
 use slots::Waiting;
 use units::Tenths;
 use units::Told;
@@ -80,14 +82,19 @@ pub fn turn_of(outcome: Outcome, time: Tenths, waiting: u8) -> Turn
             let due = due_after(time, HOLD_WAIT);
             Turn::Own(Phase::Hold(due, told))
         }
+        Outcome::Calls => Turn::Asked(Phase::Called(due_after(time, CALL_WAIT))),
+        Outcome::CallsAgain => Turn::Own(Phase::CalledAgain(due_after(time, CALL_WAIT))),
+        Outcome::StartsRinging => Turn::Own(Phase::Ringing(due_after(time, RINGING_WAIT))),
+        Outcome::Transmits => Turn::Own(Phase::Answered(time, Carrier::Present)),
         Outcome::Renews | Outcome::Offers => {
             let due = due_after(time, OFFER_WAIT);
             Turn::Asked(Phase::Offered(due))
         }
-        Outcome::Frees | Outcome::Clears | Outcome::CoastEnds(_) | Outcome::Redials(_) => free_turn(
-            time,
-            waiting,
-        ),
+        Outcome::Frees
+        | Outcome::Clears
+        | Outcome::CoastEnds(_)
+        | Outcome::Redials(_)
+        | Outcome::DropsCall(_, _) => free_turn(time, waiting),
         _ => Turn::Stays,
     }
 }
@@ -106,8 +113,11 @@ pub fn queue_change(outcome: Outcome, time: Tenths, waiting: u8) -> QueueChange
     ensures { λ r. ⌜ r ≡ queueChange time waiting outcome ⌝ }
 {
     match outcome {
-        Outcome::Frees | Outcome::Clears | Outcome::CoastEnds(_) | Outcome::Redials(_) =>
-            free_change(waiting),
+        Outcome::Frees
+        | Outcome::Clears
+        | Outcome::CoastEnds(_)
+        | Outcome::Redials(_)
+        | Outcome::DropsCall(_, _) => free_change(waiting),
         Outcome::Joins => {
             let due = due_after(time, QUEUE_WAIT);
             QueueChange::Joins(due)

@@ -1,6 +1,7 @@
 -- Actions told one after the other, and all on the channel of their slot.
 use Prim.Native.Nat.{ℕ, zero, suc, _<_}
 use mathlib.Core.Path.{_≡_, refl, sym, ap, _∙_}
+use mathlib.Core.Bool.{Bool, true, false}
 use mathlib.Core.List.{List, [], _∷_, _++_, map, map-append, append-nil}
 use native.Mathlib.Nat.{not-suc-le-zero}
 use lib.ListN.{length}
@@ -8,6 +9,7 @@ use Rattle.units.specs.declared.Channel.{Channel}
 use Rattle.rules.specs.Rules.Words.{Config, Request, carrierOff}
 use Rattle.rules.specs.Rules.Actions.{Action, Ender, does, theShip, theCoast}
 use Rattle.rules.specs.Rules.Requests.{endActs}
+use Rattle.rules.specs.Rules.Calls.{dropActs}
 use Rattle.rules.specs.Rules.Bytes.{channelAt}
 use Rattle.actions.specs.declared.Action.{Action as Made}
 use Rattle.actions.specs.Blocks.{actionBlock}
@@ -17,12 +19,12 @@ use Rattle.blocks.proofs.LaidLaws.{laid-append}
 use Rattle.outcomes.specs.declared.Talk.{Talk}
 use Rattle.outcomes.specs.declared.Talk.the-variants.{Unanswered, Since}
 use Rattle.outcomes.specs.declared.Outcome.{Outcome}
-use Rattle.outcomes.specs.declared.Outcome.the-variants.{Ignored, Passes, Turns, Dials, RingsAgain, Frees, Clears, CoastEnds, ShipEnds, SaysAgain, Repeats, Renews, Redials, Offers, Joins, Replaces, Unable, Drops}
+use Rattle.outcomes.specs.declared.Outcome.the-variants.{Ignored, Passes, Turns, Dials, RingsAgain, Frees, Clears, CoastEnds, ShipEnds, SaysAgain, Repeats, Renews, Redials, Offers, Joins, Replaces, Unable, Drops, Calls, CallsAgain, StartsRinging, Transmits, DropsCall}
 use Rattle.outcomes.specs.Does as D
 use Rattle.outcomes.specs.Does.{sinceOf, ringActs, actsOf}
 use Rattle.telling.specs.declared.Scene.{Scene}
 use Rattle.telling.specs.declared.Say.the-variants.{Lifted}
-use Rattle.telling.specs.declared.Word.the-variants.{RingsOldest}
+use Rattle.telling.specs.declared.Word.the-variants.{CallsOldest}
 use Rattle.telling.specs.Tells.{sceneView, telling, freeSay, closeOf, sayOf, closeActs, sayActs}
 
 -- ── one after the other ──────────────────────────────────────────────────────
@@ -59,7 +61,7 @@ module _ (s : Scene) (k : ℕ) (room : List ℕ) where
 
 -- ── an outcome's two parts ───────────────────────────────────────────────────
 
-pub free-some : (n : ℕ) → 0 < n → Lifted RingsOldest ≡ freeSay n
+pub free-some : (n : ℕ) → 0 < n → Lifted CallsOldest ≡ freeSay n
 free-some zero h = absurd (not-suc-le-zero h)
 free-some (suc n) h = refl
 
@@ -87,6 +89,11 @@ parts sc Joins = refl
 parts sc (Replaces k) = refl
 parts sc (Unable n) = refl
 parts sc (Drops k) = refl
+parts sc Calls = refl
+parts sc CallsAgain = refl
+parts sc StartsRinging = refl
+parts sc Transmits = refl
+parts sc (DropsCall rung tone) = ap (λ l. dropActs (sc .slot) rung tone ++ l) (free-parts sc (sc .waiting))
 
 -- ── on the channel of the slot ───────────────────────────────────────────────
 
@@ -100,6 +107,13 @@ module _ (c : Config) where
   unfolding sentBlock sentOn sentPayload
   ring-on i r zero = refl
   ring-on i r (suc n) = refl
+
+  drop-on : (i : ℕ) (rung tone : Bool) → map (sentOn (channelAt c i)) (dropActs i rung tone) ≡ map (sentBlock c) (dropActs i rung tone)
+  unfolding sentBlock sentOn sentPayload
+  drop-on i false false = refl
+  drop-on i false true = refl
+  drop-on i true false = refl
+  drop-on i true true = refl
 
   both-on : (ch : Channel) (l m : List Action) → map (sentOn ch) l ≡ map (sentBlock c) l → map (sentOn ch) m ≡ map (sentBlock c) m
       → map (sentOn ch) (l ++ m) ≡ map (sentBlock c) (l ++ m)
@@ -126,6 +140,11 @@ module _ (c : Config) where
   told-on sc (Replaces k) = refl
   told-on sc (Unable n) = refl
   told-on sc (Drops k) = refl
+  told-on sc Calls = refl
+  told-on sc CallsAgain = refl
+  told-on sc StartsRinging = refl
+  told-on sc Transmits = refl
+  told-on sc (DropsCall rung tone) = both-on (channelAt c (sc .slot)) (dropActs (sc .slot) rung tone) (ringActs (sc .slot) (sc .oldest) (sc .waiting)) (drop-on (sc .slot) rung tone) (ring-on (sc .slot) (sc .oldest) (sc .waiting))
 
   -- what a scene tells on the channel of its slot is what the rules send
   pub telling-sent : (s : Scene) → s .channel ≡ channelAt c (s .slot .0) → (o : Outcome) (k : ℕ) (room : List ℕ)

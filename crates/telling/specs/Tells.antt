@@ -1,9 +1,11 @@
 -- The two parts of what an outcome tells, and actions laid as blocks.
 use Prim.Native.Nat.{ℕ, zero, suc}
+use mathlib.Core.Bool.{Bool, cond}
 use mathlib.Core.List.{List, [], _∷_, map}
-use Rattle.rules.specs.Rules.Words.{carrierOn, carrierOff, acknowledge, ringBack, unable, dial}
+use Rattle.rules.specs.Rules.Words.{carrierOn, carrierOff, acknowledge, callShip, unable, dial, ringingOn, ringingOff, busyTone}
 use Rattle.rules.specs.Rules.Actions.{Action, Ender, does, over, theShip}
 use Rattle.rules.specs.Rules.Requests.{bill, endActs}
+use Rattle.rules.specs.Rules.Calls.{dropActs}
 use Rattle.units.specs.declared.Told.{Told}
 use Rattle.requests.specs.Views.{requestOf}
 use Rattle.actions.specs.declared.Ender.the-variants.{Ship, Coast}
@@ -16,9 +18,10 @@ use Rattle.outcomes.specs.Does as D
 use Rattle.outcomes.specs.Does.{sinceOf}
 use Rattle.telling.specs.declared.Scene.{Scene}
 use Rattle.telling.specs.declared.Close.{Close}
-use Rattle.telling.specs.declared.Close.the-variants.{Leaves, CarrierOff, Ends, Again}
+use Rattle.telling.specs.declared.Close.the-variants.{Leaves, CarrierOff, Ends, DropsCall, Again}
 use Rattle.telling.specs.declared.Word.{Word}
-use Rattle.telling.specs.declared.Word.the-variants.{Dials, RingsOwn, RingsOldest, Acknowledges, Unable}
+use Rattle.telling.specs.declared.Word.the-variants.{Dials, CallsOwn, CallsOldest, CallsAsked, RingingOn, RingingOff}
+use Rattle.telling.specs.declared.Word.the-variants.{Acknowledges, Unable}
 use Rattle.telling.specs.declared.Say.{Say}
 use Rattle.telling.specs.declared.Say.the-variants.{Nothing, Plain, Lifted}
 
@@ -60,11 +63,16 @@ closeOf O.Joins = Leaves
 closeOf (O.Replaces k) = Leaves
 closeOf (O.Unable n) = Leaves
 closeOf (O.Drops k) = Leaves
+closeOf O.Calls = Leaves
+closeOf O.CallsAgain = Leaves
+closeOf O.StartsRinging = Leaves
+closeOf O.Transmits = Leaves
+closeOf (O.DropsCall rung tone) = DropsCall rung tone
 
 -- a slot is freed where so many wait
 abbrev pub freeSay : ℕ → Say
 freeSay zero = Nothing
-freeSay (suc n) = Lifted RingsOldest
+freeSay (suc n) = Lifted CallsOldest
 
 -- what is then sent or dialled
 abbrev pub sayOf : ℕ → Outcome → Say
@@ -72,7 +80,7 @@ sayOf waiting O.Ignored = Nothing
 sayOf waiting O.Passes = Nothing
 sayOf waiting (O.Turns p) = Nothing
 sayOf waiting O.Dials = Plain Dials
-sayOf waiting O.RingsAgain = Plain RingsOwn
+sayOf waiting O.RingsAgain = Plain CallsOwn
 sayOf waiting O.Frees = freeSay waiting
 sayOf waiting O.Clears = freeSay waiting
 sayOf waiting (O.CoastEnds k) = freeSay waiting
@@ -86,6 +94,11 @@ sayOf waiting O.Joins = Plain (Unable 103)
 sayOf waiting (O.Replaces k) = Plain (Unable 103)
 sayOf waiting (O.Unable n) = Plain (Unable n)
 sayOf waiting (O.Drops k) = Nothing
+sayOf waiting O.Calls = Lifted CallsAsked
+sayOf waiting O.CallsAgain = Plain CallsOwn
+sayOf waiting O.StartsRinging = Plain RingingOn
+sayOf waiting O.Transmits = Plain RingingOff
+sayOf waiting (O.DropsCall rung tone) = freeSay waiting
 
 -- "charge if answered"
 abbrev pub billActs : D.Scene → Talk → List Action
@@ -100,16 +113,30 @@ endedActs sc e k = endActs (sc .slot) e (sc .own) (sinceOf k) (sc .clock)
 abbrev pub againActs : D.Scene → Told → List Action
 againActs sc n = does (carrierOn (sc .slot)) ∷ offActs sc theShip n
 
+-- "ringing off if it rings"; "the tone unless the caller hung up"
+abbrev pub stopRingingActs : D.Scene → Bool → List Action
+stopRingingActs sc rung = cond rung (does (ringingOff (sc .slot)) ∷ []) []
+
+abbrev pub toneActs : D.Scene → Bool → List Action
+toneActs sc tone = cond tone (does (busyTone (sc .slot)) ∷ []) []
+
+abbrev pub dropCallActs : D.Scene → Bool → Bool → List Action
+dropCallActs sc rung tone = dropActs (sc .slot) rung tone
+
 abbrev pub closeActs : D.Scene → Close → List Action
 closeActs sc Leaves = []
 closeActs sc CarrierOff = does (carrierOff (sc .slot)) ∷ []
 closeActs sc (Ends e k) = endedActs sc (enderOf e) k
+closeActs sc (DropsCall rung tone) = dropCallActs sc rung tone
 closeActs sc (Again n) = againActs sc n
 
 abbrev pub wordAct : D.Scene → Word → Action
 wordAct sc Dials = does (dial (sc .slot) (sc .own .number))
-wordAct sc RingsOwn = does (ringBack (sc .slot) (sc .own))
-wordAct sc RingsOldest = does (ringBack (sc .slot) (sc .oldest))
+wordAct sc CallsOwn = does (callShip (sc .slot) (sc .own))
+wordAct sc CallsOldest = does (callShip (sc .slot) (sc .oldest))
+wordAct sc CallsAsked = does (callShip (sc .slot) (sc .asked))
+wordAct sc RingingOn = does (ringingOn (sc .slot))
+wordAct sc RingingOff = does (ringingOff (sc .slot))
 wordAct sc Acknowledges = does (acknowledge (sc .slot) (sc .asked))
 wordAct sc (Unable n) = does (unable n (sc .asked .who) (sc .asked .number))
 

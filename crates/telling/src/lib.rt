@@ -4,17 +4,21 @@ ghost use Rattle.actions.specs.Blocks.{actionBlock};
 ghost use Rattle.actions.specs.Sent.{enderOf, sentOn};
 ghost use Rattle.outcomes.specs.Does.{actsOf};
 ghost use Rattle.telling.specs.Tells.{sceneView, telling, closeOf, freeSay, sayOf};
-ghost use Rattle.telling.specs.Tells.{billActs, offActs, endedActs, againActs, closeActs, wordAct, sayActs};
+ghost use Rattle.telling.specs.Tells.{billActs, offActs, endedActs, againActs, stopRingingActs, toneActs, dropCallActs};
+ghost use Rattle.telling.specs.Tells.{closeActs, wordAct, sayActs};
 use actions::Action;
 use actions::Ender;
+use actions::deeds::busy_tone;
 use actions::deeds::carrier_off;
 use actions::deeds::carrier_on;
 use actions::deeds::charge;
 use actions::deeds::dial;
 use actions::deeds::release_line;
+use actions::deeds::ringing_off;
+use actions::deeds::ringing_on;
 use actions::sequences::acknowledgement;
+use actions::sequences::call_ship;
 use actions::sequences::over;
-use actions::sequences::ring_back;
 use actions::sequences::unable_to;
 use blocks::lay;
 use outcomes::Outcome;
@@ -42,13 +46,17 @@ enum Close {
     Leaves,
     CarrierOff,
     Ends(Ender, Talk),
+    DropsCall(bool, bool),
     Again(Told),
 }
 
 enum Word {
     Dials,
-    RingsOwn,
-    RingsOldest,
+    CallsOwn,
+    CallsOldest,
+    CallsAsked,
+    RingingOn,
+    RingingOff,
     Acknowledges,
     Unable(u8),
 }
@@ -69,6 +77,7 @@ fn close_of(outcome: Outcome) -> Close
         Outcome::ShipEnds(talk) => Close::Ends(Ender::Ship, talk),
         Outcome::SaysAgain(told) => Close::Again(told),
         Outcome::Redials(talk) => Close::Ends(Ender::Coast, talk),
+        Outcome::DropsCall(rung, tone) => Close::DropsCall(rung, tone),
         _ => Close::Leaves,
     }
 }
@@ -80,7 +89,7 @@ fn free_say(waiting: u8) -> Say
     if waiting == 0 {
         return Say::Nothing;
     }
-    Say::Lifted(Word::RingsOldest)
+    Say::Lifted(Word::CallsOldest)
 }
 
 fn say_of(outcome: Outcome, waiting: u8) -> Say
@@ -88,10 +97,15 @@ fn say_of(outcome: Outcome, waiting: u8) -> Say
 {
     match outcome {
         Outcome::Dials => Say::Plain(Word::Dials),
-        Outcome::RingsAgain => Say::Plain(Word::RingsOwn),
-        Outcome::Frees | Outcome::Clears | Outcome::CoastEnds(_) | Outcome::Redials(_) => free_say(
-            waiting,
-        ),
+        Outcome::RingsAgain | Outcome::CallsAgain => Say::Plain(Word::CallsOwn),
+        Outcome::Calls => Say::Lifted(Word::CallsAsked),
+        Outcome::StartsRinging => Say::Plain(Word::RingingOn),
+        Outcome::Transmits => Say::Plain(Word::RingingOff),
+        Outcome::Frees
+        | Outcome::Clears
+        | Outcome::CoastEnds(_)
+        | Outcome::Redials(_)
+        | Outcome::DropsCall(_, _) => free_say(waiting),
         Outcome::Repeats | Outcome::Renews => Say::Plain(Word::Acknowledges),
         Outcome::Offers => Say::Lifted(Word::Acknowledges),
         Outcome::Joins | Outcome::Replaces(_) => Say::Plain(Word::Unable(103)),
@@ -141,6 +155,39 @@ impl Scene {
         self.sign_off(Ender::Ship, told, n, room)
     }
 
+    // "ringing off if it rings"
+    fn stop_ringing(self, rung: bool, k: u8, room: &mut [u8]) -> u8
+        ensures { λ r. ⌜ r ≡ telling self (stopRingingActs (sceneView self) rung) k (now (room .entry)) .next ⌝ }
+        ensures { λ _. ⌜ now (room .exit) ≡ telling self (stopRingingActs (sceneView self) rung) k (now (room .entry)) .room ⌝ }
+    {
+        if rung {
+            return lay(ringing_off(self.slot), k, room);
+        }
+        k
+    }
+
+    // "the tone unless the caller hung up"
+    fn give_tone(self, tone: bool, k: u8, room: &mut [u8]) -> u8
+        ensures { λ r. ⌜ r ≡ telling self (toneActs (sceneView self) tone) k (now (room .entry)) .next ⌝ }
+        ensures { λ _. ⌜ now (room .exit) ≡ telling self (toneActs (sceneView self) tone) k (now (room .entry)) .room ⌝ }
+    {
+        if tone {
+            return lay(busy_tone(self.slot), k, room);
+        }
+        k
+    }
+
+    // "ringing off if it rings, carrier off, the tone unless the caller hung up, release line"
+    fn drop_call(self, rung: bool, tone: bool, k: u8, room: &mut [u8]) -> u8
+        ensures { λ r. ⌜ r ≡ telling self (dropCallActs (sceneView self) rung tone) k (now (room .entry)) .next ⌝ }
+        ensures { λ _. ⌜ now (room .exit) ≡ telling self (dropCallActs (sceneView self) rung tone) k (now (room .entry)) .room ⌝ }
+    {
+        let silent = self.stop_ringing(rung, k, room);
+        let off = lay(carrier_off(self.slot), silent, room);
+        let toned = self.give_tone(tone, off, room);
+        lay(release_line(self.slot), toned, room)
+    }
+
     fn close(self, c: Close, k: u8, room: &mut [u8]) -> u8
         ensures { λ r. ⌜ r ≡ telling self (closeActs (sceneView self) c) k (now (room .entry)) .next ⌝ }
         ensures { λ _. ⌜ now (room .exit) ≡ telling self (closeActs (sceneView self) c) k (now (room .entry)) .room ⌝ }
@@ -149,6 +196,7 @@ impl Scene {
             Close::Leaves => k,
             Close::CarrierOff => lay(carrier_off(self.slot), k, room),
             Close::Ends(by, talk) => self.end(by, talk, k, room),
+            Close::DropsCall(rung, tone) => self.drop_call(rung, tone, k, room),
             Close::Again(told) => self.again(told, k, room),
         }
     }
@@ -160,8 +208,11 @@ impl Scene {
         let channel = self.channel;
         match w {
             Word::Dials => dial(slot, self.own.number),
-            Word::RingsOwn => ring_back(slot, channel, self.own),
-            Word::RingsOldest => ring_back(slot, channel, self.oldest),
+            Word::CallsOwn => call_ship(slot, channel, self.own),
+            Word::CallsOldest => call_ship(slot, channel, self.oldest),
+            Word::CallsAsked => call_ship(slot, channel, self.asked),
+            Word::RingingOn => ringing_on(slot),
+            Word::RingingOff => ringing_off(slot),
             Word::Acknowledges => acknowledgement(slot, channel, self.asked),
             Word::Unable(n) => unable_to(n, self.asked),
         }

@@ -18,7 +18,7 @@ returns-6 : tie.Need-returns-6
 returns-6 c = rw (c .rule-c3 .ensures, c .before .before .phase3 .given .1)
 
 returns-7 : tie.Need-returns-7
-returns-7 c = phase-arm (0 ∷ 7 ∷ 8 ∷ []) _ (askedAgainBy (c .before .args .mode) (c .before .args .same)) (search needs) (c .before .args .phase) (c .match .keys6)
+returns-7 c = phase-arm (0 ∷ 7 ∷ 8 ∷ 10 ∷ 11 ∷ 12 ∷ []) _ (askedAgainBy (c .before .args .mode) (c .before .args .same)) (search needs) (c .before .args .phase) (c .match .keys6)
 
 pub asked-again-spec : {M : Type 1} → statement M
 asked-again-spec =

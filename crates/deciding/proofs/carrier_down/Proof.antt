@@ -15,7 +15,7 @@ returns-3 : tie.Need-returns-3
 returns-3 c = rw (c .lost-from3 .ensures, c .before .before .phase3 .given .1)
 
 returns-4 : tie.Need-returns-4
-returns-4 c = phase-arm (0 ∷ 1 ∷ 2 ∷ 3 ∷ 4 ∷ 7 ∷ 8 ∷ []) _ (downBy (c .before .args .time) (c .before .args .mode)) (search needs) (c .before .args .phase) (c .match .keys4)
+returns-4 c = phase-arm (0 ∷ 1 ∷ 2 ∷ 3 ∷ 4 ∷ 7 ∷ 8 ∷ 10 ∷ 11 ∷ 12 ∷ []) _ (downBy (c .before .args .time) (c .before .args .mode)) (search needs) (c .before .args .phase) (c .match .keys4)
 
 pub carrier-down-spec : {M : Type 1} → statement M
 carrier-down-spec =

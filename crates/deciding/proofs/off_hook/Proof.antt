@@ -15,7 +15,7 @@ returns-3 : tie.Need-returns-3
 returns-3 c = rw (c .enum-told .given .1)
 
 returns-4 : tie.Need-returns-4
-returns-4 c = phase-arm (0 ∷ 1 ∷ 2 ∷ 3 ∷ 4 ∷ 7 ∷ 8 ∷ []) _ (offHookBy (c .before .args .time)) (search needs) (c .before .args .phase) (c .match .keys4)
+returns-4 c = phase-arm (0 ∷ 1 ∷ 2 ∷ 3 ∷ 4 ∷ 7 ∷ 8 ∷ 10 ∷ 11 ∷ 12 ∷ []) _ (offHookBy (c .before .args .time)) (search needs) (c .before .args .phase) (c .match .keys4)
 
 pub off-hook-spec : {M : Type 1} → statement M
 off-hook-spec = tie.close (tie.spec (λ c. search needs) (λ c. search needs) (λ c. search needs) returns returns-2 returns-3 returns-4)

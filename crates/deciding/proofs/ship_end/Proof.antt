@@ -16,7 +16,7 @@ returns-3 : tie.Need-returns-3
 returns-3 c = rw (c .before .phase2 .given .1, c .before .before .before .if1 .taken)
 
 returns-4 : tie.Need-returns-4
-returns-4 c = rw (c .before .if1 .taken) (phase-arm (0 ∷ 1 ∷ 2 ∷ 3 ∷ 4 ∷ 8 ∷ []) _ (shipEndBy true) (search needs) (c .before .before .args .phase) (c .match .keys4))
+returns-4 c = rw (c .before .if1 .taken) (phase-arm (0 ∷ 1 ∷ 2 ∷ 3 ∷ 4 ∷ 8 ∷ 10 ∷ 11 ∷ 12 ∷ []) _ (shipEndBy true) (search needs) (c .before .before .args .phase) (c .match .keys4))
 
 pub ship-end-spec : {M : Type 1} → statement M
 ship-end-spec =

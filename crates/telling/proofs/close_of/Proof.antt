@@ -21,7 +21,10 @@ returns-5 : tie.Need-returns-5
 returns-5 c = rw (c .before .outcome4 .given .1)
 
 returns-6 : tie.Need-returns-6
-returns-6 c = outcome-arm (0 ∷ 1 ∷ 2 ∷ 3 ∷ 4 ∷ 5 ∷ 10 ∷ 11 ∷ 13 ∷ 14 ∷ 15 ∷ 16 ∷ 17 ∷ []) _ closeOf (search needs) (c .before .args .outcome) (c .match .keys6)
+returns-6 c = rw (c .before .outcome5 .given .1)
+
+returns-7 : tie.Need-returns-7
+returns-7 c = outcome-arm (0 ∷ 1 ∷ 2 ∷ 3 ∷ 4 ∷ 5 ∷ 10 ∷ 11 ∷ 13 ∷ 14 ∷ 15 ∷ 16 ∷ 17 ∷ 18 ∷ 19 ∷ 20 ∷ 21 ∷ []) _ closeOf (search needs) (c .before .args .outcome) (c .match .keys7)
 
 pub close-of-spec : {M : Type 1} → statement M
 close-of-spec =
@@ -32,9 +35,11 @@ close-of-spec =
     (λ c. search needs)
     (λ c. search needs)
     (λ c. search needs)
+    (λ c. search needs)
     returns
     returns-2
     returns-3
     returns-4
     returns-5
-    returns-6)
+    returns-6
+    returns-7)

@@ -19,13 +19,25 @@ returns-4 : tie.Need-returns-4
 returns-4 c = rw (time-is _ _ (c .due-after3 .ensures), c .before .told-of .ensures, c .before .before .before .outcome2 .given .1)
 
 returns-5 : tie.Need-returns-5
-returns-5 c = rw (time-is _ _ (c .due-after4 .ensures)) (outcome-arm (11 ∷ 13 ∷ []) _ (turnOf (c .before .before .args .time) (c .before .before .args .waiting)) (search needs) (c .before .before .args .outcome) (c .before .match .keys5))
+returns-5 c = rw (time-is _ _ (c .due-after4 .ensures), c .before .enum-told3 .given .1)
 
 returns-6 : tie.Need-returns-6
-returns-6 c = rw (c .free-turn .ensures) (outcome-arm (5 ∷ 6 ∷ 7 ∷ 12 ∷ []) _ (turnOf (c .before .before .args .time) (c .before .before .args .waiting)) (search needs) (c .before .before .args .outcome) (c .before .match .keys6))
+returns-6 c = rw (time-is _ _ (c .due-after5 .ensures), c .before .enum-told4 .given .1)
 
 returns-7 : tie.Need-returns-7
-returns-7 c = outcome-arm (0 ∷ 1 ∷ 9 ∷ 10 ∷ 14 ∷ 15 ∷ 16 ∷ 17 ∷ []) _ (turnOf (c .before .args .time) (c .before .args .waiting)) (search needs) (c .before .args .outcome) (c .match .keys7)
+returns-7 c = rw (time-is _ _ (c .due-after6 .ensures), c .before .enum-told5 .given .1)
+
+returns-8 : tie.Need-returns-8
+returns-8 c = rw (c .enum-told6 .given .1)
+
+returns-9 : tie.Need-returns-9
+returns-9 c = rw (time-is _ _ (c .due-after7 .ensures)) (outcome-arm (11 ∷ 13 ∷ []) _ (turnOf (c .before .before .args .time) (c .before .before .args .waiting)) (search needs) (c .before .before .args .outcome) (c .before .match .keys9))
+
+returns-10 : tie.Need-returns-10
+returns-10 c = rw (c .free-turn .ensures) (outcome-arm (5 ∷ 6 ∷ 7 ∷ 12 ∷ 22 ∷ []) _ (turnOf (c .before .before .args .time) (c .before .before .args .waiting)) (search needs) (c .before .before .args .outcome) (c .before .match .keys10))
+
+returns-11 : tie.Need-returns-11
+returns-11 c = outcome-arm (0 ∷ 1 ∷ 9 ∷ 10 ∷ 14 ∷ 15 ∷ 16 ∷ 17 ∷ []) _ (turnOf (c .before .args .time) (c .before .args .waiting)) (search needs) (c .before .args .outcome) (c .match .keys11)
 
 pub turn-of-spec : {M : Type 1} → statement M
 turn-of-spec =
@@ -39,6 +51,13 @@ turn-of-spec =
     (λ c. search needs)
     (λ c κs. search needs)
     (λ c κs. search needs)
+    (λ c. search needs)
+    (λ c κs. search needs)
+    (λ c. search needs)
+    (λ c κs. search needs)
+    (λ c. search needs)
+    (λ c κs. search needs)
+    (λ c. search needs)
     (λ c κs. search needs)
     (λ c κs. search needs)
     returns
@@ -47,4 +66,8 @@ turn-of-spec =
     returns-4
     returns-5
     returns-6
-    returns-7)
+    returns-7
+    returns-8
+    returns-9
+    returns-10
+    returns-11)

@@ -24,7 +24,11 @@ returns-3 c = rw (c .before .before .before .before .before .c .given .1) (c .be
 
 returns-4 : tie.Need-returns-4
 unfolding sceneView sentOn sentPayload requestOf
-returns-4 c = rw (c .before .before .before .before .before .c2 .given .1) (c .before .before .again .ensures)
+returns-4 c = rw (c .before .before .before .before .before .c2 .given .1) (c .before .before .drop-call .ensures)
+
+returns-5 : tie.Need-returns-5
+unfolding sceneView sentOn sentPayload requestOf
+returns-5 c = rw (c .before .before .before .before .before .c3 .given .1) (c .before .before .again .ensures)
 
 pub close-spec : {M : Type 1} → statement M
 close-spec =
@@ -38,10 +42,14 @@ close-spec =
     (λ c κs. search needs)
     (λ c. search needs)
     (λ c κs. search needs)
+    (λ c. search needs)
+    (λ c κs. search needs)
     returns
     (λ c. search needs)
     returns-2
     (λ c. search needs)
     returns-3
     (λ c. search needs)
-    returns-4)
+    returns-4
+    (λ c. search needs)
+    returns-5)
