@@ -12,7 +12,7 @@ use Rattle.slots.proofs.PhaseLaws.{by-phase}
 use Rattle.outcomes.specs.declared.Outcome.{Outcome}
 use Rattle.outcomes.specs.declared.Outcome.the-variants.{Joins, Unable}
 use Rattle.outcomes.specs.Does.{goesOn, outOf, wholeOf}
-use Rattle.deciding.specs.Decides.{bqBy, newcomerBy}
+use Rattle.deciding.specs.Decides.{bqBy, declinedBy, dataBy, newcomerBy}
 
 -- nothing goes on
 pub ends-there : (i : ℕ) (own q : Request) (o : Outcome) (st : R.Station) → goesOn o ≡ false → wholeOf i own q o st ≡ outOf i own q o st
@@ -29,4 +29,11 @@ newcomer-ends false n = go (ltb n queueRoom)
 
 pub bq-ends : (own : Bool) (t : Tenths) (p : Phase) → goesOn (bqBy own t p) ≡ false
 bq-ends false t = λ p. refl
-bq-ends true t = by-phase _ refl (λ d. refl) (λ d. refl) (λ d. refl) (λ d. refl) (λ d c. refl) (λ d c. refl) (λ d n. refl) refl (λ d c. refl)
+bq-ends true t = by-phase _ refl (λ d. refl) (λ d. refl) (λ d. refl) (λ d. refl) (λ d c. refl) (λ d c. refl) (λ d n. refl) refl (λ d c. refl) (λ d. refl) (λ d. refl) (λ d. refl)
+
+pub declined-ends : (p : Phase) → goesOn (declinedBy p) ≡ false
+declined-ends = by-phase _ refl (λ d. refl) (λ d. refl) (λ d. refl) (λ d. refl) (λ d c. refl) (λ d c. refl) (λ d n. refl) refl (λ d c. refl) (λ d. refl) (λ d. refl) (λ d. refl)
+
+pub data-ends : (called : Bool) → goesOn (dataBy called) ≡ false
+data-ends true = refl
+data-ends false = refl

@@ -3,17 +3,17 @@ use Prim.Native.Nat.{ℕ, _≤_}
 use mathlib.Core.Bool.{Bool, true, false, cond, not, _&&_}
 use mathlib.Core.List.{List, [], _∷_, _++_}
 use mathlib.Core.Option.{Option, none, some}
-use mathlib.Core.Path.{_≡_, refl, sym}
+use mathlib.Core.Path.{_≡_, refl, sym, ap, _∙_}
 use lib.Dec.{leb}
 use lib.ListN.{length}
 use borrow.Author.Tests.{leb-true}
 use Rattle.sequence.specs.Answers.{answerNumber, isDone}
 use Rattle.sequence.specs.Refusals.{Row, firstRefusal}
 use Rattle.rules.specs.Rules.Places.{isSome}
-use Rattle.rules.specs.Rules.Words.{Happened, signal, operator, What, onSlot, Event}
+use Rattle.rules.specs.Rules.Words.{Happened, signal, operator, What, onSlot, Ashore, fromAshore, ashoreIn, Event}
 use Rattle.rules.specs.Rules.Station.{theSlot, fires}
 use Rattle.rules.specs.Rules.Sound.{limit, sound}
-use Rattle.rules.specs.Rules.Verdict.{unless, roomNeeded, overtaken, slotThere, readIn, barred, refusals, verdict}
+use Rattle.rules.specs.Rules.Verdict.{unless, roomNeeded, overtaken, slotThere, readIn, barred, calledShip, calledMode, callerNumber, calledEngaged, slotForCaller, refusals, verdict}
 use Rattle.gate.specs.declared.Look.{Look}
 use Rattle.gate.specs.Asked.{andThen, askedAlways, askedNow, askedOnSlot}
 use Rattle.gate.proofs.AskedLaws.{one-more}
@@ -31,9 +31,19 @@ both-parts true b x y = refl
 both-parts false b x y = refl
 
 module _ (s : Station) (l : Look) (sees : Sees s l) (n t : ℕ) where
+  -- what is asked of a call from ashore behind 33
+  abbrev ashore : Option Ashore → List (Row (Option ℕ))
+  ashore o =
+      unless (calledShip o) 15
+      ∷ unless (calledMode o) 17
+      ∷ unless (callerNumber o) 19
+      ∷ unless (not (calledEngaged (configOf s) (modelOf s) o)) 38
+      ∷ unless (slotForCaller (modelOf s) o) 37
+      ∷ []
+
   -- what is asked of an event behind 34, and behind 33
   abbrev afterwards : What → List (Row (Option ℕ))
-  afterwards w = unless (isDone (readIn w)) (answerNumber (readIn w)) ∷ unless (not (barred (modelOf s) w)) 35 ∷ []
+  afterwards w = unless (isDone (readIn w)) (answerNumber (readIn w)) ∷ unless (not (barred (modelOf s) w)) 35 ∷ ashore (ashoreIn w)
 
   abbrev besides : What → List (Row (Option ℕ))
   besides w = unless (slotThere (length (modelOf s .slots)) w) 34 ∷ afterwards w
@@ -63,6 +73,19 @@ module _ (s : Station) (l : Look) (sees : Sees s l) (n t : ℕ) where
 
   pub one-more-on-slot : (i : ℕ) (b : Bool) (k : ℕ) → andThen (firstRefusal (askedOnSlot l n t i) none) b k ≡ firstRefusal (askedOnSlot l n t i ++ (unless b k ∷ [])) none
   one-more-on-slot i b k = one-more (askedOnSlot l n t i) (refl, (refl, (refl, (refl, (refl, (refl, tt)))))) b k
+
+  -- the five tests of a call from ashore, one behind the other
+  pub five-more : (a b c d e : Bool) → andThen (andThen (andThen (andThen (andThen (firstRefusal (askedNow l n t) none) a 15) b 17) c 19) d 38) e 37
+      ≡ firstRefusal (askedNow l n t ++ (unless a 15 ∷ unless b 17 ∷ unless c 19 ∷ unless d 38 ∷ unless e 37 ∷ [])) none
+  five-more a b c d e =
+      ap (λ v. andThen (andThen (andThen (andThen v b 17) c 19) d 38) e 37) (one-more-now a 15)
+      ∙ ap (λ v. andThen (andThen (andThen v c 19) d 38) e 37) (one-more (askedNow l n t ++ (unless a 15 ∷ [])) (refl, (refl, (refl, (refl, (refl, (refl, tt)))))) b 17)
+      ∙ ap (λ v. andThen (andThen v d 38) e 37) (one-more (askedNow l n t ++ (unless a 15 ∷ unless b 17 ∷ [])) (refl, (refl, (refl, (refl, (refl, (refl, (refl, tt))))))) c 19)
+      ∙ ap (λ v. andThen v e 37) (one-more (askedNow l n t ++ (unless a 15 ∷ unless b 17 ∷ unless c 19 ∷ [])) (refl, (refl, (refl, (refl, (refl, (refl, (refl, (refl, tt)))))))) d 38)
+      ∙ one-more (askedNow l n t ++ (unless a 15 ∷ unless b 17 ∷ unless c 19 ∷ unless d 38 ∷ [])) (refl, (refl, (refl, (refl, (refl, (refl, (refl, (refl, (refl, tt))))))))) e 37
+
+  pub asked-ashore : (x : Ashore) → firstRefusal (askedNow l n t ++ ashore (some x)) none ≡ refusal s (record { time = t; room = n; what = fromAshore x })
+  asked-ashore x = asked-now (fromAshore x) refl
 
 -- what an accepted event has passed
 pub record Passed (s : Station) (e : Event) : Type 0 where

@@ -8,6 +8,7 @@ pub mod GateLaws
 pub mod SceneLaws
 pub mod RedialLaws
 pub mod StepLaws
+pub mod ShoreLaws
 pub mod EventLaws
 pub mod SetLaws
 pub mod ImageLaws

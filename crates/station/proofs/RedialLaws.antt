@@ -20,7 +20,7 @@ use Rattle.actions.specs.Sent.{sentBlock}
 use Rattle.blocks.specs.Laid.{Laid}
 use Rattle.blocks.proofs.LaidLaws.{laid-append}
 use Rattle.outcomes.specs.declared.Outcome.{Outcome}
-use Rattle.outcomes.specs.declared.Outcome.the-variants.{Ignored, Passes, Turns, Dials, RingsAgain, Frees, Clears, CoastEnds, ShipEnds, SaysAgain, Repeats, Renews, Redials, Offers, Joins, Replaces, Unable, Drops}
+use Rattle.outcomes.specs.declared.Outcome.the-variants.{Ignored, Passes, Turns, Dials, RingsAgain, Frees, Clears, CoastEnds, ShipEnds, SaysAgain, Repeats, Renews, Redials, Offers, Joins, Replaces, Unable, Drops, Calls, CallsAgain, StartsRinging, Transmits, DropsCall}
 use Rattle.outcomes.specs.Does.{goesOn, outOf, withoutSlot, behind, wholeOf}
 use Rattle.station.specs.declared.Station.{Station}
 use Rattle.station.specs.declared.Stepped.{Stepped}
@@ -81,6 +81,11 @@ on-frees i own q st Joins = refl
 on-frees i own q st (Replaces k) = refl
 on-frees i own q st (Unable n) = refl
 on-frees i own q st (Drops k) = refl
+on-frees i own q st Calls = refl
+on-frees i own q st CallsAgain = refl
+on-frees i own q st StartsRinging = refl
+on-frees i own q st Transmits = refl
+on-frees i own q st (DropsCall rung tone) = refl
 
 freed-clock : (i : ℕ) (st : R.Station) → freed i st .next .clock ≡ st .clock
 unfolding freed freedFor rungBack setSlot setQueue

@@ -15,6 +15,7 @@ use Rattle.station.proofs.Station.take.Reads as Station-take
 use Rattle.station.proofs.Station.on_hook.Reads as Station-on-hook
 use Rattle.station.proofs.Station.give_back.Reads as Station-give-back
 use Rattle.station.proofs.Station.set_up.Reads as Station-set-up
+use Rattle.station.proofs.Station.call_from_ashore.Reads as Station-call-from-ashore
 use Rattle.station.proofs.Station.tick.Reads as Station-tick
 
 pub Station-blank-settled : (κs : Lfts 0) (a : _) (r r' : _) (s s' : _)
@@ -76,3 +77,7 @@ Station-heard-on-slot-settled κs a r r' s s' p q = (p .0 ∙ sym (q .0), p .1 �
 pub Station-heard-on-channel-70-settled : (κs : Lfts 2) (a : _) (r r' : _) (s s' : _)
     → Station-heard-on-channel-70.Post κs a r s → Station-heard-on-channel-70.Post κs a r' s' → (r ≡ r') × (s .1 .1 .1 .0 .now ≡ s' .1 .1 .1 .0 .now)
 Station-heard-on-channel-70-settled κs a r r' s s' p q = (p .0 ∙ sym (q .0), p .1 ∙ sym (q .1))
+
+pub Station-call-from-ashore-settled : (κs : Lfts 2) (a : _) (r r' : _) (s s' : _)
+    → Station-call-from-ashore.Post κs a r s → Station-call-from-ashore.Post κs a r' s' → (r ≡ r') × (s .1 .1 .1 .1 .1 .0 .now ≡ s' .1 .1 .1 .1 .1 .0 .now)
+Station-call-from-ashore-settled κs a r r' s s' p q = (p .0 ∙ sym (q .0), p .1 ∙ sym (q .1))

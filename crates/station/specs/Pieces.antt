@@ -24,13 +24,15 @@ use Rattle.slots.specs.declared.Wait.{Wait}
 use Rattle.slots.specs.declared.Wait.the-variants.{Entry, Loss, Main}
 use Rattle.slots.specs.declared.Due.{Due}
 use Rattle.slots.specs.declared.Due.the-variants.{Never, In}
+use Rattle.slots.specs.declared.Found.{Found}
+use Rattle.slots.specs.declared.Found.the-variants as F
 use Rattle.slots.specs.Images.{blankSlot}
 use Rattle.slots.specs.Views.{signalView, handView, dueView}
 use Rattle.actions.specs.Sent.{sentBlock}
 use Rattle.blocks.specs.Laid.{Laid, laidFrom}
 use Rattle.gate.specs.declared.Look.{Look}
 use Rattle.hearing.specs.declared.Kind.{Kind}
-use Rattle.hearing.specs.declared.Kind.the-variants.{CallRequest, DataRequest, Bq, WorkingCall, EndOfCall, Nothing}
+use Rattle.hearing.specs.declared.Kind.the-variants.{CallRequest, DataRequest, Bq, WorkingCall, EndOfCall, Declined, Nothing}
 use Rattle.outcomes.specs.declared.Outcome.{Outcome}
 use Rattle.outcomes.specs.declared.Outcome.the-variants.{Ignored, Passes, Drops}
 use Rattle.outcomes.specs.Does.{outOf, wholeOf}
@@ -89,6 +91,11 @@ handedBack s out k room = enacted (configOf s) (laidOf (configOf s) (out .acts) 
 abbrev pub roomLaid : Station → Out → ℕ → List ℕ → List ℕ
 roomLaid s out k room = laidOf (configOf s) (out .acts) k room .room
 
+-- the slot that was found; the lowest where none was
+abbrev pub slotFound : Found → SlotNumber
+slotFound (F.At i) = i
+slotFound F.Nothing = record { 0 = 0 }
+
 -- ── which rule decides ───────────────────────────────────────────────────────
 
 abbrev pub plainView : Plain → Happened
@@ -134,4 +141,5 @@ byKind DataRequest own p = Ignored
 byKind (Bq i) own p = Ignored
 byKind WorkingCall own p = workingBy own p
 byKind EndOfCall own p = shipEndBy own p
+byKind Declined own p = Ignored
 byKind Nothing own p = Ignored

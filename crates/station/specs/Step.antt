@@ -8,7 +8,7 @@ use lib.ListN.{length, take, drop}
 use Rattle.units.specs.declared.Channel.{Channel}
 use Rattle.sequence.specs.Refusals.{firstRefusal}
 use Rattle.rules.specs.Rules.Places.{all}
-use Rattle.rules.specs.Rules.Words.{Config, Happened, What, onSlot, Event}
+use Rattle.rules.specs.Rules.Words.{Config, Happened, What, onSlot, fromAshore, Event}
 use Rattle.rules.specs.Rules.Station.{nextDue, fresh}
 use Rattle.rules.specs.Rules.Requests.{Out}
 use Rattle.rules.specs.Rules.Calls.{act}
@@ -33,6 +33,10 @@ eventAt time what room = record { time = time; room = length room; what = what }
 
 abbrev pub slotAt : ℕ → ℕ → Happened → List ℕ → Event
 slotAt time slot h room = eventAt time (onSlot slot h) room
+
+-- a call from ashore to a ship, in a mode, from a number
+abbrev pub ashoreOf : ℕ → ℕ → List ℕ → What
+ashoreOf ship mode digits = fromAshore (record { ship = ship; mode = mode; digits = digits })
 
 -- ── refusals ─────────────────────────────────────────────────────────────────
 

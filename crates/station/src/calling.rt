@@ -1,4 +1,4 @@
-// Heard on channel 70: a call request, rules a to g; a ring-back acknowledged.
+// Heard on channel 70: a call request, rules a to g; a BQ, with which a ship agrees or declines.
 ghost use mathlib.Core.Bool.{true, false};
 ghost use mathlib.Core.Path.{_≡_};
 ghost use Prim.Native.Nat.{ℕ, _≤_};
@@ -6,11 +6,13 @@ ghost use lib.ListN.{length};
 ghost use Rattle.rules.specs.Rules.Sound.{limit, queueRoom, sound};
 ghost use Rattle.rules.specs.Rules.Words as W;
 ghost use Rattle.rules.specs.Rules.Words.{onChannel70};
+ghost use Rattle.rules.specs.Rules.Heard.{declined};
 ghost use Rattle.rules.specs.Rules.Station.{theSlot, setClock};
 ghost use Rattle.rules.specs.Rules.Requests as Q;
-ghost use Rattle.rules.specs.Rules.Requests.{standing, requested};
+ghost use Rattle.rules.specs.Rules.Requests.{standing, beingCalled, requested};
 ghost use Rattle.rules.specs.Rules.Calls.{bqFor, heardOn70};
 ghost use Rattle.requests.specs.Views.{requestOf};
+ghost use Rattle.slots.specs.Views.{standingView};
 ghost use Rattle.hearing.specs.Said.{heardOf};
 ghost use Rattle.outcomes.specs.Does.{outOf, goesOn, withoutSlot};
 ghost use Rattle.station.specs.Model.{modelOf, configOf};
@@ -35,6 +37,7 @@ use searches::standing;
 use slots::Found;
 use slots::Place;
 use slots::Standing;
+use slots::is_called;
 use units::SlotNumber;
 use units::Tenths;
 
@@ -103,6 +106,24 @@ impl Station {
         }
     }
 
+    // Where the ship of a request stands.
+    fn stands(self, request: Request) -> Standing
+        ensures { λ r. ⌜
+            ((t : ℕ) → standingView r ≡ standing (setClock t (modelOf self)) (requestOf request .who))
+            ⌝ }
+    {
+        let slots = self.slots;
+        let queue = self.queue;
+        standing(
+            slots,
+            self.count,
+            queue,
+            self.waiting,
+            request.ship,
+            request.station,
+        )
+    }
+
     // The first rule that fits, by where the ship stands.
     fn asked(self, time: Tenths, request: Request) -> Choice
         ensures { λ r. ⌜
@@ -110,17 +131,7 @@ impl Station {
             ≡ requested (modelAt self time) (requestOf request) (standing (modelAt self time) (requestOf request .who))
             ⌝ }
     {
-        let slots = self.slots;
-        let queue = self.queue;
-        let stands = standing(
-            slots,
-            self.count,
-            queue,
-            self.waiting,
-            request.ship,
-            request.station,
-        );
-        match stands {
+        match self.stands(request) {
             Standing::Nowhere => self.newcomer(),
             Standing::Holds(slot) => self.asked_again(time, slot, request),
             Standing::Waits(k) => Choice {
@@ -130,7 +141,7 @@ impl Station {
         }
     }
 
-    // Ring-back acknowledged, on the slot i.
+    // A BQ on the slot i: a ring-back acknowledged, or a call from ashore agreed to.
     fn agreed(self, time: Tenths, slot: SlotNumber, request: Request) -> Choice
         requires { ⌜ time .0 ≤ limit ⌝ }
         ensures { λ r. ⌜
@@ -149,6 +160,48 @@ impl Station {
         }
     }
 
+    // 02, no. 2: "a ship being called"
+    fn is_being_called(self, request: Request) -> bool
+        ensures { λ r. ⌜ ((t : ℕ) → r ≡ beingCalled (setClock t (modelOf self)) (requestOf request .who)) ⌝ }
+    {
+        match self.stands(request) {
+            Standing::Nowhere => false,
+            Standing::Holds(slot) => {
+                let the_slot = self.slot_at(slot);
+                let phase = the_slot.phase;
+                is_called(phase)
+            }
+            Standing::Waits(_) => false,
+        }
+    }
+
+    // 02, no. 2: "its BQ with 104 .. drops the call".
+    fn declined(self, time: Tenths, request: Request) -> Choice
+        ensures { λ r. ⌜
+            chosenAt self time r request ≡ heardOn70 (modelAt self time) (declined (requestOf request .who))
+            ⌝ }
+    {
+        match self.stands(request) {
+            Standing::Nowhere => Choice {
+                slot: SlotNumber(0),
+                outcome: Outcome::Ignored,
+            },
+            Standing::Holds(slot) => {
+                let the_slot = self.slot_at(slot);
+                let phase = the_slot.phase;
+                let outcome = deciding::declined(phase);
+                Choice {
+                    slot: slot,
+                    outcome: outcome,
+                }
+            }
+            Standing::Waits(_) => Choice {
+                slot: SlotNumber(0),
+                outcome: Outcome::Ignored,
+            },
+        }
+    }
+
     // What was heard, at the time t.
     fn choice(self, time: Tenths, heard: Heard) -> Choice
         requires { ⌜ time .0 ≤ limit ⌝ }
@@ -158,10 +211,14 @@ impl Station {
         let request = heard.request;
         match kind {
             Kind::CallRequest => self.asked(time, request),
-            Kind::DataRequest => Choice {
-                slot: SlotNumber(0),
-                outcome: Outcome::Unable(109),
-            },
+            Kind::DataRequest => {
+                let called = self.is_being_called(request);
+                let outcome = deciding::data_asked(called);
+                Choice {
+                    slot: SlotNumber(0),
+                    outcome: outcome,
+                }
+            }
             Kind::Bq(slot) => self.agreed(time, slot, request),
             Kind::WorkingCall => Choice {
                 slot: SlotNumber(0),
@@ -171,6 +228,7 @@ impl Station {
                 slot: SlotNumber(0),
                 outcome: Outcome::Ignored,
             },
+            Kind::Declined => self.declined(time, request),
             Kind::Nothing => Choice {
                 slot: SlotNumber(0),
                 outcome: Outcome::Ignored,

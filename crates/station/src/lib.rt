@@ -7,6 +7,7 @@ mod operator;
 mod places;
 mod plain_events;
 mod setting;
+mod shore_calls;
 mod signals;
 mod waits;
 mod working;

@@ -24,6 +24,7 @@ fn by_kind(kind: Kind, own: bool, phase: Phase) -> Outcome
         Kind::Bq(_) => Outcome::Ignored,
         Kind::WorkingCall => deciding::working_call(own, phase),
         Kind::EndOfCall => deciding::ship_end(own, phase),
+        Kind::Declined => Outcome::Ignored,
         Kind::Nothing => Outcome::Ignored,
     }
 }

@@ -1,7 +1,7 @@
 use mathlib.Core.Path.{ap, _∙_}
 use Rattle.rules.specs.Rules.Station as R
 use Rattle.rules.specs.Rules.Station.{setClock}
-use Rattle.rules.specs.Rules.Requests.{standing, requested}
+use Rattle.rules.specs.Rules.Requests.{requested}
 use Rattle.requests.specs.Views.{requestOf}
 use Rattle.outcomes.specs.Does.{outOf, wholeOf}
 use Rattle.station.specs.Model.{modelOf}
@@ -12,27 +12,26 @@ use Rattle.station.proofs.Station.asked.Statement.{statement}
 use Rattle.station.proofs.Station.asked.Tie as tie
 
 returns : tie.Need-returns
-unfolding modelOf setClock requestOf standing requested wholeAt
+unfolding requested wholeAt
 returns c =
-    let x = c .before .before .before .before .before .before .args in
+    let x = c .before .before .before .before .args in
     let st : R.Station = setClock (x .time .0) (modelOf (x .self)) in
-    let h = rw (c .before .enum-told .given .1) at (c .before .before .before .standing .ensures) in
+    let h = rw (c .before .enum-told .given .1) at (c .before .before .before .stands .ensures (x .time .0)) in
     ends-there _ _ _ _ st (c .newcomer .ensures .1) ∙ c .newcomer .ensures .0 (x .time .0) _ _ ∙ ap (requested st (requestOf (x .request))) h
 
 returns-2 : tie.Need-returns-2
-unfolding modelOf setClock requestOf standing
 returns-2 c =
-    let x = c .before .before .before .before .before .before .before .args in
+    let x = c .before .before .before .before .before .args in
     let st : R.Station = setClock (x .time .0) (modelOf (x .self)) in
-    let h = rw (c .before .before .stands .given .1) at (c .before .before .before .before .standing .ensures) in
+    let h = rw (c .before .before .slot .given .1) at (c .before .before .before .before .stands .ensures (x .time .0)) in
     c .asked-again .ensures ∙ ap (requested st (requestOf (x .request))) h
 
 returns-3 : tie.Need-returns-3
-unfolding modelOf setClock requestOf standing requested wholeAt wholeOf outOf
+unfolding requested wholeAt wholeOf outOf
 returns-3 c =
-    let x = c .before .before .before .before .before .before .args in
+    let x = c .before .before .before .before .args in
     let st : R.Station = setClock (x .time .0) (modelOf (x .self)) in
-    let h = rw (c .before .stands2 .given .1) at (c .before .before .before .standing .ensures) in
+    let h = rw (c .before .k .given .1) at (c .before .before .before .stands .ensures (x .time .0)) in
     ap (requested st (requestOf (x .request))) h
 
 pub asked-spec : {M : Type 1} → statement M

@@ -18,7 +18,7 @@ use Rattle.slots.specs.Phases.{phaseView}
 use Rattle.slots.specs.Views.{slotView}
 use Rattle.hearing.specs.declared.Heard.{Heard}
 use Rattle.hearing.specs.declared.Kind.{Kind}
-use Rattle.hearing.specs.declared.Kind.the-variants.{CallRequest, DataRequest, Bq, WorkingCall, EndOfCall, Nothing}
+use Rattle.hearing.specs.declared.Kind.the-variants.{CallRequest, DataRequest, Bq, WorkingCall, EndOfCall, Declined, Nothing}
 use Rattle.hearing.specs.Said.{heardAs, heardOf}
 use Rattle.outcomes.specs.declared.Outcome.{Outcome}
 use Rattle.outcomes.specs.Does.{outOf}
@@ -44,6 +44,7 @@ kind-is r q i st DataRequest own e p = refl
 kind-is r q i st (Bq j) own e p = refl
 kind-is r q i st WorkingCall own e p = working-is i st r q (q .who) own e p
 kind-is r q i st EndOfCall own e p = ship-end-is i st r q (q .who) own e p
+kind-is r q i st Declined own e p = refl
 kind-is r q i st Nothing own e p = refl
 
 -- what is decided by it is what the rules do

@@ -20,6 +20,9 @@ returns-5 c = rw (c .before .enum-told5 .given .1) (c .ship-end .ensures)
 returns-6 : tie.Need-returns-6
 returns-6 c = rw (c .enum-told6 .given .1)
 
+returns-7 : tie.Need-returns-7
+returns-7 c = rw (c .enum-told7 .given .1)
+
 pub by-kind-spec : {M : Type 1} → statement M
 by-kind-spec =
     tie.close
@@ -32,9 +35,11 @@ by-kind-spec =
     (λ c. search needs)
     (λ c κs. search needs)
     (λ c. search needs)
+    (λ c. search needs)
     returns
     returns-2
     returns-3
     returns-4
     returns-5
-    returns-6)
+    returns-6
+    returns-7)
