@@ -28,9 +28,9 @@ extern "C" {
 /* The library's version: MAJOR moves where a host has to be changed, MINOR where only something is added for it, PATCH where only
  * a fault is mended. It is no version of the lent layout: COAST_LAYOUT_VERSION is that. A new layout moves MINOR at least: a host
  * need not be changed, but the stations that it kept are refused. */
-#define COAST_VERSION "1.1.0"
+#define COAST_VERSION "1.2.0"
 #define COAST_VERSION_MAJOR 1
-#define COAST_VERSION_MINOR 1
+#define COAST_VERSION_MINOR 2
 #define COAST_VERSION_PATCH 0
 
 /* The deepest that any entry reaches into the stack, as measured. */
@@ -70,9 +70,9 @@ extern "C" {
 #define COAST_ANSWER_BAD_SYMBOL 12        /* a symbol over 127 */
 #define COAST_ANSWER_BAD_CHECK 13         /* the last symbol is not the exclusive-or of all before it */
 #define COAST_ANSWER_BAD_FORMAT 14        /* the format is not 123 */
-#define COAST_ANSWER_BAD_IDENTITIES 15    /* not nine digits and a final 0 each, or not one ship and one coast station */
+#define COAST_ANSWER_BAD_IDENTITIES 15    /* not nine digits and a final 0 each, not one ship and one coast station; or, ashore, no ship */
 #define COAST_ANSWER_BAD_CATEGORY 16      /* the category is not 100 */
-#define COAST_ANSWER_BAD_TELECOMMANDS 17  /* the two telecommands do not go together */
+#define COAST_ANSWER_BAD_TELECOMMANDS 17  /* the two telecommands do not go together; or, ashore, not 100 or 101 */
 #define COAST_ANSWER_BAD_CHANNEL_FIELD 18 /* the channel field does not go with the first telecommand */
 #define COAST_ANSWER_BAD_NUMBER 19        /* not 1 to 16 digits 0 to 9, or marked odd for even, or not 0 past the count */
 #define COAST_ANSWER_BAD_END 20           /* the end of sequence is not 117, 122 or 127 */
@@ -87,6 +87,8 @@ extern "C" {
 #define COAST_ANSWER_NO_SLOT 34           /* there is no slot of this number */
 #define COAST_ANSWER_OPERATOR 35          /* takes a slot that is not free, or gives back one that is not taken */
 #define COAST_ANSWER_BAD_SET_UP 36        /* not a coast station's identity, or not 1 to 16 different working channels */
+#define COAST_ANSWER_NO_FREE_SLOT 37      /* a call from ashore, and no slot is free */
+#define COAST_ANSWER_SHIP_ENGAGED 38      /* a call from ashore to a ship that has a slot, a held one too, or waits for one */
 
 /* Times are in tenths of a second from the set-up on, up to this one: twelve years and eight months. A host that is to run
  * for longer sets its station up anew before then, at an hour without calls, and counts its time from 0 again. */
@@ -115,28 +117,28 @@ uint32_t coast_write_sequence(const uint8_t *meaning, size_t size, uint8_t *room
  *    0  1  the layout's version                  in each slot:
  *    1  4  clock, in tenths of a second             0  1  phase: 0 free, 1 offered, 2 ring-back, 3 ring-back repeated,
  *    5  4  the station's identity                         4 acknowledged, 5 dialling, 6 answered, 7 hold, 8 taken,
- *    9  1  count of slots                                 9 dialled out
- *   10  1  count of waiting ships                   1  4  due time (1 to 5, 7, 9), or when it was answered (6)
- *   11     16 slots of 45 bytes                     5  1  the ship's carrier (5, 6, 9): 0 present, 1 lost
- *  731     32 waiting ships of 31 bytes,            6  4  due time of a carrier that is lost
- *          the oldest first                        10  1  what was told (7): 0 nothing, 1 a duration
- *                                                  11  3  hours, minutes, seconds
- *  in each stored request:                         14  4  channel
- *    0  4  ship                                    18 27  request, in the phases 1 to 7 and 9
- *    4  4  station called
- *    8  1  mode: 0 simplex, 1 duplex             in each waiting ship:
- *    9  1  second telecommand                       0  4  due time
- *   10  1  count of digits                          4 27  request
- *   11 16  digits, one a byte;
+ *    9  1  count of slots                                 9 dialled out; of a call from ashore 10 called,
+ *   10  1  count of waiting ships                         11 called again, 12 ringing
+ *   11     16 slots of 45 bytes                     1  4  due time (1 to 5, 7, 9 to 12), or when it was answered (6)
+ *  731     32 waiting ships of 31 bytes,            5  1  the ship's carrier (5, 6, 9): 0 present, 1 lost
+ *          the oldest first                         6  4  due time of a carrier that is lost
+ *                                                  10  1  what was told (7): 0 nothing, 1 a duration
+ *  in each stored request:                         11  3  hours, minutes, seconds
+ *    0  4  ship                                    14  4  channel
+ *    4  4  station called, or calling              18 27  request, in the phases 1 to 7 and 9 to 12
+ *    8  1  mode: 0 simplex, 1 duplex
+ *    9  1  second telecommand                    in each waiting ship:
+ *   10  1  count of digits                          0  4  due time
+ *   11 16  digits, one a byte;                      4 27  request
  *          0 past the count
  *
  * What the library leaves is 0 wherever nothing is named: in slots and waiting ships past the counts, and in the parts that
  * a phase does not use. What stands there in bytes that are handed in is not looked at. A station is not sound, 29, with a
- * phase over 9; with a carrier, a duration's mark or a mode over 1 where it is looked at; or with a digit past its count that
+ * phase over 12; with a carrier, a duration's mark or a mode over 1 where it is looked at; or with a digit past its count that
  * is not 0.
  *
- * A station is sound if document 01, with no. 1 of document 02, allows it: its identity, channels and stored requests keep the
- * rules, no ship stands twice, no call was answered after the clock, and each due time lies from the clock to the clock plus
+ * A station is sound if document 01, with nos. 1 and 2 of document 02, allows it: its identity, channels and stored requests keep
+ * the rules, no ship stands twice, no call was answered after the clock, and each due time lies from the clock to the clock plus
  * its wait and a tenth. All that the library leaves is sound. */
 #define COAST_STATION_SIZE 1723
 
@@ -144,17 +146,18 @@ uint32_t coast_write_sequence(const uint8_t *meaning, size_t size, uint8_t *room
  * another version, 29, but coast_set_up, which does not look at the bytes that it fills; and no entry turns it into one of
  * this version. So a rack is upgraded to a library of another version when its calls are over. With calls in hand, a host
  *   - hands in, to the old library, an on-hook on every slot, and does the actions: a call that is dialled or answered ends,
- *     and is charged if it was answered; on any other slot the on-hook is ignored. A slot so freed may ring back a waiting ship;
+ *     and is charged if it was answered; a call from ashore that is not answered yet is dropped; on any other slot the on-hook
+ *     is ignored. A slot so freed may ring back a waiting ship;
  *   - switches off the carrier of every slot. Ships that waited, or had a slot without a call yet, lose it, and call again;
  *   - sets a station up by the new library, counts its time from 0 again, and takes again the slots that were taken. */
-#define COAST_LAYOUT_VERSION 2
+#define COAST_LAYOUT_VERSION 3
 #define COAST_AT_VERSION 0
 
 /* Actions: an event lays at most eight at the front of its room, in the order in which they are to be done; coast_count of
  * what it returned says how many. The room must have 320 bytes even where there are fewer. */
 #define COAST_ACTIONS_SIZE 320
 #define COAST_ONE_ACTION_SIZE 40
-#define COAST_AT_ACTION_KIND 0    /* one of the seven kinds below */
+#define COAST_AT_ACTION_KIND 0    /* one of the ten kinds below */
 #define COAST_AT_ACTION_SLOT 1    /* the slot's number, or 255 in an answer that gives no slot */
 #define COAST_AT_ACTION_LENGTH 2  /* count of the payload's bytes */
 #define COAST_AT_ACTION_PAYLOAD 4 /* the payload, at most 36 bytes; zeros behind it, and at byte 3 */
@@ -170,8 +173,11 @@ struct coast_lent {
 #define COAST_ACTION_SEND_CHANNEL_70 3 /* payload: a sequence of 21 to 28 symbols, to send on channel 70 */
 #define COAST_ACTION_SEND_WORKING 4    /* payload: a sequence, to send on the slot's working channel */
 #define COAST_ACTION_DIAL 5            /* payload: the digits 0 to 9 to dial, one a byte; when done: coast_dialling_ended */
-#define COAST_ACTION_RELEASE_LINE 6
-#define COAST_ACTION_CHARGE 7 /* payload: ship, start and stop in tenths, seconds; four bytes each, low byte first */
+#define COAST_ACTION_RELEASE_LINE 6    /* the line that was dialled for the slot, or the caller's that was joined to it */
+#define COAST_ACTION_CHARGE 7          /* payload: ship, start and stop in tenths, seconds; four bytes each, low byte first */
+#define COAST_ACTION_RINGING_ON 8      /* to the caller ashore: ringing tone, until .. */
+#define COAST_ACTION_RINGING_OFF 9     /* .. this */
+#define COAST_ACTION_BUSY_TONE 10      /* to the caller ashore: busy tone, for five seconds that the exchange counts */
 
 /* What the entries below return is one number: coast_answer, coast_count, coast_waits, coast_due and coast_time take it apart.
  *
@@ -231,6 +237,26 @@ uint64_t coast_dialling_ended(uint8_t *station, size_t size, uint32_t time, uint
 /* Ashore the handset of a slot's line is lifted, or put down. Answers 0, 1; or 29, 30, 31, 32, 33, 34. */
 uint64_t coast_off_hook(uint8_t *station, size_t size, uint32_t time, uint32_t slot, uint8_t *room, size_t room_size);
 uint64_t coast_on_hook(uint8_t *station, size_t size, uint32_t time, uint32_t slot, uint8_t *room, size_t room_size);
+
+/* Somebody ashore calls a ship, in the mode 100 (simplex) or 101 (duplex), which holds for the call. The `count` bytes at
+ * `digits` are the caller's own number, 1 to 16 digits 0 to 9. The lowest free slot is taken: its carrier comes on, and the ship
+ * is called on channel 70, once more after 5 s. The first action tells which slot it is. The host joins the caller's line to it,
+ * and hands in there what the line does, until action 6 releases it; not after that, when the slot may be another's. What comes
+ * of the call:
+ *   - The ship's first BQ with 100 or 101 that names the slot's channel: it rings (8), for a minute at most.
+ *   - The first carrier up while it rings is the ship's transmission, whoever sent it: the ringing ends (9), and the call is
+ *     answered. It is charged from here on, and ends as any other does. The charge names the ship alone: whose line it was, the
+ *     host knows by the slot.
+ *   - No BQ within 5 s of the second sending, no carrier within the minute, or the ship's BQ with 104, ringing or not: the call
+ *     is dropped. The ringing ends if it rings (9), then carrier off (2), busy tone (10), release (6). The slot is freed at once:
+ *     the tone's five seconds are the exchange's, which keeps the caller for so long and then clears the line.
+ *   - The caller's on-hook before the answer: dropped, without the tone.
+ * Before the answer every request from that ship is ignored, and on the slot all that is heard, a carrier that goes, one that
+ * comes before it rings, and the end of dialling; off-hook also after it, since the caller's handset is off already.
+ * Refused, no slot is taken and no action given: the host turns the caller away, with 37 and 38 by a busy tone of its own.
+ * Answers 0; or 29, 30, 31, 32, 33, 15 where that is no ship, 17 where it is another mode, 19, 38, 37. */
+uint64_t coast_call_from_ashore(uint8_t *station, size_t size, uint32_t time, uint32_t ship, uint32_t mode, const uint8_t *digits,
+    size_t count, uint8_t *room, size_t room_size);
 
 /* The operator takes a free slot, or gives a taken one back. Answers 0; or 29, 30, 31, 32, 33, 34, 35. */
 uint64_t coast_take(uint8_t *station, size_t size, uint32_t time, uint32_t slot, uint8_t *room, size_t room_size);

@@ -36,7 +36,7 @@ static inline const uint8_t *coast_payload(const uint8_t *action) {
     return action + COAST_AT_ACTION_PAYLOAD;
 }
 
-/* Of a charge: the ship that pays, when the call was answered and when it stopped, in tenths, and the seconds charged. */
+/* Of a charge: the call's ship, when the call was answered and when it stopped, in tenths, and the seconds charged. */
 static inline uint32_t coast_charge_ship(const uint8_t *action) {
     return coast_number_at(coast_payload(action));
 }
@@ -76,11 +76,11 @@ static inline const char *coast_answer_words(uint32_t answer) {
     case COAST_ANSWER_BAD_SYMBOL: return "a symbol over 127";
     case COAST_ANSWER_BAD_CHECK: return "the check differs";
     case COAST_ANSWER_BAD_FORMAT: return "not the format of a call";
-    case COAST_ANSWER_BAD_IDENTITIES: return "not one ship and one coast station";
+    case COAST_ANSWER_BAD_IDENTITIES: return "not one ship and one coast station, or no ship";
     case COAST_ANSWER_BAD_CATEGORY: return "not the category of a call";
-    case COAST_ANSWER_BAD_TELECOMMANDS: return "telecommands that do not go together";
+    case COAST_ANSWER_BAD_TELECOMMANDS: return "telecommands that do not go together, or no mode";
     case COAST_ANSWER_BAD_CHANNEL_FIELD: return "a channel field that does not go with the telecommand";
-    case COAST_ANSWER_BAD_NUMBER: return "no number to dial";
+    case COAST_ANSWER_BAD_NUMBER: return "not a number of 1 to 16 digits";
     case COAST_ANSWER_BAD_END: return "no end of sequence";
     case COAST_ANSWER_ROOM_SHORT: return "too little room for a sequence";
     case COAST_ANSWER_MEANING_SHORT: return "too few bytes for a meaning";
@@ -93,6 +93,8 @@ static inline const char *coast_answer_words(uint32_t answer) {
     case COAST_ANSWER_NO_SLOT: return "no such slot";
     case COAST_ANSWER_OPERATOR: return "a slot that is not free to take, or not taken";
     case COAST_ANSWER_BAD_SET_UP: return "not a coast station with 1 to 16 working channels";
+    case COAST_ANSWER_NO_FREE_SLOT: return "no slot is free";
+    case COAST_ANSWER_SHIP_ENGAGED: return "the ship has a slot already, or waits for one";
     default: return "no answer of the library";
     }
 }
@@ -106,6 +108,9 @@ static inline const char *coast_action_words(uint32_t kind) {
     case COAST_ACTION_DIAL: return "dial";
     case COAST_ACTION_RELEASE_LINE: return "release the line";
     case COAST_ACTION_CHARGE: return "charge";
+    case COAST_ACTION_RINGING_ON: return "ringing on";
+    case COAST_ACTION_RINGING_OFF: return "ringing off";
+    case COAST_ACTION_BUSY_TONE: return "five seconds of busy tone";
     default: return "no action of the library";
     }
 }

@@ -1,7 +1,7 @@
 /* Which entry a letter stands for, what it takes, and its call. */
 #include "entries.h"
 
-enum kind { setting_up, asking, alone, on_slot, by_hand, with_symbols, on_slot_with_symbols, no_entry };
+enum kind { setting_up, asking, alone, on_slot, by_hand, with_symbols, on_slot_with_symbols, to_ship, no_entry };
 
 static enum kind kind_of(char letter) {
     switch (letter) {
@@ -32,6 +32,10 @@ bool takes_symbols(char letter) {
     return kind_of(letter) == with_symbols || kind_of(letter) == on_slot_with_symbols;
 }
 
+bool takes_ship(char letter) {
+    return kind_of(letter) == to_ship;
+}
+
 #define STATION lent->station, lent->size
 #define SYMBOLS handed->symbols, handed->count
 #define ROOM lent->room, lent->room_size
@@ -42,6 +46,7 @@ bool takes_symbols(char letter) {
 #define CALL_by_hand(entry) CALL_on_slot(entry)
 #define CALL_with_symbols(entry) entry(STATION, handed->time, SYMBOLS, ROOM)
 #define CALL_on_slot_with_symbols(entry) entry(STATION, handed->time, handed->slot, SYMBOLS, ROOM)
+#define CALL_to_ship(entry) entry(STATION, handed->time, handed->ship, handed->mode, SYMBOLS, ROOM)
 
 uint64_t call_entry(const struct entries *to, char letter, const struct handed *handed, const struct lent_bytes *lent) {
     switch (letter) {

@@ -7,6 +7,7 @@ use Rattle.coast.proofs.setting.coast_set_up.Reads as coast-set-up
 use Rattle.coast.proofs.setting.coast_next_due.Reads as coast-next-due
 use Rattle.coast.proofs.setting.coast_clock.Reads as coast-clock
 use Rattle.coast.proofs.events.coast_tick.Reads as coast-tick
+use Rattle.coast.proofs.shore_calls.coast_call_from_ashore.Reads as coast-call-from-ashore
 use Rattle.coast.proofs.events.coast_heard_on_channel_70.Reads as coast-heard-on-channel-70
 use Rattle.coast.proofs.events.coast_heard_on_slot.Reads as coast-heard-on-slot
 use Rattle.coast.proofs.events.coast_carrier_up.Reads as coast-carrier-up
@@ -76,3 +77,7 @@ coast-take-settled κs a r r' s s' p q = (p .0 ∙ sym (q .0), p .1 .0 ∙ sym (
 pub coast-give-back-settled : (κs : Lfts 2) (a : _) (r r' : _) (s s' : _)
     → coast-give-back.Post κs a r s → coast-give-back.Post κs a r' s' → (r ≡ r') × (s .0 .now ≡ s' .0 .now) × (s .1 .1 .1 .0 .now ≡ s' .1 .1 .1 .0 .now)
 coast-give-back-settled κs a r r' s s' p q = (p .0 ∙ sym (q .0), p .1 .0 ∙ sym (q .1 .0), p .1 .1 ∙ sym (q .1 .1))
+
+pub coast-call-from-ashore-settled : (κs : Lfts 3) (a : _) (r r' : _) (s s' : _)
+    → coast-call-from-ashore.Post κs a r s → coast-call-from-ashore.Post κs a r' s' → (r ≡ r') × (s .0 .now ≡ s' .0 .now) × (s .1 .1 .1 .1 .1 .0 .now ≡ s' .1 .1 .1 .1 .1 .0 .now)
+coast-call-from-ashore-settled κs a r r' s s' p q = (p .0 ∙ sym (q .0), p .1 .0 ∙ sym (q .1 .0), p .1 .1 ∙ sym (q .1 .1))

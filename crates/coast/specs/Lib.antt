@@ -1,3 +1,4 @@
 pub mod Sequences
 pub mod Events
+pub mod Digits
 pub mod Statement

@@ -2,3 +2,4 @@
 pub mod events;
 pub mod sequences;
 pub mod setting;
+pub mod shore_calls;

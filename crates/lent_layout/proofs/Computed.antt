@@ -55,7 +55,7 @@ pub station-size-computed : stationSize ≡ 1723
 unfolding stationSize headFields slotFields waitingFields requestFields
 station-size-computed = refl
 
-pub layout-version-computed : layoutVersion ≡ 2
+pub layout-version-computed : layoutVersion ≡ 3
 unfolding layoutVersion
 layout-version-computed = refl
 

@@ -42,7 +42,7 @@ stationFields = headFields ++ (repeated mostSlots slotFields ++ repeated queueRo
 
 -- moves whenever a field does, or what a number in one stands for
 unfoldable pub layoutVersion : ℕ
-layoutVersion = 2
+layoutVersion = 3
 
 -- ── sizes and places ─────────────────────────────────────────────────────────
 

@@ -39,7 +39,7 @@ use station::Station;
 use units::Tenths;
 
 // Moves whenever a field does, or what a number in one stands for; it stands in front.
-const LAYOUT_VERSION: u8 = 2;
+const LAYOUT_VERSION: u8 = 3;
 
 // Where each field stands: behind the one before it, from the version on.
 const CLOCK: usize = 1;
