@@ -165,6 +165,18 @@ pub(crate) fn agreed(due: Tenths) -> Station {
     in_phase(Phase::Acknowledged(due))
 }
 
+pub(crate) fn called(due: Tenths) -> Station {
+    in_phase(Phase::Called(due))
+}
+
+pub(crate) fn called_again(due: Tenths) -> Station {
+    in_phase(Phase::CalledAgain(due))
+}
+
+pub(crate) fn ringing(due: Tenths) -> Station {
+    in_phase(Phase::Ringing(due))
+}
+
 pub(crate) fn dialling(due: Tenths) -> Station {
     in_phase(Phase::Dialling(due, Carrier::Present))
 }

@@ -4,6 +4,8 @@ use crate::rooms::judged;
 use crate::stations::agreed;
 use crate::stations::at_clock;
 use crate::stations::busy;
+use crate::stations::called;
+use crate::stations::called_again;
 use crate::stations::dialled_out;
 use crate::stations::dialling;
 use crate::stations::held;
@@ -12,6 +14,7 @@ use crate::stations::no_number;
 use crate::stations::number_of;
 use crate::stations::offered;
 use crate::stations::on_channel;
+use crate::stations::ringing;
 use crate::stations::rung;
 use crate::stations::rung_again;
 use crate::stations::silent;
@@ -90,6 +93,20 @@ fn try_times() {
     unsound(b"29 an offer due 162 later", offered_to(1162));
 }
 
+fn try_calls_from_ashore() {
+    sound(
+        b"a call from ashore due 51 later is sound",
+        called(Tenths(1051)),
+    );
+    unsound(b"29 a call from ashore due 52 later", called(Tenths(1052)));
+    unsound(
+        b"29 a second call from ashore due 52 later",
+        called_again(Tenths(1052)),
+    );
+    sound(b"ringing due 601 later is sound", ringing(Tenths(1601)));
+    unsound(b"29 ringing due 602 later", ringing(Tenths(1602)));
+}
+
 fn queued_to(due: u32) -> Station {
     with_waiting(200056790, Tenths(due))
 }
@@ -121,4 +138,5 @@ pub(crate) fn try_soundness() {
     try_stored();
     try_times();
     try_waits();
+    try_calls_from_ashore();
 }

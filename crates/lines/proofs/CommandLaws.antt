@@ -13,7 +13,7 @@ use Rattle.rules.specs.Rules.Places.{all, isSome}
 use Rattle.sequence.proofs.Rest.{rest}
 use Rattle.lines.specs.declared.Form.{Form}
 use Rattle.lines.specs.Lines.{Said, isSymbol}
-use Rattle.lines.specs.Readable.{saysSetUp, saysSlot, saysSymbols, saysSlotSymbols, saysTime}
+use Rattle.lines.specs.Readable.{saysSetUp, saysSlot, saysSymbols, saysSlotSymbols, saysCall, saysTime}
 
 module _ (s : List ℕ) (i : ℕ) (h : i < length s) where
   pub symbol-here : getD s i 0 ≤ 255 → all isSymbol (drop (i + 1) s) ≡ all isSymbol (drop i s)
@@ -47,6 +47,12 @@ slot-fits f [] = refl
 slot-fits f (t ∷ []) = refl
 slot-fits f (t ∷ i ∷ []) = refl
 slot-fits f (t ∷ i ∷ x ∷ ns) = sym (ne-eqb (length (t ∷ i ∷ x ∷ ns)) 2 (λ e. omega arith))
+
+pub call-fits : (f : Form) (ns : List ℕ) → isSome (saysCall f ns) ≡ leb 3 (length ns)
+call-fits f [] = refl
+call-fits f (t ∷ []) = refl
+call-fits f (t ∷ x ∷ []) = refl
+call-fits f (t ∷ x ∷ m ∷ ns) = sym (at-least 3 (t ∷ x ∷ m ∷ ns) (omega arith))
 
 pub time-fits : (f : Form) (ns : List ℕ) → isSome (saysTime f ns) ≡ eqb (length ns) 1
 time-fits f [] = refl

@@ -9,12 +9,12 @@ use native.Mathlib.Omega.{arith}
 use lib.Dec.{eqb}
 use borrow.Author.Tests.{eqb-true, le-leb, leb-true}
 use Rattle.rules.specs.Rules.Places.{all}
-use Rattle.rules.specs.Rules.Words.{lineDialledOut, lineLifted, lineHung, carrierHeard, carrierLost, handTakes, handGives, heard, signal, operator, What, tick, onChannel70, onSlot}
+use Rattle.rules.specs.Rules.Words.{lineDialledOut, lineLifted, lineHung, carrierHeard, carrierLost, handTakes, handGives, heard, signal, operator, What, tick, onChannel70, onSlot, fromAshore}
 use Rattle.sequence.proofs.Tests.{Either, yes!, no!, which, both-true}
 use Rattle.slots.specs.declared.Signal.the-variants.{LineDialledOut, LineLifted, LineHung, CarrierHeard, CarrierLost}
 use Rattle.slots.specs.declared.Hand.the-variants.{Takes, GivesBack}
 use Rattle.lines.specs.declared.Form.{Form}
-use Rattle.lines.specs.declared.Form.the-variants.{Symbols, SlotSymbols, Signalled, Operated, Alone}
+use Rattle.lines.specs.declared.Form.the-variants.{Symbols, SlotSymbols, Signalled, Operated, Called, Alone}
 use Rattle.lines.specs.declared.Command.{Command}
 use Rattle.lines.specs.declared.Command.the-variants.{Unreadable, SetUp, Happens}
 use Rattle.lines.specs.Lines.{Said, setsUp, happens, whatLetter, setUpLetter, letterOf, formWhat, formLetter, forms, commandAmong, commandOf, symbolsIn, whatNumbers, numbersOf, setUpSaid, isSymbol, isNumber, whatInRange, inRange}
@@ -37,6 +37,7 @@ names-form (Signalled CarrierHeard) slot symbols = refl
 names-form (Signalled CarrierLost) slot symbols = refl
 names-form (Operated Takes) slot symbols = refl
 names-form (Operated GivesBack) slot symbols = refl
+names-form Called slot symbols = refl
 names-form Alone slot symbols = refl
 
 -- and whatever happens some form says: so what holds of every form holds of all that happens
@@ -51,6 +52,7 @@ by-form P h (onSlot i (signal carrierHeard)) = h (Signalled CarrierHeard) i []
 by-form P h (onSlot i (signal carrierLost)) = h (Signalled CarrierLost) i []
 by-form P h (onSlot i (operator handTakes)) = h (Operated Takes) i []
 by-form P h (onSlot i (operator handGives)) = h (Operated GivesBack) i []
+by-form P h (fromAshore a) = h Called (a .ship) (a .mode ∷ a .digits)
 
 -- ── of the command that its letter names, with its numbers ───────────────────
 
@@ -76,6 +78,7 @@ same-letter Symbols slot symbols = refl
 same-letter SlotSymbols slot symbols = refl
 same-letter (Signalled g) slot symbols = refl
 same-letter (Operated h) slot symbols = refl
+same-letter Called slot symbols = refl
 same-letter Alone slot symbols = refl
 
 form-said-by : (f : Form) (time slot : ℕ) (symbols ns : List ℕ) → numbersOf (happens time (formWhat f slot symbols)) ≡ ns
@@ -100,6 +103,10 @@ said-by (Happens SlotSymbols) (time ∷ []) said e = absurd (no-some e)
 said-by (Happens SlotSymbols) (time ∷ slot ∷ symbols) said e = of-symbols (all isSymbol symbols) (form-said-by SlotSymbols time slot symbols (time ∷ slot ∷ symbols) refl) e
 said-by (Happens (Signalled g)) ns said e = slot-said-by (Signalled g) ns said (λ slot. refl) e
 said-by (Happens (Operated h)) ns said e = slot-said-by (Operated h) ns said (λ slot. refl) e
+said-by (Happens Called) [] said e = absurd (no-some e)
+said-by (Happens Called) (time ∷ []) said e = absurd (no-some e)
+said-by (Happens Called) (time ∷ ship ∷ []) said e = absurd (no-some e)
+said-by (Happens Called) (time ∷ ship ∷ mode ∷ digits) said e = the-same (form-said-by Called time ship (mode ∷ digits) (time ∷ ship ∷ mode ∷ digits) refl) e
 said-by (Happens Alone) [] said e = absurd (no-some e)
 said-by (Happens Alone) (time ∷ []) said e = the-same (form-said-by Alone time 0 [] (time ∷ []) refl) e
 said-by (Happens Alone) (time ∷ more ∷ rest) said e = absurd (no-some e)
@@ -143,6 +150,7 @@ form-said time SlotSymbols slot symbols e =
     rw (both-true (isNumber slot) (all isSymbol symbols) (h .1) .1)
 form-said time (Signalled g) slot symbols e = refl
 form-said time (Operated h) slot symbols e = refl
+form-said time Called slot symbols e = refl
 form-said time Alone slot symbols e = refl
 
 pub said-of : (said : Said) → inRange said ≡ true → says (commandOf (letterOf said)) (numbersOf said) ≡ some said
@@ -172,6 +180,7 @@ numbers-are (happens time (onSlot i h)) e =
     let k = both-true (isNumber time) (isNumber i && all isSymbol (symbolsIn h)) e in
     let l = both-true (isNumber i) (all isSymbol (symbolsIn h)) (k .1) in
     rw (k .0, l .0) (symbols-are (symbolsIn h) (l .1))
+numbers-are (happens time (fromAshore a)) e = e
 
 -- ── and what is said of numbers is in range ──────────────────────────────────
 
@@ -206,6 +215,10 @@ in-range (Happens SlotSymbols) (time ∷ slot ∷ symbols) said n e =
     rw (← h .1, k .0, l .0) (h .0)
 in-range (Happens (Signalled g)) ns said n e = slot-in (Signalled g) ns said (λ slot. refl) n e
 in-range (Happens (Operated h)) ns said n e = slot-in (Operated h) ns said (λ slot. refl) n e
+in-range (Happens Called) [] said n e = absurd (no-some e)
+in-range (Happens Called) (time ∷ []) said n e = absurd (no-some e)
+in-range (Happens Called) (time ∷ ship ∷ []) said n e = absurd (no-some e)
+in-range (Happens Called) (time ∷ ship ∷ mode ∷ digits) said n e = let q : happens time (formWhat Called ship (mode ∷ digits)) ≡ said = cc in rw (← q) n
 in-range (Happens Alone) [] said n e = absurd (no-some e)
 in-range (Happens Alone) (time ∷ []) said n e = let q : happens time (formWhat Alone 0 []) ≡ said = cc in rw (← q) n
 in-range (Happens Alone) (time ∷ more ∷ rest) said n e = absurd (no-some e)

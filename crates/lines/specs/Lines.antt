@@ -1,18 +1,20 @@
 -- The lines of an event: "S identity channels; Q time symbols; W time slot symbols; then time and slot: U up, D down, O off-hook,
--- H on-hook, M take, F give back; T time"; of document 02, no. 1: "letter P, time and slot".
+-- H on-hook, M take, F give back; T time"; of document 02, no. 1: "letter P, time and slot", no. 2: "letter C: time, ship, mode, the
+-- caller's digits one by one".
 use mathlib.Core.Bool.{Bool, true, cond, _&&_}
 use mathlib.Core.List.{List, [], _∷_, _++_, map}
 use mathlib.Core.Path.{_≡_}
 use Prim.Native.Nat.{ℕ}
 use lib.Dec.{leb, eqb}
+use lib.ListN.{getD, drop}
 use Rattle.rules.specs.Rules.Places.{all}
-use Rattle.rules.specs.Rules.Words.{Happened, heard, signal, operator, What, tick, onChannel70, onSlot}
+use Rattle.rules.specs.Rules.Words.{Happened, heard, signal, operator, What, tick, onChannel70, onSlot, fromAshore}
 use Rattle.rules.specs.Rules.Words.{lineDialledOut, lineLifted, lineHung, carrierHeard, carrierLost, handTakes, handGives}
 use Rattle.slots.specs.declared.Signal.the-variants.{LineDialledOut, LineLifted, LineHung, CarrierHeard, CarrierLost}
 use Rattle.slots.specs.declared.Hand.the-variants.{Takes, GivesBack}
 use Rattle.slots.specs.Views.{signalView, handView}
 use Rattle.lines.specs.declared.Form.{Form}
-use Rattle.lines.specs.declared.Form.the-variants.{Symbols, SlotSymbols, Signalled, Operated, Alone}
+use Rattle.lines.specs.declared.Form.the-variants.{Symbols, SlotSymbols, Signalled, Operated, Called, Alone}
 use Rattle.lines.specs.declared.Command.{Command}
 use Rattle.lines.specs.declared.Command.the-variants.{Unreadable, SetUp, Happens}
 use Rattle.lines.specs.Decimal.{isDecimal, valueOf}
@@ -43,6 +45,7 @@ abbrev pub whatLetter : What → ℕ
 whatLetter tick = 84
 whatLetter (onChannel70 symbols) = 81
 whatLetter (onSlot i h) = slotLetter h
+whatLetter (fromAshore a) = 67
 
 abbrev pub setUpLetter : ℕ
 setUpLetter = 83
@@ -53,12 +56,13 @@ letterOf (happens time what) = whatLetter what
 
 -- ── the command that a letter names ──────────────────────────────────────────
 
--- what happens by a line of a form, with the slot and the symbols that it has
+-- what happens by a line of a form, with the slot and the symbols that it has; of a call the ship, and the mode with the digits behind it
 abbrev pub formWhat : Form → ℕ → List ℕ → What
 formWhat Symbols slot symbols = onChannel70 symbols
 formWhat SlotSymbols slot symbols = onSlot slot (heard symbols)
 formWhat (Signalled g) slot symbols = onSlot slot (signal (signalView g))
 formWhat (Operated h) slot symbols = onSlot slot (operator (handView h))
+formWhat Called ship numbers = fromAshore (record { ship = ship; mode = getD numbers 0 0; digits = drop 1 numbers })
 formWhat Alone slot symbols = tick
 
 abbrev pub formLetter : Form → ℕ
@@ -69,7 +73,7 @@ forms =
     Symbols ∷ SlotSymbols
     ∷ Signalled CarrierHeard ∷ Signalled CarrierLost ∷ Signalled LineDialledOut ∷ Signalled LineLifted ∷ Signalled LineHung
     ∷ Operated Takes ∷ Operated GivesBack
-    ∷ Alone ∷ []
+    ∷ Called ∷ Alone ∷ []
 
 abbrev pub commandAmong : ℕ → List Form → Command
 commandAmong letter [] = Unreadable
@@ -90,6 +94,7 @@ abbrev pub whatNumbers : What → List ℕ
 whatNumbers tick = []
 whatNumbers (onChannel70 symbols) = symbols
 whatNumbers (onSlot i h) = i ∷ symbolsIn h
+whatNumbers (fromAshore a) = a .ship ∷ a .mode ∷ a .digits
 
 abbrev pub numbersOf : Said → List ℕ
 numbersOf (setsUp a) = a .identity ∷ a .channels
@@ -124,6 +129,7 @@ abbrev pub whatInRange : What → Bool
 whatInRange tick = true
 whatInRange (onChannel70 symbols) = all isSymbol symbols
 whatInRange (onSlot i h) = isNumber i && all isSymbol (symbolsIn h)
+whatInRange (fromAshore a) = all isNumber (whatNumbers (fromAshore a))
 
 unfoldable pub inRange : Said → Bool
 inRange (setsUp a) = all isNumber (numbersOf (setsUp a))

@@ -8,7 +8,7 @@ use lib.ListN.{length}
 use Rattle.rules.specs.Rules.Places.{all}
 use Rattle.rules.specs.Rules.Bytes.{padded}
 use Rattle.lines.specs.declared.Form.{Form}
-use Rattle.lines.specs.declared.Form.the-variants.{Symbols, SlotSymbols, Signalled, Operated, Alone}
+use Rattle.lines.specs.declared.Form.the-variants.{Symbols, SlotSymbols, Signalled, Operated, Called, Alone}
 use Rattle.lines.specs.declared.Command.{Command}
 use Rattle.lines.specs.declared.Command.the-variants.{Unreadable, SetUp, Happens}
 use Rattle.lines.specs.declared.Line.{Line}
@@ -48,7 +48,7 @@ saysSetUp (n ∷ channels) = some (setUpSaid n channels)
 abbrev pub ofSymbols : List ℕ → Said → Option Said
 ofSymbols symbols said = cond (all isSymbol symbols) (some said) none
 
--- a time with symbols, with a slot and symbols, with a slot, and by itself
+-- a time with symbols, with a slot and symbols, with a slot, with a ship, mode and digits, and by itself
 abbrev pub saysSymbols : Form → List ℕ → Option Said
 saysSymbols f [] = none
 saysSymbols f (time ∷ symbols) = ofSymbols symbols (happens time (formWhat f 0 symbols))
@@ -64,6 +64,12 @@ saysSlot f (time ∷ []) = none
 saysSlot f (time ∷ slot ∷ []) = some (happens time (formWhat f slot []))
 saysSlot f (time ∷ slot ∷ more ∷ rest) = none
 
+abbrev pub saysCall : Form → List ℕ → Option Said
+saysCall f [] = none
+saysCall f (time ∷ []) = none
+saysCall f (time ∷ ship ∷ []) = none
+saysCall f (time ∷ ship ∷ mode ∷ digits) = some (happens time (formWhat f ship (mode ∷ digits)))
+
 abbrev pub saysTime : Form → List ℕ → Option Said
 saysTime f [] = none
 saysTime f (time ∷ []) = some (happens time (formWhat f 0 []))
@@ -74,6 +80,7 @@ saysForm Symbols ns = saysSymbols Symbols ns
 saysForm SlotSymbols ns = saysSlotSymbols SlotSymbols ns
 saysForm (Signalled g) ns = saysSlot (Signalled g) ns
 saysForm (Operated h) ns = saysSlot (Operated h) ns
+saysForm Called ns = saysCall Called ns
 saysForm Alone ns = saysTime Alone ns
 
 abbrev pub says : Command → List ℕ → Option Said

@@ -14,40 +14,21 @@ use slots::Signal;
 pub(crate) fn command_of(letter: u8) -> Command
     ensures { λ r. ⌜ r ≡ commandOf letter ⌝ }
 {
-    if letter == b'S' {
-        return Command::SetUp;
+    match letter {
+        b'S' => Command::SetUp,
+        b'Q' => Command::Happens(Form::Symbols),
+        b'W' => Command::Happens(Form::SlotSymbols),
+        b'U' => Command::Happens(Form::Signalled(Signal::CarrierHeard)),
+        b'D' => Command::Happens(Form::Signalled(Signal::CarrierLost)),
+        b'P' => Command::Happens(Form::Signalled(Signal::LineDialledOut)),
+        b'O' => Command::Happens(Form::Signalled(Signal::LineLifted)),
+        b'H' => Command::Happens(Form::Signalled(Signal::LineHung)),
+        b'M' => Command::Happens(Form::Operated(Hand::Takes)),
+        b'F' => Command::Happens(Form::Operated(Hand::GivesBack)),
+        b'C' => Command::Happens(Form::Called),
+        b'T' => Command::Happens(Form::Alone),
+        _ => Command::Unreadable,
     }
-    if letter == b'Q' {
-        return Command::Happens(Form::Symbols);
-    }
-    if letter == b'W' {
-        return Command::Happens(Form::SlotSymbols);
-    }
-    if letter == b'U' {
-        return Command::Happens(Form::Signalled(Signal::CarrierHeard));
-    }
-    if letter == b'D' {
-        return Command::Happens(Form::Signalled(Signal::CarrierLost));
-    }
-    if letter == b'P' {
-        return Command::Happens(Form::Signalled(Signal::LineDialledOut));
-    }
-    if letter == b'O' {
-        return Command::Happens(Form::Signalled(Signal::LineLifted));
-    }
-    if letter == b'H' {
-        return Command::Happens(Form::Signalled(Signal::LineHung));
-    }
-    if letter == b'M' {
-        return Command::Happens(Form::Operated(Hand::Takes));
-    }
-    if letter == b'F' {
-        return Command::Happens(Form::Operated(Hand::GivesBack));
-    }
-    if letter == b'T' {
-        return Command::Happens(Form::Alone);
-    }
-    Command::Unreadable
 }
 
 fn are_symbols(numbers: &[u32]) -> bool
@@ -82,6 +63,7 @@ fn form_fits(form: Form, numbers: &[u32]) -> bool
         Form::SlotSymbols => then_symbols(numbers, 2),
         Form::Signalled(_) => count == 2,
         Form::Operated(_) => count == 2,
+        Form::Called => 3 <= count,
         Form::Alone => count == 1,
     }
 }

@@ -23,12 +23,13 @@ pub enum Command {
     Happens(Form),
 }
 
-// What happens at its time, by the fields behind that: symbols, a slot with symbols, a slot alone, or nothing more.
+// What happens at its time, by the fields behind that: symbols, a slot with symbols, a slot, a ship with mode and digits, or nothing.
 pub enum Form {
     Symbols,
     SlotSymbols,
     Signalled(Signal),
     Operated(Hand),
+    Called,
     Alone,
 }
 

@@ -15,7 +15,7 @@ use Rattle.rules.specs.Rules.Places.{all}
 use Rattle.rules.specs.Rules.Bytes.{padded}
 use Rattle.requests.proofs.ArrayLaws.{padded-front}
 use Rattle.lines.specs.declared.Form.{Form}
-use Rattle.lines.specs.declared.Form.the-variants.{Symbols, SlotSymbols, Signalled, Operated, Alone}
+use Rattle.lines.specs.declared.Form.the-variants.{Symbols, SlotSymbols, Signalled, Operated, Called, Alone}
 use Rattle.lines.specs.Lines.{Said, setsUp, happens, formWhat, commandOf, numbersOf, setUpSaid, isSymbol, isNumber, inRange}
 use Rattle.lines.specs.Readable.{lineImage}
 use Rattle.lines.proofs.SaidLaws.{names-form, by-form}
@@ -41,6 +41,13 @@ behind-second x y l h =
     let e : min 2 (suc (suc (length l))) ≡ 2 = omega arith in
     let f : suc (suc (length l)) - 2 ≡ length l = omega arith in
     rw (e, f) (padded-front 0 98 l (omega arith))
+
+behind-third : (x y z : ℕ) (l : List ℕ) → length l ≤ 96 → part 3 (length (x ∷ y ∷ z ∷ l)) (padded 0 100 (x ∷ y ∷ z ∷ l)) ≡ l
+unfolding padded
+behind-third x y z l h =
+    let e : min 3 (suc (suc (suc (length l)))) ≡ 3 = omega arith in
+    let f : suc (suc (suc (length l))) - 3 ≡ length l = omega arith in
+    rw (e, f) (padded-front 0 97 l (omega arith))
 
 -- ── symbols as bytes ─────────────────────────────────────────────────────────
 
@@ -84,6 +91,8 @@ module _ (time : ℕ) where
       ap (formWhat SlotSymbols slot) (symbols-second time slot symbols (omega arith) s)
   what-back (Signalled g) slot symbols h e = refl
   what-back (Operated o) slot symbols h e = refl
+  what-back Called ship numbers h e =
+      ap (λ l. formWhat Called ship (getD numbers 0 0 ∷ l)) (behind-third time ship (getD numbers 0 0) (drop 1 numbers) (omega arith))
   what-back Alone slot symbols h e = refl
 
   form-back : (f : Form) (slot : ℕ) (symbols : List ℕ) → length (numbersOf (happens time (formWhat f slot symbols))) ≤ 99

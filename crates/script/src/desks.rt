@@ -3,7 +3,7 @@ ghost use mathlib.Core.Bool.{false};
 ghost use mathlib.Core.Path.{_≡_};
 ghost use mathlib.Core.List.{map};
 ghost use Prim.Native.Nat.{_≤_, min};
-ghost use Rattle.lines.specs.declared.Form.the-variants.{Symbols, SlotSymbols};
+ghost use Rattle.lines.specs.declared.Form.the-variants.{Symbols, SlotSymbols, Called};
 ghost use Rattle.station.specs.Step.{sixteenOf, steppedBy, roomAfter, setUpOf};
 ghost use Rattle.script.specs.Answering.{desk, unchanged, afterSetUp, handledFor, blocksFor, clockOf, dueOf};
 ghost use Rattle.script.specs.Lining.{byteOf, lineEvent, lineAsks, lineSaid};
@@ -71,6 +71,24 @@ fn with_slot_symbols(station: Station, line: Line, room: &mut [u8]) -> Stepped
     )
 }
 
+// A time, a ship, a mode and digits.
+fn with_digits(station: Station, line: Line, room: &mut [u8]) -> Stepped
+    requires { ⌜ line .count ≤ 99 ⌝ }
+    ensures { λ r. ⌜ r ≡ steppedBy station (lineEvent Called line (now (room .entry))) ⌝ }
+    ensures { λ _. ⌜ now (room .exit) ≡ roomAfter station (now (room .entry)) (lineEvent Called line (now (room .entry))) ⌝ }
+{
+    let numbers = line.numbers;
+    let count = line.count;
+    let from = least_length(3, count);
+    station.call_from_ashore(
+        Tenths(numbers[0]),
+        numbers[1],
+        numbers[2],
+        &numbers[from..count],
+        room,
+    )
+}
+
 fn happening(station: Station, form: Form, line: Line, room: &mut [u8]) -> Stepped
     requires { ⌜ line .count ≤ 99 ⌝ }
     ensures { λ r. ⌜ r ≡ steppedBy station (lineEvent form line (now (room .entry))) ⌝ }
@@ -84,6 +102,7 @@ fn happening(station: Station, form: Form, line: Line, room: &mut [u8]) -> Stepp
         Form::SlotSymbols => with_slot_symbols(station, line, room),
         Form::Signalled(signal) => station.plainly(Plain::Signal(signal), time, slot, room),
         Form::Operated(hand) => station.plainly(Plain::Hand(hand), time, slot, room),
+        Form::Called => with_digits(station, line, room),
         Form::Alone => station.tick(time, room),
     }
 }
