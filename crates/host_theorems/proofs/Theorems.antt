@@ -3,35 +3,41 @@ use Prim.Native.Nat.{ℕ, _/_, _%_}
 use mathlib.Core.Path.{_≡_, refl, sym, ap, _∙_}
 use mathlib.Core.Bool.{Bool, true, false, cond}
 use mathlib.Core.List.{List, [], _∷_}
-use mathlib.Core.Option.{none}
+use mathlib.Core.Option.{Option, none, some}
 use native.Mathlib.Omega.{arith}
 use lib.Dec.{leb}
 use Rattle.sequence.proofs.Tests.{Either, yes!, no!, which}
 use Rattle.rules.specs.Rules.Places.{Each}
 use Rattle.rules.specs.Rules.Words.{Config, Event}
 use Rattle.rules.specs.Rules.Sound.{configKeeps}
-use Rattle.rules.specs.Statement.{notes, WordsAgree, EveryEntry}
+use Rattle.rules.specs.Statement.{notes, WordsAgree, EveryEntry, RingsBy}
 use Rattle.rules.specs.ListAlone.Repeated.{Answers, RingsSame, DialsNamed, DeedByDeed}
+use Rattle.rules.specs.ListAlone.LineWords.{InTurn}
+use Rattle.rules.specs.ListAlone.BeingCalled.{OffersOthers, AsksInVain}
 use Rattle.rules.specs.Rules.Verdict.{setUpVerdict, Entry}
 use Rattle.station.specs.declared.Station.{Station}
 use Rattle.station.specs.declared.Stepped.{Stepped}
+use Rattle.station.specs.Model.{modelOf}
 use Rattle.station.specs.Step.{given, refusal, steppedBy, roomAfter, setUpOf}
 use Rattle.lent_layout.specs.Stations.{sized, stationBytes, stationFrom}
 use Rattle.lent_layout.specs.Statement.{FoundAgain}
 use Rattle.lent_layout.proofs.FoundAgain.{handed-out-is-found-again}
 use Rattle.coast.specs.Events.{roomLeft, setUpReturned, clockReturned}
-use Rattle.coast.proofs.Theorems.{left-is, set-up}
+use Rattle.coast.proofs.Theorems.{refusal-leaves-all, accepted-leaves-its-station, left-is, set-up}
 use Rattle.station_theorems.specs.Rooms.{actionsIn}
 use Rattle.station_theorems.specs.Steps.{Step, stepOf, Allowed, SetUpAs, Trace}
 use Rattle.station_theorems.specs.Steps as Rack
 use Rattle.station_theorems.specs.Statement as Said
 use Rattle.station_theorems.specs.Statement.{OfEveryTrace, Obeys, RackObeys, RackLiterally, RackAnswersRepeat, RackSecondRingRepeats, RackDialsAsked, NoneIdle, RackNoChannelIdle, isSound, RackAlwaysSound}
-use Rattle.station_theorems.proofs.Steps.{step-allowed}
+use Rattle.station_theorems.specs.Statement.{RackRingsAsTold, RackRingsInTurn, RackCalledNotOffered, RackCalledAskInVain, RackDroppedReleased}
+use Rattle.station_theorems.proofs.Steps.{step-allowed, rack-dropped-released}
 use Rattle.station_theorems.proofs.Scripted.{beginning}
 use Rattle.station_theorems.proofs.Theorems.{rack-obeys, rack-literally, rack-answers-repeat, rack-second-ring-repeats, rack-dials-asked, rack-no-channel-idle, rack-always-sound}
+use Rattle.station_theorems.proofs.Theorems.{rack-rings-as-told, rack-rings-in-turn, rack-called-not-offered, rack-called-ask-in-vain}
 use Rattle.host_theorems.specs.Calls as Host
-use Rattle.host_theorems.specs.Calls.{Call, HandsOn, lastOf, SetUpIn, HostRun}
+use Rattle.host_theorems.specs.Calls.{Call, Entered, HandsOn, lastOf, SetUpIn, HostRun}
 use Rattle.host_theorems.specs.Statement.{answerIn, entriesIn, OfEveryHost, HostObeys, HostLiterally, HostAnswersRepeat, HostSecondRingRepeats, HostDialsAsked, HostNoChannelIdle, HostAlwaysSound, HostTellsItsClock}
+use Rattle.host_theorems.specs.Statement.{HostRingsAsTold, HostRingsInTurn, HostCalledNotOffered, HostCalledAskInVain, HostDroppedReleased}
 use Rattle.host_theorems.proofs.Calls.{called, answer-is, count-is}
 
 -- ── a list of calls as a list of steps ───────────────────────────────────────
@@ -142,6 +148,22 @@ pub host-dials-asked : HostDialsAsked
 unfolding HostDialsAsked RackDialsAsked
 host-dials-asked = carried (λ c es s. EveryEntry (DeedByDeed DialsNamed) c (notes es)) rack-dials-asked
 
+pub host-rings-as-told : HostRingsAsTold
+unfolding HostRingsAsTold RackRingsAsTold
+host-rings-as-told = carried (λ c es s. RingsBy (notes es) (modelOf s)) rack-rings-as-told
+
+pub host-rings-in-turn : HostRingsInTurn
+unfolding HostRingsInTurn RackRingsInTurn
+host-rings-in-turn = carried (λ c es s. EveryEntry InTurn c (notes es)) rack-rings-in-turn
+
+pub host-called-not-offered : HostCalledNotOffered
+unfolding HostCalledNotOffered RackCalledNotOffered
+host-called-not-offered = carried (λ c es s. EveryEntry OffersOthers c (notes es)) rack-called-not-offered
+
+pub host-called-ask-in-vain : HostCalledAskInVain
+unfolding HostCalledAskInVain RackCalledAskInVain
+host-called-ask-in-vain = carried (λ c es s. EveryEntry AsksInVain c (notes es)) rack-called-ask-in-vain
+
 pub host-no-channel-idle : HostNoChannelIdle
 unfolding HostNoChannelIdle RackNoChannelIdle
 host-no-channel-idle = carried (λ c es s. NoneIdle s) rack-no-channel-idle
@@ -155,3 +177,24 @@ host-always-sound c xs t =
 pub host-tells-its-clock : HostTellsItsClock
 unfolding HostTellsItsClock HostAlwaysSound clockReturned
 host-tells-its-clock c xs t κs a r s p e = p ∙ ap (λ b. clockReturned (stationFrom b)) e ∙ (rw (host-always-sound c xs t .1))
+
+-- ── any call, on any bytes ───────────────────────────────────────────────────
+
+-- the bytes left stand for the station of its step
+kept-station : (x : Call) → Entered x → stationFrom (x .kept) ≡ steppedBy (stationFrom (x .station)) (x .event) .station
+unfolding steppedBy
+kept-station x a = go (refusal (stationFrom (x .station)) (x .event)) refl
+  where
+    go : (o : Option ℕ) → refusal (stationFrom (x .station)) (x .event) ≡ o → stationFrom (x .kept) ≡ steppedBy (stationFrom (x .station)) (x .event) .station
+    go none v = let l = accepted-leaves-its-station (x .station) (x .event) v in ap stationFrom (called x a .kept-is ∙ l .0) ∙ l .1 .1
+    go (some n) v = ap stationFrom (called x a .kept-is ∙ refusal-leaves-all (x .station) (x .lent) (x .event) n v .0) ∙ (rw v)
+
+pub host-dropped-released : HostDroppedReleased
+unfolding HostDroppedReleased RackDroppedReleased roomLeft
+host-dropped-released x a =
+    let k = called x a in
+    let s = stationFrom (x .station) in
+    let e = x .event in
+    let step = stepOf e s (x .lent) (steppedBy s e) (roomAfter s (x .lent) e) in
+    let allowed : Allowed step = rw (k .event-is) (step-allowed s (x .lent) (k .time) (k .what)) in
+    rw (kept-station x a, count-is x a, k .left-is) (rack-dropped-released step allowed)

@@ -5,8 +5,8 @@ use mathlib.Core.List.{List, [], _∷_}
 use contract.Lifetimes.{Lfts}
 use Rattle.rules.specs.Rules.Words.{Config, Happened, heard, signal, operator}
 use Rattle.rules.specs.Rules.Words.{diallingEnded, offHook, onHook, carrierUp, carrierDown, takes, givesBack}
-use Rattle.rules.specs.Rules.Words.{What, tick, onChannel70, onSlot, Event}
-use Rattle.station.specs.Step.{eventAt, slotAt, given}
+use Rattle.rules.specs.Rules.Words.{What, tick, onChannel70, onSlot, fromAshore, Event}
+use Rattle.station.specs.Step.{eventAt, slotAt, ashoreOf, given}
 use Rattle.coast.proofs.setting.coast_set_up.Reads as set-up
 use Rattle.coast.proofs.events.coast_tick.Reads as on-tick
 use Rattle.coast.proofs.events.coast_heard_on_channel_70.Reads as heard-on-channel-70
@@ -18,6 +18,7 @@ use Rattle.coast.proofs.events.coast_off_hook.Reads as off-hook
 use Rattle.coast.proofs.events.coast_on_hook.Reads as on-hook
 use Rattle.coast.proofs.events.coast_take.Reads as take-slot
 use Rattle.coast.proofs.events.coast_give_back.Reads as give-back
+use Rattle.coast.proofs.shore_calls.coast_call_from_ashore.Reads as call-from-ashore
 use Rattle.host_theorems.specs.Sequences.{InBytes}
 
 -- what was lent, what was returned, and what was left
@@ -65,8 +66,11 @@ pub data Entered : Call → Type 0 where
   by-give-back : (κs : Lfts 2) (a : _) (r : _) (s : _) → give-back.Post κs a r s → Entered (callOf
       (slotAt (a .1 .0) (a .1 .1 .0) givesBack (a .1 .1 .1 .0 .now))
       (a .0 .now) (a .1 .1 .1 .0 .now) r (s .0 .now) (s .1 .1 .1 .0 .now))
+  by-call-from-ashore : (κs : Lfts 3) (a : _) (r : _) (s : _) → call-from-ashore.Post κs a r s → Entered (callOf
+      (eventAt (a .1 .0) (ashoreOf (a .1 .1 .0) (a .1 .1 .1 .0) (a .1 .1 .1 .1 .0 .now)) (a .1 .1 .1 .1 .1 .0 .now))
+      (a .0 .now) (a .1 .1 .1 .1 .1 .0 .now) r (s .0 .now) (s .1 .1 .1 .1 .1 .0 .now))
 
--- what C's types hold of an event: a slot of 32 bits, symbols in bytes
+-- what C's types hold of an event: a slot, a ship and a mode of 32 bits, symbols and digits in bytes
 abbrev pub HappenedInC : Happened → Type 0
 HappenedInC (heard symbols) = InBytes symbols
 HappenedInC (signal g) = Unit {0}
@@ -76,6 +80,7 @@ abbrev pub WhatInC : What → Type 0
 WhatInC tick = Unit {0}
 WhatInC (onChannel70 symbols) = InBytes symbols
 WhatInC (onSlot i h) = (i < 4294967296) × HappenedInC h
+WhatInC (fromAshore a) = (a .ship < 4294967296) × ((a .mode < 4294967296) × InBytes (a .digits))
 
 -- the bytes that set-up left with the answer 0, for an identity and a channel list
 pub data SetUpIn : Config → List ℕ → Type 0 where

@@ -9,9 +9,12 @@ use contract.Lifetimes.{Lfts}
 use Rattle.rules.specs.Rules.Places.{Each}
 use Rattle.rules.specs.Rules.Words.{Config}
 use Rattle.rules.specs.Rules.Verdict.{Entry}
-use Rattle.rules.specs.Statement.{notes, WordsAgree, EveryEntry}
+use Rattle.rules.specs.Statement.{notes, WordsAgree, EveryEntry, RingsBy, ReleasedWhenDropped}
 use Rattle.rules.specs.ListAlone.Repeated.{Answers, RingsSame, DialsNamed, DeedByDeed}
+use Rattle.rules.specs.ListAlone.LineWords.{InTurn}
+use Rattle.rules.specs.ListAlone.BeingCalled.{OffersOthers, AsksInVain}
 use Rattle.station.specs.declared.Station.{Station}
+use Rattle.station.specs.Model.{modelOf}
 use Rattle.lent_layout.specs.Stations.{stationFrom}
 use Rattle.coast.proofs.setting.coast_set_up.Reads as set-up
 use Rattle.coast.proofs.setting.coast_clock.Reads as clock
@@ -58,6 +61,20 @@ HostSecondRingRepeats = OfEveryHost (λ c es s. EveryEntry (DeedByDeed RingsSame
 unfoldable pub HostDialsAsked : Type 0
 HostDialsAsked = OfEveryHost (λ c es s. EveryEntry (DeedByDeed DialsNamed) c (notes es))
 
+-- 02, no. 2: a slot rings exactly if the last 8 or 9 given on it is 8; one 8 where it begins to ring, one 9 where it ends
+unfoldable pub HostRingsAsTold : Type 0
+HostRingsAsTold = OfEveryHost (λ c es s. RingsBy (notes es) (modelOf s))
+
+unfoldable pub HostRingsInTurn : Type 0
+HostRingsInTurn = OfEveryHost (λ c es s. EveryEntry InTurn c (notes es))
+
+-- a ship that is being called is not offered a slot, and asks in vain
+unfoldable pub HostCalledNotOffered : Type 0
+HostCalledNotOffered = OfEveryHost (λ c es s. EveryEntry OffersOthers c (notes es))
+
+unfoldable pub HostCalledAskInVain : Type 0
+HostCalledAskInVain = OfEveryHost (λ c es s. EveryEntry AsksInVain c (notes es))
+
 -- while a ship waits no slot in use is free
 unfoldable pub HostNoChannelIdle : Type 0
 HostNoChannelIdle = OfEveryHost (λ c es s. NoneIdle s)
@@ -71,6 +88,11 @@ HostAlwaysSound = (c : Config) (xs : List Call) (t : HostRun c xs)
 unfoldable pub HostTellsItsClock : Type 0
 HostTellsItsClock = (c : Config) (xs : List Call) (t : HostRun c xs) (κs : Lfts 1) (a : _) (r : _) (s : _) → clock.Post κs a r s
     → a .0 .now ≡ lastOf (t .first) xs → r ≡ 4294967296 * stationFrom (lastOf (t .first) xs) .clock .0
+
+-- the line of a call from ashore is released in the call that drops it: on any bytes, in a run or not
+unfoldable pub HostDroppedReleased : Type 0
+HostDroppedReleased = (x : Call) → Entered x
+    → ReleasedWhenDropped (modelOf (stationFrom (x .station))) (modelOf (stationFrom (x .kept))) (actionsIn (countIn x) (x .left))
 
 -- ── refusals, by the returned number, on any bytes, in a run or not ──────────
 

@@ -18,7 +18,7 @@ use Rattle.writing.proofs.Valid.{parts}
 use Rattle.writing.proofs.EvenedLaws.{fit}
 use Rattle.sequence_theorems.proofs.RoundTrip.{reads-back}
 use Rattle.rules.specs.Rules.Places.{Each}
-use Rattle.rules.specs.Rules.Words.{Party, Mode, simplex, duplex, modeNumber, Request, Config, carrierOn, carrierOff, acknowledge, ringBack, unable, dial, releaseLine}
+use Rattle.rules.specs.Rules.Words.{Party, Mode, simplex, duplex, modeNumber, Request, Config, carrierOn, carrierOff, acknowledge, callShip, unable, dial, releaseLine, ringingOn, ringingOff, busyTone}
 use Rattle.rules.specs.Rules.Actions.{Charge, Ender, theShip, theCoast, Action, does, over, charge, chargeNumbers}
 use Rattle.rules.specs.Rules.Bytes.{padded, numberOf, answerTo, ableSaid, unableSaid, toldField, endSymbol, overSaid, block, channelAt, kindNumber, slotNumber, payloadOf, blockOf, blocks, fours}
 use Rattle.rules.specs.Rules.Printed.{shown}
@@ -51,9 +51,9 @@ acknowledge-back : (i : ℕ) (n : ChannelNumber) (r : Request) → valid (ableSa
 unfolding answerIn requestIn ableSaid answerTo
 acknowledge-back i n r v = rw (no-104 (r .mode), mode-back (r .mode), digits-back (ableSaid n 122 r) (r .number) v refl)
 
-ringBack-back : (i : ℕ) (n : ChannelNumber) (r : Request) → valid (ableSaid n 117 r) ≡ true → answerIn i (ableSaid n 117 r) ≡ ringBack i r
+callShip-back : (i : ℕ) (n : ChannelNumber) (r : Request) → valid (ableSaid n 117 r) ≡ true → answerIn i (ableSaid n 117 r) ≡ callShip i r
 unfolding answerIn requestIn ableSaid answerTo
-ringBack-back i n r v = rw (no-104 (r .mode), mode-back (r .mode), digits-back (ableSaid n 117 r) (r .number) v refl)
+callShip-back i n r v = rw (no-104 (r .mode), mode-back (r .mode), digits-back (ableSaid n 117 r) (r .number) v refl)
 
 unable-back : (i n : ℕ) (x : Party) (l : List ℕ) → valid (unableSaid n x l) ≡ true → answerIn i (unableSaid n x l) ≡ unable n x l
 unfolding answerIn unableSaid answerTo
@@ -118,10 +118,13 @@ unfolding actionAs payloadOf
 action-back c (does (carrierOn i)) v f = refl
 action-back c (does (carrierOff i)) v f = refl
 action-back c (does (acknowledge i r)) v f = rw (meaning-back (ableSaid (channelAt c i) 122 r) v, acknowledge-back i (channelAt c i) r v)
-action-back c (does (ringBack i r)) v f = rw (meaning-back (ableSaid (channelAt c i) 117 r) v, ringBack-back i (channelAt c i) r v)
+action-back c (does (callShip i r)) v f = rw (meaning-back (ableSaid (channelAt c i) 117 r) v, callShip-back i (channelAt c i) r v)
 action-back c (does (unable n x l)) v f = rw (meaning-back (unableSaid n x l) v, unable-back 255 n x l v)
 action-back c (does (dial i l)) v f = refl
 action-back c (does (releaseLine i)) v f = refl
+action-back c (does (ringingOn i)) v f = refl
+action-back c (does (ringingOff i)) v f = refl
+action-back c (does (busyTone i)) v f = refl
 action-back c (over i e x l n) v f = rw (meaning-back (overSaid e x l n) v, over-back i e x l n v)
 action-back c (charge h) v f = rw (charge-back h f)
 

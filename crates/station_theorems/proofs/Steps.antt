@@ -1,22 +1,26 @@
 -- What a step hands back, from its contract: the refusal, or what the rules say; and that there is one for every event.
 use Prim.Native.Nat.{ℕ, _*_, _≤_}
-use mathlib.Core.Path.{_≡_, refl, sym, ap}
+use mathlib.Core.Path.{_≡_, refl, sym, ap, _∙_}
 use mathlib.Core.List.{List, [], _∷_, _++_}
 use mathlib.Core.Option.{Option, none, some}
 use native.Mathlib.Omega.{arith}
 use lib.ListN.{length, drop}
 use borrow.Author.Tests.{leb-false}
-use Rattle.rules.specs.Rules.Words.{Config, Event, Signal, lineDialledOut, lineLifted, lineHung, carrierHeard, carrierLost, Hand, handTakes, handGives, Happened, heard, signal, operator, What, tick, onChannel70, onSlot}
+use Rattle.rules.specs.Rules.Words.{Config, Event, Signal, lineDialledOut, lineLifted, lineHung, carrierHeard, carrierLost, Hand, handTakes, handGives, Happened, heard, signal, operator, What, tick, onChannel70, onSlot, fromAshore}
 use Rattle.rules.specs.Rules.Places.{Each}
 use Rattle.rules.specs.Rules.Station as R
 use Rattle.rules.specs.Rules.Calls.{act}
 use Rattle.rules.specs.Rules.Verdict.{verdict}
 use Rattle.rules.specs.Rules.Bytes.{blocks}
-use Rattle.rules.specs.Statement.{ZeroOrOne, AtMostEight, ChargesFit}
+use Rattle.rules.specs.Statement.{ZeroOrOne, AtMostEight, ChargesFit, ReleasedWhenDropped, DroppedReleased}
 use Rattle.rules.proofs.Accepted.{accepted}
 use Rattle.rules.proofs.Eight.{at-most-eight}
 use Rattle.rules.proofs.Answered.{zero-or-one}
 use Rattle.rules.proofs.Charged.{charges-fit}
+use Rattle.rules.proofs.Kept.{stays-sound}
+use Rattle.rules.proofs.Released.{dropped-released, none-dropped}
+use Rattle.soundness.proofs.FitLaws.{sound-fits}
+use Rattle.station.proofs.ImageLaws.{model-back}
 use Rattle.actions.proofs.Handed.{act-says}
 use Rattle.station.specs.declared.Stepped.{Stepped}
 use Rattle.station.specs.declared.Station.{Station}
@@ -25,8 +29,8 @@ use Rattle.station.specs.Step.{eventAt, refusal, steppedFor, steppedBy, roomFor
 use Rattle.station.proofs.GateLaws.{passed}
 use Rattle.station.proofs.StepLaws.{reads}
 use Rattle.station_theorems.specs.Rooms.{actionsIn, shownIn}
-use Rattle.station_theorems.specs.Steps.{Step, Allowed, by-heard-on-channel-70, by-heard-on-slot, by-dialling-ended, by-off-hook, by-on-hook, by-carrier-up, by-carrier-down, by-take-slot, by-give-back, by-tick, stepOf}
-use Rattle.station_theorems.specs.Statement.{laidOut, RefusalsLeaveAll, RoomsStay}
+use Rattle.station_theorems.specs.Steps.{Step, Allowed, by-heard-on-channel-70, by-heard-on-slot, by-dialling-ended, by-off-hook, by-on-hook, by-carrier-up, by-carrier-down, by-take-slot, by-give-back, by-call-from-ashore, by-tick, stepOf}
+use Rattle.station_theorems.specs.Statement.{laidOut, RefusalsLeaveAll, RoomsStay, RackDroppedReleased}
 use Rattle.station_theorems.proofs.ReadBack.{actions-back, shown-back, laid-back}
 use contract.Lifetimes.{Lfts}
 use denote.Ref.{RefT}
@@ -49,6 +53,7 @@ allowed-does _ (by-carrier-up κs a r s p) = record { back-is = p .0; left-is = 
 allowed-does _ (by-carrier-down κs a r s p) = record { back-is = p .0; left-is = p .1 }
 allowed-does _ (by-take-slot κs a r s p) = record { back-is = p .0; left-is = p .1 }
 allowed-does _ (by-give-back κs a r s p) = record { back-is = p .0; left-is = p .1 }
+allowed-does _ (by-call-from-ashore κs a r s p) = record { back-is = p .0; left-is = p .1 }
 allowed-does _ (by-tick κs a r s p) = record { back-is = p .0; left-is = p .1 }
 
 -- lifetimes, and a slice of numbers lent for one
@@ -87,6 +92,7 @@ module _ (s : Station) (room : List ℕ) (time : ℕ) where
   step-allowed tick = by-tick life (s, (timed, (lent room, tt))) _ (s, (timed, (lent _, tt))) (refl, refl)
   step-allowed (onChannel70 m) = by-heard-on-channel-70 lives (s, (timed, (lent m, (lent room, tt)))) _ (s, (timed, (lent m, (lent _, tt)))) (refl, refl)
   step-allowed (onSlot i h) = on-slot i h
+  step-allowed (fromAshore a) = by-call-from-ashore lives (s, (timed, (a .ship, (a .mode, (lent (a .digits), (lent room, tt)))))) _ (s, (timed, (a .ship, (a .mode, (lent (a .digits), (lent _, tt)))))) (refl, refl)
 
 -- every signal and either hand: what holds of each
 abbrev pub signals : List Signal
@@ -123,7 +129,7 @@ pub blocks-tell : (c : Config) (m : R.Station) (e : Event) → verdict c m e ≡
 unfolding AtMostEight ChargesFit
 blocks-tell c m e v rest =
     let a = accepted c m e v in
-    actions-back c (act c m e .acts) (act-says reads c m (a .is-sound) e (a .readable)) (at-most-eight c m e (a .is-sound) .1) (charges-fit c m e v) rest
+    actions-back c (act c m e .acts) (act-says reads c m e v) (at-most-eight c m e (a .is-sound) .1) (charges-fit c m e v) rest
 
 pub answer-told : (c : Config) (m : R.Station) (e : Event) → verdict c m e ≡ none → act c m e .answer ≤ 1
 unfolding ZeroOrOne
@@ -162,3 +168,23 @@ rooms-stay x a = go (refusal (x .before) (x .event)) refl
         let l = left-for x (allowed-does x a) (some k) e in
         let n : x .back .count ≡ 0 = ap (λ (r : Stepped). r .count) (back-for x (allowed-does x a) (some k) e) in
         rw (n, l) refl
+
+pub rack-dropped-released : RackDroppedReleased
+unfolding RackDroppedReleased DroppedReleased actionsIn
+rack-dropped-released x a = go (refusal (x .before) (x .event)) refl
+  where
+    go : (o : Option ℕ) → refusal (x .before) (x .event) ≡ o → ReleasedWhenDropped (modelOf (x .before)) (modelOf (x .back .station)) (actionsIn (x .back .count) (x .left))
+    go none e =
+        let c = configOf (x .before) in
+        let m = modelOf (x .before) in
+        let o = act (configOf (x .before)) (modelOf (x .before)) (x .event) in
+        let v = passed (x .before) (x .event) (sym e) .judged in
+        let b = back-for x (allowed-does x a) none e in
+        let next : modelOf (x .back .station) ≡ o .next = ap (λ (r : Stepped). modelOf (r .station)) b ∙ model-back c (o .next) (sound-fits c (o .next) (stays-sound c m (x .event) v)) in
+        let count : x .back .count ≡ length (o .acts) = ap (λ (r : Stepped). r .count) b in
+        rw (next, count, left-for x (allowed-does x a) none e, blocks-tell c m (x .event) v (drop (40 * length (o .acts)) (x .lent))) (dropped-released c m (x .event) v)
+    go (some n) e =
+        let b = back-for x (allowed-does x a) (some n) e in
+        let station : x .back .station ≡ x .before = ap (λ (r : Stepped). r .station) b in
+        let count : x .back .count ≡ 0 = ap (λ (r : Stepped). r .count) b in
+        rw (station, count) (none-dropped (modelOf (x .before)))

@@ -16,12 +16,17 @@ use Rattle.rules.specs.ListAlone.Book.{Note}
 use Rattle.rules.specs.Rules.Bytes.{blocks}
 use Rattle.rules.specs.Rules.Verdict.{setUpVerdict, final}
 use Rattle.rules.specs.Statement.{notes, OfEveryList, ChargesAreStops, TenthsAgree, AlwaysSound, Literally, WordsAgree, EveryEntry, AnswersRepeat, SecondRingRepeats, DialsAsked, NoChannelIdle, stationAfter}
+use Rattle.rules.specs.Statement.{RingsAsTold, RingsInTurn, CalledNotOffered, CalledAskInVain}
 use Rattle.rules.specs.ListAlone.Repeated.{Answers, RingsSame, DialsNamed, DeedByDeed}
+use Rattle.rules.specs.ListAlone.LineWords.{InTurn}
+use Rattle.rules.specs.ListAlone.BeingCalled.{OffersOthers, AsksInVain}
 use Rattle.rules.proofs.Run.{charges-are-stops}
 use Rattle.rules.proofs.Tenths.{tenths-agree}
 use Rattle.rules.proofs.Kept.{always-sound}
 use Rattle.rules.proofs.Literal.{literally}
 use Rattle.rules.proofs.Repeats.{answers-repeat, second-ring-repeats, dials-asked}
+use Rattle.rules.proofs.Ringing.{rings-as-told, rings-in-turn}
+use Rattle.rules.proofs.Offered.{called-not-offered, called-ask-in-vain}
 use Rattle.rules.proofs.Idle.{no-channel-idle}
 use Rattle.requests.specs.Views.{viewed}
 use Rattle.slots.specs.Views.{slotView}
@@ -31,6 +36,7 @@ use Rattle.station.specs.Model.{modelOf, imageOf}
 use Rattle.station.proofs.ImageLaws.{model-back, config-back, run-fits}
 use Rattle.station_theorems.specs.Steps.{Step, Trace, lastOf, eventsIn}
 use Rattle.station_theorems.specs.Statement.{BlocksTell, OfEveryTrace, RackObeys, RackStands, RackShows, RackLiterally, RackAnswersRepeat, RackSecondRingRepeats, RackDialsAsked, NoneIdle, RackNoChannelIdle, RackAlwaysSound}
+use Rattle.station_theorems.specs.Statement.{RackRingsAsTold, RackRingsInTurn, RackCalledNotOffered, RackCalledAskInVain}
 use Rattle.station_theorems.proofs.Laid.{records-keep, uncharged-is, none-free}
 use Rattle.station_theorems.proofs.Steps as S
 use Rattle.station_theorems.proofs.Traces.{started, IsRun, is-run}
@@ -92,6 +98,22 @@ rack-second-ring-repeats = carried (EveryEntry (DeedByDeed RingsSame)) second-ri
 pub rack-dials-asked : RackDialsAsked
 unfolding RackDialsAsked DialsAsked
 rack-dials-asked = carried (EveryEntry (DeedByDeed DialsNamed)) dials-asked
+
+pub rack-rings-as-told : RackRingsAsTold
+unfolding RackRingsAsTold RingsAsTold
+rack-rings-as-told c xs t = rw (runs c xs t .entries, model-is c xs t) (rings-as-told c (set-up c xs t) (eventsIn xs))
+
+pub rack-rings-in-turn : RackRingsInTurn
+unfolding RackRingsInTurn RingsInTurn
+rack-rings-in-turn = carried (EveryEntry InTurn) rings-in-turn
+
+pub rack-called-not-offered : RackCalledNotOffered
+unfolding RackCalledNotOffered CalledNotOffered
+rack-called-not-offered = carried (EveryEntry OffersOthers) called-not-offered
+
+pub rack-called-ask-in-vain : RackCalledAskInVain
+unfolding RackCalledAskInVain CalledAskInVain
+rack-called-ask-in-vain = carried (EveryEntry AsksInVain) called-ask-in-vain
 
 -- a station that was laid out for a model with no free slot while a ship waits
 laid-idle : (c : Config) (m : R.Station) → Fits c m → ((w : R.Waiting) (q : List R.Waiting) → m .queue ≡ w ∷ q → lowest isFree (m .slots) ≡ none)

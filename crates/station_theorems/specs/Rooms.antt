@@ -12,7 +12,8 @@ use Rattle.sequence.specs.declared.Meaning.{Meaning}
 use Rattle.sequence.specs.Figures.{firstSimplex, firstUnable, endRq, endBq}
 use Rattle.sequence.specs.Reading.{readingOf}
 use Rattle.rules.specs.Rules.Words.{Party, Mode, simplex, duplex, Request}
-use Rattle.rules.specs.Rules.Words.{Deed, carrierOn, carrierOff, acknowledge, ringBack, unable, dial, releaseLine}
+use Rattle.rules.specs.Rules.Words.{Deed, carrierOn, carrierOff, acknowledge, callShip, unable, dial, releaseLine}
+use Rattle.rules.specs.Rules.Words.{ringingOn, ringingOff, busyTone}
 use Rattle.rules.specs.Rules.Heard.{digitsIn}
 use Rattle.rules.specs.Rules.Actions.{Charge, Ender, theShip, theCoast, Action, does, over, charge, chargeOf}
 use Rattle.rules.specs.Rules.Bytes.{blockSize}
@@ -34,7 +35,7 @@ requestIn m = record { who = partyIn m; mode = modeIn (m .first); second = m .se
 unfoldable pub answerIn : ℕ → Meaning → Deed
 answerIn slot m =
     cond (eqb (m .first) firstUnable) (unable (m .second) (partyIn m) (digitsIn (m .number)))
-    (cond (eqb (m .end) endRq) (ringBack slot (requestIn m)) (acknowledge slot (requestIn m)))
+    (cond (eqb (m .end) endRq) (callShip slot (requestIn m)) (acknowledge slot (requestIn m)))
 
 -- on the working channel: BQ at the ship's end, 127 at the coast's
 abbrev pub enderIn : ℕ → Ender
@@ -68,8 +69,8 @@ slotIn b = getD b 1 0
 abbrev pub payloadIn : List ℕ → List ℕ
 payloadIn b = take (getD b 2 0) (drop 4 b)
 
--- "1 carrier on, 2 carrier off, 3 send on channel 70, 4 send on the working channel, 5 dial, 6 release line, 7 charge";
--- no other kind tells an action
+-- "1 carrier on, 2 carrier off, 3 send on channel 70, 4 send on the working channel, 5 dial, 6 release line, 7 charge"; 02, no. 2:
+-- "8 ringing on, 9 ringing off, 10 five seconds of busy tone"; no other kind tells an action
 unfoldable pub actionAs : ℕ → ℕ → List ℕ → List Action
 actionAs kind slot p =
     cond (eqb kind 1) (does (carrierOn slot) ∷ [])
@@ -78,7 +79,10 @@ actionAs kind slot p =
     (cond (eqb kind 4) (overIn slot (readingOf p .meaning) ∷ [])
     (cond (eqb kind 5) (does (dial slot p) ∷ [])
     (cond (eqb kind 6) (does (releaseLine slot) ∷ [])
-    (cond (eqb kind 7) (charge (chargeIn slot p) ∷ []) []))))))
+    (cond (eqb kind 7) (charge (chargeIn slot p) ∷ [])
+    (cond (eqb kind 8) (does (ringingOn slot) ∷ [])
+    (cond (eqb kind 9) (does (ringingOff slot) ∷ [])
+    (cond (eqb kind 10) (does (busyTone slot) ∷ []) [])))))))))
 
 abbrev pub actionIn : List ℕ → List Action
 actionIn b = actionAs (kindIn b) (slotIn b) (payloadIn b)

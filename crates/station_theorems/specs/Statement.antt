@@ -17,8 +17,11 @@ use Rattle.rules.specs.Rules.Bytes.{block, blocks, blockSize}
 use Rattle.rules.specs.ListAlone.Book.{blankBook}
 use Rattle.rules.specs.ListAlone.Reading.{stops, counted}
 use Rattle.rules.specs.Rules.Printed.{printed}
-use Rattle.rules.specs.Statement.{notes, charged, owedFor, unchargedFrom, tenthsIn, stationAfter, WordsAgree, EveryEntry}
+use Rattle.rules.specs.Statement.{notes, charged, owedFor, unchargedFrom, tenthsIn, stationAfter, WordsAgree, EveryEntry, RingsBy}
+use Rattle.rules.specs.Statement.{ReleasedWhenDropped}
 use Rattle.rules.specs.ListAlone.Repeated.{Answers, RingsSame, DialsNamed, DeedByDeed}
+use Rattle.rules.specs.ListAlone.LineWords.{InTurn}
+use Rattle.rules.specs.ListAlone.BeingCalled.{OffersOthers, AsksInVain}
 use Rattle.slots.specs.declared.Slot.{Slot}
 use Rattle.slots.specs.Phases.{answeredSince}
 use Rattle.slots.specs.Views.{slotView}
@@ -95,6 +98,20 @@ RackSecondRingRepeats = OfEveryTrace (λ c es s. EveryEntry (DeedByDeed RingsSam
 unfoldable pub RackDialsAsked : Type 0
 RackDialsAsked = OfEveryTrace (λ c es s. EveryEntry (DeedByDeed DialsNamed) c (notes es))
 
+-- 02, no. 2: a slot rings exactly if the last 8 or 9 given on it is 8; one 8 where it begins to ring, one 9 where it ends
+unfoldable pub RackRingsAsTold : Type 0
+RackRingsAsTold = OfEveryTrace (λ c es s. RingsBy (notes es) (modelOf s))
+
+unfoldable pub RackRingsInTurn : Type 0
+RackRingsInTurn = OfEveryTrace (λ c es s. EveryEntry InTurn c (notes es))
+
+-- a ship that is being called is not offered a slot, and asks in vain
+unfoldable pub RackCalledNotOffered : Type 0
+RackCalledNotOffered = OfEveryTrace (λ c es s. EveryEntry OffersOthers c (notes es))
+
+unfoldable pub RackCalledAskInVain : Type 0
+RackCalledAskInVain = OfEveryTrace (λ c es s. EveryEntry AsksInVain c (notes es))
+
 -- while a ship waits no slot in use is free
 abbrev pub NoneIdle : Station → Type 0
 NoneIdle s = 0 < s .waiting → Each (λ x. isFree (slotView x) ≡ false) (take (s .count) (s .slots))
@@ -115,6 +132,11 @@ RackAlwaysSound = (c : Config) (xs : List Step) (t : Trace c xs)
 unfoldable pub RefusalsLeaveAll : Type 0
 RefusalsLeaveAll = (x : Step) → Allowed x → accepted x ≡ false
     → (x .back .station ≡ x .before) × ((x .left ≡ x .lent) × (x .back .count ≡ 0))
+
+-- the line of a call from ashore is released in the step that drops it: of every station, in a trace or not, and every event
+unfoldable pub RackDroppedReleased : Type 0
+RackDroppedReleased = (x : Step) → Allowed x
+    → ReleasedWhenDropped (modelOf (x .before)) (modelOf (x .back .station)) (actionsIn (x .back .count) (x .left))
 
 -- answer, clock, action count, next due time; then each action from the room's bytes
 abbrev pub dueIn : NextDue → List ℕ

@@ -7,7 +7,7 @@ use Rattle.rules.specs.Rules.Words.{Config, heard, diallingEnded, offHook, onHo
 use Rattle.rules.specs.Rules.Words.{tick, onChannel70, Event}
 use Rattle.station.specs.declared.Station.{Station}
 use Rattle.station.specs.declared.Stepped.{Stepped}
-use Rattle.station.specs.Step.{eventAt, slotAt, chosen}
+use Rattle.station.specs.Step.{eventAt, slotAt, ashoreOf, chosen}
 use Rattle.station.proofs.Station.set_up.Reads as set-up
 use Rattle.station.proofs.Station.heard_on_channel_70.Reads as heard-on-channel-70
 use Rattle.station.proofs.Station.heard_on_slot.Reads as heard-on-slot
@@ -18,6 +18,7 @@ use Rattle.station.proofs.Station.carrier_up.Reads as carrier-up
 use Rattle.station.proofs.Station.carrier_down.Reads as carrier-down
 use Rattle.station.proofs.Station.take.Reads as take-slot
 use Rattle.station.proofs.Station.give_back.Reads as give-back
+use Rattle.station.proofs.Station.call_from_ashore.Reads as call-from-ashore
 use Rattle.station.proofs.Station.tick.Reads as on-tick
 
 -- what came in, and what was handed back
@@ -60,6 +61,9 @@ pub data Allowed : Step → Type 0 where
   by-give-back : (κs : Lfts 1) (a : _) (r : _) (s : _) → give-back.Post κs a r s → Allowed (stepOf
       (slotAt (a .1 .0 .0) (a .1 .1 .0 .0) givesBack (a .1 .1 .1 .0 .now))
       (a .0) (a .1 .1 .1 .0 .now) r (s .1 .1 .1 .0 .now))
+  by-call-from-ashore : (κs : Lfts 2) (a : _) (r : _) (s : _) → call-from-ashore.Post κs a r s → Allowed (stepOf
+      (eventAt (a .1 .0 .0) (ashoreOf (a .1 .1 .0) (a .1 .1 .1 .0) (a .1 .1 .1 .1 .0 .now)) (a .1 .1 .1 .1 .1 .0 .now))
+      (a .0) (a .1 .1 .1 .1 .1 .0 .now) r (s .1 .1 .1 .1 .1 .0 .now))
   by-tick : (κs : Lfts 1) (a : _) (r : _) (s : _) → on-tick.Post κs a r s → Allowed (stepOf
       (eventAt (a .1 .0 .0) tick (a .1 .1 .0 .now))
       (a .0) (a .1 .1 .0 .now) r (s .1 .1 .0 .now))

@@ -9,7 +9,7 @@ use lib.Dec.{eqb}
 use lib.ListN.{length, drop, replicate, length-replicate}
 use borrow.Author.Tests.{eqb-true, eqb-false, not-true}
 use Rattle.sequence.proofs.Tests.{both-true}
-use Rattle.rules.specs.Rules.Words.{Config, heard, signal, operator, What, tick, onChannel70, onSlot, Event, carrierOn, carrierOff, acknowledge, ringBack, unable, dial, releaseLine}
+use Rattle.rules.specs.Rules.Words.{Config, heard, signal, operator, What, tick, onChannel70, onSlot, fromAshore, Event, carrierOn, carrierOff, acknowledge, callShip, unable, dial, releaseLine, ringingOn, ringingOff, busyTone}
 use Rattle.rules.specs.Rules.Places.{isSome}
 use Rattle.rules.specs.Rules.Actions.{Action, does, over, charge}
 use Rattle.rules.specs.Rules.Station as R
@@ -42,7 +42,7 @@ use Rattle.station_theorems.proofs.Steps.{signals, every-signal, hands, every-h
 use Rattle.station_theorems.proofs.Traces.{done-back, refused-back}
 use Rattle.station_theorems.proofs.Theorems.{last-is}
 use Rattle.station_theorems.proofs.Scripted.{every-script-is-traced}
-use Rattle.useless_versions.specs.Events.{Method, heard-on-channel-70, heard-on-slot, on-tick, signalled, handled, methodOf, Call, Back, eventOf, stepBy, callIn, Meets, Comes, laidIn, signs, NoUselessEvent}
+use Rattle.useless_versions.specs.Events.{Method, heard-on-channel-70, heard-on-slot, call-from-ashore, on-tick, signalled, handled, methodOf, Call, Back, eventOf, stepBy, callIn, Meets, Comes, laidIn, signs, NoUselessEvent}
 use Rattle.useless_versions.proofs.ShutOut.{shut-out}
 
 -- ── the scripts ──────────────────────────────────────────────────────────────
@@ -62,6 +62,7 @@ script es e = record { early = es; last = e }
 abbrev pub doing : Method → What
 doing heard-on-channel-70 = onChannel70 p1
 doing heard-on-slot = onSlot 0 (heard p4)
+doing call-from-ashore = fromAshore (record { ship = 200056789; mode = 101; digits = 7 ∷ [] })
 doing on-tick = tick
 doing (signalled g) = onSlot 0 (signal g)
 doing (handled h) = onSlot 0 (operator h)
@@ -69,6 +70,7 @@ doing (handled h) = onSlot 0 (operator h)
 pub doing-method : (k : Method) → methodOf (doing k) ≡ k
 doing-method heard-on-channel-70 = refl
 doing-method heard-on-slot = refl
+doing-method call-from-ashore = refl
 doing-method on-tick = refl
 doing-method (signalled g) = refl
 doing-method (handled h) = refl
@@ -112,6 +114,7 @@ firstOf w s (x ∷ xs) = cond (holds w s) s (firstOf w x xs)
 abbrev pub scripts : Method → Script
 scripts heard-on-channel-70 = script [] (ticks 10)
 scripts heard-on-slot = script [] (asks 200)
+scripts call-from-ashore = script [] (ticks 10)
 scripts on-tick = script [] (asks 100)
 scripts (signalled g) = firstOf (onSlot 0 (signal g)) (script (asks 200 ∷ []) (works 210)) (map (λ f. script (asks 200 ∷ works 210 ∷ []) (on 260 0 (signal f))) signals)
 scripts (handled h) = firstOf (onSlot 0 (operator h)) (script [] (ticks 10)) (map (λ f. script [] (on 50 0 (operator f))) hands)
@@ -120,6 +123,7 @@ computed : (k : Method) → holds (doing k) (scripts k) ≡ true
 unfolding imageOf slotImage runsOpen
 computed heard-on-channel-70 = refl
 computed heard-on-slot = refl
+computed call-from-ashore = refl
 computed on-tick = refl
 computed (signalled g) = every-signal (λ f. holds (doing (signalled f)) (scripts (signalled f)) ≡ true) (refl, (refl, (refl, (refl, (refl, tt))))) g
 computed (handled h) = every-hand (λ f. holds (doing (handled f)) (scripts (handled f)) ≡ true) (refl, (refl, tt)) h
@@ -256,10 +260,13 @@ unfolding runsOpen
 has-kind c (does (carrierOn i)) = refl
 has-kind c (does (carrierOff i)) = refl
 has-kind c (does (acknowledge i r)) = refl
-has-kind c (does (ringBack i r)) = refl
+has-kind c (does (callShip i r)) = refl
 has-kind c (does (unable n x l)) = refl
 has-kind c (does (dial i l)) = refl
 has-kind c (does (releaseLine i)) = refl
+has-kind c (does (ringingOn i)) = refl
+has-kind c (does (ringingOff i)) = refl
+has-kind c (does (busyTone i)) = refl
 has-kind c (over i e x l n) = refl
 has-kind c (charge h) = refl
 

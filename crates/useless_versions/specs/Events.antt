@@ -5,7 +5,8 @@ use mathlib.Core.Bool.{cond}
 use mathlib.Core.List.{List, map}
 use lib.Dec.{eqb}
 use lib.ListN.{take, drop, replicate}
-use Rattle.rules.specs.Rules.Words.{Config, Signal, Hand, Happened, heard, signal, operator, What, tick, onChannel70, onSlot, Event}
+use Rattle.rules.specs.Rules.Words.{Config, Signal, Hand, Happened, heard, signal, operator, What, tick, onChannel70, onSlot}
+use Rattle.rules.specs.Rules.Words.{fromAshore, Event}
 use Rattle.rules.specs.Rules.Bytes.{blockSize}
 use Rattle.station.specs.declared.Station.{Station}
 use Rattle.station.specs.declared.Stepped.{Stepped}
@@ -17,7 +18,7 @@ use Rattle.useless_versions.specs.Versions.{Signs, NoUselessVersion}
 -- ── the methods ──────────────────────────────────────────────────────────────
 
 pub data Method : Type 0 where
-  heard-on-channel-70 heard-on-slot on-tick : Method
+  heard-on-channel-70 heard-on-slot call-from-ashore on-tick : Method
   signalled : Signal → Method  -- one for each signal
   handled : Hand → Method  -- and of the two
 
@@ -30,6 +31,7 @@ abbrev pub methodOf : What → Method
 methodOf tick = on-tick
 methodOf (onChannel70 m) = heard-on-channel-70
 methodOf (onSlot i h) = methodOn h
+methodOf (fromAshore a) = call-from-ashore
 
 -- ── a call, and what it hands back ───────────────────────────────────────────
 
