@@ -8,6 +8,9 @@
 #define KIND_DIAL 5u
 #define KIND_RELEASE 6u
 #define KIND_CHARGE 7u
+#define KIND_RINGING_ON 8u
+#define KIND_RINGING_OFF 9u
+#define KIND_BUSY_TONE 10u
 
 #define PAYLOAD_AT 4u
 #define CHARGE_BYTES 16u
@@ -81,4 +84,17 @@ void act_charge(struct work *work, uint32_t slot) {
     put_four(payload + 4, call->start);
     put_four(payload + 8, stop);
     put_four(payload + 12, charged_seconds(stop - call->start));
+}
+
+void act_ringing_on(struct work *work, uint32_t slot) {
+    new_block(work, KIND_RINGING_ON, (uint8_t)slot, 0);
+}
+
+void act_ringing_off(struct work *work, uint32_t slot) {
+    new_block(work, KIND_RINGING_OFF, (uint8_t)slot, 0);
+}
+
+/* "10 five seconds of busy tone": the exchange's, so that the line is released at once. */
+void act_busy_tone(struct work *work, uint32_t slot) {
+    new_block(work, KIND_BUSY_TONE, (uint8_t)slot, 0);
 }

@@ -36,7 +36,7 @@ void send_able(struct work *work, uint32_t slot, uint8_t end) {
 }
 
 /* The slot is now this request's, in this phase, its wait begun now. */
-static void store(struct work *work, uint32_t slot, enum phase phase, const struct meaning *request) {
+void store(struct work *work, uint32_t slot, enum phase phase, const struct meaning *request) {
     struct slot next = {0};
     next.phase = phase;
     next.request = *request;

@@ -21,6 +21,9 @@ void act_send_working(struct work *work, uint32_t slot, const struct meaning *m)
 void act_dial(struct work *work, uint32_t slot);
 void act_release(struct work *work, uint32_t slot);
 void act_charge(struct work *work, uint32_t slot);
+void act_ringing_on(struct work *work, uint32_t slot);
+void act_ringing_off(struct work *work, uint32_t slot);
+void act_busy_tone(struct work *work, uint32_t slot);
 
 /* ---- waits.c ---- */
 enum wait_kind { WAIT_NONE, WAIT_QUEUE, WAIT_CARRIER, WAIT_SLOT };
@@ -45,6 +48,7 @@ void queue_join(struct station *station, const struct meaning *request);
 /* ---- calls.c: what happens to a slot and its call ---- */
 uint32_t charged_seconds(uint32_t tenths);
 struct meaning exchanged(const struct meaning *request);
+void store(struct work *work, uint32_t slot, enum phase phase, const struct meaning *request);
 void send_able(struct work *work, uint32_t slot, uint8_t end);
 void offer(struct work *work, uint32_t slot, const struct meaning *request);
 void free_slot(struct work *work, uint32_t slot);
@@ -58,11 +62,22 @@ void dial(struct work *work, uint32_t slot);
 void await_reply(struct work *work, uint32_t slot);
 void begin_talk(struct work *work, uint32_t slot);
 
+/* ---- ashore.c: a call from shore to ship, until it is answered ---- */
+int judge_caller(const struct station *station, const struct caller *caller);
+void call_ship(struct work *work, const struct caller *caller);
+void call_ship_again(struct work *work, uint32_t slot);
+void start_ringing(struct work *work, uint32_t slot);
+void ship_transmits(struct work *work, uint32_t slot);
+enum dropped_by { DROPPED_BY_CALLER, DROPPED_BY_COAST, DROPPED_BY_SHIP };
+void drop_call(struct work *work, uint32_t slot, enum dropped_by by);
+
 /* ---- station.c ---- */
 bool is_ours(const struct station *station, const struct meaning *m);
 struct meaning to_ours(const struct station *station, struct meaning m);
 
 /* ---- request.c: sequences heard, addressed to this station ---- */
+#define NO_SLOT MOST_SLOTS
+uint32_t lowest_free(const struct station *station);
 int heard_on_calling(struct work *work, const struct meaning *m);
 int heard_on_working(struct work *work, uint32_t slot, const struct meaning *m);
 

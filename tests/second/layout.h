@@ -5,7 +5,7 @@
 #include "station.h"
 
 #define STATION_BYTES 1723u
-#define LAYOUT_VERSION 2u
+#define LAYOUT_VERSION 3u
 #define SLOT_BYTES 45u
 #define WAITING_BYTES 31u
 

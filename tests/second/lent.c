@@ -205,6 +205,14 @@ uint64_t second_clock_bytes(const uint8_t *station, size_t size) {
     return get_sound(station, size, &before) ? (uint64_t)before.clock << 32 : NOT_SOUND;
 }
 
+/* Where there are more than a number has, their count alone is judged. */
+static struct caller caller_of(uint32_t ship, uint32_t mode, const uint8_t *digits, size_t count, uint32_t *numbers) {
+    struct caller caller = {ship, mode, numbers, count};
+    for (size_t i = 0; i < count && i < MOST_DIGITS; i++)
+        numbers[i] = digits[i];
+    return caller;
+}
+
 /* ---- events: the station is read from its bytes, the event happens to it, and it is laid down again ---- */
 
 #define TAKES_alone
@@ -212,12 +220,14 @@ uint64_t second_clock_bytes(const uint8_t *station, size_t size) {
 #define TAKES_by_hand TAKES_on_slot
 #define TAKES_with_symbols const uint8_t *symbols, size_t count,
 #define TAKES_on_slot_with_symbols uint32_t slot, const uint8_t *symbols, size_t count,
+#define TAKES_to_ship uint32_t ship, uint32_t mode, const uint8_t *digits, size_t count,
 
 #define GIVES_alone
 #define GIVES_on_slot slot,
 #define GIVES_by_hand GIVES_on_slot
 #define GIVES_with_symbols (struct heard){symbols, count},
 #define GIVES_on_slot_with_symbols slot, (struct heard){symbols, count},
+#define GIVES_to_ship caller_of(ship, mode, digits, count, (uint32_t[MOST_DIGITS]){0}),
 
 #define ON_BYTES(letter, entry, takes)                                                                 \
     uint64_t second_##entry##_bytes(                                                                   \

@@ -60,9 +60,29 @@ static inline bool has_call(enum phase phase) {
     return expects_reply(phase) || talks(phase);
 }
 
-/* "the offered, ring-back, acknowledged, dialling and answered slots" */
+/* A ship is called from ashore (02 no. 2), for the first time .. */
+static inline bool is_called_once(enum phase phase) {
+    return phase == PHASE_CALLED;
+}
+
+/* .. or once more; it has not answered .. */
+static inline bool is_called(enum phase phase) {
+    return is_called_once(phase) || phase == PHASE_CALLED_AGAIN;
+}
+
+/* .. and now has, and rings at the caller's. */
+static inline bool is_ringing(enum phase phase) {
+    return phase == PHASE_RINGING;
+}
+
+/* "a ship being called, until that transmission" */
+static inline bool is_being_called(enum phase phase) {
+    return is_called(phase) || is_ringing(phase);
+}
+
+/* "the offered, ring-back, acknowledged, dialling and answered slots", and 02: "a called ship counts in the soundness rule" */
 static inline bool holds_ship(enum phase phase) {
-    return expects_ship(phase) || has_call(phase);
+    return expects_ship(phase) || is_being_called(phase) || has_call(phase);
 }
 
 static inline bool is_held(enum phase phase) {
@@ -74,7 +94,7 @@ static inline bool stores_request(enum phase phase) {
 }
 
 static inline bool has_slot_wait(enum phase phase) {
-    return expects_ship(phase) || expects_reply(phase) || is_held(phase);
+    return expects_ship(phase) || expects_reply(phase) || is_being_called(phase) || is_held(phase);
 }
 
 static inline uint32_t slot_wait(enum phase phase) {
@@ -86,6 +106,10 @@ static inline uint32_t slot_wait(enum phase phase) {
         return DIALLING_WAIT;
     if (is_dialled_out(phase))
         return REPLY_WAIT;
+    if (is_called(phase))
+        return CALLED_WAIT;
+    if (is_ringing(phase))
+        return RINGING_WAIT;
     return is_held(phase) ? HOLD_WAIT : 0u;
 }
 

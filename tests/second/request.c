@@ -2,7 +2,6 @@
  * event's time, and the sequence is one that the reader accepts. */
 #include "inside.h"
 
-#define NO_SLOT MOST_SLOTS
 #define NO_SLOT_BYTE 255u
 #define BUSY 102u
 #define QUEUED 103u
@@ -36,7 +35,7 @@ static uint32_t ships_slot(const struct station *station, uint32_t ship) {
     return NO_SLOT;
 }
 
-static uint32_t lowest_free(const struct station *station) {
+uint32_t lowest_free(const struct station *station) {
     for (uint32_t i = 0; i < station->channel_count; i++)
         if (is_free(station->slots[i].phase))
             return i;
@@ -74,6 +73,9 @@ static void ask_again(struct work *work, uint32_t slot, const struct meaning *re
 /* Call request, "first rule that fits". */
 static int call_request(struct work *work, const struct meaning *request) {
     uint32_t slot = ships_slot(work->station, request->self);
+    /* 02: "A request from a ship being called, until that transmission, is ignored, before rule a" */
+    if (slot != NO_SLOT && is_being_called(work->station->slots[slot].phase))
+        return IGNORED;
     if (request->first == DATA) {
         answer_unable(work, request, MODE_NOT_USABLE);
         return DONE;
@@ -94,15 +96,28 @@ static int call_request(struct work *work, const struct meaning *request) {
 }
 
 /* "BQ on channel 70 from that ship, telecommand 100 or 101, naming that
- * channel: acknowledged, wait 160". */
-static int ring_back_answer(struct work *work, const struct meaning *m) {
+ * channel: acknowledged, wait 160"; 02: "The ship's first BQ with 100 or 101
+ * and that channel starts the ringing". */
+static int able_answer(struct work *work, const struct meaning *m) {
     struct station *station = work->station;
     uint32_t slot = ships_slot(station, m->self);
     if (slot == NO_SLOT || m->channel != station->channels[slot])
         return IGNORED;
-    if (!is_rung(station->slots[slot].phase))
+    if (is_rung(station->slots[slot].phase))
+        acknowledge(work, slot);
+    else if (is_called(station->slots[slot].phase))
+        start_ringing(work, slot);
+    else
         return IGNORED;
-    acknowledge(work, slot);
+    return DONE;
+}
+
+/* 02: "its BQ with 104 before its transmission, ringing or not, drops the call" */
+static int unable_answer(struct work *work, const struct meaning *m) {
+    uint32_t slot = ships_slot(work->station, m->self);
+    if (slot == NO_SLOT || !is_being_called(work->station->slots[slot].phase))
+        return IGNORED;
+    drop_call(work, slot, DROPPED_BY_SHIP);
     return DONE;
 }
 
@@ -117,13 +132,16 @@ int heard_on_calling(struct work *work, const struct meaning *m) {
     if (m->end == RQ && asks && m->kind == FIELD_NONE)
         return call_request(work, m);
     if (m->end == BQ && is_voice(m) && m->kind == FIELD_CHANNEL)
-        return ring_back_answer(work, m);
+        return able_answer(work, m);
+    if (m->end == BQ && m->first == UNABLE)
+        return unable_answer(work, m);
     return IGNORED;
 }
 
 /* "Working call (127; 100 or 101; field 126s) on an offered or acknowledged
  * slot"; "Ship's end of call (117, 105, field 126s) while dialling or
- * answered", or in the hold; "same ship" each time. */
+ * answered", or in the hold; "same ship" each time. Before a call from ashore
+ * is answered, either is ignored. */
 int heard_on_working(struct work *work, uint32_t slot, const struct meaning *m) {
     const struct slot *held = &work->station->slots[slot];
     enum phase phase = held->phase;

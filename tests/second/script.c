@@ -100,9 +100,10 @@ static bool symbols_fit(const struct command *command, size_t from) {
 #define READABLE_by_hand command->count == 2u
 #define READABLE_with_symbols symbols_fit(command, 1)
 #define READABLE_on_slot_with_symbols symbols_fit(command, 2)
+#define READABLE_to_ship command->count >= 3u
 
 /* "S identity channels", or an event: its time, its slot if it is on one, its
- * symbols if it has any; "a list may be empty". */
+ * symbols if it has any, or its ship, mode and digits; "a list may be empty". */
 static bool is_readable(const struct command *command) {
     switch (command->letter) {
     case 'S': return command->count >= 1u;
@@ -127,11 +128,18 @@ static struct heard heard_in(const struct command *command, size_t from, uint8_t
     return heard;
 }
 
+/* Time, ship and mode; the numbers behind them are digits, or no digits. */
+static struct caller caller_in(const struct command *command) {
+    struct caller caller = {command->numbers[1], command->numbers[2], command->numbers + 3, command->count - 3u};
+    return caller;
+}
+
 #define GIVEN_alone
 #define GIVEN_on_slot command->numbers[1],
 #define GIVEN_by_hand command->numbers[1],
 #define GIVEN_with_symbols heard_in(command, 1, symbols),
 #define GIVEN_on_slot_with_symbols command->numbers[1], heard_in(command, 2, symbols),
+#define GIVEN_to_ship caller_in(command),
 
 /* Of a letter that is_readable knows. */
 static struct step happen(struct desk *desk, const struct command *command) {

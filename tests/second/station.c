@@ -119,11 +119,31 @@ struct step second_heard_on_slot(struct station station, uint32_t time, uint32_t
     return changed(heard_on_working(&work, slot, &m), &work);
 }
 
+/* ---- a caller ashore ---- */
+
+/* "15 .., 17 .., 19 .., 38 .., 37 ..; in this order, after 33" */
+struct step second_call_from_ashore(struct station station, uint32_t time, struct caller caller, struct lent room) {
+    struct work work;
+    int refusal = judge_untimed(&station, time, room);
+    if (refusal == DONE)
+        refusal = judge_caller(&station, &caller);
+    if (refusal != DONE)
+        return unchanged(refusal, &station);
+    work = begin(&station, time, room);
+    call_ship(&work, &caller);
+    return changed(DONE, &work);
+}
+
 /* ---- the ship's carrier: "Either answers 0 even where nothing changes" ---- */
 
-/* "carrier up ends it" */
+/* "carrier up ends it"; 02: "The first carrier up while it rings is the
+ * ship's transmission" */
 static int carrier_comes(struct work *work, uint32_t slot) {
     struct slot *held = &work->station->slots[slot];
+    if (is_ringing(held->phase)) {
+        ship_transmits(work, slot);
+        return DONE;
+    }
     if (!has_call(held->phase))
         return IGNORED;
     held->carrier = CARRIER_PRESENT;
@@ -161,11 +181,16 @@ static int handset_lifted(struct work *work, uint32_t slot) {
     return DONE;
 }
 
-/* "Coast's end (on-hook while dialling or answered, ..)" */
+/* "Coast's end (on-hook while dialling or answered, ..)"; 02: "The caller's
+ * on-hook before that drops the call too" */
 static int handset_laid_down(struct work *work, uint32_t slot) {
-    if (!has_call(work->station->slots[slot].phase))
+    enum phase phase = work->station->slots[slot].phase;
+    if (has_call(phase))
+        coasts_end(work, slot);
+    else if (is_being_called(phase))
+        drop_call(work, slot, DROPPED_BY_CALLER);
+    else
         return IGNORED;
-    coasts_end(work, slot);
     return DONE;
 }
 

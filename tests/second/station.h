@@ -1,4 +1,4 @@
-/* The automatic coast station of 01, with 02's no. 1, by value: it is handed in and the next
+/* The automatic coast station of 01, with 02's nos. 1 and 2, by value: it is handed in and the next
  * station is handed back, with the answer and the count of actions. */
 #ifndef SECOND_STATION_H
 #define SECOND_STATION_H
@@ -18,6 +18,8 @@
 #define RING_BACK_WAIT 50u
 #define DIALLING_WAIT 600u
 #define REPLY_WAIT 600u
+#define CALLED_WAIT 50u
+#define RINGING_WAIT 600u
 #define DUPLEX_CARRIER_WAIT 50u
 #define SIMPLEX_CARRIER_WAIT 450u
 #define HOLD_WAIT 40u
@@ -27,6 +29,9 @@
 enum answer {
     DONE = 0,
     IGNORED = 1,
+    SHIP_BAD = 15,
+    MODE_BAD = 17,
+    NUMBER_BAD = 19,
     WRONG_SIZE = 23,
     NOT_SOUND = 29,
     ROOM_TOO_SMALL = 30,
@@ -35,7 +40,9 @@ enum answer {
     WAIT_IS_DUE = 33,
     NO_SUCH_SLOT = 34,
     OPERATOR_REFUSED = 35,
-    SET_UP_BAD = 36
+    SET_UP_BAD = 36,
+    NO_SLOT_FREE = 37,
+    SHIP_ENGAGED = 38
 };
 
 /* In the order of their numbers in lent bytes. */
@@ -50,6 +57,9 @@ enum phase {
     PHASE_HOLD,
     PHASE_TAKEN,
     PHASE_DIALLED_OUT,
+    PHASE_CALLED,
+    PHASE_CALLED_AGAIN,
+    PHASE_RINGING,
     PHASES
 };
 
@@ -65,11 +75,11 @@ struct duration {
 struct slot {
     enum phase phase;
     enum carrier carrier;     /* the ship's, while dialling, dialled out or answered */
-    uint32_t due;             /* offer, ring-back, acknowledged, dialling, reply, hold */
+    uint32_t due;             /* offer, ring-back, acknowledged, dialling, reply, hold, called, ringing */
     uint32_t carrier_due;     /* while the carrier is absent */
     uint32_t start;           /* of an answered call, in tenths */
     struct duration duration; /* of the hold's answer */
-    struct meaning request;   /* stored from the offer or ring-back on */
+    struct meaning request;   /* stored from the offer, ring-back or call from ashore on */
 };
 
 struct waiting_ship {
@@ -109,6 +119,13 @@ struct heard {
     size_t count;
 };
 
+/* Whom a caller ashore wants. The digits are numbers, so that what is no digit is judged and not cut. */
+struct caller {
+    uint32_t ship, mode;
+    const uint32_t *digits;
+    size_t count;
+};
+
 /* Set-up: 0 or 36; for 36 the station handed back means nothing. */
 struct step second_set_up(uint32_t identity, const uint32_t *channels, size_t count);
 
@@ -124,6 +141,7 @@ bool second_next_due(const struct station *station, uint32_t *due);
 #define BY_VALUE_by_hand uint32_t slot,
 #define BY_VALUE_with_symbols struct heard heard,
 #define BY_VALUE_on_slot_with_symbols uint32_t slot, struct heard heard,
+#define BY_VALUE_to_ship struct caller caller,
 #define AS_EVENT(letter, entry, takes) \
     struct step second_##entry(struct station station, uint32_t time, BY_VALUE_##takes struct lent room);
 EVENTS(AS_EVENT)

@@ -47,6 +47,10 @@ static void fire_slot(struct work *work, uint32_t slot) {
     enum phase phase = work->station->slots[slot].phase;
     if (is_rung_once(phase))
         repeat_ring_back(work, slot);
+    else if (is_called_once(phase))
+        call_ship_again(work, slot);
+    else if (is_being_called(phase))
+        drop_call(work, slot, DROPPED_BY_COAST);
     else if (expects_ship(phase))
         close_unused(work, slot);
     else if (expects_reply(phase))

@@ -1,5 +1,6 @@
 /* What no script can reach: the writer (21), soundness (29), a small room
- * (30), untouched bytes, and the step of eight actions. */
+ * (30), untouched bytes, the step of eight actions, and a free slot beside a
+ * waiting ship. */
 #include <stdio.h>
 #include <string.h>
 #include "inside.h"
@@ -200,13 +201,13 @@ static void try_soundness(void) {
     s = busy(); s.slots[0].request.first = 101; unsound("duplex wait", s);
     s = busy(); s.queue[0].due = 10002; unsound("queue late", s);
     s = busy(); s.queue[0].due = 999; unsound("queue early", s);
-    s = busy(); s.slots[1].phase = (enum phase)10; unsound("no such phase", s);
+    s = busy(); s.slots[1].phase = (enum phase)13; unsound("no such phase", s);
     /* clang-format on */
 }
 
 /* Each wait, by the number that include/coast.h gives the phase. */
 static void try_phases(void) {
-    static const uint32_t waits[PHASES] = {0, 160, 50, 50, 160, 600, 0, 40, 0, 600};
+    static const uint32_t waits[PHASES] = {0, 160, 50, 50, 160, 600, 0, 40, 0, 600, 50, 50, 600};
     for (size_t i = 0; i < PHASES; i++) {
         struct station s = busy();
         enum phase phase = (enum phase)i;
@@ -219,6 +220,8 @@ static void try_phases(void) {
         want("due", second_is_sound(&s), 1);
         s.slots[1].request.self = SHIP;
         want("ship in a slot too", second_is_sound(&s), is_held(phase));
+        s.slots[1].request.self = SHIP + 1;
+        want("ship in the queue too", second_is_sound(&s), is_held(phase));
         s.slots[1].request.self = SHIP + 2;
         s.slots[1].due++;
         unsound("due late", s);
@@ -275,11 +278,84 @@ static void try_eight(void) {
         want("bytes after the last action stay", room[i], 0xA5);
 }
 
+/* The answer of a call from ashore to busy(); a refusal must leave the rest, and what is taken is the free slot 1. */
+static int called(uint32_t ship, uint32_t mode, const uint32_t *digits, size_t count, size_t room_len) {
+    uint8_t room[ACTION_ROOM], before[ACTION_ROOM];
+    struct lent lent = {room, room_len};
+    struct caller caller = {ship, mode, digits, count};
+    struct station s = busy();
+    struct step step;
+    memset(room, 0xA5, sizeof room);
+    memcpy(before, room, sizeof room);
+    step = second_call_from_ashore(s, 1010, caller, lent);
+    if (step.answer != 0) {
+        want("room untouched", memcmp(room, before, sizeof room), 0);
+        want("station unchanged", memcmp(&step.station, &s, sizeof s), 0);
+        want("no actions", step.actions, 0);
+        return step.answer;
+    }
+    want("two actions", step.actions, 2);
+    want("carrier on", room[0], 1);
+    want("slot", room[1], 1);
+    want("sent", room[40], 3);
+    want("its slot", room[41], 1);
+    want("bytes after the last action stay", memcmp(room + 80, before + 80, sizeof room - 80), 0);
+    want("phase", step.station.slots[1].phase, 10);
+    want("due", (long)step.station.slots[1].due, 1061);
+    want("still waiting", step.station.waiting_count, 1);
+    want("second telecommand", step.station.slots[1].request.second, 126);
+    want("sound", second_is_sound(&step.station), 1);
+    return 0;
+}
+
+/* A free slot beside a waiting ship is the caller's; digits are judged as numbers. */
+static void try_ashore(void) {
+    static const uint32_t digits[17] = {1, 2, 3, 4, 5, 6, 7, 8, 9, 0, 1, 2, 3, 4, 5, 6, 7};
+    static const uint32_t high[3] = {9, 9, 256};
+    want("called", called(SHIP + 2, 100, digits, 16, ACTION_ROOM), 0);
+    want("30", called(SHIP + 2, 100, digits, 16, ACTION_ROOM - 1), 30);
+    want("15", called(COAST, 102, digits, 0, ACTION_ROOM), 15);
+    want("17", called(SHIP, 102, digits, 0, ACTION_ROOM), 17);
+    want("no digit", called(SHIP, 101, NULL, 0, ACTION_ROOM), 19);
+    want("17 digits", called(SHIP, 101, digits, 17, ACTION_ROOM), 19);
+    want("256", called(SHIP, 101, high, 3, ACTION_ROOM), 19);
+    want("two of them", called(SHIP + 2, 101, high, 2, ACTION_ROOM), 0);
+    want("a ship that talks", called(SHIP, 101, digits, 1, ACTION_ROOM), 38);
+    want("a ship that waits", called(SHIP + 1, 101, digits, 1, ACTION_ROOM), 38);
+}
+
+/* A drop rings back on the slot that it freed, and on no other free one; the carrier of a ringing slot is not looked at. */
+static void try_drop(void) {
+    struct station s = busy();
+    struct room actions;
+    struct lent lent = {actions.bytes, sizeof actions};
+    struct step step;
+    s.slots[1] = s.slots[0];
+    s.slots[0] = (struct slot){0};
+    s.slots[1].phase = PHASE_RINGING;
+    s.slots[1].due = 1601;
+    step = second_on_hook(s, 1600, 1, lent);
+    want("dropped", step.answer, 0);
+    want("ringing off, carrier off, release, ring-back", step.actions, 5);
+    want("ringing off", actions.bytes[0], 9);
+    want("slot 0 stays free", step.station.slots[0].phase, 0);
+    want("slot 1 rings back", step.station.slots[1].phase, 2);
+    s.slots[1].carrier_due = 0;
+    step = second_carrier_up(s, 1600, 1, lent);
+    want("answered", step.answer, 0);
+    want("ringing off alone", step.actions, 1);
+    want("carrier present", step.station.slots[1].carrier, CARRIER_PRESENT);
+    want("from here on", (long)step.station.slots[1].start, 1600);
+    want("no wait of its own", second_is_sound(&step.station), 1);
+}
+
 int main(void) {
     try_writer();
     try_reader();
     try_soundness();
     try_phases();
     try_eight();
+    try_ashore();
+    try_drop();
     return failures == 0 ? 0 : 1;
 }

@@ -1,5 +1,5 @@
 # Fills a try's shorthand: names of five symbols, the empty field, the usual
-# number, and "@", the check (exclusive-or from the first 123 on). Nothing
+# numbers, and "@", the check (exclusive-or from the first 123 on). Nothing
 # else is worked out here: answers, times and actions are written by hand.
 BEGIN {
     name["C"] = "0 20 1 23 40"    # this coast station, 002001234
@@ -9,6 +9,7 @@ BEGIN {
     name["E"] = "20 0 56 79 10"   # ship 200056791
     name["X"] = "126 126 126"
     name["N"] = "105 5 55 12 34"  # number 5551234
+    name["L"] = "106 60 21"       # number 6021, of a caller ashore
 }
 function xor(a, b,   r, p) {
     r = 0

@@ -1,5 +1,5 @@
 /* The station on lent bytes, byte by byte as include/coast.h lays it out: one call from its request to its hold, with a ship
- * that waits. */
+ * that waits, and one from ashore. */
 #include <stdio.h>
 #include <string.h>
 #include "lent.h"
@@ -7,7 +7,7 @@
 #include "../host/event.h"
 
 #define SIZE 1723u
-#define VERSION 2u /* at byte 0 */
+#define VERSION 3u /* at byte 0 */
 #define CLOCK 1
 #define IDENTITY 5
 #define SLOT_COUNT 9
@@ -56,8 +56,10 @@ static uint64_t hand_in_line(const char *text, const uint8_t *symbols, const str
     memcpy(line.text, text, line.length);
     if (!read_event(&line, &event, list))
         return UINT64_MAX;
-    event.list = symbols;
-    event.count = symbols == NULL ? 0u : 24u;
+    if (takes_symbols(event.letter)) {
+        event.list = symbols;
+        event.count = symbols == NULL ? 0u : 24u;
+    }
     return hand_in(&second, &event, lent);
 }
 
@@ -200,11 +202,130 @@ static void end_and_ring_back(void) {
     want("hold's tick", happens("T 4000000000"), told(0, 2, 642));
 }
 
+/* What a called or ringing slot does not use: its carrier, what was told. */
+static void litter(void) {
+    memset(station + SLOT + 5, 200, 9);
+}
+
+/* Sent with a channel field, 90 0 26, in place of 126s, and with a BQ: its check is that of the request with these changed. */
+static void acknowledged(uint8_t *symbols, uint8_t first) {
+    memcpy(symbols, request, 24);
+    symbols[12] = first;
+    symbols[14] = 90;
+    symbols[15] = 0;
+    symbols[16] = 26;
+    symbols[22] = 122;
+    symbols[23] = (uint8_t)(104 ^ 101 ^ first ^ 126 ^ 126 ^ 126 ^ 90 ^ 26 ^ 117 ^ 122);
+}
+
+/* The call that was sent last: with that second telecommand, to the ship, on channel 26. */
+static void want_sent(const char *what, const uint8_t *block, uint8_t second_telecommand) {
+    static const uint8_t sent[23] = {123, 20, 0, 56, 78, 90, 100, 0, 20, 1, 23, 40, 101, 126, 90, 0, 26, 105, 5, 55, 12, 34, 117};
+    uint8_t expected[40] = {3, 0, 24};
+    memcpy(expected + 4, sent, 23);
+    expected[4 + 13] = second_telecommand;
+    for (size_t i = 0; i < 23u; i++)
+        expected[4 + 23] = (uint8_t)(expected[4 + 23] ^ expected[4 + i]);
+    if (memcmp(block, expected, 40) == 0)
+        return;
+    failures++;
+    printf("%s: another call was sent\n", what);
+}
+
+static void refused_from_ashore(void) {
+    static const uint8_t bad[2] = {5, 10};
+    static const struct lent_bytes small_room = {station, SIZE, room.bytes, sizeof room - 1u};
+    static const struct lent_bytes cut_off = {station, SIZE - 1u, room.bytes, sizeof room};
+    want("room", hand_in_line("C 100 1 1", NULL, &small_room), 30);
+    want("1722 bytes", hand_in_line("C 100 200056789 101 7", NULL, &cut_off), 29);
+    want("ship", happens("C 100 199999999 1"), 15);
+    want("mode", happens("C 100 200056789 357"), 17);
+    want("no digits", second_call_from_ashore_bytes(station, SIZE, 100, 200056789, 101, NULL, 0, room.bytes, sizeof room), 19);
+    want("digit 10", second_call_from_ashore_bytes(station, SIZE, 100, 200056789, 101, bad, 2, room.bytes, sizeof room), 19);
+    want("17 digits", happens("C 100 200056789 101 1 2 3 4 5 6 7 8 9 0 1 2 3 4 5 6 7"), 19);
+    want("time", happens("C 4000000001 1 1"), 31);
+}
+
+static void called_from_ashore(void) {
+    uint8_t able[24];
+    acknowledged(able, 100);
+    wanted[SLOT] = 10;
+    want_time(CLOCK, 100, 0);
+    want_time(SLOT + 1, 151, 0);
+    want_request(SLOT + 18, ship, 1);
+    want("a call from ashore", happens("C 100 200056789 101 5 5 5 1 2 3 4"), told(0, 2, 151));
+    want_sent("the call", room.bytes + 40, 126);
+    want("no slot free", happens("C 110 200056780 101 7"), told(37, 0, 151));
+    want("the same ship", happens("C 110 200056789 101 7"), told(38, 0, 151));
+    litter();
+    want_time(CLOCK, 120, 0);
+    want("carrier up before it rings", happens("U 120 0"), told(1, 0, 151));
+    wanted[SLOT] = 11;
+    want_time(CLOCK, 151, 0);
+    want_time(SLOT + 1, 202, 0);
+    station[SLOT + 18 + 9] = wanted[SLOT + 18 + 9] = 104; /* as no caller's is: it is sent as it stands */
+    want("the call once more", happens("T 160"), told(0, 1, 202));
+    want_sent("the repeat", room.bytes, 104);
+    litter();
+    wanted[SLOT] = 12;
+    want_time(CLOCK, 201, 0);
+    want_time(SLOT + 1, 34, 3); /* 802 */
+    want("it rings", heard("Q 201", able), told(0, 1, 802));
+}
+
+static void answered_from_ashore(void) {
+    litter();
+    want_time(CLOCK, 44, 1); /* 300 */
+    want("its request", heard("Q 300", request), told(1, 0, 802));
+    litter();
+    wanted[SLOT] = 6;
+    want_time(CLOCK, 33, 3); /* 801 */
+    want_time(SLOT + 1, 33, 3);
+    want("its transmission", happens("U 801 0"), told(0, 1, 0));
+    want_time(CLOCK, 132, 3); /* 900 */
+    wanted[SLOT + 5] = 1;
+    want_time(SLOT + 6, 183, 3); /* 951 */
+    want("its carrier down", happens("D 900 0"), told(0, 0, 951));
+    want_time(CLOCK, 182, 3); /* 950 */
+    memset(wanted + SLOT, 0, 14);
+    memset(wanted + SLOT + 18, 0, 27);
+    want("the caller's on-hook", happens("H 950 0"), told(0, 4, 0));
+}
+
+/* Each phase from 10 on, by what a due time may be; 13 is none. */
+static void phases_from_ashore(void) {
+    static const struct { uint8_t phase, low, high; } latest[] = {{10, 51, 0}, {11, 51, 0}, {12, 89, 2}}; /* 601 */
+    for (size_t i = 0; i < 3u; i++) {
+        wanted[SLOT] = station[SLOT] = latest[i].phase;
+        want_time(CLOCK, 0, 0);
+        want_time(SLOT + 1, latest[i].low, latest[i].high);
+        want_request(SLOT + 18, ship, 1);
+        memcpy(station, wanted, SIZE);
+        uint64_t due = (uint64_t)(latest[i].low + 256u * latest[i].high);
+        want("the latest due time", second_next_due_bytes(station, SIZE), told(0, 0, due));
+        station[SLOT + 1] = ++wanted[SLOT + 1];
+        want("a tenth later", second_next_due_bytes(station, SIZE), 29);
+        station[SLOT + 1] = wanted[SLOT + 1] = 0;
+        station[SLOT + 2] = wanted[SLOT + 2] = 0;
+        want("at the clock", second_next_due_bytes(station, SIZE), told(0, 0, 0) + 65536u);
+        station[SLOT + 18 + 8] = wanted[SLOT + 18 + 8] = 2;
+        want("mode 2", second_next_due_bytes(station, SIZE), 29);
+    }
+    station[SLOT + 18 + 8] = wanted[SLOT + 18 + 8] = 1;
+    station[SLOT] = wanted[SLOT] = 13;
+    want("phase 13", second_next_due_bytes(station, SIZE), 29);
+}
+
 int main(void) {
     set_up();
     offer();
     versions();
     call_and_wait();
     end_and_ring_back();
+    set_up();
+    refused_from_ashore();
+    called_from_ashore();
+    answered_from_ashore();
+    phases_from_ashore();
     return failures == 0 ? 0 : 1;
 }
