@@ -56,7 +56,7 @@ static unsigned print_depths(enum side side) {
             if (only_asks(*letter))
                 deepest[(uint8_t)*letter] = more(deepest[(uint8_t)*letter], depth_of_asking(side, *letter));
     }
-    printf("stack in bytes (N next due time, C clock), %s: read %u, write %u", names[side], read, written);
+    printf("stack in bytes (N next due time, K clock), %s: read %u, write %u", names[side], read, written);
     for (const char *letter = entry_letters; *letter != '\0'; letter++) {
         printf(", %c %u", *letter, deepest[(uint8_t)*letter]);
         all = more(all, deepest[(uint8_t)*letter]);

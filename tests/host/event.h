@@ -20,8 +20,8 @@ struct line {
 struct event {
     char letter;
     uint32_t number; /* the time; for S the identity */
-    uint32_t slot;
-    const uint8_t *list; /* symbols; for S channels */
+    uint32_t slot, ship, mode;
+    const uint8_t *list; /* symbols; for S channels, for a call from ashore digits */
     size_t count;
 };
 

@@ -11,10 +11,10 @@ namespace {
 
 class Rack {
 public:
-    uint64_t set_up(uint32_t coast, uint8_t channel) { return call(SET_UP_LETTER, {0, coast, &channel, 1}); }
+    uint64_t set_up(uint32_t coast, uint8_t channel) { return call(SET_UP_LETTER, {0, coast, &channel, 1, 0, 0}); }
 
-    // On slot 0, with document 01's request P1.
-    uint64_t happens(char letter, uint32_t time) { return call(letter, {time, 0, checked[0], CHECKED_LENGTH}); }
+    // On slot 0, with document 01's request P1; its symbols are no digits.
+    uint64_t happens(char letter, uint32_t time) { return call(letter, {time, 0, checked[0], CHECKED_LENGTH, 200056789, 101}); }
 
     uint64_t next_due() { return call(NEXT_DUE_LETTER, {}); }
 
@@ -31,7 +31,14 @@ private:
     coast_lent lent = {};
 };
 
-// P1 is offered the channel, nobody else is waited for, and the operator finds the slot not free. The tick comes last.
+// The operator finds the slot not free, a caller's number has too many digits, and all else is accepted.
+bool as_wanted(char letter, uint32_t answer) {
+    if (is_by_hand(letter))
+        return answer == COAST_ANSWER_OPERATOR;
+    return takes_ship(letter) ? answer == COAST_ANSWER_BAD_NUMBER : answer <= COAST_ANSWER_IGNORED;
+}
+
+// P1 is offered the channel, and nobody else is waited for. The tick comes last.
 bool plays_events() {
     static const char letters[] = {EVENTS(ITS_LETTER)};
     Rack rack;
@@ -39,7 +46,7 @@ bool plays_events() {
     bool good = coast_answer(rack.set_up(2001234, 26)) == COAST_ANSWER_DONE;
     for (char letter : letters) {
         const uint32_t answer = coast_answer(rack.happens(letter, time++));
-        good = good && (is_by_hand(letter) ? answer == COAST_ANSWER_OPERATOR : answer <= COAST_ANSWER_IGNORED);
+        good = good && as_wanted(letter, answer);
     }
     const uint64_t due = rack.next_due(), clock = rack.clock();
     printf("cpp_host: %s, %s\n", coast_action_words(coast_action_kind(rack.action(0))),

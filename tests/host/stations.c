@@ -8,6 +8,12 @@
 #define FILLING 85u
 #define NONE 0u /* no wait runs */
 #define SET_UP "S 002001234 26 27"
+
+/* The ship's own answer to a call from ashore, P2 with its identities exchanged, and the refusals that such a call alone has. */
+#define ABLE "123 0 20 1 23 40 100 20 0 56 78 90 101 126 90 0 26 105 5 55 12 34 122 89"
+#define NO_SLOT_FREE 37u
+#define SHIP_ENGAGED 38u
+
 #define SPOILT " 128 0 0 0 0 0 0 0 0 0 0 0 0 0 0 0 0 0 0 0 0 0 0 0"
 
 /* A line of a script, in which P1 to P6 behind its letter stand for their symbols, and what it must give. */
@@ -39,6 +45,17 @@ static const struct step course[] = {
     {"O 9910 0", COAST_ANSWER_DONE, 0, NONE, 9910},
     {"P 9911 0", COAST_ANSWER_IGNORED, 0, NONE, 9911},
     {"H 9950 0", COAST_ANSWER_DONE, 4, NONE, 9950},
+    {"C 10000 200056789 101 5 5 5 1 2 3 4", COAST_ANSWER_DONE, 2, 10051, 10000},
+    {"U 10010 0", COAST_ANSWER_IGNORED, 0, 10051, 10010},
+    {"T 10060", COAST_ANSWER_DONE, 1, 10102, 10051},
+    {"Q 10100 " ABLE, COAST_ANSWER_DONE, 1, 10701, 10100},
+    {"Q 10110 P1", COAST_ANSWER_IGNORED, 0, 10701, 10110},
+    {"U 10700 0", COAST_ANSWER_DONE, 1, NONE, 10700},
+    {"O 10710 0", COAST_ANSWER_IGNORED, 0, NONE, 10710},
+    {"W 10800 0 P5", COAST_ANSWER_DONE, 4, 10841, 10800},
+    {"T 10841", COAST_ANSWER_DONE, 0, NONE, 10841},
+    {"C 10900 200056789 100 7", COAST_ANSWER_DONE, 2, 10951, 10900},
+    {"H 10910 0", COAST_ANSWER_DONE, 2, NONE, 10910},
 };
 #define STEPS (sizeof course / sizeof course[0])
 
@@ -80,7 +97,7 @@ static struct own after(size_t steps) {
 
 /* Whether a call is answered then, and not yet charged. */
 static bool talks_after(size_t steps) {
-    return (steps >= 7u && steps <= 9u) || steps == 19u || steps == 20u;
+    return (steps >= 7u && steps <= 9u) || steps == 19u || steps == 20u || steps == 27u || steps == 28u;
 }
 
 static uint32_t due_of(uint64_t returned) {
@@ -142,7 +159,8 @@ static void try_taken_apart(void) {
     want("charged to", coast_charge_stop(ended.room), 4829);
     want("seconds charged", coast_charge_seconds(ended.room), 410);
     want("then the line", coast_action_kind(coast_action_at(ended.room, 1)), COAST_ACTION_RELEASE_LINE);
-    want("charged from off-hook", coast_charge_start(after(STEPS).room), 9910);
+    want("charged from off-hook", coast_charge_start(after(21).room), 9910);
+    want("charged from the ship's transmission", coast_charge_start(after(29).room), 10700);
     coast_put_number(ended.station, 4000000000u);
     want("a number put", coast_number_at(ended.station), 4000000000u);
 }
@@ -219,6 +237,7 @@ static void try_refusals(void) {
         {"Q 261" SPOILT, COAST_ANSWER_WAIT_DUE},
         {"W 261 9 P4", COAST_ANSWER_WAIT_DUE},
         {"P 261 0", COAST_ANSWER_WAIT_DUE},
+        {"C 261 1 1", COAST_ANSWER_WAIT_DUE},
         {"W 260 2" SPOILT, COAST_ANSWER_NO_SLOT},
         {"O 260 4294967295", COAST_ANSWER_NO_SLOT},
         {"P 260 2", COAST_ANSWER_NO_SLOT},
@@ -229,8 +248,15 @@ static void try_refusals(void) {
         {"Q 260" SPOILT, COAST_ANSWER_BAD_SYMBOL},
         {"M 260 0", COAST_ANSWER_OPERATOR},
         {"F 260 1", COAST_ANSWER_OPERATOR},
+        {"C 260 199999999 99", COAST_ANSWER_BAD_IDENTITIES},
+        {"C 260 200056789 357", COAST_ANSWER_BAD_TELECOMMANDS},
+        {"C 260 200056789 101", COAST_ANSWER_BAD_NUMBER},
+        {"C 260 200056789 101 7 10", COAST_ANSWER_BAD_NUMBER},
+        {"C 260 200056789 101 1 2 3 4 5 6 7 8 9 0 1 2 3 4 5 6 7", COAST_ANSWER_BAD_NUMBER},
+        {"C 260 200056789 101 7", SHIP_ENGAGED},
     };
-    struct own own = after(1);
+    struct own own = after(1), full = after(4);
+    want_refused("no slot free", "C 300 200056780 101 7", full.station, COAST_STATION_SIZE, COAST_ACTIONS_SIZE, NO_SLOT_FREE);
     litter(&own);
     for (size_t i = 0; i < sizeof refused / sizeof refused[0]; i++)
         want_refused("a refusal", refused[i].line, own.station, COAST_STATION_SIZE, COAST_ACTIONS_SIZE, refused[i].answer);
@@ -245,14 +271,15 @@ static void try_bad_set_ups(void) {
 }
 
 /* One byte made wrong in the station after so many steps: 3 dials on slot 0, 5 lost the carrier there, 10 holds, 16 has dialled
- * with its carrier lost. */
+ * with its carrier lost, 22 and 24 call a ship, 25 rings. */
 static void try_unsound(void) {
     static const struct {
         size_t steps, place;
         uint8_t value;
-    } wrong[] = {{3, 4, 255}, {3, 8, 1}, {3, 9, 0}, {3, 9, 17}, {3, 10, 33}, {3, 11, 10}, {3, 11, 255}, {3, 13, 255}, {3, 25, 16},
-        {3, 26, 1}, {3, 32, 0}, {3, 37, 2}, {3, 39, 17}, {5, 16, 2}, {5, 18, 255}, {10, 21, 2}, {10, 23, 60}, {16, 11, 10},
-        {16, 13, 255}, {16, 16, 2}, {16, 18, 255}, {16, 32, 0}};
+    } wrong[] = {{3, 4, 255}, {3, 8, 1}, {3, 9, 0}, {3, 9, 17}, {3, 10, 33}, {3, 11, 13}, {3, 11, 255}, {3, 13, 255}, {3, 25, 16},
+        {3, 26, 1}, {3, 32, 0}, {3, 37, 2}, {3, 39, 17}, {5, 16, 2}, {5, 18, 255}, {10, 21, 2}, {10, 23, 60}, {16, 11, 13},
+        {16, 13, 255}, {16, 16, 2}, {16, 18, 255}, {16, 32, 0}, {22, 13, 255}, {22, 32, 0}, {22, 37, 2}, {24, 13, 255},
+        {25, 13, 255}, {25, 39, 17}};
     for (size_t i = 0; i < sizeof wrong / sizeof wrong[0]; i++) {
         struct own own = after(wrong[i].steps);
         own.station[wrong[i].place] = wrong[i].value;
@@ -269,6 +296,21 @@ static void try_dialled_out(void) {
     dialled.station[11] = 5;
     want("the first end of dialling", coast_answer(hand_in_own(&dialled, "P 9320 0")), COAST_ANSWER_DONE);
     want_due("a minute from there", hand_in_own(&dialled, "U 9330 0"), 9921);
+}
+
+/* A ship that is called, called again, and rings has the phases 10, 11 and 12, and the answered call the one of any other. */
+static void try_called(void) {
+    static const struct {
+        size_t steps;
+        uint8_t phase;
+    } phases[] = {{22, 10}, {23, 10}, {24, 11}, {25, 12}, {26, 12}, {27, 6}, {29, 7}};
+    for (size_t i = 0; i < sizeof phases / sizeof phases[0]; i++)
+        want("the phase of a call from ashore", after(phases[i].steps).station[11], phases[i].phase);
+    struct own called = after(25);
+    called.station[11] = 10;
+    called.station[12] = 143; /* due at 10127, as a sending may be */
+    called.station[13] = 39;
+    want("carrier up before it rings", coast_answer(hand_in_own(&called, "U 10110 0")), COAST_ANSWER_IGNORED);
 }
 
 /* Of all that byte 0 may be, one value alone is a station's; set-up does not look at it. */
@@ -369,13 +411,14 @@ void try_stations(void) {
     try_course(true);
     try_action();
     try_taken_apart();
-    want_words(coast_answer_words, 255, 23);
-    want_words(coast_action_words, 255, 7);
+    want_words(coast_answer_words, 255, 25);
+    want_words(coast_action_words, 255, 10);
     try_sizes();
     try_refusals();
     try_bad_set_ups();
     try_unsound();
     try_dialled_out();
+    try_called();
     try_versions();
     try_advice();
     try_coming_back();

@@ -4,8 +4,8 @@ import collections, itertools, os, sys
 import rehearsals as r
 import shrinking
 
-ANSWERS = [0, 1, *range(11, 21), *range(31, 37), 40, 41]   # 21, 29 and 30 are for hosts: no script reaches them
-ACTIONS = range(1, 8)
+ANSWERS = [0, 1, *range(11, 21), *range(31, 39), 40, 41]   # 21, 29 and 30 are for hosts: no script reaches them
+ACTIONS = range(1, 11)
 ENOUGH_ANSWERS, ENOUGH_SITUATIONS = 100, 20
 
 

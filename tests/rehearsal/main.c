@@ -1,18 +1,20 @@
 /* Writes one lively script, the same for the same seed, on standard output, and on standard error how often each situation
- * of document 01, and of no. 1 of 02, was reached in it. */
+ * of document 01, and of nos. 1 and 2 of 02, was reached in it. */
 #include <stdio.h>
 #include <stdlib.h>
 
 #include "rehearsal.h"
 
-/* Weights: call, again, answer, exchange, line, carrier, end, time, hand, stray, leap, noise. */
+/* Weights: call, again, answer, exchange, line, carrier, end, time, hand, stray, leap, noise, ashore. */
 static const struct mood moods[] = {
-    {"a busy day", 16, 4, 48, 1200, {20, 10, 30, 12, 20, 14, 14, 12, 4, 3, 1, 2}, 12, false},
-    {"few ships", 3, 2, 6, 600, {14, 16, 26, 14, 22, 22, 16, 14, 4, 2, 2, 1}, 16, false},
-    {"a crowd", 2, 40, 60, 1200, {70, 20, 12, 5, 8, 6, 5, 3, 2, 2, 0, 1}, 20, false},
-    {"long talks", 2, 2, 5, 900, {10, 4, 30, 10, 26, 6, 14, 6, 2, 1, 14, 1}, 20, false},
-    {"the limit", 4, 2, 40, 250, {20, 10, 24, 12, 18, 12, 12, 10, 5, 2, 1, 2}, 8, true},
-    {"bad sequences", 4, 3, 12, 900, {16, 10, 24, 10, 14, 10, 12, 8, 6, 12, 1, 12}, 2, false},
+    {"a busy day", 16, 4, 48, 1200, {20, 10, 30, 12, 20, 14, 14, 12, 4, 3, 1, 2, 8}, 12, false},
+    {"few ships", 3, 2, 6, 600, {14, 16, 26, 14, 22, 22, 16, 14, 4, 2, 2, 1, 9}, 16, false},
+    {"a crowd", 2, 40, 60, 1000, {70, 20, 12, 5, 8, 6, 5, 3, 2, 2, 0, 1, 4}, 20, false},
+    {"long talks", 2, 2, 5, 1000, {10, 4, 26, 10, 26, 6, 18, 6, 2, 1, 17, 1, 4}, 20, false},
+    {"callers ashore", 2, 2, 6, 1000, {10, 6, 34, 6, 12, 14, 8, 12, 2, 2, 1, 1, 30}, 8, false},
+    {"callers and a queue", 1, 2, 4, 1000, {24, 10, 36, 2, 8, 18, 4, 14, 1, 1, 0, 1, 26}, 24, false},
+    {"the limit", 4, 2, 40, 250, {20, 10, 24, 12, 18, 12, 12, 10, 5, 2, 1, 2, 8}, 8, true},
+    {"bad sequences", 4, 3, 12, 900, {16, 10, 24, 10, 14, 10, 12, 8, 6, 12, 1, 12, 8}, 2, false},
 };
 
 int main(int argc, char **argv) {

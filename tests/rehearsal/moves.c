@@ -42,12 +42,16 @@ static uint32_t call_again(struct event *event) {
     return OFFER_WAIT;
 }
 
-/* The ship does what it was offered; with nothing to do it may call once more where its line is dialled. */
+/* The ship does what it was offered, or what one does that is called; with nothing to do it may call once more where its line is
+ * dialled. */
 static uint32_t answer(struct event *event) {
     uint32_t slot = any_slot(one_in(3) ? is_rung : expects_ship), named;
+    uint32_t called = any_slot(one_in(4) ? talks : is_being_called);
     const struct slot *held;
     struct meaning m;
     bool ring;
+    if (called != NONE && (slot == NONE || !one_in(3)))
+        return answer_caller(event, called);
     if (slot == NONE && one_in(12))
         slot = any_slot(has_call);
     if (slot == NONE)
@@ -56,7 +60,9 @@ static uint32_t answer(struct event *event) {
     ring = is_rung(held->phase) ? !one_in(8) : one_in(12);
     named = one_in(12) ? chance(stage.station.channel_count) : slot;
     m = ring ? as_ring_back_answer(held->request, stage.station.channels[named]) : as_working_call(held->request);
-    if (one_in(12))
+    if (ring && one_in(24))
+        m = as_unable(held->request);
+    else if (one_in(12))
         m = mistaken(m);
     event->letter = ring != one_in(40) ? 'Q' : 'W';
     event->slot = one_in(40) ? chance(stage.station.channel_count) : slot;
@@ -66,7 +72,7 @@ static uint32_t answer(struct event *event) {
 
 /* The exchange tells that dialling has ended, seldom where nothing is dialled. */
 static uint32_t exchange(struct event *event) {
-    uint32_t slot = any_slot(one_in(4) ? has_call : is_dialling);
+    uint32_t slot = any_slot(one_in(4) ? has_call : one_in(5) ? is_being_called : is_dialling);
     if (slot == NONE && !one_in(8))
         return answer(event);
     event->letter = 'P';
@@ -74,18 +80,18 @@ static uint32_t exchange(struct event *event) {
     return REPLY_WAIT;
 }
 
-/* The handset ashore. */
+/* The handset ashore; a caller's is off. */
 static uint32_t handset(struct event *event) {
-    uint32_t slot = any_slot(has_call);
+    uint32_t slot = any_slot(one_in(5) ? is_being_called : has_call);
     bool rings = slot != NONE && expects_reply(stage.station.slots[slot].phase);
     event->slot = slot == NONE || one_in(20) ? chance(stage.station.channel_count) : slot;
     event->letter = one_in(rings ? 6u : 2u) ? 'H' : 'O';
     return RING_BACK_WAIT;
 }
 
-/* The ship's carrier. */
+/* The ship's carrier, seldom before it answers a caller. */
 static uint32_t carrier(struct event *event) {
-    uint32_t slot = any_slot(has_call);
+    uint32_t slot = any_slot(one_in(8) ? is_being_called : has_call);
     bool duplex = slot != NONE && stage.station.slots[slot].request.first == DUPLEX;
     event->slot = slot == NONE || one_in(20) ? chance(stage.station.channel_count) : slot;
     event->letter = one_in(3) ? 'U' : 'D';
@@ -104,6 +110,11 @@ static uint32_t end_call(struct event *event) {
     event->slot = one_in(30) ? chance(stage.station.channel_count) : slot;
     put_sequence(event, &m);
     return HOLD_WAIT;
+}
+
+/* A caller ashore, less often where no slot is free. */
+static uint32_t caller(struct event *event) {
+    return any_slot(is_free) == NONE && one_in(2) ? answer(event) : call_from_ashore(event);
 }
 
 /* The operator. */
@@ -133,11 +144,12 @@ static filler *const fillers[MOVES] = {
     [END] = end_call,
     [HAND] = hand,
     [STRAY] = stray,
+    [ASHORE] = caller,
 };
 
 /* ---- the whole line ---- */
 
-/* Time, slot and sequence, one of them or several at once, so that the refusals' order shows. */
+/* Time, slot, sequence and caller, one of them or several at once, so that the refusals' order shows. */
 static void spoil(struct event *event) {
     if (one_in(3))
         event->time = wrong_time();
@@ -145,6 +157,8 @@ static void spoil(struct event *event) {
         event->slot = stage.station.channel_count + (one_in(2) ? 0u : chance(4294967295u - MOST_SLOTS));
     if (takes_symbols(event->letter) && !one_in(4))
         spoil_sequence(event);
+    if (takes_ship(event->letter))
+        spoil_caller(event);
 }
 
 static char without_symbols(void) {
@@ -193,11 +207,13 @@ void make_move(const struct mood *mood) {
     if (move == LEAP) {
         uint32_t time = leap();
         catch_up(time);
-        fillers[one_in(2) ? CARRIER : one_in(2) ? LINE : END](&event);
+        fillers[one_in(3) ? CARRIER : one_in(2) ? LINE : END](&event);
         event.time = time;
     } else if (move == NOISE) {
         event.letter = without_symbols();
         event.time = soon(OFFER_WAIT, 0);
+        if (takes_ship(event.letter))
+            put_caller(&event, stage.ships[0]);
         if (one_in(4))
             play_odd();
         else

@@ -58,6 +58,8 @@ static void play_too_early(void) {
     event.slot = chance(2);
     if (takes_symbols(event.letter))
         event.count = draw_sequence(event.symbols);
+    if (takes_ship(event.letter))
+        put_caller(&event, stage.ships[0]);
     if (one_in(4))
         play_odd();
     else if (one_in(3))

@@ -32,6 +32,8 @@ size_t put_text(char *text, const struct event *event) {
         length += (size_t)sprintf(text + length, " %u", event->time);
     if (takes_slot(event->letter))
         length += (size_t)sprintf(text + length, " %u", event->slot);
+    if (takes_ship(event->letter))
+        length += (size_t)sprintf(text + length, " %u %u", event->ship, event->mode);
     for (size_t i = 0; i < event->count; i++)
         length += (size_t)sprintf(text + length, " %u", event->symbols[i]);
     return length;
@@ -48,16 +50,25 @@ static size_t put_zeros(char *text, size_t length) {
     return length + zeros;
 }
 
+static struct caller caller_in(const struct event *event, uint32_t *digits) {
+    struct caller caller = {event->ship, event->mode, digits, event->count};
+    for (size_t i = 0; i < event->count; i++)
+        digits[i] = event->symbols[i];
+    return caller;
+}
+
 #define GIVES_alone
 #define GIVES_on_slot event->slot,
 #define GIVES_by_hand GIVES_on_slot
 #define GIVES_with_symbols heard,
 #define GIVES_on_slot_with_symbols event->slot, heard,
+#define GIVES_to_ship caller_in(event, digits),
 
 static struct step follow(const struct event *event) {
     static struct room actions;
     struct lent room = {actions.bytes, sizeof actions};
     struct heard heard = {event->symbols, event->count};
+    uint32_t digits[MOST_SYMBOLS];
     struct station station = stage.station;
     switch (event->letter) {
 #define AS_STEP(letter, entry, takes) \

@@ -10,16 +10,17 @@
 #define MOST_SHIPS 64u
 #define LINE_MOST 200u
 
-/* One line of a script, readable. For S the slot is the identity and the symbols are the channels. */
+/* One line of a script, readable. For S the slot is the identity and the symbols are the channels; for C the symbols are the
+ * digits. */
 struct event {
     char letter;
-    uint32_t time, slot;
+    uint32_t time, slot, ship, mode;
     size_t count;
     uint8_t symbols[MOST_SYMBOLS];
 };
 
 /* The kinds of move; a mood gives each its weight. */
-enum move { CALL, AGAIN, ANSWER, EXCHANGE, LINE, CARRIER, END, TIME, HAND, STRAY, LEAP, NOISE, MOVES };
+enum move { CALL, AGAIN, ANSWER, EXCHANGE, LINE, CARRIER, END, TIME, HAND, STRAY, LEAP, NOISE, ASHORE, MOVES };
 
 struct mood {
     const char *name;
@@ -66,10 +67,17 @@ struct meaning varied(struct meaning request); /* another number, mode or second
 struct meaning as_working_call(struct meaning request);
 struct meaning as_ring_back_answer(struct meaning request, uint8_t channel);
 struct meaning as_end(struct meaning request);
+struct meaning as_unable(struct meaning request);
 struct meaning mistaken(struct meaning m); /* valid, but not what is wanted there */
 void put_sequence(struct event *event, const struct meaning *m);
 void put_stray(struct event *event); /* any valid sequence, or one overheard */
 void spoil_sequence(struct event *event);
+
+/* ---- ashore.c: calls from shore to ship; each fills in the event, and hands back the wait that it begins ---- */
+void put_caller(struct event *event, uint32_t ship); /* who wants that ship, and no time yet */
+void spoil_caller(struct event *event);
+uint32_t call_from_ashore(struct event *event);
+uint32_t answer_caller(struct event *event, uint32_t slot); /* what the ship that is called on that slot does, or was */
 
 /* ---- moves.c ---- */
 void make_move(const struct mood *mood);

@@ -8,7 +8,7 @@ PROGRAM = os.path.join(ROOT, 'tools', 'rehearse')   # on trial
 FIRST_SEED = 1
 LINES = 200_000          # of the gate's run
 MOST_SECONDS = 60        # for one script; a program that takes longer has stopped answering
-PARTS = ['sequence', 'actions', 'queue', 'waits', 'calls', 'request', 'sound', 'station', 'script']
+PARTS = ['sequence', 'actions', 'queue', 'waits', 'calls', 'ashore', 'request', 'sound', 'station', 'script']
 
 
 class Room(tempfile.TemporaryDirectory):

@@ -59,6 +59,15 @@ struct meaning as_end(struct meaning request) {
     return request;
 }
 
+struct meaning as_unable(struct meaning request) {
+    if (one_in(4))
+        new_number(&request);
+    request.first = UNABLE;
+    request.second = one_in(4) ? NO_INFORMATION : (uint8_t)(100u + chance(10));
+    request.end = BQ;
+    return request;
+}
+
 /* The field of its telecommand that is not wanted there: a channel, a duration (90 0 26 among them), or none. */
 static void other_field(struct meaning *m) {
     bool none = m->kind == FIELD_NONE && m->first != UNABLE;

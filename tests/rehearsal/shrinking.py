@@ -5,7 +5,7 @@ import rehearsals as r
 
 MOST_SECONDS = 60
 LIMIT = 4_000_000_000
-TIMED = re.compile(rb'([QWUDPOHMFT]) (\d{1,10})(.*)', re.S)
+TIMED = re.compile(rb'([QWCUDPOHMFT]) (\d{1,10})(.*)', re.S)
 
 
 def time_of(line):

@@ -1,110 +1,7 @@
-/* What a script has reached: each situation of document 01 and of no. 1 of 02, counted from the station before and after a
- * step. */
+/* What a script has reached, counted from the station before and after a step. */
 #include <stdio.h>
 
-#include "rehearsal.h"
-
-#define SITUATIONS(X)                                                      \
-    X(A, "rule a")                                                         \
-    X(A_KNOWN, "rule a, the ship stands somewhere")                        \
-    X(B_SAME, "rule b, identical")                                         \
-    X(B_OTHER, "rule b, offered, another request")                         \
-    X(B_RING, "rule b, first ring-back")                                   \
-    X(B_RING_AGAIN, "rule b, second ring-back")                            \
-    X(B_AGREED, "rule b, acknowledged")                                    \
-    X(C_DUPLEX, "rule c, duplex without carrier")                          \
-    X(C_PRESENT, "rule c, simplex with carrier")                           \
-    X(C_DIALLING, "rule c ends a call, dialling")                          \
-    X(C_DIALLED_OUT, "rule c ends a call, dialled out")                    \
-    X(C_ANSWERED, "rule c ends an answered call")                          \
-    X(C_SEVEN, "rule c, charge, ring-back and answer, seven actions")      \
-    X(C_OFFERED, "rule c, then offered a slot again")                      \
-    X(D, "rule d")                                                         \
-    X(E, "rule e")                                                         \
-    X(E_GAP, "rule e, a slot above slot 0")                                \
-    X(F, "rule f")                                                         \
-    X(F_LAST, "rule f, the 32nd place")                                    \
-    X(G, "rule g")                                                         \
-    X(CALL_IN_HOLD, "request of a ship in its hold")                       \
-    X(DIAL, "working call, offered")                                       \
-    X(DIAL_AGREED, "working call, acknowledged")                           \
-    X(DIAL_LAST, "working call in the last tenth")                         \
-    X(DIAL_OTHER_MODE, "working call of the other mode")                   \
-    X(WORKING_IN_RING, "working call in ring-back")                        \
-    X(WORKING_DIALLING, "working call, line dialling")                     \
-    X(WORKING_DIALLED_OUT, "working call, line dialled out")               \
-    X(WORKING_ANSWERED, "working call, call answered")                     \
-    X(BQ_FIRST, "BQ, first ring-back")                                     \
-    X(BQ_SECOND, "BQ, second ring-back")                                   \
-    X(BQ_CHANNEL, "BQ, another channel")                                   \
-    X(BQ_TWICE, "BQ, acknowledged already")                                \
-    X(END_DIALLING, "ship's end, dialling")                                \
-    X(END_DIALLED_OUT, "ship's end, dialled out")                          \
-    X(END_ANSWERED, "ship's end, answered")                                \
-    X(END_HOLD, "ship's end in the hold")                                  \
-    X(END_HOLD_LAST, "ship's end in the hold's last tenth")                \
-    X(END_OTHER, "end of call of another ship")                            \
-    X(END_FIELD, "end of call with a duration")                            \
-    X(ENDED, "dialling ended, carrier present")                            \
-    X(ENDED_SILENT, "dialling ended, carrier wait runs on")                \
-    X(ENDED_LAST, "dialling ended in its last tenth")                      \
-    X(ENDED_AGAIN, "dialling ended a second time")                         \
-    X(ENDED_ANSWERED, "dialling ended, answered")                          \
-    X(ENDED_EARLY, "dialling ended, offered, ring-back or acknowledged")   \
-    X(ENDED_HOLD, "dialling ended, hold")                                  \
-    X(ENDED_IDLE, "dialling ended, free or taken")                         \
-    X(LIFT_DIALLING, "off-hook before dialling ended")                     \
-    X(LIFT_DIALLED_OUT, "off-hook after dialling ended")                   \
-    X(LIFT_LAST, "off-hook in the reply's last tenth")                     \
-    X(LIFT_LATE, "off-hook over a minute after the working call")          \
-    X(LIFT, "off-hook, carrier present")                                   \
-    X(LIFT_SILENT, "off-hook, carrier wait runs on")                       \
-    X(LIFT_AGAIN, "off-hook, answered")                                    \
-    X(LAY_DIALLING, "on-hook, dialling")                                   \
-    X(LAY_DIALLED_OUT, "on-hook, dialled out")                             \
-    X(LAY_ANSWERED, "on-hook, answered")                                   \
-    X(DOWN_SIMPLEX, "carrier down, simplex")                               \
-    X(DOWN_DUPLEX, "carrier down, duplex")                                 \
-    X(DOWN_AGAIN, "carrier down once more")                                \
-    X(UP, "carrier up ends the wait")                                      \
-    X(UP_AGAIN, "carrier up, present already")                             \
-    X(CARRIER_ELSE, "carrier without a call")                              \
-    X(DUE_OFFER, "offer due")                                              \
-    X(DUE_AGREED, "acknowledged due")                                      \
-    X(DUE_RING, "first ring-back due")                                     \
-    X(DUE_RING_AGAIN, "second ring-back due")                              \
-    X(DUE_DIALLING, "no reply, dialling not ended")                        \
-    X(DUE_REPLY, "no reply, dialled out")                                  \
-    X(DUE_SIMPLEX, "carrier loss, simplex")                                \
-    X(DUE_DUPLEX, "carrier loss, duplex")                                  \
-    X(DUE_DIALLED_OUT, "carrier loss, dialled out")                        \
-    X(DUE_ANSWERED, "carrier loss, answered")                              \
-    X(DUE_HOLD, "hold due")                                                \
-    X(DUE_QUEUE, "queue entry due")                                        \
-    X(NONE_DUE, "tick, none due")                                          \
-    X(LATE, "late tick")                                                   \
-    X(LATE_CHARGE, "late tick that charges")                               \
-    X(TIE_QUEUE, "due together: two queue entries")                        \
-    X(TIE_QUEUE_SLOT, "due together: queue entry and slot")                \
-    X(TIE_SLOTS, "due together: two slots")                                \
-    X(TIE_ONE_SLOT, "due together: carrier loss and no reply of one slot") \
-    X(RING_HIGH, "ring-back on a slot above slot 0")                       \
-    X(TAKE, "operator takes")                                              \
-    X(GIVE_BACK, "operator gives back")                                    \
-    X(GIVE_BACK_RING, "operator gives back, ring-back")                    \
-    X(HUNDRED_SHIP, "100 hours and over, ship's end")                      \
-    X(HUNDRED_COAST, "100 hours and over, coast's end")                    \
-    X(NINETY, "90 hours and more, under 100")                              \
-    X(AT_LIMIT, "accepted at the limit")                                   \
-    X(PAST_LIMIT, "a due time past the limit")                             \
-    X(NOT_OURS, "sequence to another")
-
-enum situation {
-#define AS_NAME(name, words) SEEN_##name,
-    SITUATIONS(AS_NAME)
-#undef AS_NAME
-        SEEN_COUNT
-};
+#include "situations.h"
 
 static const char *const words[] = {
 #define AS_WORDS(name, words) words,
@@ -114,20 +11,11 @@ static const char *const words[] = {
 static uint32_t times[SEEN_COUNT];
 static uint32_t minute_ends[MOST_SLOTS]; /* the minute of dialling, of each slot's last call */
 
-static void note_if(bool so, enum situation situation) {
+void note_if(bool so, enum situation situation) {
     times[situation] += so ? 1u : 0u;
 }
 
-/* The second ring-back, and what follows a ring-back that the ship has answered. */
-static bool is_rung_again(enum phase phase) {
-    return is_rung(phase) && !is_rung_once(phase);
-}
-
-static bool agreed(enum phase phase) {
-    return expects_working_call(phase) && !is_offered(phase);
-}
-
-static uint32_t slot_of(const struct station *station, uint32_t ship, bool hold) {
+uint32_t slot_of(const struct station *station, uint32_t ship, bool hold) {
     for (uint32_t i = 0; i < station->channel_count; i++) {
         enum phase phase = station->slots[i].phase;
         if ((hold ? is_held(phase) : holds_ship(phase)) && station->slots[i].request.self == ship)
@@ -175,6 +63,8 @@ static void note_in_call(const struct slot *held, const struct step *step, uint3
 static void note_request(const struct station *before, const struct meaning *m, const struct step *step) {
     uint32_t slot = slot_of(before, m->self, false);
     bool stands = slot != MOST_SLOTS, known = stands || place_in_queue(before, m->self) < before->waiting_count;
+    if (stands && is_being_called(before->slots[slot].phase))
+        return;
     if (m->first == DATA) {
         note_if(true, SEEN_A);
         note_if(known, SEEN_A_KNOWN);
@@ -270,7 +160,7 @@ static void note_slot_event(const struct station *before, const struct event *ev
     note_if(down && call && !present, SEEN_DOWN_AGAIN);
     note_if(up && call && !present, SEEN_UP);
     note_if(up && call && present, SEEN_UP_AGAIN);
-    note_if((up || down) && !call, SEEN_CARRIER_ELSE);
+    note_if((up || down) && !call && !is_being_called(phase), SEEN_CARRIER_ELSE);
     note_if(event->letter == 'M', SEEN_TAKE);
     note_if(event->letter == 'F', SEEN_GIVE_BACK);
     note_if(event->letter == 'F' && step->actions > 0u, SEEN_GIVE_BACK_RING);
@@ -339,11 +229,13 @@ static void note_changes(const struct station *before, const struct station *aft
 
 void note_step(const struct station *before, const struct event *event, const struct step *step) {
     uint32_t due = 0;
+    note_ashore(before, event, step);
     if (step->answer > IGNORED || event->letter == SET_UP_LETTER)
         return;
     switch (event->letter) {
     case 'Q': note_calling(before, event, step); break;
     case 'W': note_working(before, event, step); break;
+    case 'C': break; /* noted before */
     case 'T': note_tick(before, event); break;
     case 'P': note_dialling_ended(&before->slots[event->slot], event->time); break;
     case 'O': note_lifted(&before->slots[event->slot], event->time, minute_ends[event->slot]); break;

@@ -59,7 +59,7 @@ static void make_call(struct side *side, const struct entries *to, const struct 
     uint8_t *station = call->size == 0u && null ? NULL : station_of(side);
     uint8_t *room = call->room_size == 0u && null ? NULL : room_of(side);
     const uint8_t *symbols = event->count == 0u && null ? NULL : side->now.symbols + MARGIN;
-    struct handed handed = {event->time, event->slot, symbols, event->count};
+    struct handed handed = {event->time, event->slot, symbols, event->count, event->ship, event->mode};
     struct lent_bytes lent = {station, call->size, room, call->room_size};
     side->returned = call_entry(to, event->letter, &handed, &lent);
 }

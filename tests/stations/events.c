@@ -31,6 +31,7 @@ struct event draw_event(void) {
                 [HAND] = 4,
                 [STRAY] = 1,
                 [LEAP] = 1,
+                [ASHORE] = 5,
             },
         .spoilt = 4,
     };

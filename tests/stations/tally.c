@@ -3,8 +3,8 @@
 
 extern int printf(const char *, ...);
 
-#define MOST_ANSWERS 37u
-#define ACTION_KINDS 8u /* from 1 on */
+#define MOST_ANSWERS 39u
+#define ACTION_KINDS 11u /* from 1 on */
 
 /* Fewer than these would say that the run no longer tries what it is for. */
 #define ENOUGH_ANSWERS 30u
@@ -54,13 +54,13 @@ void note_sound(uint64_t returned) {
         tally.accepted++;
 }
 
-/* By include/coast.h; 11 to 20 behind a sequence only. */
+/* By include/coast.h; 11 to 20 behind a sequence, and three of them where a ship is called, which is never ignored. */
 static bool may_answer(char letter, uint32_t answer) {
-    bool hand = is_by_hand(letter), no_tick = takes_slot(letter) || takes_symbols(letter);
+    bool hand = is_by_hand(letter), calls = takes_ship(letter), no_tick = calls || takes_slot(letter) || takes_symbols(letter);
     switch (answer) {
     case 0: return true;
     case 29: return letter != SET_UP_LETTER;
-    case 1: return no_tick && !hand;
+    case 1: return no_tick && !hand && !calls;
     case 30:
     case 31:
     case 32: return is_event(letter);
@@ -69,6 +69,11 @@ static bool may_answer(char letter, uint32_t answer) {
     case 35: return hand;
     case 23:
     case 36: return letter == SET_UP_LETTER;
+    case 15:
+    case 17:
+    case 19: return takes_symbols(letter) || calls;
+    case 37:
+    case 38: return calls;
     default: return takes_symbols(letter) && answer >= 11u && answer <= 20u;
     }
 }

@@ -33,7 +33,7 @@ static void tell_told(const uint8_t *bytes) {
 /* What its phase uses. */
 static void tell_slot(uint32_t slot, const uint8_t *bytes) {
     static const char *const names[PHASES] = {"free", "offered", "ring-back", "ring-back repeated", "acknowledged", "dialling",
-        "answered", "hold", "taken", "dialled out"};
+        "answered", "hold", "taken", "dialled out", "called", "called again", "ringing"};
     enum phase phase = (enum phase)bytes[PHASE_AT];
     printf("  slot %u: phase %u (%s), channel %u", (unsigned)slot, (unsigned)phase, phase < PHASES ? names[phase] : "none",
         (unsigned)number_at(bytes + CHANNEL_AT, 4));
@@ -60,13 +60,15 @@ static void tell_station(const uint8_t *bytes) {
     }
 }
 
-/* As the script writes it; N asks for the next due time, C for the clock. */
+/* As the script writes it; N asks for the next due time, K for the clock. */
 static void tell_event(const struct event *event) {
     printf("stations: the two differ at %c", event->letter);
     if (is_event(event->letter))
         printf(" %u", (unsigned)event->time);
     if (takes_slot(event->letter) || event->letter == SET_UP_LETTER)
         printf(" %u", (unsigned)event->slot);
+    if (takes_ship(event->letter))
+        printf(" %u %u", (unsigned)event->ship, (unsigned)event->mode);
     for (size_t i = 0; i < event->count; i++)
         printf(" %u", (unsigned)event->symbols[i]);
 }
