@@ -6,6 +6,7 @@ extern int getchar(void);
 
 #define SIMPLEX 100u
 #define DUPLEX 101u
+#define UNABLE 104u
 #define END_OF_CALL 105u
 #define DATA 106u
 #define NOTHING_MORE 126u /* the second telecommand where there is nothing to say */
@@ -97,19 +98,26 @@ static bool take_bytes(const char **at, struct order *order) {
     return true;
 }
 
-/* ---- what a ship sends ---- */
-
-static bool take_mode(const char **at, uint8_t *meaning) {
-    uint8_t mode = 0;
+static bool take_mode(const char **at, uint8_t *mode) {
     if (take_word(at, "simplex"))
-        mode = SIMPLEX;
+        *mode = SIMPLEX;
     else if (take_word(at, "duplex"))
-        mode = DUPLEX;
+        *mode = DUPLEX;
     else if (take_word(at, "data"))
-        mode = DATA;
-    meaning[COAST_AT_FIRST] = mode;
-    return mode != 0u;
+        *mode = DATA;
+    else
+        return false;
+    return true;
 }
+
+/* The number that ends the line, of so many digits at most. */
+static bool take_digits(const char **at, uint8_t *digits, size_t most, size_t *count) {
+    for (*count = 0; is_digit(**at) && *count < most; ++*at)
+        digits[(*count)++] = (uint8_t)(**at - '0');
+    return **at == '\0';
+}
+
+/* ---- what a ship sends ---- */
 
 static bool take_channel(const char **at, uint8_t *meaning) {
     uint32_t channel = 0;
@@ -121,37 +129,38 @@ static bool take_channel(const char **at, uint8_t *meaning) {
 
 /* What the ship says, as its telecommand, field and end of sequence. */
 static bool take_saying(const char **at, uint8_t *meaning) {
+    uint8_t *first = meaning + COAST_AT_FIRST;
     meaning[COAST_AT_SECOND] = NOTHING_MORE;
     if (take_word(at, "asks")) {
         meaning[COAST_AT_END] = RQ;
-        return take_mode(at, meaning);
+        return take_mode(at, first);
     }
     if (take_word(at, "agrees")) {
         meaning[COAST_AT_END] = BQ;
-        return take_channel(at, meaning) && take_mode(at, meaning);
+        return take_channel(at, meaning) && take_mode(at, first);
+    }
+    if (take_word(at, "declines")) {
+        meaning[COAST_AT_END] = BQ;
+        *first = UNABLE;
+        return true;
     }
     if (take_word(at, "calls")) {
         meaning[COAST_AT_END] = NO_REPLY;
-        return take_mode(at, meaning);
+        return take_mode(at, first);
     }
-    meaning[COAST_AT_FIRST] = END_OF_CALL;
+    *first = END_OF_CALL;
     meaning[COAST_AT_END] = RQ;
     return take_word(at, "ends");
-}
-
-static bool take_digits(const char **at, uint8_t *meaning) {
-    uint8_t count = 0;
-    for (; is_digit(**at) && COAST_AT_DIGITS + count < COAST_MEANING_SIZE; ++*at)
-        meaning[COAST_AT_DIGITS + count++] = (uint8_t)(**at - '0');
-    meaning[COAST_AT_DIGIT_COUNT] = count;
-    return **at == '\0';
 }
 
 static bool take_sequence(const char **at, uint32_t station, struct order *order) {
     uint8_t meaning[COAST_MEANING_SIZE] = {0};
     uint32_t ship = 0;
-    if (!take_whole(at, UINT32_MAX, &ship) || !take_saying(at, meaning) || !take_digits(at, meaning))
+    size_t digits = 0;
+    if (!take_whole(at, UINT32_MAX, &ship) || !take_saying(at, meaning) ||
+        !take_digits(at, meaning + COAST_AT_DIGITS, COAST_MEANING_SIZE - COAST_AT_DIGITS, &digits))
         return false;
+    meaning[COAST_AT_DIGIT_COUNT] = (uint8_t)digits;
     coast_put_number(meaning + COAST_AT_ADDRESS, station);
     coast_put_number(meaning + COAST_AT_SENDER, ship);
     uint32_t returned = coast_write_sequence(meaning, sizeof meaning, order->bytes, sizeof order->bytes);
@@ -166,6 +175,13 @@ static bool take_heard(const char **at, uint32_t station, struct order *order) {
     if (!take_whole(at, UINT32_MAX, &order->channel))
         return false;
     return take_word(at, "symbols") ? take_bytes(at, order) : take_sequence(at, station, order);
+}
+
+/* Whether there is such a ship, mode and number the library judges. */
+static bool take_call(const char **at, struct order *order) {
+    order->kind = FROM_ASHORE;
+    return take_whole(at, UINT32_MAX, &order->number) && take_mode(at, &order->mode) &&
+           take_digits(at, order->bytes, sizeof order->bytes, &order->count);
 }
 
 static bool take_slot_event(const char **at, struct order *order) {
@@ -208,6 +224,8 @@ bool read_order(const struct line *line, uint32_t station, struct order *order) 
         return false;
     if (take_word(&at, "heard"))
         return take_heard(&at, station, order);
+    if (take_word(&at, "from-ashore"))
+        return take_call(&at, order);
     order->kind = TICK;
     if (take_word(&at, "tick"))
         return *at == '\0';

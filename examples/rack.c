@@ -125,19 +125,25 @@ static uint64_t hand_in(struct rack *rack, const struct order *order) {
     uint32_t slot = slot_of(&rack->kept, order->channel);
     if (order->kind == ON_SLOT)
         return order->event(station, size, order->time, slot, room, room_size);
+    if (order->kind == FROM_ASHORE)
+        return coast_call_from_ashore(
+            station, size, order->time, order->number, order->mode, order->bytes, order->count, room, room_size);
     if (order->channel == CALLING_CHANNEL)
         return coast_heard_on_channel_70(station, size, order->time, order->bytes, order->count, room, room_size);
     return coast_heard_on_slot(station, size, order->time, slot, order->bytes, order->count, room, room_size);
 }
 
-/* Where a wait is due the timer is late: the ticks come first, and then the event once more. */
+/* Where a wait is due the timer is late: the ticks come first, and then the event once more. A caller ashore who gets no slot is
+ * the host's to turn away: a refusal has no actions. */
 static void happen(struct rack *rack, const struct order *order) {
     uint64_t returned = hand_in(rack, order);
-    follow(rack, returned, true);
+    bool accepted = follow(rack, returned, true);
     if (coast_answer(returned) == COAST_ANSWER_WAIT_DUE && tick(rack, order->time, true)) {
         printf("    the event once more:\n");
-        follow(rack, hand_in(rack, order), true);
+        accepted = follow(rack, hand_in(rack, order), true);
     }
+    if (order->kind == FROM_ASHORE && !accepted)
+        printf("    the caller is turned away\n");
 }
 
 static void set_up(struct rack *rack, const struct order *order) {

@@ -11,9 +11,13 @@ BETWEEN_CALLS = 110   # tenths
 LONGEST_STEP = 90     # tenths
 
 
+def end_of_a_call(chance):
+    return chance.choice([['heard {c} {ship} ends {number}'] * 2, ['on-hook {c}'], ['down {c}'], ['down {c}', 'up {c}', 'down {c}'], []])
+
+
 def steps_of_a_call(chance):
     """A call as a ship and the shore may make it; the channel is guessed, since the station chooses it."""
-    end = chance.choice([['heard {c} {ship} ends {number}'] * 2, ['on-hook {c}'], ['down {c}'], ['down {c}', 'up {c}', 'down {c}'], []])
+    end = end_of_a_call(chance)
     asks = ['heard 70 {ship} asks {mode} {number}'] * chance.choice([1, 1, 2])
     agrees = ['heard 70 {ship} agrees {c} {mode} {number}'] * chance.choice([0, 1])
     dialled = ['dialled {c}'] * chance.choice([0, 1, 1, 2])
@@ -21,17 +25,25 @@ def steps_of_a_call(chance):
     return [*asks, *agrees, *calls, chance.choice(ODD), *end, chance.choice(ODD)]
 
 
+def steps_from_ashore(chance):
+    """A call that somebody ashore makes. One of the two channels is right: the ship agrees to either, and often comes to either."""
+    asks = ['heard 70 {ship} asks {mode} {number}'] * chance.choice([0, 0, 1])
+    agrees = [f'heard 70 {{ship}} agrees {channel} {{mode}} {{number}}' for channel in CHANNELS] * chance.choice([0, 1, 1])
+    answer = chance.choice([['heard 70 {ship} declines {number}'], ['up {c}', 'off-hook {c}'], [f'up {channel}' for channel in CHANNELS]])
+    return ['from-ashore {ship} {mode} {number}', *asks, *agrees, *answer, *end_of_a_call(chance), chance.choice(ODD)]
+
+
 def drawn(seed, calls):
-    """The feed's bytes; half way the station is set up anew, and time begins again at 0."""
+    """The feed's bytes. Twice the station is set up anew, and time begins again at 0; behind the second time calls come from ashore."""
     chance = random.Random(seed)
     text = ''
-    for channels in CHANNELS, CHANNELS[::-1]:
+    for channels, steps in (CHANNELS, steps_of_a_call), (CHANNELS[::-1], steps_of_a_call), (CHANNELS, steps_from_ashore):
         happens = []
-        for number in range(calls // 2):
+        for number in range(calls // 3):
             ship, mode, dialled = chance.choice(SHIPS)
             words = {'ship': ship, 'mode': mode, 'number': dialled, 'c': chance.choice(CHANNELS)}
             time = number * BETWEEN_CALLS
-            for step in steps_of_a_call(chance):
+            for step in steps(chance):
                 time += chance.randrange(LONGEST_STEP)
                 happens.append((time, step.format(late=chance.choice(LATENESS), **words)))
         happens.sort(key=lambda one: one[0])
