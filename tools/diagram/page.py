@@ -2,7 +2,7 @@
 import textwrap
 
 from slots import IGNORED, STAYS, conditions, settled
-from words import EVENTS, PHASES, WAITS, lasting, listed, word
+from words import EVENTS, OF_OTHERS, PHASES, WAITS, lasting, listed, word
 
 HEAD = """# The phases of a slot
 
@@ -15,13 +15,15 @@ due one tenth after its length.
 MATRIX = """
 ## What each event does
 
-What a slot is afterwards, where the event is about this slot and a sequence comes from its own ship. *Stays*: answered 0, and this slot
-is as it was. *Ignored*: answered 1. *Refused*: with that number. Which case it is stands in the next table.
+What a slot is afterwards, where the event is about this slot and a sequence comes from its own ship, or a call from ashore is for it.
+*Stays*: answered 0, and this slot is as it was. *Ignored*: answered 1. *Refused*: with that number. Which case it is stands in the next
+table.
 """
 ARROWS = """
 ## Every way from one phase to another
 
-Also what changes while the phase stays. A request from a ship that has another slot is about that slot.
+Also what changes while the phase stays. A request from a ship that has another slot is about that slot, and a call from ashore for such a
+ship, one in a hold too, is refused.
 """
 QUEUE = """
 ## The queue
@@ -60,7 +62,7 @@ def named(rules):
 
 
 def cell(cases):
-    own = [outcome.text for asked, outcome in cases if 'from another ship' not in conditions(asked)]
+    own = [outcome.text for asked, outcome in cases if not OF_OTHERS.intersection(conditions(asked))]
     return listed(list(dict.fromkeys(own)), 'or')
 
 

@@ -7,28 +7,33 @@ from reading import NotUnderstood
 from slots import STAYS, conditions
 from words import EVENTS, PHASES, QUEUE, lasting, listed, word
 
-WIDTH, HEIGHT = 1000, 1300
+WIDTH, HEIGHT = 1000, 1496
 PLACES = {  # left, top, width, height
     'taken': (20, 30, 110, 60), 'free': (250, 30, 230, 60), 'freed': (602, 30, 220, 60), 'offered': (250, 180, 230, 350),
     'firstRing': (602, 195, 220, 60), 'secondRing': (602, 335, 220, 60), 'acknowledged': (602, 470, 220, 70),
-    'dialling': (250, 660, 230, 80), 'dialledOut': (250, 800, 230, 60), 'answered': (250, 920, 230, 60), 'held': (250, 1160, 230, 80),
+    'firstCall': (612, 835, 190, 50), 'secondCall': (612, 945, 190, 50), 'ringing': (612, 1062, 190, 50),
+    'dialling': (250, 660, 230, 80), 'dialledOut': (250, 830, 230, 60), 'answered': (250, 1015, 230, 90), 'held': (250, 1285, 230, 80),
 }
-GROUPS = {  # phases in one frame, and where it stands
+GROUPS = {  # phases in one frame, and where it stands; a frame around another comes first
     'ring-back': (['firstRing', 'secondRing'], (592, 180, 240, 230)),
-    'call': (['dialling', 'dialledOut', 'answered'], (240, 640, 335, 460)),
+    'ashore': (['firstCall', 'secondCall', 'ringing'], (592, 812, 230, 316)), 'called': (['firstCall', 'secondCall'], (602, 823, 210, 184)),
+    'call': (['dialling', 'dialledOut', 'answered'], (240, 640, 335, 585)),
 }
 FREED = {  # on which side the slot is freed, and how high that arrow runs, or how far to the right
     'taken': ('down', 75), 'offered': ('left', 355), 'secondRing': ('right', 365), 'acknowledged': ('right', 505),
-    'dialling': ('left', 700), 'dialledOut': ('left', 830), 'call': ('left', 1045), 'held': ('left', 1200),
+    'ashore': ('right', 890), 'secondCall': ('right', 970), 'ringing': ('right', 1087),
+    'dialling': ('left', 700), 'dialledOut': ('left', 860), 'call': ('left', 1165), 'held': ('left', 1325),
 }
+STUBS = {('free', 'firstCall'): 706}  # arrows that begin at their phase's name once more, and how high that stands
 # Arrows that do not simply go from the middle of one side to the middle of another.
 AT = {('offered', 'dialling'): 285, ('call', 'offered'): 405}
 BENT = {
-    ('acknowledged', 'dialling'): [(712, 540), (712, 690), (480, 690)],
-    ('dialling', 'answered'): [(480, 725), (560, 725), (560, 950), (480, 950)],
+    ('acknowledged', 'dialling'): [(707, 540), (707, 680), (480, 680)],
+    ('dialling', 'answered'): [(480, 725), (560, 725), (560, 1037), (480, 1037)], ('ringing', 'answered'): [(612, 1087), (480, 1087)],
 }
-QUEUE_PLACE = (620, 850, 260, 110)
-UNSAID = ['from its ship', 'from a ship that does not wait']
+LABELLED = {('ringing', 'answered'): 528}  # a label that does not stand in the middle of its arrow
+QUEUE_PLACE = (620, 1234, 260, 110)
+UNSAID = ['from its ship', 'from a ship that does not wait', 'for a ship that does not wait']
 NOTES = ['An arrow from a dashed frame, and what stands free in it, is that of each phase in it. Times are tenths of a second;',
          "a wait falls due one tenth after its length. Sequences are those of the slot's own ship."]
 
@@ -125,11 +130,11 @@ def points_between(source, target):
     raise NotUnderstood(f'no way for the arrow from {source} to {target}: tools/diagram/picture.py wants one')
 
 
-def draw_label(drawing, points, lines):
+def draw_label(drawing, points, lines, middle=None):
     """Above an arrow that lies, beside one that stands."""
     (x, y), (to_x, to_y) = points[:2]
     if y == to_y:
-        drawing.text((x + to_x) / 2, y + LINE - 8 - height_of(lines), lines, 'middle')
+        drawing.text(middle or (x + to_x) / 2, y + LINE - 8 - height_of(lines), lines, 'middle')
     else:
         drawing.text(x + 9, (y + to_y) / 2 + 14 - height_of(lines) / 2, lines, 'start')
 
@@ -149,6 +154,13 @@ def draw_freed(drawing, source, lines):
     draw_label(drawing, points, lines)
 
 
+def draw_stub(drawing, source, target):
+    """The name of a phase that stands elsewhere, above the one that an arrow leads to."""
+    (x, y, width, _), top = place_of(target), STUBS[source, target]
+    drawing.box((x + width / 2 - 34, top, 68, 30), [name_of(source)], corner=15)
+    return [(x + width / 2, top + 30), (x + width / 2, y)]
+
+
 def draw_arrows(drawing, found):
     for source, ones in found.items():
         for target in dict.fromkeys(target for target, _ in ones):
@@ -156,9 +168,12 @@ def draw_arrows(drawing, found):
             if target == 'freed':
                 draw_freed(drawing, source, lines)
                 continue
-            points = BENT.get((source, target)) or points_between(source, target)
+            if (source, target) in STUBS:
+                points = draw_stub(drawing, source, target)
+            else:
+                points = BENT.get((source, target)) or points_between(source, target)
             drawing.arrow(f'the arrow from {source} to {target}', points)
-            draw_label(drawing, points, lines)
+            draw_label(drawing, points, lines, LABELLED.get((source, target)))
 
 
 def draw_queue(drawing, rules, rung_back):

@@ -110,7 +110,7 @@ class Definitions:
         for path in paths:
             with open(path, encoding='utf-8') as file:
                 text = re.sub(r'(?m)(^|\s)--(\s.*)?$', '', file.read())
-            for statement in re.split(r'\n(?=\S)', text.strip()):
+            for statement in re.split(r'\n(?=[^\s}])', text.strip()):
                 self.take(statement)
 
     def take(self, statement):

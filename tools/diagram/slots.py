@@ -7,7 +7,7 @@ from running import Built, Unknown, Way, ways
 from station import CLOSED, UNOPENED, Slots
 from words import ANSWERS, CHANGED, KEPT, PHASES, QUEUE, word
 
-RULES = ['Places', 'Words', 'Waits', 'Heard', 'Station', 'Sound', 'Requests', 'Calls', 'Verdict']
+RULES = ['Places', 'Words', 'Waits', 'Heard', 'Station', 'Sound', 'Requests', 'Ashore', 'Calls', 'Verdict']
 
 
 class Outcome(NamedTuple):

@@ -3,12 +3,13 @@ from reading import NotUnderstood
 from running import Built, Unknown
 
 # What every accepted event passes, whatever the slot's phase.
-PASSED = {'sound': 'true', 'overtaken': 'false', 'slotThere': 'true', 'isDone': 'true'}
+PASSED = {'sound': 'true', 'overtaken': 'false', 'slotThere': 'true', 'isDone': 'true', 'calledShip': 'true', 'calledMode': 'true',
+          'callerNumber': 'true'}
 WITHIN = ['leb roomNeeded event .room', 'leb event .time limit', 'leb clock event .time']
 # Not looked into: who asks for what, what the symbols say, when and how long.
-CLOSED = ['is', 'same', 'ltb', 'length', 'meaning', 'dueAfter', 'lasted', 'roomNeeded', 'limit']
-# Where a lookup may find a slot, if this one passes and if not: no ship has two slots, and of the free ones the lowest is found.
-LOOKUPS = {'owns': (['here'], ['none']), 'isFree': (['here', 'elsewhere'], ['none', 'elsewhere'])}
+CLOSED = ['is', 'isFor', 'same', 'ltb', 'length', 'meaning', 'ashoreRequest', 'dueAfter', 'lasted', 'roomNeeded', 'limit']
+# Where a lookup may find a slot, if this one passes and if not: a ship is looked for here alone, and of the free ones the lowest is found.
+LOOKUPS = {'owns': (['here'], ['none']), 'keepsFor': (['here'], ['none']), 'isFree': (['here', 'elsewhere'], ['none', 'elsewhere'])}
 
 
 class Slots:
@@ -20,6 +21,11 @@ class Slots:
 
 def closed(name):
     return lambda way, *given: Unknown(' '.join([name, *map(way.shown, given)]))
+
+
+def same_party(way, one, other):
+    """Of a sequence it is asked from whom it is, of a caller ashore for whom."""
+    return closed('isFor' if way.shown(one).startswith('ashoreRequest') else 'is')(way, one, other)
 
 
 def at_most(way, *given):
@@ -41,9 +47,10 @@ def changed_at(way, change, place, held):
 
 
 def lowest(way, test, held):
+    """Of the queue it is asked whether any waiting ship passes."""
     name, held = way.value(test).name, way.value(held)
     if not isinstance(held, Slots):
-        return Built('none') if way.shown(held) == '[]' else Unknown(name)
+        return Built('none') if way.shown(held) == '[]' else Unknown(way.shown(way.apply(test, [Unknown('waiting')])))
     if name not in LOOKUPS:
         raise NotUnderstood(f'nothing is known of the lookup {name}')
     options = LOOKUPS[name][0 if way.holds(way.apply(test, [held.slot])) else 1]
@@ -64,7 +71,8 @@ UNOPENED = {
     'cond': lambda way, test, one, other: one if way.holds(test) else other,
     'not': lambda way, test: Built('false' if way.holds(test) else 'true'),
     '&&': lambda way, test, other: other if way.holds(test) else Built('false'),
+    '||': lambda way, test, other: Built('true') if way.holds(test) else other,
     '++': lambda way, queue, others: Unknown(f'{way.shown(queue)} ++'),
     'dropAt': lambda way, place, queue: Unknown(f'{way.shown(queue)} dropAt'),
-    'leb': at_most, 'getD': slot_at, 'modAt': changed_at, 'lowest': lowest, 'fits': fitting,
+    'is': same_party, 'leb': at_most, 'getD': slot_at, 'modAt': changed_at, 'lowest': lowest, 'fits': fitting,
 }
