@@ -17,18 +17,19 @@ use Rattle.sequence.specs.Layout.{valid}
 use Rattle.sequence.specs.Reading.{readingOf}
 use Rattle.writing.proofs.Valid.{parts}
 use Rattle.writing.proofs.EvenedLaws.{fit, all-take}
-use Rattle.rules.specs.Rules.Words.{Party, Request, Config, What, tick, onChannel70, onSlot, fromAshore, ashoreIn, Event, unable, Ours}
-use Rattle.rules.specs.Rules.Heard.{Heard, callRequest, dataRequest, digitsIn, sentBy, addressed, meaning, ashoreRequest}
+use Rattle.rules.specs.Rules.Words.{Party, Request, Config, Ashore, ashoreIn, Event, unable, Ours}
+use Rattle.rules.specs.Rules.Heard.{Heard, callRequest, dataRequest, digitsIn, sentBy, addressed, meaning}
 use Rattle.rules.specs.Rules.Kinds.{Means, asCallRequest, asDataRequest, asWorkingCall, asEndOfCall, asBq, asDeclined, asNothing, OnlyThese}
 use Rattle.rules.specs.Rules.Actions.{does}
 use Rattle.rules.specs.Rules.Bytes.{blocks}
 use Rattle.rules.specs.Rules.Station.{Station, theSlot, setClock}
 use Rattle.rules.specs.Rules.Sound.{configKeeps, numberKeeps, requestKeeps}
 use Rattle.rules.specs.Rules.Requests.{standing, ruleA, Out}
+use Rattle.rules.specs.Rules.Ashore.{ashoreRequest}
 use Rattle.rules.specs.Rules.Calls.{act}
 use Rattle.rules.specs.Rules.Verdict.{calledShip, callerNumber, verdict}
 use Rattle.rules.specs.ListAlone.Book.{Stop, Book}
-use Rattle.rules.specs.ListAlone.Reading.{moment, askedAt}
+use Rattle.rules.specs.ListAlone.Reading.{moment}
 use Rattle.rules.specs.ListAlone.LineWords.{Word}
 use Rattle.rules.proofs.KindLaws.{only-these}
 use Rattle.rules.proofs.Readable.{heard-keeps, from-ship}
@@ -81,25 +82,22 @@ module _ (c : Config) (good : configKeeps c ≡ true) where
   Answerable m = ((r : Request) → m ≡ callRequest r → requestKeeps c r ≡ true) × ((x : Party) (n : List ℕ) → m ≡ dataRequest x n → Speaks c (does (unable 109 x n)))
 
   -- what is asked for ashore
-  abbrev Callable : Option Request → Type 0
-  Callable q = (r : Request) → q ≡ some r → requestKeeps c r ≡ true
+  abbrev Callable : Option Ashore → Type 0
+  Callable q = (a : Ashore) → q ≡ some a → requestKeeps c (ashoreRequest c a) ≡ true
 
-  effect-says : (st : Station) → Stored c st → (q : Option Request) (b : Book) (ws : List Word) (cs : List Stop) (m : Heard) (o : Out) → Effect st q b ws cs m o → Callable q → Answerable m → Says c o
+  effect-says : (st : Station) → Stored c st → (q : Option Ashore) (b : Book) (ws : List Word) (cs : List Stop) (m : Heard) (o : Out) → Effect c st q b ws cs m o → Callable q → Answerable m → Says c o
   unfolding ruleA
   effect-says st s _ _ _ _ _ _ (rests m n h) k a = tt
   effect-says st s _ _ _ _ _ _ (drops n) k a = tt
   effect-says st s _ _ _ _ _ _ (data-asked x n) k a = (a .1 x n refl, tt)
   effect-says st s _ _ _ _ _ _ (call-asked r) k a = requested-says c good r (a .0 r refl) st s (standing st (r .who))
   effect-says st s _ _ _ _ _ _ (to-slot m i u e) k a = outcome-says c good st s i (theSlot st i) u refl
-  effect-says st s _ _ _ _ _ _ (called-ashore r i e) k a = called-says c good r (k r refl) st s i e
+  effect-says st s _ _ _ _ _ _ (called-ashore x i e) k a = called-says c good (ashoreRequest c x) (k x refl) st s i e
 
 -- 02, no. 2: a request from ashore that is not refused keeps the rules
-pub asked-keeps : (c : Config) (w : What) → calledShip (ashoreIn w) ≡ true → callerNumber (ashoreIn w) ≡ true → (r : Request) → askedAt c w ≡ some r → requestKeeps c r ≡ true
+pub asked-keeps : (c : Config) (q : Option Ashore) → calledShip q ≡ true → callerNumber q ≡ true → (a : Ashore) → q ≡ some a → requestKeeps c (ashoreRequest c a) ≡ true
 unfolding ashoreRequest requestKeeps
-asked-keeps c tick s n r e = cc
-asked-keeps c (onChannel70 m) s n r e = cc
-asked-keeps c (onSlot i h) s n r e = cc
-asked-keeps c (fromAshore a) s n r e = let y : ashoreRequest c a ≡ r = cc in rw (← y, s, eq-eqb (c .identity) (c .identity) refl, n) refl
+asked-keeps c q s n a e = rw (rw e at s, eq-eqb (c .identity) (c .identity) refl, rw e at n) refl
 
 -- ── an event of a sound station ──────────────────────────────────────────────
 
@@ -110,7 +108,7 @@ module _ (reads : (s : List ℕ) → isDone (readingOf s .answer) ≡ true → v
   act-says c st e v =
       let a = accepted c st e v in
       let from = sounds c st (a .is-sound) in
-      effect-says c (from .config) _ (clock-stored c (moment (seen st) e) st (stored c st from)) _ _ _ _ _ _ (act-effect c st (e .time) (e .what)) (asked-keeps c (e .what) (a .ship) (a .number))
+      effect-says c (from .config) _ (clock-stored c (moment (seen st) e) st (stored c st from)) _ _ _ _ _ _ (act-effect c st (e .time) (e .what)) (asked-keeps c (ashoreIn (e .what)) (a .ship) (a .number))
       (heard-at c (Answerable c (from .config)) (e .what) (a .readable) (λ r y. cc, λ x n y. let q : _≡_ {A = ℕ} 0 1 = cc in absurd (omega (arith, q))) (λ m k. (heard-keeps c (from .config) m k, heard-data c (from .config) m (reads m k))))
 
   pub handed-out : (c : Config) (st : Station) (e : Event) → verdict c st e ≡ none → joined (map (sentBlock c) (act c st e .acts)) ≡ blocks c (act c st e .acts)

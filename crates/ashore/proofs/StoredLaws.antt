@@ -10,7 +10,7 @@ use lib.Seq.{take-all}
 use borrow.Author.Tests.{leb-true}
 use Rattle.sequence.specs.Symbols.{within, allAtMost}
 use Rattle.sequence.proofs.Tests.{both-true}
-use Rattle.rules.specs.Rules.Heard.{ashoreRequest}
+use Rattle.rules.specs.Rules.Ashore.{ashoreRequest}
 use Rattle.rules.specs.Rules.Sound.{numberKeeps}
 use Rattle.requests.specs.Views.{viewed, requestOf}
 use Rattle.requests.specs.Images.{requestImage, tidyRequest}

@@ -2,7 +2,7 @@
 use Prim.Native.Nat.{ℕ, min}
 use mathlib.Core.List.{List}
 use Rattle.sequence.specs.Figures.{mostDigits}
-use Rattle.rules.specs.Rules.Heard.{ashoreRequest}
+use Rattle.rules.specs.Rules.Ashore.{ashoreRequest}
 use Rattle.requests.specs.declared.Request.{Request}
 use Rattle.requests.specs.Views.{viewed}
 use Rattle.requests.specs.Images.{requestImage}

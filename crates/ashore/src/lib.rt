@@ -3,7 +3,7 @@ ghost use mathlib.Core.Path.{_≡_};
 ghost use Prim.Native.Nat.{min};
 ghost use Rattle.sequence.specs.Figures.{mostDigits};
 ghost use Rattle.rules.specs.Rules.Bytes.{numberOf};
-ghost use Rattle.rules.specs.Rules.Heard.{isMode, modeOf};
+ghost use Rattle.rules.specs.Rules.Ashore.{isMode, modeOf};
 ghost use Rattle.rules.specs.Rules.Sound.{numberKeeps};
 ghost use Rattle.requests.specs.Images.{modeImage};
 ghost use Rattle.ashore.specs.Stored.{storedDigit, storedDigits, requestFrom};

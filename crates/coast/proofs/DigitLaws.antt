@@ -12,7 +12,7 @@ use borrow.Author.Tests.{lt-leb, leb-true, leb-false}
 use Rattle.sequence.proofs.Tests.{Either, yes!, no!, which}
 use Rattle.sequence.specs.Symbols.{allAtMost}
 use Rattle.rules.specs.Rules.Words.{Event}
-use Rattle.rules.specs.Rules.Heard.{ashoreRequest}
+use Rattle.rules.specs.Rules.Ashore.{ashoreRequest}
 use Rattle.rules.specs.Rules.Sound.{numberKeeps}
 use Rattle.rules.specs.Rules.Verdict.{refusals}
 use Rattle.rules.specs.Rules.Bytes.{padded}

@@ -6,7 +6,7 @@ use Prim.Native.Nat.{ℕ, _+_}
 use lib.ListN.{length, getD, take, replicate}
 use Rattle.units.specs.declared.Told.the-variants.{Nothing}
 use Rattle.sequence.specs.declared.Field.the-variants.{Blank}
-use Rattle.rules.specs.Rules.Words.{Party, simplex, duplex, modeNumber, Request, Config, Event}
+use Rattle.rules.specs.Rules.Words.{Party, simplex, duplex, modeNumber, Request, Config, Ashore, Event}
 use Rattle.rules.specs.Rules.Words.{Deed, carrierOn, carrierOff, acknowledge, callShip, unable, dial, releaseLine}
 use Rattle.rules.specs.Rules.Words.{ringingOn, ringingOff, busyTone}
 use Rattle.rules.specs.Rules.Heard.{Heard, callRequest, dataRequest, bq, workingCall, endOfCall, declined, nothing}
@@ -88,13 +88,13 @@ line inward = 3 ∷ []
 abbrev pub word : Word → List ℕ
 word v = line (v .line) ++ cond (v .rings) (8 ∷ []) []
 
-abbrev pub wordsFrom : Config → ℕ → List Note → Word → List (List ℕ)
-wordsFrom c i [] v = []
-wordsFrom c i (n ∷ ns) v = word (wordAfter c i (n ∷ []) v) ∷ wordsFrom c i ns (wordAfter c i (n ∷ []) v)
+abbrev pub wordsFrom : ℕ → List Note → Word → List (List ℕ)
+wordsFrom i [] v = []
+wordsFrom i (n ∷ ns) v = word (wordAfter i (n ∷ []) v) ∷ wordsFrom i ns (wordAfter i (n ∷ []) v)
 
 -- of a slot after each entry of a run
 abbrev pub words : ℕ → ℕ → List Event → List (List ℕ)
-words n i es = wordsFrom (station n) i (listOf (station n) es) unused
+words n i es = wordsFrom i (listOf (station n) es) unused
 
 -- a line dialled, one taken from ashore, one taken from ashore that rings
 abbrev pub dialledWord : Word
@@ -773,6 +773,10 @@ abbrev pub deeds : List Deed
 deeds = carrierOn 0 ∷ carrierOff 0 ∷ acknowledge 0 (from seven duplex) ∷ callShip 0 (from seven duplex) ∷ dial 0 usual ∷
     releaseLine 0 ∷ ringingOn 0 ∷ ringingOff 0 ∷ ringingOn 0 ∷ busyTone 0 ∷ unable 103 party usual ∷ []
 
+-- somebody asks ashore
+abbrev pub askedAshore : Option Ashore
+askedAshore = some (record { ship = seven; mode = 101; digits = caller })
+
 -- dial and release on the slot itself change its word, whatever is done before
 abbrev pub wordsByDeeds : Row
 wordsByDeeds = record {
@@ -784,11 +788,11 @@ wordsByDeeds = record {
 -- a call to the ship takes the line where somebody asks ashore, and not else; 8 and 9 tell whether it rings, and the tone nothing
 abbrev pub wordsByCalls : Row
 wordsByCalls = record {
-  computed = word (wordsDone (some (from seven duplex)) 1 (deeds ++ callShip 1 (from seven duplex) ∷ []) unused) ∷
-      word (wordsDone (some (from seven duplex)) 1 deeds unused) ∷
+  computed = word (wordsDone askedAshore 1 (deeds ++ callShip 1 (from seven duplex) ∷ []) unused) ∷
+      word (wordsDone askedAshore 1 deeds unused) ∷
       word (wordsDone none 1 (deeds ++ callShip 1 (from seven duplex) ∷ []) unused) ∷
       word (wordsDone none 1 (callShip 1 (from seven duplex) ∷ []) calledWord) ∷
-      word (wordsDone (some (from seven duplex)) 1 (callShip 1 (from seven duplex) ∷ []) ringingWord) ∷
+      word (wordsDone askedAshore 1 (callShip 1 (from seven duplex) ∷ []) ringingWord) ∷
       word (wordsDone none 1 (deeds ++ ringingOn 1 ∷ []) calledWord) ∷ word (wordsDone none 1 (deeds ++ ringingOff 1 ∷ []) ringingWord) ∷
       word (wordsDone none 1 deeds ringingWord) ∷ word (wordsDone none 1 deeds calledWord) ∷
       word (wordsDone none 1 (busyTone 1 ∷ carrierOn 1 ∷ carrierOff 1 ∷ acknowledge 1 (from seven duplex) ∷ []) ringingWord) ∷
@@ -806,15 +810,15 @@ everyDeed i = carrierOn i ∷ carrierOff i ∷ acknowledge i (from seven duplex)
     dial i usual ∷ releaseLine i ∷ ringingOn i ∷ ringingOff i ∷ busyTone i ∷ []
 
 -- and what it makes of the word of slot 1, where somebody asks ashore or not
-abbrev pub byEach : ℕ → Option Request → Word → List (List ℕ)
+abbrev pub byEach : ℕ → Option Ashore → Word → List (List ℕ)
 byEach i q v = map (λ d. word (wordsDone q 1 (d ∷ []) v)) (everyDeed i)
 
 abbrev pub wordsByEach : Row
 wordsByEach = record {
-  computed = byEach 1 (some (from seven duplex)) unused ++ byEach 1 (some (from seven duplex)) ringingWord ++
+  computed = byEach 1 askedAshore unused ++ byEach 1 askedAshore ringingWord ++
       byEach 1 none unused ++ byEach 1 none ringingWord ++
-      byEach 0 (some (from seven duplex)) unused ++ byEach 0 (some (from seven duplex)) ringingWord ++
-      byEach 2 (some (from seven duplex)) unused ++ byEach 2 (some (from seven duplex)) ringingWord;
+      byEach 0 askedAshore unused ++ byEach 0 askedAshore ringingWord ++
+      byEach 2 askedAshore unused ++ byEach 2 askedAshore ringingWord;
   expected =
       ((0 ∷ []) ∷ (0 ∷ []) ∷ (0 ∷ []) ∷ (3 ∷ []) ∷ (0 ∷ []) ∷ (1 ∷ []) ∷ (0 ∷ []) ∷ (0 ∷ 8 ∷ []) ∷ (0 ∷ []) ∷ (0 ∷ []) ∷ []) ++
       ((3 ∷ 8 ∷ []) ∷ (3 ∷ 8 ∷ []) ∷ (3 ∷ 8 ∷ []) ∷ (3 ∷ 8 ∷ []) ∷ (3 ∷ 8 ∷ []) ∷ (1 ∷ 8 ∷ []) ∷ (0 ∷ 8 ∷ []) ∷ (3 ∷ 8 ∷ []) ∷ (3 ∷ []) ∷
@@ -914,8 +918,8 @@ wordsTransmitted = record {
 -- the words of both slots after a whole list
 abbrev pub wordsAtOnce : Row
 wordsAtOnce = record {
-  computed = word (wordAfter (station 2) 0 (listOf (station 2) (take 8 twoCalls)) unused) ∷
-      word (wordAfter (station 2) 1 (listOf (station 2) (take 8 twoCalls)) unused) ∷ [];
+  computed = word (wordAfter 0 (listOf (station 2) (take 8 twoCalls)) unused) ∷
+      word (wordAfter 1 (listOf (station 2) (take 8 twoCalls)) unused) ∷ [];
   expected = (2 ∷ 130 ∷ []) ∷ (2 ∷ 140 ∷ []) ∷ [];
 }
 

@@ -16,7 +16,7 @@ use Rattle.sequence.specs.Answers.{isDone}
 use Rattle.sequence.specs.Reading.{readingOf}
 use Rattle.reading.proofs.Passed.{passed}
 use Rattle.rules.specs.Rules.Words.{Happened, heard, signal, operator, lineDialledOut, lineLifted, lineHung, carrierHeard, carrierLost, handTakes, handGives, diallingEnded, offHook, onHook, carrierUp, carrierDown, takes, givesBack, What, tick, onChannel70, onSlot, fromAshore, Config, Event}
-use Rattle.rules.specs.Rules.Heard.{isMode}
+use Rattle.rules.specs.Rules.Ashore.{isMode}
 use Rattle.rules.specs.Rules.Station.{Station}
 use Rattle.rules.specs.Rules.Sound.{limit, numberKeeps}
 use Rattle.rules.specs.Rules.Verdict.{readerSays, readOn}

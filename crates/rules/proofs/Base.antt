@@ -8,7 +8,7 @@ use lib.Dec.{eqb, leb}
 use lib.ListN.{List·getD-map, getD, length, replicate, length-replicate}
 use borrow.Author.Tests.{eq-eqb, eqb-true, leb-true, le-leb}
 use Rattle.units.specs.declared.Told.{Told}
-use Rattle.rules.specs.Rules.Words.{Party, is, Mode, simplex, duplex, Request, Deed, Config}
+use Rattle.rules.specs.Rules.Words.{Party, is, Mode, simplex, duplex, Request, Ashore, Deed, Config}
 use Rattle.rules.specs.Rules.Actions.{Action, does, over, charge}
 use Rattle.rules.specs.Rules.Station.{bySlot, shipOf, Kind, offered, firstRing, secondRing, acknowledged, firstCall, secondCall, ringing, Slot, free, taken, pending, busy, held, Waiting, Station, theSlot, setSlot, carrierWait, lossDue, stageDue, mainDue, slotTable, table, fires, answeredAt, answeredIn, Dealing, Stage, dialling, dialledOut, answered, fresh, dueAfter, kindWait, diallingWait, replyWait, holdWait, isFree, offerOf, ringOf, rungAgain, agreedAt, calledOf, calledAgain, ringingAt, isCalled}
 use Rattle.rules.specs.Rules.Requests.{sameMode, sameNumber, same}
@@ -164,7 +164,7 @@ charges-append (does d ∷ a) b = charges-append a b
 charges-append (over i e x digits n ∷ a) b = charges-append a b
 charges-append (charge c ∷ a) b = ap (λ r. c ∷ r) (charges-append a b)
 
-pub reads-append : (q : Option Request) (t : ℕ) (a b : List Deed) (k : Book) → reads q t (a ++ b) k ≡ reads q t b (reads q t a k)
+pub reads-append : (q : Option Ashore) (t : ℕ) (a b : List Deed) (k : Book) → reads q t (a ++ b) k ≡ reads q t b (reads q t a k)
 unfolding reads
 reads-append q t [] b k = refl
 reads-append q t (d ∷ a) b k = reads-append q t a b (read q t d k)

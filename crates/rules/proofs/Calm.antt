@@ -5,7 +5,7 @@ use mathlib.Core.Bool.{Bool, true, false, _||_}
 use mathlib.Core.Option.{Option, none, some}
 use Prim.Native.Nat.{ℕ}
 use Rattle.rules.specs.Rules.Places.{modAt, dropAt, Each}
-use Rattle.rules.specs.Rules.Words.{Party, Request, Deed}
+use Rattle.rules.specs.Rules.Words.{Party, Request, Config, Ashore, Deed}
 use Rattle.rules.specs.Rules.Heard.{Heard, callRequest}
 use Rattle.rules.specs.Rules.Actions.{Ender, theShip, theCoast, Action}
 use Rattle.rules.specs.Rules.Station.{Dealing, dealing, Slot, Waiting, Station, theSlot, setSlot, setClock, setQueue, answeredAt, ringOf, rings}
@@ -36,16 +36,16 @@ pub record Known (a : Party → Heard) (st : Station) : Type 0 where
   pub ringing : Each (Rung a) (st .slots)
 
 -- a deed that repeats what was asked, and fits what channel 70 last said of its slot; q is asked ashore in the same entry
-abbrev pub Fits : Heard → Option Request → (Party → Heard) → Option ℕ → Book → Deed → Type 0
-Fits h q a on b d = Repeats h q a b d × (RingsSame on b d × DialsNamed on b d)
+abbrev pub Fits : Config → Heard → (Party → Heard) → Option Ashore → Option ℕ → Book → Deed → Type 0
+Fits cfg h a q on b d = Repeats cfg h a q b d × (RingsSame q on b d × DialsNamed q on b d)
 
 -- deeds that fit, and tell nobody to wait
-pub record Mild (h : Heard) (a : Party → Heard) (b : Book) (ds : List Deed) : Type 0 where
-  pub fits : (t : ℕ) (on : Option ℕ) → EachRead (Fits h none a) none t on b ds
+pub record Mild (cfg : Config) (h : Heard) (a : Party → Heard) (b : Book) (ds : List Deed) : Type 0 where
+  pub fits : (t : ℕ) (on : Option ℕ) → EachRead (Fits cfg h a) none t on b ds
   pub untold : (x : Party) → toldToWait x ds ≡ false
 
-pub record Calm (h : Heard) (a : Party → Heard) (b : Book) (o : Out) : Type 0 where
-  pub mild : Mild h a b (deedsOf (o .acts))
+pub record Calm (cfg : Config) (h : Heard) (a : Party → Heard) (b : Book) (o : Out) : Type 0 where
+  pub mild : Mild cfg h a b (deedsOf (o .acts))
   pub known : Known a (o .next)
 
 -- ── the pieces ───────────────────────────────────────────────────────────────
@@ -72,7 +72,7 @@ told-append x (d ∷ ds) es h = go (putsOff x d) h (told-append x ds es)
     go true e ih = let y : true ≡ false = e in cc
     go false e ih = ih e
 
-pub fits-append : (P : Option ℕ → Book → Deed → Type 0) (t : ℕ) (on : Option ℕ) (b : Book) (ds es : List Deed) → EachRead P none t on b ds → ((o : Option ℕ) → EachRead P none t o (reads none t ds b) es) → EachRead P none t on b (ds ++ es)
+pub fits-append : (P : Option Ashore → Option ℕ → Book → Deed → Type 0) (t : ℕ) (on : Option ℕ) (b : Book) (ds es : List Deed) → EachRead P none t on b ds → ((o : Option ℕ) → EachRead P none t o (reads none t ds b) es) → EachRead P none t on b (ds ++ es)
 unfolding reads
 fits-append P t on b [] es p q = q on
 fits-append P t on b (d ∷ ds) es p q = (p .0, fits-append P t (switchedOn d) (read none t d b) ds es (p .1) q)
@@ -89,11 +89,11 @@ abbrev Silent : Column → Type 0
 Silent l = (l .said ≡ silent) × NoCaller (l .call)
 
 -- so a call to a ship is a ring-back, and comes just behind the carrier
-rung-asked : (h : Heard) (r : Request) (k : Call) → NoCaller k → h ≡ callRequest r → CallsAsked none h r k
-rung-asked h r quiet z e = e
-rung-asked h r (called o b) z e = absurd z
-rung-asked h r (dialled x m o) z e = e
-rung-asked h r (talking x m b) z e = e
+rung-asked : (cfg : Config) (h : Heard) (r : Request) (k : Call) → NoCaller k → h ≡ callRequest r → CallsAsked cfg none h r k
+rung-asked cfg h r quiet z e = e
+rung-asked cfg h r (called o b) z e = absurd z
+rung-asked cfg h r (dialled x m o) z e = e
+rung-asked cfg h r (talking x m b) z e = e
 
 rung-behind : (i : ℕ) (r : Request) (s : Said) (k : Call) → s ≡ silent → NoCaller k → Sends i r (some i) s k
 rung-behind i r s quiet e z = rw e refl
@@ -126,45 +126,45 @@ let-go-said l = go (l .call)
 dropped-silent : (i : ℕ) (b : Book) → Silent (column (atColumn i letGo (atColumn i hush b)) i)
 dropped-silent i b = rw (there letGo refl i (modAt hush i (b .columns)), there hush refl i (b .columns)) (let-go-said (hush (column b i)), released (hush (column b i)))
 
-module _ (h : Heard) (a : Party → Heard) where
-  also-calm : (b : Book) (acts : List Action) (o : Out) → Mild h a b (deedsOf acts) → ((t : ℕ) → Calm h a (reads none t (deedsOf acts) b) o) → Calm h a b (also acts o)
+module _ (cfg : Config) (h : Heard) (a : Party → Heard) where
+  also-calm : (b : Book) (acts : List Action) (o : Out) → Mild cfg h a b (deedsOf acts) → ((t : ℕ) → Calm cfg h a (reads none t (deedsOf acts) b) o) → Calm cfg h a b (also acts o)
   also-calm b acts o m c = record {
     mild = rw (deeds-append acts (o .acts)) (record {
-      fits = λ t on. fits-append (Fits h none a) t on b (deedsOf acts) (deedsOf (o .acts)) (m .fits t on) (c t .mild .fits t);
+      fits = λ t on. fits-append (Fits cfg h a) t on b (deedsOf acts) (deedsOf (o .acts)) (m .fits t on) (c t .mild .fits t);
       untold = λ x. told-append x (deedsOf acts) (deedsOf (o .acts)) (m .untold x) ∙ c 0 .mild .untold x;
     });
     known = c 0 .known;
   }
 
   -- the oldest is rung back with its request
-  freedFor-calm : (b : Book) (i : ℕ) (st : Station) → Silent (column b i) → Known a st → (q : List Waiting) → st .queue ≡ q → Calm h a b (freedFor i st q)
+  freedFor-calm : (b : Book) (i : ℕ) (st : Station) → Silent (column b i) → Known a st → (q : List Waiting) → st .queue ≡ q → Calm cfg h a b (freedFor i st q)
   unfolding freedFor rungBack
   freedFor-calm b i st z k [] e = record { mild = record { fits = λ t on. tt; untold = λ x. refl }; known = set-known a i _ st (λ r h. cc) k }
   freedFor-calm b i st z k (w ∷ q) e =
       let p : Each (Asked a) (w ∷ q) = rw e at (k .waiting) in
       record {
-        mild = record { fits = λ t on. ((tt, (tt, tt)), ((rung-asked _ _ (column b i .call) (z .1) (p .0), (rung-behind i _ _ (column b i .call) (z .0) (z .1), tt)), tt)); untold = λ x. refl };
+        mild = record { fits = λ t on. ((tt, (tt, tt)), ((rung-asked cfg _ _ (column b i .call) (z .1) (p .0), (rung-behind i _ _ (column b i .call) (z .0) (z .1), tt)), tt)); untold = λ x. refl };
         known = set-known a i (ringOf (w .request) st) (setQueue q st) (λ r h. let y : dealing (w .request) ≡ r = cc in rw (← y) (p .0)) (queue-known a q st (p .1) k);
       }
 
-  freed-calm : (b : Book) (i : ℕ) (st : Station) → Silent (column b i) → Known a st → Calm h a b (freed i st)
+  freed-calm : (b : Book) (i : ℕ) (st : Station) → Silent (column b i) → Known a st → Calm cfg h a b (freed i st)
   unfolding freed
   freed-calm b i st z k = freedFor-calm b i st z k (st .queue) refl
 
   module _ (b : Book) where
-    no-deed : Mild h a b []
+    no-deed : Mild cfg h a b []
     no-deed = record { fits = λ t on. tt; untold = λ x. refl }
 
     -- a deed about the caller ashore
-    one-deed : (d : Deed) → ((t : ℕ) (on : Option ℕ) → Fits h none a on b d) → ((x : Party) → toldToWait x (d ∷ []) ≡ false) → Mild h a b (d ∷ [])
+    one-deed : (d : Deed) → ((t : ℕ) (on : Option ℕ) → Fits cfg h a none on b d) → ((x : Party) → toldToWait x (d ∷ []) ≡ false) → Mild cfg h a b (d ∷ [])
     one-deed d f n = record { fits = λ t on. (f t on, tt); untold = n }
 
     -- no action
-    pub still : (n : ℕ) (st : Station) → Known a st → Calm h a b (record { answer = n; next = st; acts = [] })
+    pub still : (n : ℕ) (st : Station) → Known a st → Calm cfg h a b (record { answer = n; next = st; acts = [] })
     still n st k = record { mild = no-deed; known = k }
 
     -- the line is released, and the carrier off
-    end-mild : (i : ℕ) (e : Ender) (r : Request) (g : Option ℕ) (t : ℕ) → Mild h a b (deedsOf (endActs i e r g t))
+    end-mild : (i : ℕ) (e : Ender) (r : Request) (g : Option ℕ) (t : ℕ) → Mild cfg h a b (deedsOf (endActs i e r g t))
     end-mild i e r none t = record { fits = λ t on. ((tt, (tt, tt)), ((tt, (tt, tt)), tt)); untold = λ x. refl }
     end-mild i e r (some s) t = record { fits = λ t on. ((tt, (tt, tt)), ((tt, (tt, tt)), tt)); untold = λ x. refl }
 
@@ -174,7 +174,7 @@ module _ (h : Heard) (a : Party → Heard) where
     end-quiet i e r (some s) t u = ended-silent i b
 
     -- the same of a call from ashore that is dropped
-    drop-mild : (i : ℕ) (rung tone : Bool) → Mild h a b (deedsOf (dropActs i rung tone))
+    drop-mild : (i : ℕ) (rung tone : Bool) → Mild cfg h a b (deedsOf (dropActs i rung tone))
     drop-mild i false false = record { fits = λ t on. ((tt, (tt, tt)), ((tt, (tt, tt)), tt)); untold = λ x. refl }
     drop-mild i false true = record { fits = λ t on. ((tt, (tt, tt)), ((tt, (tt, tt)), ((tt, (tt, tt)), tt))); untold = λ x. refl }
     drop-mild i true false = record { fits = λ t on. ((tt, (tt, tt)), ((tt, (tt, tt)), ((tt, (tt, tt)), tt))); untold = λ x. refl }
@@ -187,7 +187,7 @@ module _ (h : Heard) (a : Party → Heard) where
     drop-quiet i true false u = dropped-silent i b
     drop-quiet i true true u = dropped-silent i b
 
-    pub coastEnd-calm : (i : ℕ) (st : Station) → Known a st → (r : Request) (g : Option ℕ) → Calm h a b (coastEnd i r g st)
+    pub coastEnd-calm : (i : ℕ) (st : Station) → Known a st → (r : Request) (g : Option ℕ) → Calm cfg h a b (coastEnd i r g st)
     unfolding coastEnd
     coastEnd-calm i st k r g = also-calm b (endActs i theCoast r g (st .clock)) (freed i st) (end-mild i theCoast r g (st .clock)) (λ t. freed-calm _ i st (end-quiet i theCoast r g (st .clock) t) k)
 
@@ -199,7 +199,7 @@ module _ (h : Heard) (a : Party → Heard) where
     Leaves i (becomes q) c = Rung a q
     Leaves i frees c = Silent (column c i)
 
-    move-calm : (i t : ℕ) (p : Slot) (n : Next) (acts : List Action) → Move i t p n acts → Rung a p → column b i ≡ view p → Mild h a b (deedsOf acts) × ((u : ℕ) → Leaves i n (reads none u (deedsOf acts) b))
+    move-calm : (i t : ℕ) (p : Slot) (n : Next) (acts : List Action) → Move i t p n acts → Rung a p → column b i ≡ view p → Mild cfg h a b (deedsOf acts) × ((u : ℕ) → Leaves i n (reads none u (deedsOf acts) b))
     unfolding reads
     move-calm i t _ _ _ (to-dial k r d z) g s = (one-deed _ (λ u on. (tt, (tt, rw s z))) (λ x. refl), λ u o x. cc)
     move-calm i t _ _ _ (to-agree k r d z) g s = (no-deed, λ u o x. cc)
@@ -220,15 +220,15 @@ module _ (h : Heard) (a : Party → Heard) where
     move-calm i t _ _ _ to-give g s = (no-deed, λ u. rw s (refl, tt))
 
     module _ (i : ℕ) (st : Station) (k : Known a st) where
-      played-calm : (n : Next) (acts : List Action) → Mild h a b (deedsOf acts) × ((u : ℕ) → Leaves i n (reads none u (deedsOf acts) b)) → Calm h a b (played i st n acts)
+      played-calm : (n : Next) (acts : List Action) → Mild cfg h a b (deedsOf acts) × ((u : ℕ) → Leaves i n (reads none u (deedsOf acts) b)) → Calm cfg h a b (played i st n acts)
       played-calm stays acts m = record { mild = m .0; known = k }
       played-calm (becomes q) acts m = record { mild = m .0; known = set-known a i q st (m .1 0) k }
       played-calm frees acts m = also-calm b acts (freed i st) (m .0) (λ t. freed-calm _ i st (m .1 t) k)
 
-      pub outcome-calm : b .columns ≡ map view (st .slots) → {f : Column → Column} {w : Word → Word} {cs : List Stop} {o : Out} → Outcome i st f w cs (theSlot st i) o → Calm h a b o
+      pub outcome-calm : b .columns ≡ map view (st .slots) → {f : Column → Column} {w : Word → Word} {cs : List Stop} {o : Out} → Outcome i st f w cs (theSlot st i) o → Calm cfg h a b o
       outcome-calm v (passed x y z) = still 1 st k
       outcome-calm v (moved {n} {acts} u x y z) = played-calm n acts (move-calm i (st .clock) _ n acts u (slot-each st (Rung a) (λ r x. cc) i (k .ringing)) (rw v (slot-mapped st view i)))
 
     -- the time of a waiting ship is over
-    pub drop-calm : (st : Station) → Known a st → (j : ℕ) → Calm h a b (done (setQueue (dropAt j (st .queue)) st))
+    pub drop-calm : (st : Station) → Known a st → (j : ℕ) → Calm cfg h a b (done (setQueue (dropAt j (st .queue)) st))
     drop-calm st k j = still 0 (setQueue (dropAt j (st .queue)) st) (queue-known a (dropAt j (st .queue)) st (each-dropped (Asked a) j (st .queue) (k .waiting)) k)

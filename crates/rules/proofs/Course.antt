@@ -11,12 +11,12 @@ use lib.ListN.{length}
 use borrow.Author.Tests.{ne-eqb, eqb-true, eqb-false}
 use Rattle.sequence.proofs.Tests.{Either, yes!, no!, which}
 use Rattle.rules.specs.Rules.Places.{lowest, Each}
-use Rattle.rules.specs.Rules.Words.{Request, Config, What, Deed, carrierOn, carrierOff, acknowledge, callShip, unable, dial, releaseLine, ringingOn, ringingOff, busyTone}
+use Rattle.rules.specs.Rules.Words.{Request, Config, Ashore, What, Deed, carrierOn, carrierOff, acknowledge, callShip, unable, dial, releaseLine, ringingOn, ringingOff, busyTone}
 use Rattle.rules.specs.Rules.Heard.{Heard}
 use Rattle.rules.specs.Rules.Actions.{Ender, theCoast, Action}
 use Rattle.rules.specs.Rules.Station.{isCalledIn, ringsIn, Slot, free, Waiting, Station, theSlot, setSlot, setClock, setQueue, answeredAt, isFree, offerOf, calledOf}
 use Rattle.rules.specs.Rules.Requests.{Out, also, rungBack, freedFor, freed, endActs, coastEnd, Standing, nowhere, holds, waits, placeOf, standing, ruleA, repeated, afresh, ruleD, offer, ruleF, ruleG, eToG, newcomer, dToG, redial, requested}
-use Rattle.rules.specs.Rules.Ashore.{calledFrom}
+use Rattle.rules.specs.Rules.Ashore.{ashoreRequest, calledFrom}
 use Rattle.rules.specs.Rules.Calls.{actAt}
 use Rattle.rules.specs.ListAlone.Book.{Stop, Column, Book}
 use Rattle.rules.specs.ListAlone.Reading.{fallsAt, momentOf}
@@ -269,15 +269,15 @@ module _ (i : ℕ) where
           rw (← e) (calls r z (slot-given st (λ s. ringsIn s ≡ false) refl (calledOf r st) refl i))
       go (inr e) = rw e (spared (still (theSlot st i) (carrierOn j ∷ callShip j r ∷ []) ((tt, (tt, tt)), refl)))
 
-  effect-course : (st : Station) (q : Option Request) (b : Book) (ws : List Word) (cs : List Stop) (m : Heard) (o : Out) → Effect st q b ws cs m o → CourseBy st o
+  effect-course : (cfg : Config) (st : Station) (q : Option Ashore) (b : Book) (ws : List Word) (cs : List Stop) (m : Heard) (o : Out) → Effect cfg st q b ws cs m o → CourseBy st o
   unfolding ruleA setQueue
-  effect-course st _ _ _ _ _ _ (rests m n h) = spared (still (theSlot st i) [] (tt, refl))
-  effect-course st _ _ _ _ _ _ (drops k) = spared (still (theSlot st i) [] (tt, refl))
-  effect-course st _ _ _ _ _ _ (data-asked x n) = spared (still (theSlot st i) (unable 109 x n ∷ []) ((tt, tt), refl))
-  effect-course st _ _ _ _ _ _ (call-asked r) = spared (request-spared st r (standing st (r .who)))
-  effect-course st _ _ _ _ _ _ (called-ashore r j h) = called-course st j r (slot-lowest st isFree j h)
-  effect-course st _ _ _ _ _ _ (to-slot m j u e) = slot-course st j u
+  effect-course cfg st _ _ _ _ _ _ (rests m n h) = spared (still (theSlot st i) [] (tt, refl))
+  effect-course cfg st _ _ _ _ _ _ (drops k) = spared (still (theSlot st i) [] (tt, refl))
+  effect-course cfg st _ _ _ _ _ _ (data-asked x n) = spared (still (theSlot st i) (unable 109 x n ∷ []) ((tt, tt), refl))
+  effect-course cfg st _ _ _ _ _ _ (call-asked r) = spared (request-spared st r (standing st (r .who)))
+  effect-course cfg st _ _ _ _ _ _ (called-ashore a j h) = called-course st j (ashoreRequest cfg a) (slot-lowest st isFree j h)
+  effect-course cfg st _ _ _ _ _ _ (to-slot m j u e) = slot-course st j u
 
 pub act-course : (cfg : Config) (st : Station) (t : ℕ) (w : What) (i : ℕ) → Course i (momentOf t (fallsAt (seen st) t w)) (theSlot st i) (deedsOf (actAt cfg st t w .acts)) (theSlot (actAt cfg st t w .next) i)
 unfolding setClock
-act-course cfg st t w i = effect-course i _ _ _ _ _ _ _ (act-effect cfg st t w)
+act-course cfg st t w i = effect-course i cfg _ _ _ _ _ _ _ (act-effect cfg st t w)

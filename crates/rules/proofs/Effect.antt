@@ -10,16 +10,16 @@ use lib.Dec.{eqb}
 use Rattle.sequence.specs.Answers.{isDone}
 use Rattle.sequence.specs.Reading.{readingOf}
 use Rattle.rules.specs.Rules.Places.{modAt, dropAt, isSome, lowest}
-use Rattle.rules.specs.Rules.Words.{Party, Request, Config, What, tick, onChannel70, onSlot, fromAshore, Event, isAnswering, isTransmitting}
+use Rattle.rules.specs.Rules.Words.{Party, Request, Config, Ashore, What, tick, onChannel70, onSlot, fromAshore, ashoreIn, Event, isAnswering, isTransmitting}
 use Rattle.rules.specs.Rules.Waits.{Wait, ofQueue, loss, main, Due}
-use Rattle.rules.specs.Rules.Heard.{Heard, callRequest, dataRequest, bq, workingCall, endOfCall, declined, nothing, meaning, ashoreRequest}
+use Rattle.rules.specs.Rules.Heard.{Heard, callRequest, dataRequest, bq, workingCall, endOfCall, declined, nothing, meaning}
 use Rattle.rules.specs.Rules.Station.{Station, theSlot, setClock, setQueue, fires, isFree}
 use Rattle.rules.specs.Rules.Requests.{Out, done, Standing, nowhere, holds, waits, standing, beingCalled, ruleA, requested, ignored}
-use Rattle.rules.specs.Rules.Ashore.{calledFrom}
+use Rattle.rules.specs.Rules.Ashore.{ashoreRequest, calledFrom}
 use Rattle.rules.specs.Rules.Calls.{declinedAt, fire, ticked, heardOn70, actAt}
 use Rattle.rules.specs.Rules.Verdict.{overtaken, readIn, verdict}
 use Rattle.rules.specs.ListAlone.Book.{Stop, Column, Book, atColumn, atPlaces}
-use Rattle.rules.specs.ListAlone.Reading.{hearHeard, hearDue, hear, setNow, fallsAt, momentOf, moment, stopsDue, stopsAgain, stopsHeard, stopsAt, heardAt, askedAt}
+use Rattle.rules.specs.ListAlone.Reading.{hearHeard, hearDue, hear, setNow, fallsAt, momentOf, moment, stopsDue, stopsAgain, stopsHeard, stopsAt, heardAt}
 use Rattle.rules.specs.ListAlone.LineWords.{Word, worded, unused, wordHeard, answer, transmit}
 use Rattle.rules.proofs.PlaceLaws.{modAt-length, modAt-none}
 use Rattle.rules.proofs.Base.{seen, falls-fires, column-is}
@@ -31,58 +31,58 @@ use Rattle.rules.proofs.Accepted.{accepted}
 
 -- st stands at the event's moment; the event is asked ashore, is read into a book and the words of all slots, stops calls, and is heard on
 -- channel 70
-pub data Effect (st : Station) : Option Request → Book → List Word → List Stop → Heard → Out → Type 0 where
+pub data Effect (cfg : Config) (st : Station) : Option Ashore → Book → List Word → List Stop → Heard → Out → Type 0 where
   -- nothing but the clock moves
-  rests : {q : Option Request} (m : Heard) (n : ℕ) → n ≤ 1 → Effect st q (seen st) (words st) [] m (record { answer = n; next = st; acts = [] })
+  rests : {q : Option Ashore} (m : Heard) (n : ℕ) → n ≤ 1 → Effect cfg st q (seen st) (words st) [] m (record { answer = n; next = st; acts = [] })
   -- the time of a waiting ship is over
-  drops : (k : ℕ) → Effect st none (atPlaces (dropAt k) (seen st)) (words st) [] nothing (done (setQueue (dropAt k (st .queue)) st))
+  drops : (k : ℕ) → Effect cfg st none (atPlaces (dropAt k) (seen st)) (words st) [] nothing (done (setQueue (dropAt k (st .queue)) st))
   -- a request on channel 70
-  data-asked : (x : Party) (n : List ℕ) → Effect st none (seen st) (words st) [] (dataRequest x n) (ruleA st x n)
-  call-asked : (r : Request) → Effect st none (hearHeard (st .clock) (callRequest r) (seen st)) (words st) (stopsAgain (st .clock) (r .who) 0 (seen st .columns)) (callRequest r) (requested st r (standing st (r .who)))
+  data-asked : (x : Party) (n : List ℕ) → Effect cfg st none (seen st) (words st) [] (dataRequest x n) (ruleA st x n)
+  call-asked : (r : Request) → Effect cfg st none (hearHeard (st .clock) (callRequest r) (seen st)) (words st) (stopsAgain (st .clock) (r .who) 0 (seen st .columns)) (callRequest r) (requested st r (standing st (r .who)))
   -- whatever happens to a slot
   to-slot : (m : Heard) (i : ℕ) {f : Column → Column} {w : Word → Word} {ws : List Word} {cs : List Stop} {o : Out} → Outcome i st f w cs (theSlot st i) o → ws ≡ modAt w i (words st)
-      → Effect st none (atColumn i f (seen st)) ws cs m o
+      → Effect cfg st none (atColumn i f (seen st)) ws cs m o
   -- a call from ashore
-  called-ashore : (r : Request) (i : ℕ) → lowest isFree (st .slots) ≡ some i → Effect st (some r) (seen st) (words st) [] nothing (calledFrom st r (some i))
+  called-ashore : (a : Ashore) (i : ℕ) → lowest isFree (st .slots) ≡ some i → Effect cfg st (some a) (seen st) (words st) [] nothing (calledFrom st (ashoreRequest cfg a) (some i))
 
 -- ── an event of each kind ────────────────────────────────────────────────────
 
-data-effect : (st : Station) (x : Party) (n : List ℕ) (b : Bool) → Effect st none (seen st) (words st) [] (dataRequest x n) (cond b (ignored st) (ruleA st x n))
-data-effect st x n true = rests (dataRequest x n) 1 (omega arith)
-data-effect st x n false = data-asked x n
+data-effect : (cfg : Config) (st : Station) (x : Party) (n : List ℕ) (b : Bool) → Effect cfg st none (seen st) (words st) [] (dataRequest x n) (cond b (ignored st) (ruleA st x n))
+data-effect cfg st x n true = rests (dataRequest x n) 1 (omega arith)
+data-effect cfg st x n false = data-asked x n
 
 -- nothing is read of it but what is then done
 unread : (i : ℕ) (b : Book) → atColumn i (λ l. l) b ≡ b
 unread i b = ap (λ (ls : List Column). record { now = b .now; columns = ls; places = b .places }) (sym (modAt-none i (b .columns)))
 
-declined-effect : (st : Station) (x : Party) (s : Standing) → Effect st none (seen st) (words st) [] (declined x) (declinedAt st s)
+declined-effect : (cfg : Config) (st : Station) (x : Party) (s : Standing) → Effect cfg st none (seen st) (words st) [] (declined x) (declinedAt st s)
 unfolding declinedAt
-declined-effect st x nowhere = rests (declined x) 1 (omega arith)
-declined-effect st x (holds i) = subst (λ b. Effect st none b (words st) [] (declined x) (declinedAt st (holds i))) (unread i (seen st)) (to-slot (declined x) i (declined-outcome i st (theSlot st i)) (modAt-none i (words st)))
-declined-effect st x (waits k) = rests (declined x) 1 (omega arith)
+declined-effect cfg st x nowhere = rests (declined x) 1 (omega arith)
+declined-effect cfg st x (holds i) = subst (λ b. Effect cfg st none b (words st) [] (declined x) (declinedAt st (holds i))) (unread i (seen st)) (to-slot (declined x) i (declined-outcome i st (theSlot st i)) (modAt-none i (words st)))
+declined-effect cfg st x (waits k) = rests (declined x) 1 (omega arith)
 
-heard-effect : (st : Station) (m : Heard) → Effect st none (hearHeard (st .clock) m (seen st)) (words st) (stopsHeard (st .clock) (seen st .columns) m) m (heardOn70 st m)
+heard-effect : (cfg : Config) (st : Station) (m : Heard) → Effect cfg st none (hearHeard (st .clock) m (seen st)) (words st) (stopsHeard (st .clock) (seen st .columns) m) m (heardOn70 st m)
 unfolding heardOn70
-heard-effect st (callRequest r) = call-asked r
-heard-effect st (dataRequest x n) = data-effect st x n (beingCalled st x)
-heard-effect st (bq i x) = to-slot (bq i x) i (bq-outcome i st x (theSlot st i)) (modAt-none i (words st))
-heard-effect st (workingCall x) = rests (workingCall x) 1 (omega arith)
-heard-effect st (declined x) = declined-effect st x (standing st x)
-heard-effect st (endOfCall x) = rests (endOfCall x) 1 (omega arith)
-heard-effect st nothing = rests nothing 1 (omega arith)
+heard-effect cfg st (callRequest r) = call-asked r
+heard-effect cfg st (dataRequest x n) = data-effect cfg st x n (beingCalled st x)
+heard-effect cfg st (bq i x) = to-slot (bq i x) i (bq-outcome i st x (theSlot st i)) (modAt-none i (words st))
+heard-effect cfg st (workingCall x) = rests (workingCall x) 1 (omega arith)
+heard-effect cfg st (declined x) = declined-effect cfg st x (standing st x)
+heard-effect cfg st (endOfCall x) = rests (endOfCall x) 1 (omega arith)
+heard-effect cfg st nothing = rests nothing 1 (omega arith)
 
-fire-effect : (st : Station) (w : Wait) (d : ℕ)
-    → Effect (setClock d st) none (hearDue (setNow d (seen st)) (some record { what = w; at = d })) (words st) (stopsDue d (seen st) (some record { what = w; at = d })) nothing (fire (setClock d st) w)
+fire-effect : (cfg : Config) (st : Station) (w : Wait) (d : ℕ)
+    → Effect cfg (setClock d st) none (hearDue (setNow d (seen st)) (some record { what = w; at = d })) (words st) (stopsDue d (seen st) (some record { what = w; at = d })) nothing (fire (setClock d st) w)
 unfolding fire setClock seen
-fire-effect st (ofQueue k) d = drops k
-fire-effect st (loss i) d = rw (column-is i st (theSlot st i) refl) (to-slot nothing i (end-outcome i (setClock d st) (theSlot st i)) (modAt-none i (words st)))
-fire-effect st (main i) d = to-slot nothing i (main-outcome i (setClock d st) (theSlot st i)) (modAt-none i (words st))
+fire-effect cfg st (ofQueue k) d = drops k
+fire-effect cfg st (loss i) d = rw (column-is i st (theSlot st i) refl) (to-slot nothing i (end-outcome i (setClock d st) (theSlot st i)) (modAt-none i (words st)))
+fire-effect cfg st (main i) d = to-slot nothing i (main-outcome i (setClock d st) (theSlot st i)) (modAt-none i (words st))
 
-tick-effect : (st : Station) (t : ℕ) (o : Option Due)
-    → Effect (setClock (momentOf t o) st) none (hearDue (setNow (momentOf t o) (seen st)) o) (words st) (stopsDue (momentOf t o) (seen st) o) nothing (ticked st t o)
+tick-effect : (cfg : Config) (st : Station) (t : ℕ) (o : Option Due)
+    → Effect cfg (setClock (momentOf t o) st) none (hearDue (setNow (momentOf t o) (seen st)) o) (words st) (stopsDue (momentOf t o) (seen st) o) nothing (ticked st t o)
 unfolding ticked setClock seen
-tick-effect st t none = rests nothing 0 (omega arith)
-tick-effect st t (some p) = fire-effect st (p .what) (p .at)
+tick-effect cfg st t none = rests nothing 0 (omega arith)
+tick-effect cfg st t (some p) = fire-effect cfg st (p .what) (p .at)
 
 -- the words of all slots, one of them being answered
 abbrev pub heardBy : ℕ → What → List Word → List Word
@@ -92,18 +92,18 @@ heardBy t (onSlot j h) ws = modAt (lifted t h) j ws
 heardBy t (fromAshore a) ws = ws
 
 abbrev pub EffectOf : Config → Station → ℕ → What → ℕ → Option Due → Type 0
-EffectOf cfg st t w u f = Effect (setClock u st) (askedAt cfg w) (hear cfg u f w (setNow u (seen st))) (heardBy t w (words st)) (stopsAt cfg u (seen st) f w) (heardAt cfg w) (actAt cfg st t w)
+EffectOf cfg st t w u f = Effect cfg (setClock u st) (ashoreIn w) (hear cfg u f w (setNow u (seen st))) (heardBy t w (words st)) (stopsAt cfg u (seen st) f w) (heardAt cfg w) (actAt cfg st t w)
 
-ashore-effect : (st : Station) (r : Request) (o : Option ℕ) → lowest isFree (st .slots) ≡ o → Effect st (some r) (seen st) (words st) [] nothing (calledFrom st r o)
+ashore-effect : (cfg : Config) (st : Station) (a : Ashore) (o : Option ℕ) → lowest isFree (st .slots) ≡ o → Effect cfg st (some a) (seen st) (words st) [] nothing (calledFrom st (ashoreRequest cfg a) o)
 unfolding calledFrom
-ashore-effect st r none h = rests nothing 1 (omega arith)
-ashore-effect st r (some i) h = called-ashore r i h
+ashore-effect cfg st a none h = rests nothing 1 (omega arith)
+ashore-effect cfg st a (some i) h = called-ashore a i h
 
 pub act-effect : (cfg : Config) (st : Station) (t : ℕ) (w : What) → EffectOf cfg st t w (momentOf t (fallsAt (seen st) t w)) (fallsAt (seen st) t w)
 unfolding actAt seen setClock
-act-effect cfg st t tick = rw (falls-fires t st) (tick-effect st t (fires t st))
-act-effect cfg st t (onChannel70 m) = heard-effect (setClock t st) (meaning cfg m)
-act-effect cfg st t (fromAshore a) = ashore-effect (setClock t st) (ashoreRequest cfg a) (lowest isFree (st .slots)) refl
+act-effect cfg st t tick = rw (falls-fires t st) (tick-effect cfg st t (fires t st))
+act-effect cfg st t (onChannel70 m) = heard-effect cfg (setClock t st) (meaning cfg m)
+act-effect cfg st t (fromAshore a) = ashore-effect cfg (setClock t st) a (lowest isFree (st .slots)) refl
 act-effect cfg st t (onSlot i h) = rw (column-is i st (theSlot st i) refl) (to-slot nothing i (happened-outcome i (setClock t st) cfg (theSlot st i) h) refl)
 
 -- ── what else is told of an event by its kind ────────────────────────────────

@@ -8,13 +8,13 @@ use native.Mathlib.Omega.{arith}
 use lib.Dec.{ltb}
 use lib.ListN.{length, length-append}
 use Rattle.rules.specs.Rules.Places.{lowest, all, Each}
-use Rattle.rules.specs.Rules.Words.{Request, Config, What, Event, carrierOn}
+use Rattle.rules.specs.Rules.Words.{Request, Config, Ashore, What, Event, carrierOn}
 use Rattle.rules.specs.Rules.Heard.{Heard}
 use Rattle.rules.specs.Rules.Actions.{Ender, theShip, theCoast, Action, does}
 use Rattle.rules.specs.Rules.Station.{Slot, Waiting, Station, theSlot, setClock, answeredAt, isFree, rings}
 use Rattle.rules.specs.Rules.Sound.{slotKeeps, sound}
 use Rattle.rules.specs.Rules.Requests.{Out, also, rungBack, freedFor, freed, bill, lasted, endActs, coastEnd, Standing, nowhere, holds, waits, placeOf, standing, ruleA, repeated, afresh, ruleD, offer, ruleF, ruleG, eToG, newcomer, dToG, redial, requested}
-use Rattle.rules.specs.Rules.Ashore.{calledFrom}
+use Rattle.rules.specs.Rules.Ashore.{ashoreRequest, calledFrom}
 use Rattle.rules.specs.Rules.Calls.{dropActs, actAt, act}
 use Rattle.rules.specs.ListAlone.Book.{Stop, Column, Book}
 use Rattle.rules.specs.ListAlone.LineWords.{Word}
@@ -156,13 +156,13 @@ module _ (cfg : Config) where
 
   -- ── an event, of a station whose stored requests keep the rules ────────────
 
-  effect-few : (st : Station) → all (slotKeeps cfg) (st .slots) ≡ true → (q : Option Request) (b : Book) (ws : List Word) (cs : List Stop) (m : Heard) (o : Out) → Effect st q b ws cs m o → Few cfg 8 o
+  effect-few : (st : Station) → all (slotKeeps cfg) (st .slots) ≡ true → (q : Option Ashore) (b : Book) (ws : List Word) (cs : List Stop) (m : Heard) (o : Out) → Effect cfg st q b ws cs m o → Few cfg 8 o
   unfolding ruleA calledFrom
   effect-few st k _ _ _ _ _ _ (rests m n h) = record { many = omega arith; slim = tt; told = h }
   effect-few st k _ _ _ _ _ _ (drops j) = zero-few 8 _
   effect-few st k _ _ _ _ _ _ (data-asked x n) = one-few 8 st _ (unable-slim cfg 109 x n) (omega arith)
   effect-few st k _ _ _ _ _ _ (call-asked r) = request-few st r (standing st (r .who))
-  effect-few st k _ _ _ _ _ _ (called-ashore r i h) = record { many = omega arith; slim = (on-slim cfg i, (callShip-slim cfg i r, tt)); told = omega arith }
+  effect-few st k _ _ _ _ _ _ (called-ashore a i h) = record { many = omega arith; slim = (on-slim cfg i, (callShip-slim cfg i (ashoreRequest cfg a), tt)); told = omega arith }
   effect-few st k _ _ _ _ _ _ (to-slot m i u e) = outcome-few i st (theSlot st i) u (slot-all st (slotKeeps cfg) refl i k)
 
   act-few : (st : Station) → all (slotKeeps cfg) (st .slots) ≡ true → (t : ℕ) (w : What) → Few cfg 8 (actAt cfg st t w)

@@ -6,7 +6,7 @@ use mathlib.Core.Option.{Option, none, some}
 use Prim.Native.Nat.{ℕ}
 use lib.Dec.{eqb}
 use Rattle.rules.specs.Rules.Places.{modAt, dropAt}
-use Rattle.rules.specs.Rules.Words.{Party, is, Mode, Request, Config, lineDialledOut, lineLifted, lineHung, carrierHeard, carrierLost, Happened, heard, signal, operator, answeringOn, What, onSlot, Deed, carrierOn, carrierOff, acknowledge, callShip, unable, dial, releaseLine, ringingOn, ringingOff, busyTone, tick, onChannel70, fromAshore, transmittingOn}
+use Rattle.rules.specs.Rules.Words.{Party, is, Mode, Request, Config, Ashore, lineDialledOut, lineLifted, lineHung, carrierHeard, carrierLost, Happened, heard, signal, operator, answeringOn, What, onSlot, Deed, carrierOn, carrierOff, acknowledge, callShip, unable, dial, releaseLine, ringingOn, ringingOff, busyTone, tick, onChannel70, fromAshore, transmittingOn}
 use Rattle.rules.specs.Rules.Heard.{Heard, callRequest, dataRequest, bq, workingCall, endOfCall, declined, nothing, meaning}
 use Rattle.rules.specs.ListAlone.Book.{Stop, after, offerTime, ringingTime, alike, Said, silent, toldBQ, toldRQ, settled, Call, quiet, called, dialled, talking, Column, Book, atPlaces, Place, column}
 use Rattle.rules.specs.ListAlone.Reading.{close, withGone, dialOut, pickUp, lose, signOff, hearSaid, hearColumn, settle, settleSaid, beginRinging, beginRingingCall, comeUp, callUp, takeUp, summon, told, tell, beginCall, dialUp, letGo, hush, join, queued, read, withWait, again, hearHeard, hearDue, hear, setNow, stopOf, callOf, stopsSaid, stopsOn, stopsDue, stopsAgain, stopsHeard, stopsAt}
@@ -137,7 +137,7 @@ pub data Leaves (ls : List Column) : List Column → Type 0 where
   elsewhere : Leaves ls ls
   at-column : (i : ℕ) (f : Column → Column) → Same f → Leaves ls (modAt f i ls)
 
-pub read-leaves : (q : Option Request) (u : ℕ) (d : Deed) (b : Book) → Leaves (b .columns) (read q u d b .columns)
+pub read-leaves : (q : Option Ashore) (u : ℕ) (d : Deed) (b : Book) → Leaves (b .columns) (read q u d b .columns)
 read-leaves q u (carrierOn i) b = elsewhere
 read-leaves q u (carrierOff i) b = at-column i hush (λ l. refl)
 read-leaves q u (acknowledge i r) b = at-column i (tell u r) (tell-same u r)

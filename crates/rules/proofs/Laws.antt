@@ -12,10 +12,10 @@ use native.Mathlib.Nat.{add-zero, add-suc, suc-add, zero-add}
 use native.Mathlib.Omega.{arith}
 use lib.ListN.{getD}
 use Rattle.rules.specs.Rules.Places.{modAt}
-use Rattle.rules.specs.Rules.Words.{Party, is, Mode, Request, Config, answeringOn, transmittingOn, What, Deed}
+use Rattle.rules.specs.Rules.Words.{Party, is, Mode, Request, Config, answeringOn, transmittingOn, Ashore, What, ashoreIn, Deed}
 use Rattle.rules.specs.Rules.Waits.{Due}
 use Rattle.rules.specs.ListAlone.Book.{Note, Stop, after, holdTime, Said, Call, quiet, called, dialled, talking, Column, Book, blank, column}
-use Rattle.rules.specs.ListAlone.Reading.{closed, close, pickUp, comeUp, signOff, again, hear, read, reads, setNow, turn, stopsIn, falling, moment, stopOf, callOf, lost, askedAgain, stopsAgain, stopsAt, askedAt}
+use Rattle.rules.specs.ListAlone.Reading.{closed, close, pickUp, comeUp, signOff, again, hear, read, reads, setNow, turn, stopsIn, falling, moment, stopOf, callOf, lost, askedAgain, stopsAgain, stopsAt}
 use Rattle.rules.specs.ListAlone.ReadingLaws.{In, stopAt, IsDialled, IsRinging, Begins, Lifts, Transmits, Ends}
 use Rattle.rules.proofs.PlaceLaws.{aside}
 use Rattle.rules.proofs.Hears.{column-of, talk, talk-is, Same, Leaves, elsewhere, at-column, read-leaves, Hears, says-nothing, says-begun, says-answered, says-over, says-end, Hearing, no-column, one-column, all-columns, event-hearing}
@@ -29,14 +29,14 @@ same-at f h zero (suc j) (l ∷ ls) = refl
 same-at f h (suc i) zero (l ∷ ls) = refl
 same-at f h (suc i) (suc j) (l ∷ ls) = same-at f h i j ls
 
-read-same : (q : Option Request) (u j : ℕ) (d : Deed) (b : Book) → talk (column (read q u d b) j .call) ≡ talk (column b j .call)
+read-same : (q : Option Ashore) (u j : ℕ) (d : Deed) (b : Book) → talk (column (read q u d b) j .call) ≡ talk (column b j .call)
 read-same q u j d b = go (read q u d b .columns) (read-leaves q u d b)
   where
     go : (ls : List Column) → Leaves (b .columns) ls → talk (getD ls j blank .call) ≡ talk (getD (b .columns) j blank .call)
     go _ elsewhere = refl
     go _ (at-column i f h) = same-at f h i j (b .columns)
 
-reads-same : (q : Option Request) (u j : ℕ) (ds : List Deed) (b : Book) → talk (column (reads q u ds b) j .call) ≡ talk (column b j .call)
+reads-same : (q : Option Ashore) (u j : ℕ) (ds : List Deed) (b : Book) → talk (column (reads q u ds b) j .call) ≡ talk (column b j .call)
 unfolding reads
 reads-same q u j [] b = refl
 reads-same q u j (d ∷ ds) b = reads-same q u j ds (read q u d b) ∙ read-same q u j d b
@@ -151,7 +151,7 @@ mid cfg b n j = column (hear cfg (moment b (n .event)) (falling b (n .event)) (n
 
 turn-mid : (cfg : Config) (b : Book) (n : Note) (j : ℕ) → talk (column (turn cfg b n) j .call) ≡ talk (mid cfg b n j)
 unfolding turn mid
-turn-mid cfg b n j = reads-same (askedAt cfg (n .event .what)) (moment b (n .event)) j (n .deeds) (hear cfg (moment b (n .event)) (falling b (n .event)) (n .event .what) (setNow (moment b (n .event)) b))
+turn-mid cfg b n j = reads-same (ashoreIn (n .event .what)) (moment b (n .event)) j (n .deeds) (hear cfg (moment b (n .event)) (falling b (n .event)) (n .event .what) (setNow (moment b (n .event)) b))
 
 is-dialled : (x : Party) (m : Mode) (o : Bool) (c : Call) → c ≡ dialled x m o → IsDialled x m c
 is-dialled x m false c h = inl h

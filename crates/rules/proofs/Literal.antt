@@ -7,15 +7,15 @@ use Prim.Native.Nat.{ℕ, zero, suc, _<_}
 use lib.Dec.{ltb}
 use lib.ListN.{getD, length, length-map, replicate}
 use Rattle.rules.specs.Rules.Places.{lowest}
-use Rattle.rules.specs.Rules.Words.{Request, Config, What, Event, Deed, carrierOn, carrierOff, acknowledge, callShip, unable, dial, releaseLine, ringingOn, ringingOff, busyTone}
+use Rattle.rules.specs.Rules.Words.{Request, Config, Ashore, What, ashoreIn, Event, Deed, carrierOn, carrierOff, acknowledge, callShip, unable, dial, releaseLine, ringingOn, ringingOff, busyTone}
 use Rattle.rules.specs.Rules.Heard.{Heard}
 use Rattle.rules.specs.Rules.Station.{Slot, Station, theSlot, fresh, setClock, setQueue, answeredAt, isFree, offerOf, calledOf}
 use Rattle.rules.specs.Rules.Requests.{Out, coastEnd, slotOf, placeOf, standsAt, standing, ruleA, repeated, afresh, ruleD, offer, ruleF, ruleG, eToG, newcomer, dToG, redial, requested}
-use Rattle.rules.specs.Rules.Ashore.{calledFrom}
+use Rattle.rules.specs.Rules.Ashore.{ashoreRequest, calledFrom}
 use Rattle.rules.specs.Rules.Calls.{actAt, act}
 use Rattle.rules.specs.Rules.Verdict.{verdict, play}
 use Rattle.rules.specs.ListAlone.Book.{Stop, Column, Book, column}
-use Rattle.rules.specs.ListAlone.Reading.{askedAt, readAll}
+use Rattle.rules.specs.ListAlone.Reading.{readAll}
 use Rattle.rules.specs.ListAlone.LineWords.{Word, unused, wordCalled, wordHeard, wordDone, wordsDone, wordAfter, wordOf}
 use Rattle.rules.specs.Statement.{deedsOf, notes, Literally}
 use Rattle.rules.proofs.PlaceLaws.{modAt-length}
@@ -73,22 +73,22 @@ request-told st r (some i) k = ruling-told i st r _ (theSlot st i) _ (bOrC-rulin
 
 -- ── an event ─────────────────────────────────────────────────────────────────
 
-effect-told : (st : Station) (q : Option Request) (b : Book) (ws : List Word) (cs : List Stop) (m : Heard) (o : Out) → Effect st q b ws cs m o → SpokenBy q ws o
+effect-told : (cfg : Config) (st : Station) (q : Option Ashore) (b : Book) (ws : List Word) (cs : List Stop) (m : Heard) (o : Out) → Effect cfg st q b ws cs m o → SpokenBy q ws o
 unfolding ruleA standing spoken setQueue calledFrom
-effect-told st _ _ _ _ _ _ (rests m n h) = record { telling = refl }
-effect-told st _ _ _ _ _ _ (drops k) = record { telling = refl }
-effect-told st _ _ _ _ _ _ (data-asked x n) = record { telling = refl }
-effect-told st _ _ _ _ _ _ (call-asked r) = request-told st r (slotOf (r .who) st) (placeOf (r .who) st)
-effect-told st _ _ _ _ _ _ (to-slot m i u e) = rw e (outcome-told i st (theSlot st i) u refl)
-effect-told st _ _ _ _ _ _ (called-ashore r i h) = record { telling = turns-to i st (wordCalled (some r)) (calledOf r st) (rw (free-is (theSlot st i) (slot-lowest st isFree i h)) refl) }
+effect-told cfg st _ _ _ _ _ _ (rests m n h) = record { telling = refl }
+effect-told cfg st _ _ _ _ _ _ (drops k) = record { telling = refl }
+effect-told cfg st _ _ _ _ _ _ (data-asked x n) = record { telling = refl }
+effect-told cfg st _ _ _ _ _ _ (call-asked r) = request-told st r (slotOf (r .who) st) (placeOf (r .who) st)
+effect-told cfg st _ _ _ _ _ _ (to-slot m i u e) = rw e (outcome-told i st (theSlot st i) u refl)
+effect-told cfg st _ _ _ _ _ _ (called-ashore a i h) = record { telling = turns-to i st (wordCalled (some a)) (calledOf (ashoreRequest cfg a) st) (rw (free-is (theSlot st i) (slot-lowest st isFree i h)) refl) }
 
-act-told : (cfg : Config) (st : Station) (t : ℕ) (w : What) → SpokenBy (askedAt cfg w) (heardBy t w (words st)) (actAt cfg st t w)
+act-told : (cfg : Config) (st : Station) (t : ℕ) (w : What) → SpokenBy (ashoreIn w) (heardBy t w (words st)) (actAt cfg st t w)
 unfolding setClock
-act-told cfg st t w = effect-told _ _ _ _ _ _ _ (act-effect cfg st t w)
+act-told cfg st t w = effect-told cfg _ _ _ _ _ _ _ (act-effect cfg st t w)
 
 -- ── one slot of them ─────────────────────────────────────────────────────────
 
-module _ (q : Option Request) where
+module _ (q : Option Ashore) where
   speak-length : (d : Deed) (ws : List Word) → length (speak q d ws) ≡ length ws
   speak-length (carrierOn i) ws = refl
   speak-length (carrierOff i) ws = refl
@@ -126,23 +126,23 @@ module _ (q : Option Request) where
 -- ── the run ──────────────────────────────────────────────────────────────────
 
 next-length : (cfg : Config) (st : Station) (e : Event) → length (words (act cfg st e .next)) ≡ length (words st)
-next-length cfg st e = ap length (sym (act-told cfg st (e .time) (e .what) .telling)) ∙ spoken-length (askedAt cfg (e .what)) (deedsOf (act cfg st e .acts)) (heardBy (e .time) (e .what) (words st)) ∙ lifted-length (e .time) (e .what) (words st)
+next-length cfg st e = ap length (sym (act-told cfg st (e .time) (e .what) .telling)) ∙ spoken-length (ashoreIn (e .what)) (deedsOf (act cfg st e .acts)) (heardBy (e .time) (e .what) (words st)) ∙ lifted-length (e .time) (e .what) (words st)
 
-next-word : (cfg : Config) (i : ℕ) (st : Station) (e : Event) → i < length (words st) → wordsDone (askedAt cfg (e .what)) i (deedsOf (act cfg st e .acts)) (wordHeard i (e .time) (e .what) (getD (words st) i unused)) ≡ getD (words (act cfg st e .next)) i unused
-next-word cfg i st e h = ap (wordsDone (askedAt cfg (e .what)) i (deedsOf (act cfg st e .acts))) (lifted-one i (e .time) (e .what) (words st) h) ∙ spoken-one (askedAt cfg (e .what)) i (deedsOf (act cfg st e .acts)) (heardBy (e .time) (e .what) (words st)) (rw (lifted-length (e .time) (e .what) (words st)) h) ∙ ap (λ (ws : List Word). getD ws i unused) (act-told cfg st (e .time) (e .what) .telling)
+next-word : (cfg : Config) (i : ℕ) (st : Station) (e : Event) → i < length (words st) → wordsDone (ashoreIn (e .what)) i (deedsOf (act cfg st e .acts)) (wordHeard i (e .time) (e .what) (getD (words st) i unused)) ≡ getD (words (act cfg st e .next)) i unused
+next-word cfg i st e h = ap (wordsDone (ashoreIn (e .what)) i (deedsOf (act cfg st e .acts))) (lifted-one i (e .time) (e .what) (words st) h) ∙ spoken-one (ashoreIn (e .what)) i (deedsOf (act cfg st e .acts)) (heardBy (e .time) (e .what) (words st)) (rw (lifted-length (e .time) (e .what) (words st)) h) ∙ ap (λ (ws : List Word). getD ws i unused) (act-told cfg st (e .time) (e .what) .telling)
 
 word-seen : (i : ℕ) (st : Station) → getD (words st) i unused ≡ wordOf (column (seen st) i .call)
 unfolding seen
 word-seen i st = slot-mapped st word i ∙ ap (λ (l : Column). wordOf (l .call)) (sym (slot-mapped st view i))
 
-run-words : (cfg : Config) (i : ℕ) (es : List Event) (st : Station) → i < length (words st) → wordAfter cfg i (notes (play cfg es st)) (getD (words st) i unused) ≡ wordOf (column (readAll cfg (notes (play cfg es st)) (seen st)) i .call)
+run-words : (cfg : Config) (i : ℕ) (es : List Event) (st : Station) → i < length (words st) → wordAfter i (notes (play cfg es st)) (getD (words st) i unused) ≡ wordOf (column (readAll cfg (notes (play cfg es st)) (seen st)) i .call)
 unfolding play wordAfter readAll notes
 run-words cfg i [] st h = word-seen i st
 run-words cfg i (e ∷ es) st h = go (verdict cfg st e) refl (λ s k. run-words cfg i es s k)
   where
-    go : (o : Option ℕ) → verdict cfg st e ≡ o → ((s : Station) → i < length (words s) → wordAfter cfg i (notes (play cfg es s)) (getD (words s) i unused) ≡ wordOf (column (readAll cfg (notes (play cfg es s)) (seen s)) i .call))
-        → wordAfter cfg i (notes (play cfg (e ∷ es) st)) (getD (words st) i unused) ≡ wordOf (column (readAll cfg (notes (play cfg (e ∷ es) st)) (seen st)) i .call)
-    go none v ih = rw (play-on cfg e es st v) (ap (wordAfter cfg i (notes (play cfg es (act cfg st e .next)))) (next-word cfg i st e h) ∙ ih (act cfg st e .next) (rw (next-length cfg st e) h) ∙ ap (λ (b : Book). wordOf (column (readAll cfg (notes (play cfg es (act cfg st e .next))) b) i .call)) (sym (turn-is cfg st e v)))
+    go : (o : Option ℕ) → verdict cfg st e ≡ o → ((s : Station) → i < length (words s) → wordAfter i (notes (play cfg es s)) (getD (words s) i unused) ≡ wordOf (column (readAll cfg (notes (play cfg es s)) (seen s)) i .call))
+        → wordAfter i (notes (play cfg (e ∷ es) st)) (getD (words st) i unused) ≡ wordOf (column (readAll cfg (notes (play cfg (e ∷ es) st)) (seen st)) i .call)
+    go none v ih = rw (play-on cfg e es st v) (ap (wordAfter i (notes (play cfg es (act cfg st e .next)))) (next-word cfg i st e h) ∙ ih (act cfg st e .next) (rw (next-length cfg st e) h) ∙ ap (λ (b : Book). wordOf (column (readAll cfg (notes (play cfg es (act cfg st e .next))) b) i .call)) (sym (turn-is cfg st e v)))
     go (some n) v ih = rw (play-past cfg e es st n v) (ih st h)
 
 blank-word : (n i : ℕ) → getD (replicate n unused) i unused ≡ unused
@@ -158,4 +158,4 @@ fresh-word cfg i = ap (λ (ws : List Word). getD ws i unused) (fresh-mapped cfg 
 
 pub literally : Literally
 unfolding Literally fresh
-literally cfg set es i h = rw (← (fresh-seen cfg)) (ap (wordAfter cfg i (notes (play cfg es (fresh cfg)))) (sym (fresh-word cfg i)) ∙ run-words cfg i es (fresh cfg) (rw (fresh-words cfg) h))
+literally cfg set es i h = rw (← (fresh-seen cfg)) (ap (wordAfter i (notes (play cfg es (fresh cfg)))) (sym (fresh-word cfg i)) ∙ run-words cfg i es (fresh cfg) (rw (fresh-words cfg) h))

@@ -10,16 +10,16 @@ use lib.Dec.{ltb}
 use lib.ListN.{length}
 use Rattle.sequence.proofs.Tests.{Either, yes!, no!, which}
 use Rattle.rules.specs.Rules.Places.{modAt, dropAt, lowest, Each}
-use Rattle.rules.specs.Rules.Words.{Party, Request, Config, What, tick, onChannel70, onSlot, fromAshore, Event}
+use Rattle.rules.specs.Rules.Words.{Party, Request, Config, Ashore, What, tick, onChannel70, onSlot, fromAshore, ashoreIn, Event}
 use Rattle.rules.specs.Rules.Heard.{Heard, callRequest, dataRequest, bq, workingCall, endOfCall, declined, nothing, meaning}
 use Rattle.rules.specs.Rules.Actions.{Ender, theShip, theCoast, Action}
 use Rattle.rules.specs.Rules.Station.{Kind, rings, isCalledIn, Dealing, Slot, free, pending, Waiting, Station, theSlot, setClock, answeredAt, isFree}
 use Rattle.rules.specs.Rules.Requests.{Out, ignored, also, rungBack, freedFor, freed, endActs, coastEnd, owns, slotOf, placeOf, Standing, nowhere, holds, waits, standsAt, standing, calledAt, beingCalled, ruleA, repeated, afresh, ruleD, offer, ruleF, ruleG, eToG, newcomer, dToG, redial, bOrC, requested}
-use Rattle.rules.specs.Rules.Ashore.{calledFrom}
+use Rattle.rules.specs.Rules.Ashore.{ashoreRequest, calledFrom}
 use Rattle.rules.specs.Rules.Calls.{dropActs, heardOn70, actAt}
 use Rattle.rules.specs.Rules.Verdict.{verdict}
 use Rattle.rules.specs.ListAlone.Book.{Stop, Column, Book, blank}
-use Rattle.rules.specs.ListAlone.Reading.{heardAt, askedAt}
+use Rattle.rules.specs.ListAlone.Reading.{heardAt}
 use Rattle.rules.specs.ListAlone.LineWords.{Word}
 use Rattle.rules.specs.ListAlone.BeingCalled.{isFor, Uncalled, SaidToOthers, InVain}
 use Rattle.rules.specs.Statement.{deedsOf, CalledNotOffered, CalledAskInVain}
@@ -201,16 +201,16 @@ module _ (st : Station) (once : Once st) where
 
   -- ── any event ──────────────────────────────────────────────────────────────
 
-  effect-others : (q : Option Request) (b : Book) (ws : List Word) (cs : List Stop) (m : Heard) (o : Out) → Effect st q b ws cs m o → InVain m columns (deedsOf (o .acts)) → ((r : Request) → q ≡ some r → countS (r .who) (st .slots) ≡ 0) → Others (o .acts)
+  effect-others : (cfg : Config) (q : Option Ashore) (b : Book) (ws : List Word) (cs : List Stop) (m : Heard) (o : Out) → Effect cfg st q b ws cs m o → InVain m columns (deedsOf (o .acts)) → ((a : Ashore) → q ≡ some a → countS (ashoreRequest cfg a .who) (st .slots) ≡ 0) → Others (o .acts)
   unfolding ruleA calledFrom
-  effect-others _ _ _ _ _ _ (rests m n h) v f = tt
-  effect-others _ _ _ _ _ _ (drops k) v f = tt
-  effect-others _ _ _ _ _ _ (data-asked x n) (inl u) f = (u, tt)
-  effect-others _ _ _ _ _ _ (data-asked x n) (inr e) f = let y : _≡_ {A = ℕ} 0 1 = cc in absurd (omega arith)
-  effect-others _ _ _ _ _ _ (call-asked r) (inl u) f = request-others r u (standing st (r .who))
-  effect-others _ _ _ _ _ _ (call-asked r) (inr e) f = rw e tt
-  effect-others _ _ _ _ _ _ (called-ashore r i h) v f = (tt, (each-dropped _ i columns (slotless (r .who) (st .slots) (f r refl)), tt))
-  effect-others _ _ _ _ _ _ (to-slot m i u e) v f = outcome-others i u
+  effect-others cfg _ _ _ _ _ _ (rests m n h) v f = tt
+  effect-others cfg _ _ _ _ _ _ (drops k) v f = tt
+  effect-others cfg _ _ _ _ _ _ (data-asked x n) (inl u) f = (u, tt)
+  effect-others cfg _ _ _ _ _ _ (data-asked x n) (inr e) f = let y : _≡_ {A = ℕ} 0 1 = cc in absurd (omega arith)
+  effect-others cfg _ _ _ _ _ _ (call-asked r) (inl u) f = request-others r u (standing st (r .who))
+  effect-others cfg _ _ _ _ _ _ (call-asked r) (inr e) f = rw e tt
+  effect-others cfg _ _ _ _ _ _ (called-ashore a i h) v f = (tt, (each-dropped _ i columns (slotless (ashoreRequest cfg a .who) (st .slots) (f a refl)), tt))
+  effect-others cfg _ _ _ _ _ _ (to-slot m i u e) v f = outcome-others i u
 
 module _ (cfg : Config) (st : Station) where
   act-in-vain : Once st → (t : ℕ) (w : What) → InVain (heardAt cfg w) (seen st .columns) (deedsOf (actAt cfg st t w .acts))
@@ -220,9 +220,9 @@ module _ (cfg : Config) (st : Station) where
   act-in-vain once t (onSlot i h) = tt
   act-in-vain once t (fromAshore a) = tt
 
-  act-others : Once st → (t : ℕ) (w : What) → ((r : Request) → askedAt cfg w ≡ some r → countS (r .who) (st .slots) ≡ 0) → Each (SaidToOthers (seen st .columns)) (deedsOf (actAt cfg st t w .acts))
+  act-others : Once st → (t : ℕ) (w : What) → ((a : Ashore) → ashoreIn w ≡ some a → countS (ashoreRequest cfg a .who) (st .slots) ≡ 0) → Each (SaidToOthers (seen st .columns)) (deedsOf (actAt cfg st t w .acts))
   unfolding seen setClock
-  act-others once t w f = effect-others (setClock _ st) once _ _ _ _ _ _ (act-effect cfg st t w) (act-in-vain once t w) f
+  act-others once t w f = effect-others (setClock _ st) once cfg _ _ _ _ _ _ (act-effect cfg st t w) (act-in-vain once t w) f
 
   once-in : (e : Event) → verdict cfg st e ≡ none → Once st
   once-in e v = distinct-once st (sounds cfg st (accepted cfg st e v .is-sound) .no-twice)
@@ -231,7 +231,7 @@ module _ (cfg : Config) (st : Station) where
 pub called-not-offered : CalledNotOffered
 unfolding CalledNotOffered
 called-not-offered = book-entries (λ c b n. Each (SaidToOthers (b .columns)) (n .deeds))
-    (λ cfg st e v. let a = accepted cfg st e v in act-others cfg st (once-in cfg st e v) (e .time) (e .what) (λ r y. asked-callable cfg st (e .what) (a .ship) (a .number) (a .not-engaged) r y .no-slot))
+    (λ cfg st e v. let a = accepted cfg st e v in act-others cfg st (once-in cfg st e v) (e .time) (e .what) (λ x y. asked-callable cfg st (ashoreIn (e .what)) (a .ship) (a .number) (a .not-engaged) x y .no-slot))
 
 -- and asks in vain
 pub called-ask-in-vain : CalledAskInVain

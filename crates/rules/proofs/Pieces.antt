@@ -8,7 +8,7 @@ use lib.Dec.{ltb}
 use lib.ListN.{length}
 use native.Mathlib.Omega.{arith}
 use Rattle.rules.specs.Rules.Places.{modAt, shift, lowest}
-use Rattle.rules.specs.Rules.Words.{Party, is, Request}
+use Rattle.rules.specs.Rules.Words.{Party, is, Request, Ashore}
 use Rattle.rules.specs.Rules.Actions.{theCoast, Action}
 use Rattle.rules.specs.Rules.Station.{Stage, answered, answeredAt, Slot, Waiting, Station, theSlot, setSlot, setQueue, dueAfter, queueWait, isFree, ringOf, offerOf}
 use Rattle.rules.specs.Rules.Requests.{Out, done, also, rungBack, freedFor, freed, endActs, coastEnd, waitsFor, afresh, ruleD, offer, ruleF, ruleG, eToG, newcomer}
@@ -23,7 +23,7 @@ use Rattle.rules.specs.Rules.Sound.{queueRoom}
 
 -- read from the book b at the time t, the piece's deeds give the book of what it leaves, and its charges are cs; q is what was asked
 -- ashore in the same entry
-pub record GoodBy (q : Option Request) (t : ℕ) (b : Book) (cs : List Stop) (o : Out) : Type 0 where
+pub record GoodBy (q : Option Ashore) (t : ℕ) (b : Book) (cs : List Stop) (o : Out) : Type 0 where
   pub reading : reads q t (deedsOf (o .acts)) b ≡ seen (o .next)
   pub charging : chargesOf (o .acts) ≡ map owed cs
 

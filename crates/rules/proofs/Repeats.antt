@@ -8,19 +8,21 @@ use native.Mathlib.Omega.{arith}
 use lib.Dec.{ltb}
 use lib.ListN.{length}
 use Rattle.rules.specs.Rules.Places.{modAt, shift, lowest, Each}
-use Rattle.rules.specs.Rules.Words.{Party, is, Request, Config, What, Event, Deed}
+use Rattle.rules.specs.Rules.Words.{Party, is, Request, Config, Ashore, What, ashoreIn, Event, Deed}
 use Rattle.rules.specs.Rules.Heard.{Heard, callRequest, nothing}
 use Rattle.rules.specs.Rules.Station.{Slot, Waiting, Station, theSlot, fresh, setSlot, setClock, setQueue, dueAfter, queueWait, answeredAt, isFree, offerOf, calledOf}
 use Rattle.rules.specs.Rules.Requests.{Out, also, rungBack, freedFor, freed, coastEnd, owns, waitsFor, slotOf, placeOf, standsAt, standing, ruleA, repeated, afresh, ruleD, offer, ruleF, ruleG, eToG, newcomer, dToG, redial, requested}
-use Rattle.rules.specs.Rules.Ashore.{calledFrom}
+use Rattle.rules.specs.Rules.Ashore.{isMode, ashoreRequest, calledFrom}
+use Rattle.rules.specs.Rules.Kinds.{ModesKept}
 use Rattle.rules.specs.Rules.Calls.{actAt, act}
 use Rattle.rules.specs.Rules.Verdict.{verdict, play}
 use Rattle.rules.specs.ListAlone.Book.{Note, Stop, Book, blank, column, blankBook}
-use Rattle.rules.specs.ListAlone.Reading.{read, reads, turn, readAll, heardAt, askedAt}
-use Rattle.rules.specs.ListAlone.Repeated.{heardIn, askedIn, toldToWait, lastAsked, switchedOn, EachRead}
+use Rattle.rules.specs.ListAlone.Reading.{read, reads, turn, readAll, heardAt}
+use Rattle.rules.specs.ListAlone.Repeated.{heardIn, askedIn, toldToWait, AsksFor, lastAsked, switchedOn, EachRead}
 use Rattle.rules.specs.Statement.{deedsOf, notes, EveryEntry, AnswersRepeat, SecondRingRepeats, DialsAsked}
 use Rattle.rules.specs.ListAlone.LineWords.{Word}
 use Rattle.rules.proofs.PlaceLaws.{shift-some, each-append}
+use Rattle.rules.proofs.KindLaws.{modes-kept}
 use Rattle.rules.proofs.Base.{rung-owns, view, seen, is-same, deeds-append, slot-lowest, slot-mapped, free-is, fresh-each}
 use Rattle.rules.proofs.Accepted.{accepted, sounds}
 use Rattle.rules.proofs.Run.{turn-is, fresh-seen}
@@ -35,19 +37,19 @@ abbrev told : Heard → (Party → Heard) → List Deed → Party → Heard
 told h a ds x = cond (toldToWait x ds) h (a x)
 
 -- an outcome that repeats, and leaves the station with what it has told
-record SaidBy (q : Option Request) (h : Heard) (a : Party → Heard) (b : Book) (o : Out) : Type 0 where
-  fits : (t : ℕ) (on : Option ℕ) → EachRead (Fits h q a) q t on b (deedsOf (o .acts))
+record SaidBy (cfg : Config) (q : Option Ashore) (h : Heard) (a : Party → Heard) (b : Book) (o : Out) : Type 0 where
+  fits : (t : ℕ) (on : Option ℕ) → EachRead (Fits cfg h a) q t on b (deedsOf (o .acts))
   known : Known (told h a (deedsOf (o .acts))) (o .next)
 
-abbrev Said : Heard → (Party → Heard) → Book → Out → Type 0
-Said h a b o = SaidBy none h a b o
+abbrev Said : Config → Heard → (Party → Heard) → Book → Out → Type 0
+Said cfg h a b o = SaidBy cfg none h a b o
 
-calm-said : (h : Heard) (a : Party → Heard) (b : Book) (o : Out) → Calm h a b o → Said h a b o
-calm-said h a b o c = record { fits = c .mild .fits; known = subst (λ z. Known z (o .next)) (λ i x. cond (sym (c .mild .untold x) i) h (a x)) (c .known) }
+calm-said : (cfg : Config) (h : Heard) (a : Party → Heard) (b : Book) (o : Out) → Calm cfg h a b o → Said cfg h a b o
+calm-said cfg h a b o c = record { fits = c .mild .fits; known = subst (λ z. Known z (o .next)) (λ i x. cond (sym (c .mild .untold x) i) h (a x)) (c .known) }
 
 -- ── the ship that is told to wait is the only one concerned ──────────────────
 
-module _ (r : Request) (a : Party → Heard) (b : Book) where
+module _ (cfg : Config) (r : Request) (a : Party → Heard) (b : Book) where
   -- r is asked and put off
   abbrev now : Party → Heard
   now x = cond (is (r .who) x || false) (callRequest r) (a x)
@@ -93,46 +95,46 @@ module _ (r : Request) (a : Party → Heard) (b : Book) where
   -- ── rules d to g ───────────────────────────────────────────────────────────
 
   module _ (st : Station) (k : Known a st) (n : countS (r .who) (st .slots) ≡ 0) where
-    ruleF-said : countQ (r .who) (st .queue) ≡ 0 → Said (callRequest r) a b (ruleF st r)
+    ruleF-said : countQ (r .who) (st .queue) ≡ 0 → Said cfg (callRequest r) a b (ruleF st r)
     unfolding ruleF setQueue
     ruleF-said m = record { fits = λ t on. (((refl, refl), (tt, tt)), tt); known = record { waiting = each-append (Asked now) (st .queue) (record { request = r; due = dueAfter (st .clock) queueWait } ∷ []) (others-wait (st .queue) m (k .waiting)) (now-asked, tt); ringing = others-ring (st .slots) n (k .ringing) } }
 
-    ruleD-said : (j : ℕ) → placeOf (r .who) st ≡ some j → countQ (r .who) (st .queue) ≤ 1 → Said (callRequest r) a b (ruleD j st r)
+    ruleD-said : (j : ℕ) → placeOf (r .who) st ≡ some j → countQ (r .who) (st .queue) ≤ 1 → Said cfg (callRequest r) a b (ruleD j st r)
     unfolding ruleD setQueue
     ruleD-said j h m = record { fits = λ t on. (((refl, refl), (tt, tt)), tt); known = record { waiting = replaced j (st .queue) h m (k .waiting); ringing = others-ring (st .slots) n (k .ringing) } }
 
-    eToG-said : placeOf (r .who) st ≡ none → (o : Option ℕ) → Said (callRequest r) a b (eToG st r o)
+    eToG-said : placeOf (r .who) st ≡ none → (o : Option ℕ) → Said cfg (callRequest r) a b (eToG st r o)
     unfolding eToG offer afresh ruleG
-    eToG-said h (some i) = calm-said _ a b _ (record { mild = record { fits = λ t on. ((tt, (tt, tt)), ((refl, (tt, tt)), tt)); untold = λ x. refl }; known = set-known a i (offerOf r st) st (λ o x. cc) k })
+    eToG-said h (some i) = calm-said cfg _ a b _ (record { mild = record { fits = λ t on. ((tt, (tt, tt)), ((refl, (tt, tt)), tt)); untold = λ x. refl }; known = set-known a i (offerOf r st) st (λ o x. cc) k })
     eToG-said h none = go (ltb (length (st .queue)) 32)
       where
-        go : (t : Bool) → Said (callRequest r) a b (cond t (ruleF st r) (ruleG st r))
+        go : (t : Bool) → Said cfg (callRequest r) a b (cond t (ruleF st r) (ruleG st r))
         go true = ruleF-said (waiting-count (r .who) (st .queue) h)
-        go false = calm-said _ a b _ (record { mild = record { fits = λ t on. (((refl, refl), (tt, tt)), tt); untold = λ x. refl }; known = k })
+        go false = calm-said cfg _ a b _ (record { mild = record { fits = λ t on. (((refl, refl), (tt, tt)), tt); untold = λ x. refl }; known = k })
 
-    newcomer-said : placeOf (r .who) st ≡ none → Said (callRequest r) a b (newcomer st r)
+    newcomer-said : placeOf (r .who) st ≡ none → Said cfg (callRequest r) a b (newcomer st r)
     unfolding newcomer
     newcomer-said h = eToG-said h (lowest isFree (st .slots))
 
-    dToG-said : (o : Option ℕ) → placeOf (r .who) st ≡ o → countQ (r .who) (st .queue) ≤ 1 → Said (callRequest r) a b (dToG st r o)
+    dToG-said : (o : Option ℕ) → placeOf (r .who) st ≡ o → countQ (r .who) (st .queue) ≤ 1 → Said cfg (callRequest r) a b (dToG st r o)
     unfolding dToG
     dToG-said none h m = newcomer-said h
     dToG-said (some j) h m = ruleD-said j h m
 
   -- ── rules b and c ──────────────────────────────────────────────────────────
 
-  afresh-calm : (i : ℕ) (st : Station) → Known a st → Calm (callRequest r) a b (afresh i st r)
+  afresh-calm : (i : ℕ) (st : Station) → Known a st → Calm cfg (callRequest r) a b (afresh i st r)
   unfolding afresh
   afresh-calm i st k = record { mild = record { fits = λ t on. ((refl, (tt, tt)), tt); untold = λ x. refl }; known = set-known a i (offerOf r st) st (λ o x. cc) k }
 
-  repeated-calm : (i : ℕ) (st : Station) → Known a st → Calm (callRequest r) a b (repeated i st r)
+  repeated-calm : (i : ℕ) (st : Station) → Known a st → Calm cfg (callRequest r) a b (repeated i st r)
   unfolding repeated
   repeated-calm i st k = record { mild = record { fits = λ t on. ((refl, (tt, tt)), tt); untold = λ x. refl }; known = k }
 
 -- what is said behind a calm piece
-also-said : (h : Heard) (a : Party → Heard) (b : Book) (p o : Out) → Calm h a b p → ((t : ℕ) → Said h a (reads none t (deedsOf (p .acts)) b) o) → Said h a b (also (p .acts) o)
-also-said h a b p o c s = record {
-  fits = λ t on. rw (deeds-append (p .acts) (o .acts)) (fits-append (Fits h none a) t on b (deedsOf (p .acts)) (deedsOf (o .acts)) (c .mild .fits t on) (s t .fits t));
+also-said : (cfg : Config) (h : Heard) (a : Party → Heard) (b : Book) (p o : Out) → Calm cfg h a b p → ((t : ℕ) → Said cfg h a (reads none t (deedsOf (p .acts)) b) o) → Said cfg h a b (also (p .acts) o)
+also-said cfg h a b p o c s = record {
+  fits = λ t on. rw (deeds-append (p .acts) (o .acts)) (fits-append (Fits cfg h a) t on b (deedsOf (p .acts)) (deedsOf (o .acts)) (c .mild .fits t on) (s t .fits t));
   known = subst (λ z. Known z (o .next)) (λ i x. cond (sym (same-told x) i) h (a x)) (s 0 .known);
 }
   where
@@ -148,53 +150,60 @@ coastEnd-fewer : (i : ℕ) (x : Party) (o : Request) (g : Option ℕ) (st : Stat
 unfolding coastEnd freed
 coastEnd-fewer i x o g st n = freedFor-fewer i x st (st .queue) refl n
 
-module _ (r : Request) (a : Party → Heard) (b : Book) (st : Station) (k : Known a st) (once : Once st) where
+module _ (cfg : Config) (r : Request) (a : Party → Heard) (b : Book) (st : Station) (k : Known a st) (once : Once st) where
   waits-once : countQ (r .who) (st .queue) ≤ 1
   waits-once = omega (arith, once (r .who))
 
-  ruling-said : (i : ℕ) (cs : List Stop) (p : Slot) (o : Out) → Ruling i st r cs p o → theSlot st i ≡ p → owns (r .who) p ≡ true → Said (callRequest r) a b o
+  ruling-said : (i : ℕ) (cs : List Stop) (p : Slot) (o : Out) → Ruling i st r cs p o → theSlot st i ≡ p → owns (r .who) p ≡ true → Said cfg (callRequest r) a b o
   unfolding redial
-  ruling-said i cs _ _ (passes p x) e h = calm-said _ a b _ (still (callRequest r) a b 1 st k)
-  ruling-said i cs _ _ (repeats j o d x y) e h = calm-said _ a b _ (repeated-calm r a b i st k)
-  ruling-said i cs _ _ (renews j o d z x y) e h = calm-said _ a b _ (afresh-calm r a b i st k)
+  ruling-said i cs _ _ (passes p x) e h = calm-said cfg _ a b _ (still cfg (callRequest r) a b 1 st k)
+  ruling-said i cs _ _ (repeats j o d x y) e h = calm-said cfg _ a b _ (repeated-calm cfg r a b i st k)
+  ruling-said i cs _ _ (renews j o d z x y) e h = calm-said cfg _ a b _ (afresh-calm cfg r a b i st k)
   ruling-said i cs _ _ (redials o g c x) e h =
       let q = o .request in
       let s = answeredAt g in
-      let end = coastEnd-calm (callRequest r) a b i st k q s in
-      also-said (callRequest r) a b (coastEnd i q s st) _ end (λ t. dToG-said r a (reads none t (deedsOf (coastEnd i q s st .acts)) b) (coastEnd i q s st .next) (end .known) (coastEnd-gone i (r .who) q s st once (rw e h)) (placeOf (r .who) (coastEnd i q s st .next)) refl (coastEnd-fewer i (r .who) q s st waits-once))
+      let end = coastEnd-calm cfg (callRequest r) a b i st k q s in
+      also-said cfg (callRequest r) a b (coastEnd i q s st) _ end (λ t. dToG-said cfg r a (reads none t (deedsOf (coastEnd i q s st .acts)) b) (coastEnd i q s st .next) (end .known) (coastEnd-gone i (r .who) q s st once (rw e h)) (placeOf (r .who) (coastEnd i q s st .next)) refl (coastEnd-fewer i (r .who) q s st waits-once))
 
-  request-said : (o q : Option ℕ) → slotOf (r .who) st ≡ o → placeOf (r .who) st ≡ q → Said (callRequest r) a b (requested st r (standsAt o q))
+  request-said : (o q : Option ℕ) → slotOf (r .who) st ≡ o → placeOf (r .who) st ≡ q → Said cfg (callRequest r) a b (requested st r (standsAt o q))
   unfolding requested
-  request-said none none e h = newcomer-said r a b st k (none-count (r .who) (st .slots) e) h
-  request-said none (some j) e h = ruleD-said r a b st k (none-count (r .who) (st .slots) e) j h waits-once
+  request-said none none e h = newcomer-said cfg r a b st k (none-count (r .who) (st .slots) e) h
+  request-said none (some j) e h = ruleD-said cfg r a b st k (none-count (r .who) (st .slots) e) j h waits-once
   request-said (some i) q e h = ruling-said i _ (theSlot st i) _ (bOrC-ruling i st r (theSlot st i)) refl (slot-lowest st (owns (r .who)) i e)
 
 -- ── any event ────────────────────────────────────────────────────────────────
 
-module _ (a : Party → Heard) where
-  effect-said : (k : Book) (st : Station) → k .columns ≡ map view (st .slots) → Known a st → Once st → (q : Option Request) (b : Book) (ws : List Word) (cs : List Stop) (m : Heard) (o : Out) → Effect st q b ws cs m o → SaidBy q m a k o
-  unfolding ruleA standing calledFrom
-  effect-said k st v n once _ _ _ _ _ _ (rests m j h) = record { fits = λ t on. tt; known = n }
-  effect-said k st v n once _ _ _ _ _ _ (drops j) = calm-said _ a k _ (drop-calm nothing a k st n j)
-  effect-said k st v n once _ _ _ _ _ _ (data-asked x d) = calm-said _ a k _ (record { mild = record { fits = λ t on. (((refl, refl), (tt, tt)), tt); untold = λ x. refl }; known = n })
-  effect-said k st v n once _ _ _ _ _ _ (call-asked r) = request-said r a k st n once (slotOf (r .who) st) (placeOf (r .who) st) refl refl
-  effect-said k st v n once _ _ _ _ _ _ (called-ashore r i h) =
-      let c : column k i ≡ blank = rw v (slot-mapped st view i ∙ ap view (free-is (theSlot st i) (slot-lowest st isFree i h))) in
-      record { fits = λ t on. ((tt, (tt, tt)), ((refl, (rw c refl, tt)), tt)); known = set-known a i (calledOf r st) st (λ o x. cc) n }
-  effect-said k st v n once _ _ _ _ _ _ (to-slot m i u e) = calm-said _ a k _ (outcome-calm m a k i st n v u)
+-- what is sent for a caller ashore, where the mode is one of the two
+asks-for : (cfg : Config) (a : Ashore) → isMode (a .mode) ≡ true → AsksFor cfg a (ashoreRequest cfg a)
+unfolding ashoreRequest ModesKept
+asks-for cfg a h = (refl, (refl, (modes-kept (a .mode) h, (refl, refl))))
 
-  act-said : (cfg : Config) (st : Station) → Known a st → Once st → (t : ℕ) (w : What) → SaidBy (askedAt cfg w) (heardAt cfg w) a (seen st) (actAt cfg st t w)
+module _ (cfg : Config) (a : Party → Heard) where
+  effect-said : (k : Book) (st : Station) → k .columns ≡ map view (st .slots) → Known a st → Once st → (q : Option Ashore) (b : Book) (ws : List Word) (cs : List Stop) (m : Heard) (o : Out) → Effect cfg st q b ws cs m o → ((x : Ashore) → q ≡ some x → isMode (x .mode) ≡ true) → SaidBy cfg q m a k o
+  unfolding ruleA standing calledFrom
+  effect-said k st v n once _ _ _ _ _ _ (rests m j h) f = record { fits = λ t on. tt; known = n }
+  effect-said k st v n once _ _ _ _ _ _ (drops j) f = calm-said cfg _ a k _ (drop-calm cfg nothing a k st n j)
+  effect-said k st v n once _ _ _ _ _ _ (data-asked x d) f = calm-said cfg _ a k _ (record { mild = record { fits = λ t on. (((refl, refl), (tt, tt)), tt); untold = λ x. refl }; known = n })
+  effect-said k st v n once _ _ _ _ _ _ (call-asked r) f = request-said cfg r a k st n once (slotOf (r .who) st) (placeOf (r .who) st) refl refl
+  effect-said k st v n once _ _ _ _ _ _ (called-ashore x i h) f =
+      let c : column k i ≡ blank = rw v (slot-mapped st view i ∙ ap view (free-is (theSlot st i) (slot-lowest st isFree i h))) in
+      record { fits = λ t on. ((tt, (tt, tt)), ((asks-for cfg x (f x refl), (rw c refl, tt)), tt)); known = set-known a i (calledOf (ashoreRequest cfg x) st) st (λ o y. cc) n }
+  effect-said k st v n once _ _ _ _ _ _ (to-slot m i u e) f = calm-said cfg _ a k _ (outcome-calm cfg m a k i st n v u)
+
+  act-said : (st : Station) → Known a st → Once st → (t : ℕ) (w : What) → ((x : Ashore) → ashoreIn w ≡ some x → isMode (x .mode) ≡ true) → SaidBy cfg (ashoreIn w) (heardAt cfg w) a (seen st) (actAt cfg st t w)
   unfolding setClock seen
-  act-said cfg st k once t w = effect-said (seen st) _ refl (clock-known a _ st k) once _ _ _ _ _ _ (act-effect cfg st t w)
+  act-said st k once t w f = effect-said (seen st) _ refl (clock-known a _ st k) once _ _ _ _ _ _ (act-effect cfg st t w) f
 
 -- ── the run ──────────────────────────────────────────────────────────────────
 
-next-said : (cfg : Config) (a : Party → Heard) (st : Station) (e : Event) → Known a st → verdict cfg st e ≡ none → SaidBy (askedAt cfg (e .what)) (heardAt cfg (e .what)) a (seen st) (act cfg st e)
-next-said cfg a st e k v = act-said a cfg st k (distinct-once st (sounds cfg st (accepted cfg st e v .is-sound) .no-twice)) (e .time) (e .what)
+next-said : (cfg : Config) (a : Party → Heard) (st : Station) (e : Event) → Known a st → verdict cfg st e ≡ none → SaidBy cfg (ashoreIn (e .what)) (heardAt cfg (e .what)) a (seen st) (act cfg st e)
+next-said cfg a st e k v =
+    let c = accepted cfg st e v in
+    act-said cfg a st k (distinct-once st (sounds cfg st (c .is-sound) .no-twice)) (e .time) (e .what) (λ x y. rw y at (c .mode))
 
 -- of one entry, where a is what was asked for before it, and b the book before it
 record Answered (cfg : Config) (a : Party → Heard) (b : Book) (n : Note) : Type 0 where
-  fits : (t : ℕ) (on : Option ℕ) → EachRead (Fits (heardIn cfg n) (askedIn cfg n) a) (askedIn cfg n) t on b (n .deeds)
+  fits : (t : ℕ) (on : Option ℕ) → EachRead (Fits cfg (heardIn cfg n) a) (askedIn n) t on b (n .deeds)
 
 -- what was asked for before an entry, and the book before it
 module _ (cfg : Config) where
@@ -218,24 +227,24 @@ module _ (cfg : Config) where
   unfolding fresh asked-and-book
   all-answered es = rw (← (fresh-seen cfg)) (run-entries asked-and-book cfg KnownAndSeen known-on (λ s n. Answered cfg (s .0) (s .1) n) (λ s st e v f. record { fits = rw (f .1) (next-said cfg (s .0) st e (f .0) v .fits) }) es (λ x. nothing, seen (fresh cfg)) (fresh cfg) (record { waiting = tt; ringing = fresh-each cfg (Rung (λ x. nothing)) (λ r x. cc) }, refl))
 
-each-read : {P Q : Option ℕ → Book → Deed → Type 0} → ((on : Option ℕ) (b : Book) (d : Deed) → P on b d → Q on b d) → (q : Option Request) (t : ℕ) (on : Option ℕ) (b : Book) (ds : List Deed) → EachRead P q t on b ds → EachRead Q q t on b ds
+each-read : {P Q : Option Ashore → Option ℕ → Book → Deed → Type 0} → ((q : Option Ashore) (on : Option ℕ) (b : Book) (d : Deed) → P q on b d → Q q on b d) → (q : Option Ashore) (t : ℕ) (on : Option ℕ) (b : Book) (ds : List Deed) → EachRead P q t on b ds → EachRead Q q t on b ds
 each-read f q t on b [] p = tt
-each-read f q t on b (d ∷ ds) p = (f on b d (p .0), each-read f q t (switchedOn d) (read q t d b) ds (p .1))
+each-read f q t on b (d ∷ ds) p = (f q on b d (p .0), each-read f q t (switchedOn d) (read q t d b) ds (p .1))
 
 -- every acknowledgement and every ring-back repeats what was asked
 pub answers-repeat : AnswersRepeat
 unfolding AnswersRepeat
 answers-repeat cfg set es before n after e =
-    each-read (λ on b d p. p .0) (askedIn cfg n) _ none _ (n .deeds) (all-answered cfg es before n after e .fits _ none)
+    each-read (λ q on b d p. p .0) (askedIn n) _ none _ (n .deeds) (all-answered cfg es before n after e .fits _ none)
 
 -- and the second ring-back repeats the first
 pub second-ring-repeats : SecondRingRepeats
 unfolding SecondRingRepeats
 second-ring-repeats cfg set es before n after e =
-    each-read (λ on b d p. p .1 .0) (askedIn cfg n) _ none _ (n .deeds) (all-answered cfg es before n after e .fits _ none)
+    each-read (λ q on b d p. p .1 .0) (askedIn n) _ none _ (n .deeds) (all-answered cfg es before n after e .fits _ none)
 
 -- and the number dialled is the one asked for
 pub dials-asked : DialsAsked
 unfolding DialsAsked
 dials-asked cfg set es before n after e =
-    each-read (λ on b d p. p .1 .1) (askedIn cfg n) _ none _ (n .deeds) (all-answered cfg es before n after e .fits _ none)
+    each-read (λ q on b d p. p .1 .1) (askedIn n) _ none _ (n .deeds) (all-answered cfg es before n after e .fits _ none)

@@ -5,17 +5,17 @@ use mathlib.Core.Bool.{true}
 use mathlib.Core.Option.{Option, none, some}
 use Prim.Native.Nat.{ℕ, zero, suc}
 use Rattle.rules.specs.Rules.Places.{dropAt, distinct}
-use Rattle.rules.specs.Rules.Words.{is, Request, Config, What, Event}
+use Rattle.rules.specs.Rules.Words.{is, Config, Ashore, What, ashoreIn, Event}
 use Rattle.rules.specs.Rules.Heard.{Heard}
 use Rattle.rules.specs.Rules.Actions.{Action}
 use Rattle.rules.specs.Rules.Station.{Waiting, Station, theSlot, fresh, setClock, setQueue, isFree, calledOf}
 use Rattle.rules.specs.Rules.Sound.{owners}
 use Rattle.rules.specs.Rules.Requests.{Out, slotOf, placeOf, standing, ruleA, owns}
-use Rattle.rules.specs.Rules.Ashore.{calledFrom}
+use Rattle.rules.specs.Rules.Ashore.{ashoreRequest, calledFrom}
 use Rattle.rules.specs.Rules.Calls.{actAt, act}
 use Rattle.rules.specs.Rules.Verdict.{verdict, step, play, final}
 use Rattle.rules.specs.ListAlone.Book.{Note, Stop, Column, Place, atColumn, blankBook, Book}
-use Rattle.rules.specs.ListAlone.Reading.{hear, reads, setNow, turn, stopsIn, Numbered, numbered, stops, fallsAt, momentOf, stopsAt, askedAt, callUp}
+use Rattle.rules.specs.ListAlone.Reading.{hear, reads, setNow, turn, stopsIn, Numbered, numbered, stops, fallsAt, momentOf, stopsAt, callUp}
 use Rattle.rules.specs.ListAlone.LineWords.{Word}
 use Rattle.rules.specs.Statement.{deedsOf, chargesOf, notes, charged, owed, owedFor, ChargesAreStops, RefusedLeavesAll, Accepts, eventsOf, AllPlayed}
 use Rattle.rules.proofs.Base.{view, place, seen, is-same, fresh-mapped, moves, free-is, slot-lowest}
@@ -45,19 +45,19 @@ dropAt-map (suc k) (w ∷ q) = ap (λ z. place w ∷ z) (dropAt-map k q)
 
 -- ── any event ────────────────────────────────────────────────────────────────
 
-effect-good : (st : Station) → distinct is (owners (st .slots) (map (λ w. w .request .who) (st .queue))) ≡ true → (q : Option Request) (b : Book) (ws : List Word) (cs : List Stop) (m : Heard) (o : Out) → Effect st q b ws cs m o → GoodBy q (st .clock) b cs o
+effect-good : (cfg : Config) (st : Station) → distinct is (owners (st .slots) (map (λ w. w .request .who) (st .queue))) ≡ true → (q : Option Ashore) (b : Book) (ws : List Word) (cs : List Stop) (m : Heard) (o : Out) → Effect cfg st q b ws cs m o → GoodBy q (st .clock) b cs o
 unfolding ruleA standing seen setQueue reads calledFrom
-effect-good st s _ _ _ _ _ _ (rests m n h) = record { reading = refl; charging = refl }
-effect-good st s _ _ _ _ _ _ (drops k) = good-done (setQueue (dropAt k (st .queue)) st) _ (ap (λ (z : List Place). record { now = st .clock; columns = map view (st .slots); places = z }) (dropAt-map k (st .queue)))
-effect-good st s _ _ _ _ _ _ (data-asked x n) = record { reading = refl; charging = refl }
-effect-good st s _ _ _ _ _ _ (call-asked r) = request-good st r (map (λ w. w .request .who) (st .queue)) s (slotOf (r .who) st) (placeOf (r .who) st) refl refl
-effect-good st s _ _ _ _ _ _ (to-slot m i u e) = slot-good st s i u
-effect-good st s _ _ _ _ _ _ (called-ashore r i h) = record { reading = moves i st _ (free-is _ (slot-lowest st isFree i h)) (callUp (st .clock) r) (calledOf r st) refl; charging = refl }
+effect-good cfg st s _ _ _ _ _ _ (rests m n h) = record { reading = refl; charging = refl }
+effect-good cfg st s _ _ _ _ _ _ (drops k) = good-done (setQueue (dropAt k (st .queue)) st) _ (ap (λ (z : List Place). record { now = st .clock; columns = map view (st .slots); places = z }) (dropAt-map k (st .queue)))
+effect-good cfg st s _ _ _ _ _ _ (data-asked x n) = record { reading = refl; charging = refl }
+effect-good cfg st s _ _ _ _ _ _ (call-asked r) = request-good st r (map (λ w. w .request .who) (st .queue)) s (slotOf (r .who) st) (placeOf (r .who) st) refl refl
+effect-good cfg st s _ _ _ _ _ _ (to-slot m i u e) = slot-good st s i u
+effect-good cfg st s _ _ _ _ _ _ (called-ashore a i h) = let r = ashoreRequest cfg a in record { reading = moves i st _ (free-is _ (slot-lowest st isFree i h)) (callUp (st .clock) r) (calledOf r st) refl; charging = refl }
 
 pub event-good : (cfg : Config) (st : Station) → Sound cfg st → (t : ℕ) (w : What)
-    → GoodBy (askedAt cfg w) (momentOf t (fallsAt (seen st) t w)) (hear cfg (momentOf t (fallsAt (seen st) t w)) (fallsAt (seen st) t w) w (setNow (momentOf t (fallsAt (seen st) t w)) (seen st))) (stopsAt cfg (momentOf t (fallsAt (seen st) t w)) (seen st) (fallsAt (seen st) t w) w) (actAt cfg st t w)
+    → GoodBy (ashoreIn w) (momentOf t (fallsAt (seen st) t w)) (hear cfg (momentOf t (fallsAt (seen st) t w)) (fallsAt (seen st) t w) w (setNow (momentOf t (fallsAt (seen st) t w)) (seen st))) (stopsAt cfg (momentOf t (fallsAt (seen st) t w)) (seen st) (fallsAt (seen st) t w) w) (actAt cfg st t w)
 unfolding seen setClock
-event-good cfg st s t w = effect-good (setClock (momentOf t (fallsAt (seen st) t w)) st) (s .no-twice) _ _ _ _ _ _ (act-effect cfg st t w)
+event-good cfg st s t w = effect-good cfg (setClock (momentOf t (fallsAt (seen st) t w)) st) (s .no-twice) _ _ _ _ _ _ (act-effect cfg st t w)
 
 -- ── the run ──────────────────────────────────────────────────────────────────
 

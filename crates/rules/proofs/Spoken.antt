@@ -8,7 +8,7 @@ use Prim.Native.Nat.{ℕ, zero, suc, _<_}
 use lib.ListN.{getD, length}
 use lib.Dec.{eqb}
 use Rattle.rules.specs.Rules.Places.{modAt, Each}
-use Rattle.rules.specs.Rules.Words.{Request, Deed, carrierOn, carrierOff, acknowledge, callShip, unable, dial, releaseLine, ringingOn, ringingOff, busyTone}
+use Rattle.rules.specs.Rules.Words.{Request, Ashore, Deed, carrierOn, carrierOff, acknowledge, callShip, unable, dial, releaseLine, ringingOn, ringingOff, busyTone}
 use Rattle.rules.specs.Rules.Actions.{theCoast, Action}
 use Rattle.rules.specs.Rules.Station.{Slot, Waiting, Station, theSlot, setSlot, setQueue, ringOf}
 use Rattle.rules.specs.Rules.Requests.{Out, ignored, also, rungBack, freedFor, freed, endActs, coastEnd}
@@ -35,7 +35,7 @@ freesLine w = worded idle (w .rings)
 abbrev pub setsRinging : Bool → Word → Word
 setsRinging b w = worded (w .line) b
 
-abbrev pub speak : Option Request → Deed → List Word → List Word
+abbrev pub speak : Option Ashore → Deed → List Word → List Word
 speak q (carrierOn i) ws = ws
 speak q (carrierOff i) ws = ws
 speak q (acknowledge i r) ws = ws
@@ -47,17 +47,17 @@ speak q (ringingOn i) ws = modAt (setsRinging true) i ws
 speak q (ringingOff i) ws = modAt (setsRinging false) i ws
 speak q (busyTone i) ws = ws
 
-unfoldable pub spoken : Option Request → List Deed → List Word → List Word
+unfoldable pub spoken : Option Ashore → List Deed → List Word → List Word
 spoken q [] ws = ws
 spoken q (d ∷ ds) ws = spoken q ds (speak q d ws)
 
-spoken-append : (q : Option Request) (a b : List Deed) (ws : List Word) → spoken q (a ++ b) ws ≡ spoken q b (spoken q a ws)
+spoken-append : (q : Option Ashore) (a b : List Deed) (ws : List Word) → spoken q (a ++ b) ws ≡ spoken q b (spoken q a ws)
 unfolding spoken
 spoken-append q [] b ws = refl
 spoken-append q (d ∷ a) b ws = spoken-append q a b (speak q d ws)
 
 -- the piece's deeds, read from the words ws, give the words of what it leaves; q is what was asked ashore in the same entry
-pub record SpokenBy (q : Option Request) (ws : List Word) (o : Out) : Type 0 where
+pub record SpokenBy (q : Option Ashore) (ws : List Word) (o : Out) : Type 0 where
   pub telling : spoken q (deedsOf (o .acts)) ws ≡ words (o .next)
 
 abbrev pub Spoken : List Word → Out → Type 0
@@ -70,7 +70,7 @@ pub told-if : (ws : List Word) (b : Bool) (x y : Out) → Spoken ws x → Spoken
 told-if ws true x y p q = p
 told-if ws false x y p q = q
 
-pub told-ignored : (q : Option Request) (ws : List Word) (st : Station) → ws ≡ words st → SpokenBy q ws (ignored st)
+pub told-ignored : (q : Option Ashore) (ws : List Word) (st : Station) → ws ≡ words st → SpokenBy q ws (ignored st)
 unfolding spoken
 told-ignored q ws st h = record { telling = h }
 

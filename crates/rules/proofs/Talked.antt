@@ -7,9 +7,9 @@ use Prim.Native.Nat.{ℕ, zero, suc, _+_, _-_}
 use native.Mathlib.Omega.{arith}
 use lib.ListN.{getD}
 use Rattle.rules.specs.Rules.Places.{modAt}
-use Rattle.rules.specs.Rules.Words.{Party, is, Mode, Request, Config, What, Deed}
+use Rattle.rules.specs.Rules.Words.{Party, is, Mode, Config, Ashore, What, ashoreIn, Deed}
 use Rattle.rules.specs.ListAlone.Book.{Note, Stop, after, holdTime, Call, quiet, called, dialled, talking, Column, Book, blank}
-use Rattle.rules.specs.ListAlone.Reading.{closed, close, pickUp, comeUp, signOff, again, hear, read, reads, setNow, turn, stopsIn, talked, talkedBy, falling, moment, stopOf, callOf, askedAgain, stopsAgain, askedAt}
+use Rattle.rules.specs.ListAlone.Reading.{closed, close, pickUp, comeUp, signOff, again, hear, read, reads, setNow, turn, stopsIn, talked, talkedBy, falling, moment, stopOf, callOf, askedAgain, stopsAgain}
 use Rattle.rules.proofs.Hears.{column-of, talk, Same, Leaves, elsewhere, at-column, read-leaves, Hears, says-nothing, says-begun, says-answered, says-over, says-end, Hearing, no-column, one-column, all-columns, event-hearing}
 
 -- ── the answered calls of a list of columns, up to a time ──────────────────────
@@ -32,14 +32,14 @@ keeps-at t f h (suc i) (l ∷ ls) = ap (λ n. talked t (l .call) + n) (keeps-at 
 
 -- ── what a deed says keeps every talked ──────────────────────────────────────
 
-read-keeps : (q : Option Request) (t u : ℕ) (d : Deed) (b : Book) → talkedBy t (read q u d b .columns) ≡ talkedBy t (b .columns)
+read-keeps : (q : Option Ashore) (t u : ℕ) (d : Deed) (b : Book) → talkedBy t (read q u d b .columns) ≡ talkedBy t (b .columns)
 read-keeps q t u d b = go (read q u d b .columns) (read-leaves q u d b)
   where
     go : (ls : List Column) → Leaves (b .columns) ls → talkedBy t ls ≡ talkedBy t (b .columns)
     go _ elsewhere = refl
     go _ (at-column i f h) = keeps-at t f h i (b .columns)
 
-reads-keeps : (q : Option Request) (t u : ℕ) (ds : List Deed) (b : Book) → talkedBy t (reads q u ds b .columns) ≡ talkedBy t (b .columns)
+reads-keeps : (q : Option Ashore) (t u : ℕ) (ds : List Deed) (b : Book) → talkedBy t (reads q u ds b .columns) ≡ talkedBy t (b .columns)
 unfolding reads
 reads-keeps q t u [] b = refl
 reads-keeps q t u (d ∷ ds) b = reads-keeps q t u ds (read q u d b) ∙ read-keeps q t u d b
@@ -133,4 +133,4 @@ hearing-takes t e b _ _ (all-columns x) = again-takes t x 0 (b .columns)
 -- a law of the list alone: what an entry stops is taken from what runs, and nothing else is
 pub turn-takes : (cfg : Config) (b : Book) (n : Note) → sum (stopsIn cfg b n) + talkedBy (moment b (n .event)) (turn cfg b n .columns) ≡ talkedBy (moment b (n .event)) (b .columns)
 unfolding turn stopsIn
-turn-takes cfg b n = rw (reads-keeps (askedAt cfg (n .event .what)) (moment b (n .event)) (moment b (n .event)) (n .deeds) (hear cfg (moment b (n .event)) (falling b (n .event)) (n .event .what) (setNow (moment b (n .event)) b))) (hearing-takes (moment b (n .event)) (n .event .what) b _ _ (event-hearing cfg (moment b (n .event)) b (falling b (n .event)) (n .event .what)))
+turn-takes cfg b n = rw (reads-keeps (ashoreIn (n .event .what)) (moment b (n .event)) (moment b (n .event)) (n .deeds) (hear cfg (moment b (n .event)) (falling b (n .event)) (n .event .what) (setNow (moment b (n .event)) b))) (hearing-takes (moment b (n .event)) (n .event .what) b _ _ (event-hearing cfg (moment b (n .event)) b (falling b (n .event)) (n .event .what)))

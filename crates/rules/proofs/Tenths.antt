@@ -9,7 +9,7 @@ use lib.Dec.{eqb}
 use lib.ListN.{length, replicate}
 use borrow.Author.Tests.{leb-true}
 use Rattle.rules.specs.Rules.Places.{all}
-use Rattle.rules.specs.Rules.Words.{Party, Request, Config, What, Event, Deed, carrierOn, carrierOff, acknowledge, callShip, unable, dial, releaseLine, ringingOn, ringingOff, busyTone}
+use Rattle.rules.specs.Rules.Words.{Party, Request, Config, Ashore, What, Event, Deed, carrierOn, carrierOff, acknowledge, callShip, unable, dial, releaseLine, ringingOn, ringingOff, busyTone}
 use Rattle.rules.specs.Rules.Actions.{Charge}
 use Rattle.rules.specs.Rules.Station.{Stage, Slot, Station, fresh, answeredAt, answeredIn}
 use Rattle.rules.specs.Rules.Calls.{act}
@@ -91,7 +91,7 @@ pub uncharged-seen : (st : Station) → unchargedTenths st ≡ talkedBy (st .clo
 unfolding unchargedTenths seen
 uncharged-seen st = sym (uncharged-slots (st .clock) (st .slots))
 
-reads-now : (q : Option Request) (u : ℕ) (ds : List Deed) (b : Book) → reads q u ds b .now ≡ b .now
+reads-now : (q : Option Ashore) (u : ℕ) (ds : List Deed) (b : Book) → reads q u ds b .now ≡ b .now
 unfolding reads
 reads-now q u [] b = refl
 reads-now q u (d ∷ ds) b = reads-now q u ds (read q u d b) ∙ one q d
@@ -100,7 +100,7 @@ reads-now q u (d ∷ ds) b = reads-now q u ds (read q u d b) ∙ one q d
     queued-now n x true = refl
     queued-now n x false = refl
 
-    one : (q : Option Request) (d : Deed) → read q u d b .now ≡ b .now
+    one : (q : Option Ashore) (d : Deed) → read q u d b .now ≡ b .now
     one q (carrierOn i) = refl
     one q (carrierOff i) = refl
     one q (acknowledge i r) = refl

@@ -8,17 +8,17 @@ use borrow.Author.Tests.{eq-eqb}
 use lib.Dec.{ltb}
 use lib.ListN.{length}
 use Rattle.rules.specs.Rules.Places.{dropAt, lowest, isSome}
-use Rattle.rules.specs.Rules.Words.{Party, is, Request, Config, What, tick, onChannel70, onSlot, fromAshore, ashoreIn, Event}
-use Rattle.rules.specs.Rules.Heard.{Heard, callRequest, ashoreRequest}
+use Rattle.rules.specs.Rules.Words.{Party, is, Request, Config, Ashore, ashoreIn, Event}
+use Rattle.rules.specs.Rules.Heard.{Heard, callRequest}
 use Rattle.rules.specs.Rules.Station.{Dealing, Kind, Slot, pending, Station, theSlot, setSlot, setClock, setQueue, answeredAt, isFree, offerOf, calledOf}
 use Rattle.rules.specs.Rules.Sound.{requestKeeps, queueRoom}
 use Rattle.rules.specs.Rules.Requests.{Out, freed, coastEnd, owns, slotOf, placeOf, standsAt, standing, ruleA, repeated, afresh, ruleD, offer, ruleF, ruleG, eToG, newcomer, dToG, redial, requested}
-use Rattle.rules.specs.Rules.Ashore.{keepsFor, engaged, calledFrom}
+use Rattle.rules.specs.Rules.Ashore.{ashoreRequest, keepsFor, engaged, calledFrom}
 use Rattle.rules.specs.Rules.Calls.{act}
 use Rattle.rules.specs.Rules.Verdict.{calledShip, callerNumber, calledEngaged, verdict}
 use Rattle.rules.specs.Rules.Actions.{Action}
 use Rattle.rules.specs.ListAlone.Book.{Stop, Column, Book}
-use Rattle.rules.specs.ListAlone.Reading.{closed, moment, askedAt}
+use Rattle.rules.specs.ListAlone.Reading.{closed, moment}
 use Rattle.rules.specs.ListAlone.LineWords.{Word}
 use Rattle.rules.proofs.Readable.{heard-keeps}
 use Rattle.rules.proofs.Base.{by-slot, seen, slot-lowest}
@@ -64,21 +64,17 @@ is-none : (o : Option ℕ) → isSome o ≡ false → o ≡ none
 is-none none h = refl
 is-none (some n) h = cc
 
-pub asked-callable : (cfg : Config) (st : Station) (w : What) → calledShip (ashoreIn w) ≡ true → callerNumber (ashoreIn w) ≡ true → calledEngaged cfg st (ashoreIn w) ≡ false
-    → (r : Request) → askedAt cfg w ≡ some r → Callable cfg st r
+pub asked-callable : (cfg : Config) (st : Station) (q : Option Ashore) → calledShip q ≡ true → callerNumber q ≡ true → calledEngaged cfg st q ≡ false
+    → (a : Ashore) → q ≡ some a → Callable cfg st (ashoreRequest cfg a)
 unfolding ashoreRequest requestKeeps engaged
-asked-callable cfg st tick s n g r e = record { keeps = cc; no-slot = cc; no-place = cc }
-asked-callable cfg st (onChannel70 m) s n g r e = record { keeps = cc; no-slot = cc; no-place = cc }
-asked-callable cfg st (onSlot i h) s n g r e = record { keeps = cc; no-slot = cc; no-place = cc }
-asked-callable cfg st (fromAshore a) s n g r e =
-    let y : ashoreRequest cfg a ≡ r = cc in
+asked-callable cfg st q s n g a e =
     let x = ashoreRequest cfg a .who in
-    let k = or-false (isSome (lowest (keepsFor x) (st .slots))) _ g in
-    rw (← y) (record {
-      keeps = rw (s, eq-eqb (cfg .identity) (cfg .identity) refl, n) refl;
+    let k = or-false (isSome (lowest (keepsFor x) (st .slots))) _ (rw e at g) in
+    record {
+      keeps = rw (rw e at s, eq-eqb (cfg .identity) (cfg .identity) refl, rw e at n) refl;
       no-slot = none-count x (st .slots) (kept-none x (st .slots) (is-none _ (k .0)));
       no-place = is-none _ (k .1);
-    })
+    }
 
 -- ── on a slot ────────────────────────────────────────────────────────────────
 
@@ -130,13 +126,13 @@ module _ (cfg : Config) (P : Station → Type 0) (closed : Closed cfg P) where
 
   -- ── an accepted event: where the property holds once the clock has moved ───
 
-  effect-kept : (st : Station) → P st → Once st → (q : Option Request) (b : Book) (ws : List Word) (cs : List Stop) (m : Heard) (o : Out) → Effect st q b ws cs m o → ((r : Request) → m ≡ callRequest r → requestKeeps cfg r ≡ true) → ((r : Request) → q ≡ some r → Callable cfg st r) → P (o .next)
+  effect-kept : (st : Station) → P st → Once st → (q : Option Ashore) (b : Book) (ws : List Word) (cs : List Stop) (m : Heard) (o : Out) → Effect cfg st q b ws cs m o → ((r : Request) → m ≡ callRequest r → requestKeeps cfg r ≡ true) → ((a : Ashore) → q ≡ some a → Callable cfg st (ashoreRequest cfg a)) → P (o .next)
   unfolding ruleA standing calledFrom
   effect-kept st s once _ _ _ _ _ _ (rests m n h) k f = s
   effect-kept st s once _ _ _ _ _ _ (drops j) k f = closed .dropping j st s
   effect-kept st s once _ _ _ _ _ _ (data-asked x n) k f = s
   effect-kept st s once _ _ _ _ _ _ (call-asked r) k f = request-kept r (k r refl) st s once (slotOf (r .who) st) (placeOf (r .who) st) refl refl
-  effect-kept st s once _ _ _ _ _ _ (called-ashore r i h) k f = let c = f r refl in closed .calling i st r (c .keeps) (c .no-slot) (c .no-place) s
+  effect-kept st s once _ _ _ _ _ _ (called-ashore a i h) k f = let c = f a refl in closed .calling i st (ashoreRequest cfg a) (c .keeps) (c .no-slot) (c .no-place) s
   effect-kept st s once _ _ _ _ _ _ (to-slot m i u e) k f = outcome-kept i st (theSlot st i) u refl s
 
   pub act-kept : (st : Station) (e : Event) → verdict cfg st e ≡ none → P (setClock (moment (seen st) e) st) → P (act cfg st e .next)
@@ -146,4 +142,4 @@ module _ (cfg : Config) (P : Station → Type 0) (closed : Closed cfg P) where
       let from = sounds cfg st (a .is-sound) in
       effect-kept (setClock (moment (seen st) e) st) s (distinct-once st (from .no-twice)) _ _ _ _ _ _ (act-effect cfg st (e .time) (e .what))
       (heard-at cfg (λ m. (r : Request) → m ≡ callRequest r → requestKeeps cfg r ≡ true) (e .what) (a .readable) (λ r y. cc) (λ m d r y. heard-keeps cfg (from .config) m d r y))
-      (λ r y. let c = asked-callable cfg st (e .what) (a .ship) (a .number) (a .not-engaged) r y in record { keeps = c .keeps; no-slot = c .no-slot; no-place = c .no-place })
+      (λ x y. let c = asked-callable cfg st (ashoreIn (e .what)) (a .ship) (a .number) (a .not-engaged) x y in record { keeps = c .keeps; no-slot = c .no-slot; no-place = c .no-place })

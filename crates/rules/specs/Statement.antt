@@ -144,7 +144,7 @@ OfEveryList P = OfEveryRun (λ c es. P c (listOf c es))
 -- "dial", "release line", 8, 9, a call from ashore, off-hook and carrier up alone say of every slot what the book says in its column,
 -- after the last entry
 abbrev pub WordsAgree : Config → List Note → Type 0
-WordsAgree c l = (i : ℕ) → i < length (c .channels) → wordAfter c i l unused ≡ wordOf (column (readAll c l (blankBook c)) i .call)
+WordsAgree c l = (i : ℕ) → i < length (c .channels) → wordAfter i l unused ≡ wordOf (column (readAll c l (blankBook c)) i .call)
 
 -- of every list, so after every entry
 unfoldable pub Literally : Type 0

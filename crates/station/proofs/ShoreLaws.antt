@@ -7,7 +7,7 @@ use mathlib.Core.Path.{_≡_, refl, sym, _∙_}
 use Rattle.units.specs.declared.SlotNumber.{SlotNumber}
 use Rattle.units.specs.declared.Tenths.{Tenths}
 use Rattle.rules.specs.Rules.Places.{isSome, lowest}
-use Rattle.rules.specs.Rules.Heard.{ashoreRequest}
+use Rattle.rules.specs.Rules.Ashore.{ashoreRequest}
 use Rattle.rules.specs.Rules.Station.{isFree}
 use Rattle.rules.specs.Rules.Sound.{numberKeeps}
 use Rattle.rules.specs.Rules.Calls.{actAt, act}

@@ -1,4 +1,4 @@
-use Rattle.rules.specs.Rules.Heard.{ashoreRequest}
+use Rattle.rules.specs.Rules.Ashore.{ashoreRequest}
 use Rattle.requests.specs.Images.{requestImage}
 use Rattle.ashore.specs.Stored.{requestFrom}
 use borrow.Author.Needs.{needs}

@@ -6,11 +6,10 @@ use mathlib.Core.Bool.{Bool, true, false, cond}
 use mathlib.Core.Option.{Option, none, some}
 use Prim.Native.Nat.{ℕ, _+_}
 use lib.Dec.{eqb}
-use Rattle.rules.specs.Rules.Words.{Request, Config, What, isAnsweringOn, isTransmittingOn}
+use Rattle.rules.specs.Rules.Words.{Config, Ashore, What, isAnsweringOn, isTransmittingOn, ashoreIn}
 use Rattle.rules.specs.Rules.Words.{Deed, carrierOn, carrierOff, acknowledge, callShip, unable, dial, releaseLine}
 use Rattle.rules.specs.Rules.Words.{ringingOn, ringingOff, busyTone}
 use Rattle.rules.specs.ListAlone.Book.{Note, Call, quiet, called, dialled, talking}
-use Rattle.rules.specs.ListAlone.Reading.{askedAt}
 
 pub data Line : Type 0 where
   idle : Line
@@ -51,12 +50,12 @@ wordHeard i t e w =
     (cond (isTransmittingOn i e) (worded (transmit t (w .line) (w .rings)) (w .rings)) w)
 
 -- a call to a ship takes the line in the entry of a caller ashore, and in no other
-abbrev pub wordCalled : Option Request → Word → Word
+abbrev pub wordCalled : Option Ashore → Word → Word
 wordCalled none w = w
-wordCalled (some q) w = worded inward (w .rings)
+wordCalled (some a) w = worded inward (w .rings)
 
 -- "dial", "release line", "ringing on", "ringing off" on slot i
-abbrev pub wordDone : Option Request → ℕ → Deed → Word → Word
+abbrev pub wordDone : Option Ashore → ℕ → Deed → Word → Word
 wordDone q i (carrierOn j) w = w
 wordDone q i (carrierOff j) w = w
 wordDone q i (acknowledge j r) w = w
@@ -68,14 +67,14 @@ wordDone q i (ringingOn j) w = cond (eqb i j) (worded (w .line) true) w
 wordDone q i (ringingOff j) w = cond (eqb i j) (worded (w .line) false) w
 wordDone q i (busyTone j) w = w
 
-unfoldable pub wordsDone : Option Request → ℕ → List Deed → Word → Word
+unfoldable pub wordsDone : Option Ashore → ℕ → List Deed → Word → Word
 wordsDone q i [] w = w
 wordsDone q i (d ∷ ds) w = wordsDone q i ds (wordDone q i d w)
 
-unfoldable pub wordAfter : Config → ℕ → List Note → Word → Word
-wordAfter c i [] w = w
-wordAfter c i (n ∷ ns) w =
-    wordAfter c i ns (wordsDone (askedAt c (n .event .what)) i (n .deeds) (wordHeard i (n .event .time) (n .event .what) w))
+unfoldable pub wordAfter : ℕ → List Note → Word → Word
+wordAfter i [] w = w
+wordAfter i (n ∷ ns) w =
+    wordAfter i ns (wordsDone (ashoreIn (n .event .what)) i (n .deeds) (wordHeard i (n .event .time) (n .event .what) w))
 
 -- what the book's column says, in the same words
 abbrev pub wordOf : Call → Word

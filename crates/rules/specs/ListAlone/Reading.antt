@@ -8,12 +8,12 @@ use lib.Dec.{eqb}
 use Rattle.rules.specs.Rules.Places.{dropAt}
 use Rattle.rules.specs.Rules.Words.{Party, is, Mode, simplex, duplex, Request, Config}
 use Rattle.rules.specs.Rules.Words.{Signal, lineDialledOut, lineLifted, lineHung, carrierHeard, carrierLost}
-use Rattle.rules.specs.Rules.Words.{Happened, heard, signal, operator, What, tick, onChannel70, onSlot, fromAshore, Event}
+use Rattle.rules.specs.Rules.Words.{Happened, heard, signal, operator, Ashore, What, tick, onChannel70, onSlot, fromAshore}
+use Rattle.rules.specs.Rules.Words.{ashoreIn, Event}
 use Rattle.rules.specs.Rules.Words.{Deed, carrierOn, carrierOff, acknowledge, callShip, unable, dial, releaseLine}
 use Rattle.rules.specs.Rules.Words.{ringingOn, ringingOff, busyTone}
 use Rattle.rules.specs.Rules.Waits.{ofQueue, loss, main, Due}
 use Rattle.rules.specs.Rules.Heard.{Heard, callRequest, dataRequest, bq, workingCall, endOfCall, declined, nothing, meaning}
-use Rattle.rules.specs.Rules.Heard.{ashoreRequest}
 use Rattle.rules.specs.ListAlone.Book.{Note, Stop, after, silence, offerTime, ringTime, callTime, ringingTime, diallingTime}
 use Rattle.rules.specs.ListAlone.Book.{replyTime, holdTime}
 use Rattle.rules.specs.ListAlone.Book.{queueTime, Said, silent, toldBQ, toldRQ, settled, Call, quiet, called, dialled, talking}
@@ -266,13 +266,6 @@ heardAt c (onChannel70 m) = meaning c m
 heardAt c (onSlot i h) = nothing
 heardAt c (fromAshore a) = nothing
 
--- what a caller ashore asks of this station
-abbrev pub askedAt : Config → What → Option Request
-askedAt c tick = none
-askedAt c (onChannel70 m) = none
-askedAt c (onSlot i h) = none
-askedAt c (fromAshore a) = some (ashoreRequest c a)
-
 -- ── what a deed says ─────────────────────────────────────────────────────────
 
 abbrev pub told : ℕ → Request → Column → Column
@@ -316,9 +309,9 @@ abbrev pub summon : ℕ → Request → Column → Column
 summon t r l = summonCall t r (l .call) l
 
 -- by what was asked ashore in the same entry
-abbrev pub sendCall : Option Request → ℕ → ℕ → Request → Book → Book
+abbrev pub sendCall : Option Ashore → ℕ → ℕ → Request → Book → Book
 sendCall none t i r b = atPlaces (leave (r .who)) (atColumn i (summon t r) b)
-sendCall (some q) t i r b = atColumn i (callUp t r) b
+sendCall (some a) t i r b = atColumn i (callUp t r) b
 
 abbrev pub beginCall : Request → Call → Call
 beginCall r quiet = dialled (r .who) (r .mode) false
@@ -362,7 +355,7 @@ abbrev pub queued : ℕ → ℕ → Party → Book → Book
 queued t n x b = cond (eqb n 103) (atPlaces (join t x) b) b
 
 -- a deed of an entry in which q, if anything, was asked ashore; the caller's ringing and his tone say nothing of the call
-abbrev pub read : Option Request → ℕ → Deed → Book → Book
+abbrev pub read : Option Ashore → ℕ → Deed → Book → Book
 read q t (carrierOn i) b = b
 read q t (carrierOff i) b = atColumn i hush b
 read q t (acknowledge i r) b = atColumn i (tell t r) b
@@ -374,7 +367,7 @@ read q t (ringingOn i) b = b
 read q t (ringingOff i) b = b
 read q t (busyTone i) b = b
 
-unfoldable pub reads : Option Request → ℕ → List Deed → Book → Book
+unfoldable pub reads : Option Ashore → ℕ → List Deed → Book → Book
 reads q t [] b = b
 reads q t (d ∷ ds) b = reads q t ds (read q t d b)
 
@@ -386,7 +379,7 @@ setNow t b = record { now = t; columns = b .columns; places = b .places }
 -- the book after an entry: its event heard, then its deeds read
 unfoldable pub turn : Config → Book → Note → Book
 turn c b n =
-    reads (askedAt c (n .event .what)) (moment b (n .event)) (n .deeds)
+    reads (ashoreIn (n .event .what)) (moment b (n .event)) (n .deeds)
     (hear c (moment b (n .event)) (falling b (n .event)) (n .event .what) (setNow (moment b (n .event)) b))
 
 unfoldable pub stopsIn : Config → Book → Note → List Stop

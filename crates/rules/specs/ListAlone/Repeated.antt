@@ -5,20 +5,20 @@ use mathlib.Core.Bool.{Bool, false, cond, _&&_, _||_}
 use mathlib.Core.Option.{Option, none, some}
 use Prim.Native.Nat.{ℕ}
 use lib.Dec.{eqb}
-use Rattle.rules.specs.Rules.Words.{Party, is, Request, Config}
+use Rattle.rules.specs.Rules.Words.{Party, is, modeNumber, Request, Config, Ashore, ashoreIn}
 use Rattle.rules.specs.Rules.Words.{Deed, carrierOn, carrierOff, acknowledge, callShip, unable, dial, releaseLine}
 use Rattle.rules.specs.Rules.Words.{ringingOn, ringingOff, busyTone}
 use Rattle.rules.specs.Rules.Heard.{Heard, callRequest, dataRequest, bq, workingCall, endOfCall, declined, nothing}
 use Rattle.rules.specs.ListAlone.Book.{Note, Said, silent, toldBQ, toldRQ, settled, Call, quiet, called, dialled, talking}
 use Rattle.rules.specs.ListAlone.Book.{Book, blankBook, column}
-use Rattle.rules.specs.ListAlone.Reading.{moment, heardAt, askedAt, read, readAll}
+use Rattle.rules.specs.ListAlone.Reading.{moment, heardAt, read, readAll}
 
 -- what channel 70 says in the entry itself, and what a caller ashore asks in it
 abbrev pub heardIn : Config → Note → Heard
 heardIn c n = heardAt c (n .event .what)
 
-abbrev pub askedIn : Config → Note → Option Request
-askedIn c n = askedAt c (n .event .what)
+abbrev pub askedIn : Note → Option Ashore
+askedIn n = ashoreIn (n .event .what)
 
 -- the answer 104/103 to the ship x
 abbrev pub putsOff : Party → Deed → Bool
@@ -54,27 +54,33 @@ Asks x digits (endOfCall y) = ⊥
 Asks x digits (declined y) = ⊥
 Asks x digits nothing = ⊥
 
--- a call to a ship, where k is the call on its slot just before: in the entry of a caller ashore, what is asked there; once more, what
+-- the ship, the mode and the digits that a caller ashore asks for, with 126, from this station
+abbrev pub AsksFor : Config → Ashore → Request → Type 0
+AsksFor c a r =
+    (r .who .ship ≡ a .ship)
+    × ((r .who .station ≡ c .identity) × ((modeNumber (r .mode) ≡ a .mode) × ((r .second ≡ 126) × (r .number ≡ a .digits))))
+
+-- a call to a ship, where k is the call on its slot just before: in the entry of a caller ashore, what its event says; once more, what
 -- the ship was called with; else it is a ring-back, with what its ship last asked for
-abbrev pub CallsAsked : Option Request → Heard → Request → Call → Type 0
-CallsAsked (some q) h r k = q ≡ r
-CallsAsked none h r quiet = h ≡ callRequest r
-CallsAsked none h r (called o rings) = o ≡ r
-CallsAsked none h r (dialled x m ended) = h ≡ callRequest r
-CallsAsked none h r (talking x m b) = h ≡ callRequest r
+abbrev pub CallsAsked : Config → Option Ashore → Heard → Request → Call → Type 0
+CallsAsked c (some a) h r k = AsksFor c a r
+CallsAsked c none h r quiet = h ≡ callRequest r
+CallsAsked c none h r (called o rings) = o ≡ r
+CallsAsked c none h r (dialled x m ended) = h ≡ callRequest r
+CallsAsked c none h r (talking x m b) = h ≡ callRequest r
 
 -- an acknowledgement and a 104 repeat the request h of their own entry, in which q, if anything, was asked ashore
-abbrev pub Repeats : Heard → Option Request → (Party → Heard) → Book → Deed → Type 0
-Repeats h q asked b (carrierOn i) = Unit {0}
-Repeats h q asked b (carrierOff i) = Unit {0}
-Repeats h q asked b (acknowledge i r) = h ≡ callRequest r
-Repeats h q asked b (callShip i r) = CallsAsked q (asked (r .who)) r (column b i .call)
-Repeats h q asked b (unable n x digits) = Asks x digits h
-Repeats h q asked b (dial i digits) = Unit {0}
-Repeats h q asked b (releaseLine i) = Unit {0}
-Repeats h q asked b (ringingOn i) = Unit {0}
-Repeats h q asked b (ringingOff i) = Unit {0}
-Repeats h q asked b (busyTone i) = Unit {0}
+abbrev pub Repeats : Config → Heard → (Party → Heard) → Option Ashore → Book → Deed → Type 0
+Repeats c h asked q b (carrierOn i) = Unit {0}
+Repeats c h asked q b (carrierOff i) = Unit {0}
+Repeats c h asked q b (acknowledge i r) = h ≡ callRequest r
+Repeats c h asked q b (callShip i r) = CallsAsked c q (asked (r .who)) r (column b i .call)
+Repeats c h asked q b (unable n x digits) = Asks x digits h
+Repeats c h asked q b (dial i digits) = Unit {0}
+Repeats c h asked q b (releaseLine i) = Unit {0}
+Repeats c h asked q b (ringingOn i) = Unit {0}
+Repeats c h asked q b (ringingOff i) = Unit {0}
+Repeats c h asked q b (busyTone i) = Unit {0}
 
 -- ── and what channel 70 last carried about its slot ──────────────────────────
 
@@ -113,40 +119,40 @@ Dials digits (toldRQ r) = ⊥
 Dials digits (settled r) = r .number ≡ digits
 
 -- where b is the book just before the deed, and on the slot whose carrier the deed before it switched on
-abbrev pub RingsSame : Option ℕ → Book → Deed → Type 0
-RingsSame on b (carrierOn i) = Unit {0}
-RingsSame on b (carrierOff i) = Unit {0}
-RingsSame on b (acknowledge i r) = Unit {0}
-RingsSame on b (callShip i r) = Sends i r on (column b i .said) (column b i .call)
-RingsSame on b (unable n x digits) = Unit {0}
-RingsSame on b (dial i digits) = Unit {0}
-RingsSame on b (releaseLine i) = Unit {0}
-RingsSame on b (ringingOn i) = Unit {0}
-RingsSame on b (ringingOff i) = Unit {0}
-RingsSame on b (busyTone i) = Unit {0}
+abbrev pub RingsSame : Option Ashore → Option ℕ → Book → Deed → Type 0
+RingsSame q on b (carrierOn i) = Unit {0}
+RingsSame q on b (carrierOff i) = Unit {0}
+RingsSame q on b (acknowledge i r) = Unit {0}
+RingsSame q on b (callShip i r) = Sends i r on (column b i .said) (column b i .call)
+RingsSame q on b (unable n x digits) = Unit {0}
+RingsSame q on b (dial i digits) = Unit {0}
+RingsSame q on b (releaseLine i) = Unit {0}
+RingsSame q on b (ringingOn i) = Unit {0}
+RingsSame q on b (ringingOff i) = Unit {0}
+RingsSame q on b (busyTone i) = Unit {0}
 
-abbrev pub DialsNamed : Option ℕ → Book → Deed → Type 0
-DialsNamed on b (carrierOn i) = Unit {0}
-DialsNamed on b (carrierOff i) = Unit {0}
-DialsNamed on b (acknowledge i r) = Unit {0}
-DialsNamed on b (callShip i r) = Unit {0}
-DialsNamed on b (unable n x digits) = Unit {0}
-DialsNamed on b (dial i digits) = Dials digits (column b i .said)
-DialsNamed on b (releaseLine i) = Unit {0}
-DialsNamed on b (ringingOn i) = Unit {0}
-DialsNamed on b (ringingOff i) = Unit {0}
-DialsNamed on b (busyTone i) = Unit {0}
+abbrev pub DialsNamed : Option Ashore → Option ℕ → Book → Deed → Type 0
+DialsNamed q on b (carrierOn i) = Unit {0}
+DialsNamed q on b (carrierOff i) = Unit {0}
+DialsNamed q on b (acknowledge i r) = Unit {0}
+DialsNamed q on b (callShip i r) = Unit {0}
+DialsNamed q on b (unable n x digits) = Unit {0}
+DialsNamed q on b (dial i digits) = Dials digits (column b i .said)
+DialsNamed q on b (releaseLine i) = Unit {0}
+DialsNamed q on b (ringingOn i) = Unit {0}
+DialsNamed q on b (ringingOff i) = Unit {0}
+DialsNamed q on b (busyTone i) = Unit {0}
 
 -- each deed with the book just before it, the deeds being read from b on at the time t
-abbrev pub EachRead : (Option ℕ → Book → Deed → Type 0) → Option Request → ℕ → Option ℕ → Book → List Deed → Type 0
+abbrev pub EachRead : (Option Ashore → Option ℕ → Book → Deed → Type 0) → Option Ashore → ℕ → Option ℕ → Book → List Deed → Type 0
 EachRead P q t on b [] = Unit {0}
-EachRead P q t on b (d ∷ ds) = P on b d × EachRead P q t (switchedOn d) (read q t d b) ds
+EachRead P q t on b (d ∷ ds) = P q on b d × EachRead P q t (switchedOn d) (read q t d b) ds
 
 -- ── of an entry, with the entries before it ──────────────────────────────────
 
-abbrev pub DeedByDeed : (Option ℕ → Book → Deed → Type 0) → Config → List Note → Note → Type 0
+abbrev pub DeedByDeed : (Option Ashore → Option ℕ → Book → Deed → Type 0) → Config → List Note → Note → Type 0
 DeedByDeed P c before n =
-    EachRead P (askedIn c n) (moment (readAll c before (blankBook c)) (n .event)) none (readAll c before (blankBook c)) (n .deeds)
+    EachRead P (askedIn n) (moment (readAll c before (blankBook c)) (n .event)) none (readAll c before (blankBook c)) (n .deeds)
 
 abbrev pub Answers : Config → List Note → Note → Type 0
-Answers c before n = DeedByDeed (λ on. Repeats (heardIn c n) (askedIn c n) (λ x. lastAsked c x nothing before)) c before n
+Answers c before n = DeedByDeed (λ q on. Repeats c (heardIn c n) (λ x. lastAsked c x nothing before) q) c before n

@@ -1,13 +1,31 @@
--- 02, no. 2: a call from ashore: whether it may, and how it begins. What follows stands with the other events.
+-- 02, no. 2: a call from ashore: what it asks for, whether it may, and how it begins. What follows stands with the other events.
 use mathlib.Core.List.{[], _∷_}
-use mathlib.Core.Bool.{Bool, _||_}
+use mathlib.Core.Bool.{Bool, cond, _||_}
 use mathlib.Core.Option.{Option, none, some}
 use Prim.Native.Nat.{ℕ}
+use lib.Dec.{eqb}
+use Rattle.sequence.specs.Figures.{firstSimplex, firstDuplex, untold}
 use Rattle.rules.specs.Rules.Places.{lowest, isSome}
-use Rattle.rules.specs.Rules.Words.{Party, Request, carrierOn, callShip}
+use Rattle.rules.specs.Rules.Words.{Party, Mode, simplex, duplex, Request, Config, Ashore, carrierOn, callShip}
 use Rattle.rules.specs.Rules.Actions.{does}
 use Rattle.rules.specs.Rules.Station.{Slot, keptFor, Station, setSlot, calledOf}
 use Rattle.rules.specs.Rules.Requests.{Out, ignored, isOf, placeOf}
+
+-- "The mode is 100 or 101"
+abbrev pub isMode : ℕ → Bool
+isMode n = eqb n firstSimplex || eqb n firstDuplex
+
+abbrev pub modeOf : ℕ → Mode
+modeOf n = cond (eqb n firstDuplex) duplex simplex
+
+-- "(mode, 126)", and the caller's digits as its number
+unfoldable pub ashoreRequest : Config → Ashore → Request
+ashoreRequest c a = record {
+  who = record { ship = a .ship; station = c .identity };
+  mode = modeOf (a .mode);
+  second = untold;
+  number = a .digits;
+}
 
 -- 38: "that ship already has a slot (a hold included) or waits"
 abbrev pub keepsFor : Party → Slot → Bool

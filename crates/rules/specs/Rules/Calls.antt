@@ -13,7 +13,7 @@ use Rattle.rules.specs.Rules.Words.{What, tick, onChannel70, onSlot, fro
 use Rattle.rules.specs.Rules.Words.{carrierOn, carrierOff, callShip, dial, releaseLine, ringingOn, ringingOff, busyTone}
 use Rattle.rules.specs.Rules.Waits.{Wait, ofQueue, loss, main, Due}
 use Rattle.rules.specs.Rules.Heard.{Heard, callRequest, dataRequest, bq, workingCall, endOfCall, declined, nothing, kindOf}
-use Rattle.rules.specs.Rules.Heard.{addressed, meaning, ashoreRequest}
+use Rattle.rules.specs.Rules.Heard.{addressed, meaning}
 use Rattle.rules.specs.Rules.Actions.{Action, does, over, theShip}
 use Rattle.rules.specs.Rules.Station.{isFree, isTaken, Kind, offered, firstRing, secondRing, acknowledged, firstCall}
 use Rattle.rules.specs.Rules.Station.{secondCall, ringing, rings}
@@ -26,7 +26,7 @@ use Rattle.rules.specs.Rules.Requests.{Out, done, ignored, also, rungBac
 use Rattle.rules.specs.Rules.Requests.{coastEnd, Standing, nowhere, holds, waits, standing, beingCalled, ruleA, repeated}
 use Rattle.rules.specs.Rules.Requests.{afresh, same, ruleB, ruleD, offer}
 use Rattle.rules.specs.Rules.Requests.{ruleF, ruleG, eToG, newcomer, dToG, redial, ruleC, bOrC, requested}
-use Rattle.rules.specs.Rules.Ashore.{engaged, calledFrom}
+use Rattle.rules.specs.Rules.Ashore.{ashoreRequest, engaged, calledFrom}
 
 -- ── working call ─────────────────────────────────────────────────────────────
 

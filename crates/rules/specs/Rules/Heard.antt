@@ -1,4 +1,4 @@
--- What the symbols of a sequence say to this station, and what a caller ashore asks of it.
+-- What the symbols of a sequence say to this station.
 use mathlib.Core.List.{List}
 use mathlib.Core.Bool.{Bool, true, false, cond, _&&_, _||_}
 use mathlib.Core.Option.{Option, none, some}
@@ -10,10 +10,10 @@ use Rattle.sequence.specs.declared.Field.{Field}
 use Rattle.sequence.specs.declared.Field.the-variants.{Blank, Channel, Duration}
 use Rattle.sequence.specs.declared.Number.{Number}
 use Rattle.sequence.specs.declared.Meaning.{Meaning}
-use Rattle.sequence.specs.Figures.{firstSimplex, firstDuplex, firstData, firstUnable, firstOver, untold, endRq, endBq, endLast}
+use Rattle.sequence.specs.Figures.{firstSimplex, firstDuplex, firstData, firstUnable, firstOver, endRq, endBq, endLast}
 use Rattle.sequence.specs.Reading.{readingOf}
 use Rattle.rules.specs.Rules.Places.{lowest}
-use Rattle.rules.specs.Rules.Words.{Party, Mode, simplex, duplex, Request, Config, ours, Ashore}
+use Rattle.rules.specs.Rules.Words.{Party, Mode, simplex, duplex, Request, Config, ours}
 
 pub data Heard : Type 0 where
   callRequest : Request → Heard  -- simplex or duplex
@@ -84,21 +84,3 @@ addressed c m = cond (ours c (m .address)) (kindOf c m) nothing
 -- what symbols say that the reader accepts
 unfoldable pub meaning : Config → List ℕ → Heard
 meaning c s = addressed c (readingOf s .meaning)
-
--- ── 02, no. 2: from ashore ───────────────────────────────────────────────────
-
--- "The mode is 100 or 101"
-abbrev pub isMode : ℕ → Bool
-isMode n = eqb n firstSimplex || eqb n firstDuplex
-
-abbrev pub modeOf : ℕ → Mode
-modeOf n = cond (eqb n firstDuplex) duplex simplex
-
--- "(mode, 126)", and the caller's digits as its number
-unfoldable pub ashoreRequest : Config → Ashore → Request
-ashoreRequest c a = record {
-  who = record { ship = a .ship; station = c .identity };
-  mode = modeOf (a .mode);
-  second = untold;
-  number = a .digits;
-}

@@ -9,7 +9,8 @@ use Rattle.sequence.specs.declared.Meaning.{Meaning}
 use Rattle.rules.specs.Rules.Places.{lowest}
 use Rattle.rules.specs.Rules.Words.{Mode, Config, modeNumber, Ours}
 use Rattle.rules.specs.Rules.Heard.{Heard, callRequest, dataRequest, bq, workingCall, endOfCall, declined, nothing}
-use Rattle.rules.specs.Rules.Heard.{digitsIn, sentBy, requestIn, sameChannel, addressed, isMode, modeOf}
+use Rattle.rules.specs.Rules.Heard.{digitsIn, sentBy, requestIn, sameChannel, addressed}
+use Rattle.rules.specs.Rules.Ashore.{isMode, modeOf}
 
 -- to this station, with an end of sequence and a first telecommand, the field 126s
 pub record Plain (c : Config) (end first : ℕ) (m : Meaning) : Type 0 where

@@ -12,7 +12,6 @@ use Rattle.sequence.specs.Answers.{answerNumber, isDone}
 use Rattle.sequence.specs.Reading.{readingOf}
 use Rattle.sequence.specs.Identity.{isShip}
 use Rattle.rules.specs.Rules.Places.{isSome, lowest}
-use Rattle.rules.specs.Rules.Heard.{isMode, ashoreRequest}
 use Rattle.rules.specs.Rules.Words.{Config, Hand, Happened, What, happens, slotIn, symbolsOn, symbolsIn, handIn, Ashore}
 use Rattle.rules.specs.Rules.Words.{ashoreIn, Event}
 use Rattle.rules.specs.Rules.Actions.{Action}
@@ -20,7 +19,7 @@ use Rattle.rules.specs.Rules.Bytes.{mostActions, blockSize}
 use Rattle.rules.specs.Rules.Station.{Station, fires, theSlot, isFree}
 use Rattle.rules.specs.Rules.Sound.{configKeeps, numberKeeps, limit, sound}
 use Rattle.rules.specs.Rules.Requests.{Out}
-use Rattle.rules.specs.Rules.Ashore.{engaged}
+use Rattle.rules.specs.Rules.Ashore.{isMode, ashoreRequest, engaged}
 use Rattle.rules.specs.Rules.Calls.{barredHand, act}
 
 -- a test, and the number given where it fails

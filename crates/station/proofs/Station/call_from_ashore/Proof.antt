@@ -2,7 +2,7 @@ use mathlib.Core.Option.{none}
 use mathlib.Core.Path.{_≡_, refl, sym, ap, _∙_}
 use lib.ListN.{length}
 use Rattle.rules.specs.Rules.Words.{Event}
-use Rattle.rules.specs.Rules.Heard.{ashoreRequest}
+use Rattle.rules.specs.Rules.Ashore.{ashoreRequest}
 use Rattle.rules.specs.Rules.Calls.{act}
 use Rattle.rules.proofs.Accepted as rules
 use Rattle.requests.specs.Views.{requestOf}
