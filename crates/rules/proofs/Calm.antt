@@ -77,35 +77,35 @@ unfolding reads
 fits-append P t on b [] es p q = q on
 fits-append P t on b (d ∷ ds) es p q = (p .0, fits-append P t (switchedOn d) (read none t d b) ds es (p .1) q)
 
--- ── a column on which nothing stands: channel 70 has said nothing of it, and no caller ashore has its line ──
+-- ── a column on which nothing stands: channel 70 has said nothing of it, and its line is released ──
 
-abbrev NoCaller : Call → Type 0
-NoCaller quiet = Unit {0}
-NoCaller (called r b) = ⊥
-NoCaller (dialled x m o) = Unit {0}
-NoCaller (talking x m b) = Unit {0}
+abbrev NoLine : Call → Type 0
+NoLine quiet = Unit {0}
+NoLine (called r b) = ⊥
+NoLine (dialled x m o) = ⊥
+NoLine (talking x m b) = Unit {0}
 
 abbrev Silent : Column → Type 0
-Silent l = (l .said ≡ silent) × NoCaller (l .call)
+Silent l = (l .said ≡ silent) × NoLine (l .call)
 
 -- so a call to a ship is a ring-back, and comes just behind the carrier
-rung-asked : (cfg : Config) (h : Heard) (r : Request) (k : Call) → NoCaller k → h ≡ callRequest r → CallsAsked cfg none h r k
+rung-asked : (cfg : Config) (h : Heard) (r : Request) (k : Call) → NoLine k → h ≡ callRequest r → CallsAsked cfg none h r k
 rung-asked cfg h r quiet z e = e
 rung-asked cfg h r (called o b) z e = absurd z
-rung-asked cfg h r (dialled x m o) z e = e
+rung-asked cfg h r (dialled x m o) z e = absurd z
 rung-asked cfg h r (talking x m b) z e = e
 
-rung-behind : (i : ℕ) (r : Request) (s : Said) (k : Call) → s ≡ silent → NoCaller k → Sends i r (some i) s k
+rung-behind : (i : ℕ) (r : Request) (s : Said) (k : Call) → s ≡ silent → NoLine k → Sends none i r (some i) s k
 rung-behind i r s quiet e z = rw e refl
 rung-behind i r s (called o b) e z = absurd z
-rung-behind i r s (dialled x m o) e z = rw e refl
+rung-behind i r s (dialled x m o) e z = absurd z
 rung-behind i r s (talking x m b) e z = rw e refl
 
 -- the line is released, then the carrier off; or the other way round
-released : (l : Column) → NoCaller (letGo l .call)
+released : (l : Column) → NoLine (letGo l .call)
 released l = go (l .call)
   where
-    go : (c : Call) → NoCaller (letGo (column-of (l .said) (l .wait) c (l .gone)) .call)
+    go : (c : Call) → NoLine (letGo (column-of (l .said) (l .wait) c (l .gone)) .call)
     go quiet = tt
     go (called r b) = tt
     go (dialled x m o) = tt
@@ -205,7 +205,7 @@ module _ (cfg : Config) (h : Heard) (a : Party → Heard) where
     move-calm i t _ _ _ (to-agree k r d z) g s = (no-deed, λ u o x. cc)
     move-calm i t _ _ _ (to-ring r d) g s = (one-deed _ (λ u on. (rw s (g r refl), (rw s refl, tt))) (λ x. refl), λ u o x. cc)
     move-calm i t _ _ _ (to-drop k r d z) g s = (one-deed _ (λ u on. (tt, (tt, tt))) (λ x. refl), λ u. rw (there hush refl i (b .columns), s, no-caller k (r .request) z) (refl, tt))
-    move-calm i t _ _ _ (to-call r d) g s = (one-deed _ (λ u on. (rw s refl, (rw s refl, tt))) (λ x. refl), λ u o x. cc)
+    move-calm i t _ _ _ (to-call r d) g s = (one-deed _ (λ u on. (rw s refl, (rw s (refl, refl), tt))) (λ x. refl), λ u o x. cc)
     move-calm i t _ _ _ (to-rings k r d z) g s = (one-deed _ (λ u on. (tt, (tt, tt))) (λ x. refl), λ u o x. cc)
     move-calm i t _ _ _ (to-answer r d) g s = (one-deed _ (λ u on. (tt, (tt, tt))) (λ x. refl), λ u o x. cc)
     move-calm i t _ _ _ (to-let-go k r d tone) g s = (drop-mild i (rings k) tone, λ u. drop-quiet i (rings k) tone u)

@@ -187,7 +187,7 @@ module _ (cfg : Config) (a : Party → Heard) where
   effect-said k st v n once _ _ _ _ _ _ (call-asked r) f = request-said cfg r a k st n once (slotOf (r .who) st) (placeOf (r .who) st) refl refl
   effect-said k st v n once _ _ _ _ _ _ (called-ashore x i h) f =
       let c : column k i ≡ blank = rw v (slot-mapped st view i ∙ ap view (free-is (theSlot st i) (slot-lowest st isFree i h))) in
-      record { fits = λ t on. ((tt, (tt, tt)), ((asks-for cfg x (f x refl), (rw c refl, tt)), tt)); known = set-known a i (calledOf (ashoreRequest cfg x) st) st (λ o y. cc) n }
+      record { fits = λ t on. ((tt, (tt, tt)), ((asks-for cfg x (f x refl), (rw c (refl, (refl, refl)), tt)), tt)); known = set-known a i (calledOf (ashoreRequest cfg x) st) st (λ o y. cc) n }
   effect-said k st v n once _ _ _ _ _ _ (to-slot m i u e) f = calm-said cfg _ a k _ (outcome-calm cfg m a k i st n v u)
 
   act-said : (st : Station) → Known a st → Once st → (t : ℕ) (w : What) → ((x : Ashore) → ashoreIn w ≡ some x → isMode (x .mode) ≡ true) → SaidBy cfg (ashoreIn w) (heardAt cfg w) a (seen st) (actAt cfg st t w)

@@ -165,7 +165,7 @@ unfoldable pub AnswersRepeat : Type 0
 AnswersRepeat = OfEveryEntry Answers
 
 -- a ring-back or a call from ashore comes just behind its slot's carrier, nothing having been said of that slot, or repeats the one that
--- channel 70 said last
+-- channel 70 said last; a call from ashore begins in its caller's own entry, on a slot with no call, and is repeated while it does not ring
 unfoldable pub SecondRingRepeats : Type 0
 SecondRingRepeats = OfEveryEntry (DeedByDeed RingsSame)
 

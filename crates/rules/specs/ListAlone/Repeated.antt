@@ -104,12 +104,14 @@ Rings i r on (toldBQ o) = ⊥
 Rings i r on (toldRQ o) = o ≡ r
 Rings i r on (settled o) = ⊥
 
--- a call from ashore is sent once more only while it does not ring; any other call to a ship is as above
-abbrev pub Sends : ℕ → Request → Option ℕ → Said → Call → Type 0
-Sends i r on s quiet = Rings i r on s
-Sends i r on s (called o rings) = rings ≡ false
-Sends i r on s (dialled x m ended) = Rings i r on s
-Sends i r on s (talking x m b) = Rings i r on s
+-- in the entry of a caller ashore a call to a ship comes just behind its slot's carrier, nothing said of that slot and no call on it; in
+-- any other it is the second sending of a call from ashore, the first once more, while it does not ring; or a ring-back, with no line dialled
+abbrev pub Sends : Option Ashore → ℕ → Request → Option ℕ → Said → Call → Type 0
+Sends (some a) i r on s k = (s ≡ silent) × ((k ≡ quiet) × (on ≡ some i))
+Sends none i r on s quiet = Rings i r on s
+Sends none i r on s (called o rings) = (o ≡ r) × (rings ≡ false)
+Sends none i r on s (dialled x m ended) = ⊥
+Sends none i r on s (talking x m b) = Rings i r on s
 
 -- the digits are those of the request acknowledged, or rung back and agreed to
 abbrev pub Dials : List ℕ → Said → Type 0
@@ -118,12 +120,12 @@ Dials digits (toldBQ r) = r .number ≡ digits
 Dials digits (toldRQ r) = ⊥
 Dials digits (settled r) = r .number ≡ digits
 
--- where b is the book just before the deed, and on the slot whose carrier the deed before it switched on
+-- where q is asked ashore in the entry, b is the book just before the deed, and on the slot whose carrier the deed before it switched on
 abbrev pub RingsSame : Option Ashore → Option ℕ → Book → Deed → Type 0
 RingsSame q on b (carrierOn i) = Unit {0}
 RingsSame q on b (carrierOff i) = Unit {0}
 RingsSame q on b (acknowledge i r) = Unit {0}
-RingsSame q on b (callShip i r) = Sends i r on (column b i .said) (column b i .call)
+RingsSame q on b (callShip i r) = Sends q i r on (column b i .said) (column b i .call)
 RingsSame q on b (unable n x digits) = Unit {0}
 RingsSame q on b (dial i digits) = Unit {0}
 RingsSame q on b (releaseLine i) = Unit {0}
@@ -143,13 +145,15 @@ DialsNamed q on b (ringingOn i) = Unit {0}
 DialsNamed q on b (ringingOff i) = Unit {0}
 DialsNamed q on b (busyTone i) = Unit {0}
 
--- each deed with the book just before it, the deeds being read from b on at the time t
+-- each deed with the book just before it: b with the entry's earlier deeds read, at the time t. The entry's own event is not heard in it:
+-- a call that this event stops still talks there, and a ring-back may come on its slot
 abbrev pub EachRead : (Option Ashore → Option ℕ → Book → Deed → Type 0) → Option Ashore → ℕ → Option ℕ → Book → List Deed → Type 0
 EachRead P q t on b [] = Unit {0}
 EachRead P q t on b (d ∷ ds) = P q on b d × EachRead P q t (switchedOn d) (read q t d b) ds
 
 -- ── of an entry, with the entries before it ──────────────────────────────────
 
+-- from the book before the entry on
 abbrev pub DeedByDeed : (Option Ashore → Option ℕ → Book → Deed → Type 0) → Config → List Note → Note → Type 0
 DeedByDeed P c before n =
     EachRead P (askedIn n) (moment (readAll c before (blankBook c)) (n .event)) none (readAll c before (blankBook c)) (n .deeds)
