@@ -29,15 +29,15 @@ use Rattle.station_theorems.specs.Steps.{Step, stepOf, Allowed, SetUpAs, Trace}
 use Rattle.station_theorems.specs.Steps as Rack
 use Rattle.station_theorems.specs.Statement as Said
 use Rattle.station_theorems.specs.Statement.{OfEveryTrace, Obeys, RackObeys, RackLiterally, RackAnswersRepeat, RackSecondRingRepeats, RackDialsAsked, NoneIdle, RackNoChannelIdle, isSound, RackAlwaysSound}
-use Rattle.station_theorems.specs.Statement.{RackRingsAsTold, RackRingsInTurn, RackCalledNotOffered, RackCalledAskInVain, RackDroppedReleased}
-use Rattle.station_theorems.proofs.Steps.{step-allowed, rack-dropped-released}
+use Rattle.station_theorems.specs.Statement.{RackRingsAsTold, RackRingsInTurn, RackCalledNotOffered, RackCalledAskInVain, RackDroppedReleased, RackCalledIgnored}
+use Rattle.station_theorems.proofs.Steps.{step-allowed, rack-dropped-released, rack-called-ignored}
 use Rattle.station_theorems.proofs.Scripted.{beginning}
 use Rattle.station_theorems.proofs.Theorems.{rack-obeys, rack-literally, rack-answers-repeat, rack-second-ring-repeats, rack-dials-asked, rack-no-channel-idle, rack-always-sound}
 use Rattle.station_theorems.proofs.Theorems.{rack-rings-as-told, rack-rings-in-turn, rack-called-not-offered, rack-called-ask-in-vain}
 use Rattle.host_theorems.specs.Calls as Host
 use Rattle.host_theorems.specs.Calls.{Call, Entered, HandsOn, lastOf, SetUpIn, HostRun}
 use Rattle.host_theorems.specs.Statement.{answerIn, entriesIn, OfEveryHost, HostObeys, HostLiterally, HostAnswersRepeat, HostSecondRingRepeats, HostDialsAsked, HostNoChannelIdle, HostAlwaysSound, HostTellsItsClock}
-use Rattle.host_theorems.specs.Statement.{HostRingsAsTold, HostRingsInTurn, HostCalledNotOffered, HostCalledAskInVain, HostDroppedReleased}
+use Rattle.host_theorems.specs.Statement.{HostRingsAsTold, HostRingsInTurn, HostCalledNotOffered, HostCalledAskInVain, HostDroppedReleased, HostCalledIgnored}
 use Rattle.host_theorems.proofs.Calls.{called, answer-is, count-is}
 
 -- ── a list of calls as a list of steps ───────────────────────────────────────
@@ -198,3 +198,13 @@ host-dropped-released x a =
     let step = stepOf e s (x .lent) (steppedBy s e) (roomAfter s (x .lent) e) in
     let allowed : Allowed step = rw (k .event-is) (step-allowed s (x .lent) (k .time) (k .what)) in
     rw (kept-station x a, count-is x a, k .left-is) (rack-dropped-released step allowed)
+
+pub host-called-ignored : HostCalledIgnored
+unfolding HostCalledIgnored RackCalledIgnored roomLeft
+host-called-ignored x a t =
+    let k = called x a in
+    let s = stationFrom (x .station) in
+    let e = x .event in
+    let step = stepOf e s (x .lent) (steppedBy s e) (roomAfter s (x .lent) e) in
+    let allowed : Allowed step = rw (k .event-is) (step-allowed s (x .lent) (k .time) (k .what)) in
+    rw (answer-is x a, kept-station x a, count-is x a, k .left-is) (rack-called-ignored step allowed (rw (answer-is x a) at t))

@@ -8,13 +8,14 @@ use lib.Dec.{leb}
 use contract.Lifetimes.{Lfts}
 use Rattle.rules.specs.Rules.Places.{Each}
 use Rattle.rules.specs.Rules.Words.{Config}
+use Rattle.rules.specs.Rules.Requests.{Out}
 use Rattle.rules.specs.Rules.Verdict.{Entry}
-use Rattle.rules.specs.Statement.{notes, WordsAgree, EveryEntry, RingsBy, ReleasedWhenDropped}
+use Rattle.rules.specs.Statement.{notes, WordsAgree, EveryEntry, RingsBy, ReleasedWhenDropped, IgnoredWhenCalled}
 use Rattle.rules.specs.ListAlone.Repeated.{Answers, RingsSame, DialsNamed, DeedByDeed}
 use Rattle.rules.specs.ListAlone.LineWords.{InTurn}
 use Rattle.rules.specs.ListAlone.BeingCalled.{OffersOthers, AsksInVain}
 use Rattle.station.specs.declared.Station.{Station}
-use Rattle.station.specs.Model.{modelOf}
+use Rattle.station.specs.Model.{modelOf, configOf}
 use Rattle.lent_layout.specs.Stations.{stationFrom}
 use Rattle.coast.proofs.setting.coast_set_up.Reads as set-up
 use Rattle.coast.proofs.setting.coast_clock.Reads as clock
@@ -93,6 +94,15 @@ HostTellsItsClock = (c : Config) (xs : List Call) (t : HostRun c xs) (κs : Lfts
 unfoldable pub HostDroppedReleased : Type 0
 HostDroppedReleased = (x : Call) → Entered x
     → ReleasedWhenDropped (modelOf (stationFrom (x .station))) (modelOf (stationFrom (x .kept))) (actionsIn (countIn x) (x .left))
+
+-- what a call returns and leaves, with the actions in its room
+abbrev pub outIn : Call → Out
+outIn x = record { answer = answerIn x; next = modelOf (stationFrom (x .kept)); acts = actionsIn (countIn x) (x .left) }
+
+-- a request of a ship that is being called is ignored: on any bytes, in a run or not, wherever the answer is no refusal
+unfoldable pub HostCalledIgnored : Type 0
+HostCalledIgnored = (x : Call) → Entered x → leb (answerIn x) 1 ≡ true
+    → IgnoredWhenCalled (configOf (stationFrom (x .station))) (modelOf (stationFrom (x .station))) (x .event) (outIn x)
 
 -- ── refusals, by the returned number, on any bytes, in a run or not ──────────
 

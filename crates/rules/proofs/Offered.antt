@@ -1,5 +1,6 @@
--- `CalledNotOffered` and `CalledAskInVain`: nothing but its call is said to a ship that is being called, and what it asks is ignored.
-use mathlib.Core.Path.{_≡_, refl, sym}
+-- `CalledNotOffered`, `CalledAskInVain` and `CalledIgnored`: nothing but its call is said to a ship that is being called, and what it asks is
+-- ignored.
+use mathlib.Core.Path.{_≡_, refl, sym, ap, subst, _∙_}
 use mathlib.Core.Logic.{inl, inr}
 use mathlib.Core.List.{List, [], _∷_, map}
 use mathlib.Core.Bool.{Bool, true, false, cond, true≢false}
@@ -13,17 +14,17 @@ use Rattle.rules.specs.Rules.Places.{modAt, dropAt, lowest, Each}
 use Rattle.rules.specs.Rules.Words.{Party, Request, Config, Ashore, What, tick, onChannel70, onSlot, fromAshore, ashoreIn, Event}
 use Rattle.rules.specs.Rules.Heard.{Heard, callRequest, dataRequest, bq, workingCall, endOfCall, declined, nothing, meaning}
 use Rattle.rules.specs.Rules.Actions.{Ender, theShip, theCoast, Action}
-use Rattle.rules.specs.Rules.Station.{Kind, rings, isCalledIn, Dealing, Slot, free, pending, Waiting, Station, theSlot, setClock, answeredAt, isFree}
+use Rattle.rules.specs.Rules.Station.{Kind, isCalled, rings, isCalledIn, Dealing, Slot, free, pending, Waiting, Station, theSlot, setClock, answeredAt, isFree}
 use Rattle.rules.specs.Rules.Requests.{Out, ignored, also, rungBack, freedFor, freed, endActs, coastEnd, owns, slotOf, placeOf, Standing, nowhere, holds, waits, standsAt, standing, calledAt, beingCalled, ruleA, repeated, afresh, ruleD, offer, ruleF, ruleG, eToG, newcomer, dToG, redial, bOrC, requested}
 use Rattle.rules.specs.Rules.Ashore.{ashoreRequest, calledFrom}
-use Rattle.rules.specs.Rules.Calls.{dropActs, heardOn70, actAt}
+use Rattle.rules.specs.Rules.Calls.{dropActs, heardOn70, actAt, act}
 use Rattle.rules.specs.Rules.Verdict.{verdict}
 use Rattle.rules.specs.ListAlone.Book.{Stop, Column, Book, blank}
 use Rattle.rules.specs.ListAlone.Reading.{heardAt}
 use Rattle.rules.specs.ListAlone.LineWords.{Word}
 use Rattle.rules.specs.ListAlone.BeingCalled.{isFor, Uncalled, SaidToOthers, InVain}
-use Rattle.rules.specs.Statement.{deedsOf, CalledNotOffered, CalledAskInVain}
-use Rattle.rules.proofs.PlaceLaws.{each-append, each-dropped, each-others, each-back}
+use Rattle.rules.specs.Statement.{deedsOf, CalledNotOffered, CalledAskInVain, AskedBy, IgnoredWhenCalled, CalledIgnored}
+use Rattle.rules.proofs.PlaceLaws.{each-append, each-at, each-dropped, each-others, each-back}
 use Rattle.rules.proofs.Base.{by-slot, by-kind, by-stage, no-caller, lineOf, callIn, view, seen, is-same, deeds-append, slot-lowest, slot-set, slot-mapped}
 use Rattle.rules.proofs.Once.{countS, countQ, Once, distinct-once, count-set, none-count}
 use Rattle.rules.proofs.Accepted.{accepted, sounds}
@@ -83,18 +84,44 @@ module _ (st : Station) (once : Once st) where
       go none e k h = slotless x (st .slots) (none-count x (st .slots) e)
       go (some i) e k h = each-back (λ l. isFor x (l .call) ≡ false) blank blank i columns (rw (slot-mapped st view i) (quiet-slot x (theSlot st i) h)) (beside x i (slot-lowest st (owns x) i e))
 
-  called-ignored : (r : Request) (s : Standing) → calledAt st s ≡ true → requested st r s ≡ ignored st
+  request-ignored : (r : Request) (s : Standing) → calledAt st s ≡ true → requested st r s ≡ ignored st
   unfolding requested bOrC
-  called-ignored r nowhere h = absurd (true≢false (sym h))
-  called-ignored r (holds i) h = by-slot (λ p. isCalledIn p ≡ true → bOrC i p st r ≡ ignored st) (λ h. absurd (true≢false (sym h))) (λ h. absurd (true≢false (sym h))) (λ k o d h. rw h refl) (λ o g c h. absurd (true≢false (sym h))) (λ o n d h. absurd (true≢false (sym h))) (theSlot st i) h
-  called-ignored r (waits k) h = absurd (true≢false (sym h))
+  request-ignored r nowhere h = absurd (true≢false (sym h))
+  request-ignored r (holds i) h = by-slot (λ p. isCalledIn p ≡ true → bOrC i p st r ≡ ignored st) (λ h. absurd (true≢false (sym h))) (λ h. absurd (true≢false (sym h))) (λ k o d h. rw h refl) (λ o g c h. absurd (true≢false (sym h))) (λ o n d h. absurd (true≢false (sym h))) (theSlot st i) h
+  request-ignored r (waits k) h = absurd (true≢false (sym h))
+
+  -- the lookup finds the slot that calls a ship
+  slot-calls : (i : ℕ) (k : Kind) (r : Dealing) (d : ℕ) → theSlot st i ≡ pending k r d → isCalled k ≡ true → beingCalled st (r .request .who) ≡ true
+  slot-calls i k r d s h = go (which (beingCalled st (r .request .who)))
+    where
+      x : Party
+      x = r .request .who
+
+      for-its-ship : (z : Kind) → isCalled z ≡ true → isFor x (lineOf z (r .request)) ≡ true
+      for-its-ship = by-kind (λ z. isCalled z ≡ true → isFor x (lineOf z (r .request)) ≡ true) (λ h. cc) (λ h. cc) (λ h. cc) (λ h. cc) (λ h. is-same x x refl) (λ h. is-same x x refl) (λ h. is-same x x refl)
+
+      go : Either (beingCalled st x) → beingCalled st x ≡ true
+      go (yes! b) = b
+      go (no! b) =
+          let u = subst (λ (l : Column). isFor x (l .call) ≡ false) (slot-mapped st view i ∙ ap view s) (each-at (λ l. isFor x (l .call) ≡ false) blank refl i columns (uncalled x b)) in
+          absurd (true≢false (sym (for-its-ship k h) ∙ u))
+
+  asks-ignored : (x : Party) → beingCalled st x ≡ true → (m : Heard) → AskedBy x m → heardOn70 st m ≡ ignored st
+  unfolding heardOn70 beingCalled
+  asks-ignored x h (callRequest r) a = request-ignored r (standing st (r .who)) (rw a h)
+  asks-ignored x h (dataRequest y n) a = rw (a, h) refl
+  asks-ignored x h (bq i y) a = absurd a
+  asks-ignored x h (workingCall y) a = absurd a
+  asks-ignored x h (endOfCall y) a = absurd a
+  asks-ignored x h (declined y) a = absurd a
+  asks-ignored x h nothing a = absurd a
 
   in-vain : (m : Heard) → InVain m columns (deedsOf (heardOn70 st m .acts))
   unfolding heardOn70 beingCalled
   in-vain (callRequest r) = go (which (beingCalled st (r .who)))
     where
       go : Either (beingCalled st (r .who)) → InVain (callRequest r) columns (deedsOf (heardOn70 st (callRequest r) .acts))
-      go (yes! h) = inr (rw (called-ignored r (standing st (r .who)) h) refl)
+      go (yes! h) = inr (rw (request-ignored r (standing st (r .who)) h) refl)
       go (no! h) = inl (uncalled (r .who) h)
   in-vain (dataRequest x n) = go (which (beingCalled st x))
     where
@@ -220,6 +247,13 @@ module _ (cfg : Config) (st : Station) where
   act-in-vain once t (onSlot i h) = tt
   act-in-vain once t (fromAshore a) = tt
 
+  act-ignored : Once st → (t : ℕ) (w : What) (i : ℕ) (k : Kind) (r : Dealing) (d : ℕ) → theSlot st i ≡ pending k r d → isCalled k ≡ true → AskedBy (r .request .who) (heardAt cfg w) → actAt cfg st t w ≡ ignored (setClock t st)
+  unfolding actAt setClock
+  act-ignored once t tick i k r d s h a = absurd a
+  act-ignored once t (onChannel70 m) i k r d s h a = asks-ignored (setClock t st) once (r .request .who) (slot-calls (setClock t st) once i k r d s h) (meaning cfg m) a
+  act-ignored once t (onSlot j x) i k r d s h a = absurd a
+  act-ignored once t (fromAshore x) i k r d s h a = absurd a
+
   act-others : Once st → (t : ℕ) (w : What) → ((a : Ashore) → ashoreIn w ≡ some a → countS (ashoreRequest cfg a .who) (st .slots) ≡ 0) → Each (SaidToOthers (seen st .columns)) (deedsOf (actAt cfg st t w .acts))
   unfolding seen setClock
   act-others once t w f = effect-others (setClock _ st) once cfg _ _ _ _ _ _ (act-effect cfg st t w) (act-in-vain once t w) f
@@ -237,3 +271,8 @@ called-not-offered = book-entries (λ c b n. Each (SaidToOthers (b .columns)) (n
 pub called-ask-in-vain : CalledAskInVain
 unfolding CalledAskInVain
 called-ask-in-vain = book-entries (λ c b n. InVain (heardAt c (n .event .what)) (b .columns) (n .deeds)) (λ cfg st e v. act-in-vain cfg st (once-in cfg st e v) (e .time) (e .what))
+
+-- by one step
+pub called-ignored : CalledIgnored
+unfolding CalledIgnored
+called-ignored cfg st e v = act-ignored cfg st (once-in cfg st e v) (e .time) (e .what)

@@ -8,16 +8,18 @@ use Prim.Native.Nat.{ℕ, suc, _+_, _-_, _/_, _<_, _≤_}
 use lib.ListN.{length}
 use Rattle.units.specs.declared.Seconds.{Seconds}
 use Rattle.rules.specs.Rules.Places.{lowest, Each}
-use Rattle.rules.specs.Rules.Words.{Config, Event, Deed}
+use Rattle.rules.specs.Rules.Words.{Party, Config, Event, Deed}
+use Rattle.rules.specs.Rules.Heard.{Heard, callRequest, dataRequest, bq, workingCall, endOfCall, declined, nothing}
 use Rattle.rules.specs.Rules.Actions.{Charge, Action, does, over, charge}
 use Rattle.rules.specs.Rules.Station.{Kind, firstRing, isCalled, answered, Dealing, Slot, free, taken, pending, busy, held}
-use Rattle.rules.specs.Rules.Station.{ringsIn, Waiting, Station, theSlot, fresh, answeredIn, isFree}
+use Rattle.rules.specs.Rules.Station.{ringsIn, Waiting, Station, theSlot, setClock, fresh, answeredIn, isFree}
 use Rattle.rules.specs.Rules.Sound.{sound}
+use Rattle.rules.specs.Rules.Requests.{Out, ignored}
 use Rattle.rules.specs.Rules.Calls.{act}
 use Rattle.rules.specs.Rules.Verdict.{verdict, setUpVerdict, Entry, play, final}
 use Rattle.rules.specs.Rules.Bytes.{payloadOf}
 use Rattle.rules.specs.ListAlone.Book.{Book, Note, Stop, column, blankBook}
-use Rattle.rules.specs.ListAlone.Reading.{Numbered, numbered, stops, counted, countedByCalls, readAll}
+use Rattle.rules.specs.ListAlone.Reading.{Numbered, numbered, stops, counted, countedByCalls, heardAt, readAll}
 use Rattle.rules.specs.ListAlone.LineWords.{unused, wordAfter, wordOf, rungAfter, InTurn, releases}
 use Rattle.rules.specs.ListAlone.Repeated.{Answers, RingsSame, DialsNamed, DeedByDeed}
 use Rattle.rules.specs.ListAlone.BeingCalled.{OffersOthers, AsksInVain}
@@ -173,7 +175,7 @@ SecondRingRepeats = OfEveryEntry (DeedByDeed RingsSame)
 unfoldable pub DialsAsked : Type 0
 DialsAsked = OfEveryEntry (DeedByDeed DialsNamed)
 
--- 02, no. 2: calls from ashore. When one begins and why it is dropped, the next five leave to the rules; when it rings, `Literally` says.
+-- 02, no. 2: calls from ashore. When one begins and why it is dropped, the next six leave to the rules; when it rings, `Literally` says.
 
 -- a slot rings exactly if the last 8 or 9 given on it is 8
 abbrev pub RingsBy : List Note → Station → Type 0
@@ -190,9 +192,29 @@ RingsInTurn = OfEveryEntry InTurn
 unfoldable pub CalledNotOffered : Type 0
 CalledNotOffered = OfEveryEntry OffersOthers
 
--- and where it asks, for a call or for data, nothing is done
+-- and where it asks, for a call or for data, no deed is given
 unfoldable pub CalledAskInVain : Type 0
 CalledAskInVain = OfEveryEntry AsksInVain
+
+-- x asks, for a call or for data
+abbrev pub AskedBy : Party → Heard → Type 0
+AskedBy x (callRequest r) = r .who ≡ x
+AskedBy x (dataRequest y n) = y ≡ x
+AskedBy x (bq i y) = ⊥
+AskedBy x (workingCall y) = ⊥
+AskedBy x (endOfCall y) = ⊥
+AskedBy x (declined y) = ⊥
+AskedBy x nothing = ⊥
+
+-- "A request from a ship being called, until that transmission, is ignored": the answer is 1, there is no action of any kind, and nothing
+-- of the station has changed but its clock
+abbrev pub IgnoredWhenCalled : Config → Station → Event → Out → Type 0
+IgnoredWhenCalled c st e o = (i : ℕ) (k : Kind) (r : Dealing) (d : ℕ) → theSlot st i ≡ pending k r d → isCalled k ≡ true
+    → AskedBy (r .request .who) (heardAt c (e .what)) → o ≡ ignored (setClock (e .time) st)
+
+-- of every station and every event that it accepts
+unfoldable pub CalledIgnored : Type 0
+CalledIgnored = (c : Config) (st : Station) (e : Event) → verdict c st e ≡ none → IgnoredWhenCalled c st e (act c st e)
 
 -- a call from ashore goes on: its ship is still being called, or answers at t
 abbrev pub GoesOn : Dealing → ℕ → Slot → Type 0

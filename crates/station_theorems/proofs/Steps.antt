@@ -1,36 +1,40 @@
 -- What a step hands back, from its contract: the refusal, or what the rules say; and that there is one for every event.
 use Prim.Native.Nat.{ℕ, _*_, _≤_}
-use mathlib.Core.Path.{_≡_, refl, sym, ap, _∙_}
+use mathlib.Core.Path.{_≡_, refl, sym, ap, subst, _∙_}
 use mathlib.Core.List.{List, [], _∷_, _++_}
+use mathlib.Core.Bool.{Bool, true, false, cond}
 use mathlib.Core.Option.{Option, none, some}
 use native.Mathlib.Omega.{arith}
 use lib.ListN.{length, drop}
-use borrow.Author.Tests.{leb-false}
+use borrow.Author.Tests.{leb-true, leb-false}
+use Rattle.sequence.specs.Refusals.{firstRefusal}
 use Rattle.rules.specs.Rules.Words.{Config, Event, Signal, lineDialledOut, lineLifted, lineHung, carrierHeard, carrierLost, Hand, handTakes, handGives, Happened, heard, signal, operator, What, tick, onChannel70, onSlot, fromAshore}
 use Rattle.rules.specs.Rules.Places.{Each}
 use Rattle.rules.specs.Rules.Station as R
+use Rattle.rules.specs.Rules.Requests.{Out}
 use Rattle.rules.specs.Rules.Calls.{act}
-use Rattle.rules.specs.Rules.Verdict.{verdict}
+use Rattle.rules.specs.Rules.Verdict.{refusals, verdict}
 use Rattle.rules.specs.Rules.Bytes.{blocks}
-use Rattle.rules.specs.Statement.{ZeroOrOne, AtMostEight, ChargesFit, ReleasedWhenDropped, DroppedReleased}
+use Rattle.rules.specs.Statement.{ZeroOrOne, AtMostEight, ChargesFit, ReleasedWhenDropped, DroppedReleased, IgnoredWhenCalled, CalledIgnored}
 use Rattle.rules.proofs.Accepted.{accepted}
 use Rattle.rules.proofs.Eight.{at-most-eight}
 use Rattle.rules.proofs.Answered.{zero-or-one}
 use Rattle.rules.proofs.Charged.{charges-fit}
 use Rattle.rules.proofs.Kept.{stays-sound}
 use Rattle.rules.proofs.Released.{dropped-released, none-dropped}
+use Rattle.rules.proofs.Offered.{called-ignored}
 use Rattle.soundness.proofs.FitLaws.{sound-fits}
 use Rattle.station.proofs.ImageLaws.{model-back}
 use Rattle.actions.proofs.Handed.{act-says}
 use Rattle.station.specs.declared.Stepped.{Stepped}
 use Rattle.station.specs.declared.Station.{Station}
 use Rattle.station.specs.Model.{modelOf, configOf}
-use Rattle.station.specs.Step.{eventAt, refusal, steppedFor, steppedBy, roomFor, roomAfter}
+use Rattle.station.specs.Step.{recordsKeep, eventAt, refusal, steppedFor, steppedBy, roomFor, roomAfter}
 use Rattle.station.proofs.GateLaws.{passed}
 use Rattle.station.proofs.StepLaws.{reads}
 use Rattle.station_theorems.specs.Rooms.{actionsIn, shownIn}
 use Rattle.station_theorems.specs.Steps.{Step, Allowed, by-heard-on-channel-70, by-heard-on-slot, by-dialling-ended, by-off-hook, by-on-hook, by-carrier-up, by-carrier-down, by-take-slot, by-give-back, by-call-from-ashore, by-tick, stepOf}
-use Rattle.station_theorems.specs.Statement.{laidOut, RefusalsLeaveAll, RoomsStay, RackDroppedReleased}
+use Rattle.station_theorems.specs.Statement.{outIn, laidOut, RefusalsLeaveAll, RoomsStay, RackDroppedReleased, RackCalledIgnored}
 use Rattle.station_theorems.proofs.ReadBack.{actions-back, shown-back, laid-back}
 use contract.Lifetimes.{Lfts}
 use denote.Ref.{RefT}
@@ -169,22 +173,47 @@ rooms-stay x a = go (refusal (x .before) (x .event)) refl
         let n : x .back .count ≡ 0 = ap (λ (r : Stepped). r .count) (back-for x (allowed-does x a) (some k) e) in
         rw (n, l) refl
 
+-- what an accepted step hands back is what the rules say
+accepted-out : (x : Step) → Allowed x → refusal (x .before) (x .event) ≡ none → outIn x ≡ act (configOf (x .before)) (modelOf (x .before)) (x .event)
+accepted-out x a e =
+    let c = configOf (x .before) in
+    let m = modelOf (x .before) in
+    let o = act (configOf (x .before)) (modelOf (x .before)) (x .event) in
+    let v = passed (x .before) (x .event) (sym e) .judged in
+    let b = back-for x (allowed-does x a) none e in
+    let answer : x .back .answer ≡ o .answer = ap (λ (r : Stepped). r .answer) b in
+    let next : modelOf (x .back .station) ≡ o .next = ap (λ (r : Stepped). modelOf (r .station)) b ∙ model-back c (o .next) (sound-fits c (o .next) (stays-sound c m (x .event) v)) in
+    let count : x .back .count ≡ length (o .acts) = ap (λ (r : Stepped). r .count) b in
+    rw (answer, next, count, left-for x (allowed-does x a) none e, blocks-tell c m (x .event) v (drop (40 * length (o .acts)) (x .lent))) refl
+
 pub rack-dropped-released : RackDroppedReleased
 unfolding RackDroppedReleased DroppedReleased actionsIn
 rack-dropped-released x a = go (refusal (x .before) (x .event)) refl
   where
     go : (o : Option ℕ) → refusal (x .before) (x .event) ≡ o → ReleasedWhenDropped (modelOf (x .before)) (modelOf (x .back .station)) (actionsIn (x .back .count) (x .left))
-    go none e =
-        let c = configOf (x .before) in
-        let m = modelOf (x .before) in
-        let o = act (configOf (x .before)) (modelOf (x .before)) (x .event) in
-        let v = passed (x .before) (x .event) (sym e) .judged in
-        let b = back-for x (allowed-does x a) none e in
-        let next : modelOf (x .back .station) ≡ o .next = ap (λ (r : Stepped). modelOf (r .station)) b ∙ model-back c (o .next) (sound-fits c (o .next) (stays-sound c m (x .event) v)) in
-        let count : x .back .count ≡ length (o .acts) = ap (λ (r : Stepped). r .count) b in
-        rw (next, count, left-for x (allowed-does x a) none e, blocks-tell c m (x .event) v (drop (40 * length (o .acts)) (x .lent))) (dropped-released c m (x .event) v)
+    go none e = subst (λ (o : Out). ReleasedWhenDropped (modelOf (x .before)) (o .next) (o .acts)) (sym (accepted-out x a e)) (dropped-released (configOf (x .before)) (modelOf (x .before)) (x .event) (passed (x .before) (x .event) (sym e) .judged))
     go (some n) e =
         let b = back-for x (allowed-does x a) (some n) e in
         let station : x .back .station ≡ x .before = ap (λ (r : Stepped). r .station) b in
         let count : x .back .count ≡ 0 = ap (λ (r : Stepped). r .count) b in
         rw (station, count) (none-dropped (modelOf (x .before)))
+
+-- a refusal's number is neither 0 nor 1
+refused-number : (s : Station) (e : Event) (n : ℕ) → refusal s e ≡ some n → 11 ≤ n
+unfolding refusal verdict ZeroOrOne
+refused-number s e n h = go (recordsKeep s) h
+  where
+    go : (b : Bool) → cond b (firstRefusal (refusals (configOf s) (modelOf s) e) none) (some 29) ≡ some n → 11 ≤ n
+    go true h = zero-or-one (configOf s) (modelOf s) e .1 n h
+    go false h = let y : 29 ≡ n = cc in omega arith
+
+pub rack-called-ignored : RackCalledIgnored
+unfolding RackCalledIgnored CalledIgnored
+rack-called-ignored x a t = go (refusal (x .before) (x .event)) refl
+  where
+    go : (o : Option ℕ) → refusal (x .before) (x .event) ≡ o → IgnoredWhenCalled (configOf (x .before)) (modelOf (x .before)) (x .event) (outIn x)
+    go none e = rw (accepted-out x a e) (called-ignored (configOf (x .before)) (modelOf (x .before)) (x .event) (passed (x .before) (x .event) (sym e) .judged))
+    go (some n) e =
+        let b : x .back .answer ≡ n = ap (λ (r : Stepped). r .answer) (back-for x (allowed-does x a) (some n) e) in
+        let k : x .back .answer ≤ 1 = leb-true (x .back .answer) 1 t in
+        absurd (omega (arith, refused-number (x .before) (x .event) n e))

@@ -11,6 +11,7 @@ use Rattle.rules.specs.Rules.Words.{Config, Event}
 use Rattle.rules.specs.Rules.Station as R
 use Rattle.rules.specs.Rules.Sound.{sound}
 use Rattle.rules.specs.Rules.Station.{isFree}
+use Rattle.rules.specs.Rules.Requests.{Out}
 use Rattle.rules.specs.Rules.Calls.{act}
 use Rattle.rules.specs.Rules.Verdict.{verdict, Entry}
 use Rattle.rules.specs.Rules.Bytes.{block, blocks, blockSize}
@@ -18,7 +19,7 @@ use Rattle.rules.specs.ListAlone.Book.{blankBook}
 use Rattle.rules.specs.ListAlone.Reading.{stops, counted}
 use Rattle.rules.specs.Rules.Printed.{printed}
 use Rattle.rules.specs.Statement.{notes, charged, owedFor, unchargedFrom, tenthsIn, stationAfter, WordsAgree, EveryEntry, RingsBy}
-use Rattle.rules.specs.Statement.{ReleasedWhenDropped}
+use Rattle.rules.specs.Statement.{ReleasedWhenDropped, IgnoredWhenCalled}
 use Rattle.rules.specs.ListAlone.Repeated.{Answers, RingsSame, DialsNamed, DeedByDeed}
 use Rattle.rules.specs.ListAlone.LineWords.{InTurn}
 use Rattle.rules.specs.ListAlone.BeingCalled.{OffersOthers, AsksInVain}
@@ -137,6 +138,15 @@ RefusalsLeaveAll = (x : Step) → Allowed x → accepted x ≡ false
 unfoldable pub RackDroppedReleased : Type 0
 RackDroppedReleased = (x : Step) → Allowed x
     → ReleasedWhenDropped (modelOf (x .before)) (modelOf (x .back .station)) (actionsIn (x .back .count) (x .left))
+
+-- what a step hands back, with the actions in its room
+abbrev pub outIn : Step → Out
+outIn x = record { answer = x .back .answer; next = modelOf (x .back .station); acts = actionsIn (x .back .count) (x .left) }
+
+-- a request of a ship that is being called is ignored: of every station, in a trace or not, and every event that is not refused
+unfoldable pub RackCalledIgnored : Type 0
+RackCalledIgnored = (x : Step) → Allowed x → accepted x ≡ true
+    → IgnoredWhenCalled (configOf (x .before)) (modelOf (x .before)) (x .event) (outIn x)
 
 -- answer, clock, action count, next due time; then each action from the room's bytes
 abbrev pub dueIn : NextDue → List ℕ

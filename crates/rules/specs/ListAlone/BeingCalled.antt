@@ -36,7 +36,7 @@ SaidToOthers ls (ringingOn i) = Unit {0}
 SaidToOthers ls (ringingOff i) = Unit {0}
 SaidToOthers ls (busyTone i) = Unit {0}
 
--- 02, no. 2: "A request from a ship being called .. is ignored"
+-- 02, no. 2: "A request from a ship being called .. is ignored": no deed is given
 abbrev pub InVain : Heard → List Column → List Deed → Type 0
 InVain (callRequest r) ls ds = Uncalled (r .who) ls ⊎ (ds ≡ [])
 InVain (dataRequest x n) ls ds = Uncalled x ls ⊎ (ds ≡ [])

@@ -105,7 +105,7 @@ Rings i r on (toldRQ o) = o ≡ r
 Rings i r on (settled o) = ⊥
 
 -- in the entry of a caller ashore a call to a ship comes just behind its slot's carrier, nothing said of that slot and no call on it; in
--- any other it is the second sending of a call from ashore, the first once more, while it does not ring; or a ring-back, with no line dialled
+-- any other it is the second sending of a call from ashore, the first once more, while it does not ring; or a ring-back, with none dialled
 abbrev pub Sends : Option Ashore → ℕ → Request → Option ℕ → Said → Call → Type 0
 Sends (some a) i r on s k = (s ≡ silent) × ((k ≡ quiet) × (on ≡ some i))
 Sends none i r on s quiet = Rings i r on s
