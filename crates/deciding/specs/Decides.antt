@@ -4,9 +4,8 @@ use mathlib.Core.Bool.{Bool, true, false, cond}
 use lib.Dec.{ltb}
 use Rattle.units.specs.declared.Tenths.{Tenths}
 use Rattle.units.specs.declared.Told.{Told}
-use Rattle.rules.specs.Rules.Station.{Kind, offered, firstRing, secondRing, acknowledged, firstCall, secondCall, ringing, kindWait}
-use Rattle.rules.specs.Rules.Station.{replyWait}
-use Rattle.rules.specs.Rules.Station.{carrierWait}
+use Rattle.rules.specs.Rules.Station.{Kind, offered, firstRing, secondRing, acknowledged, firstCall, secondCall, ringing}
+use Rattle.rules.specs.Rules.Station.{kindWait, replyWait, carrierWait}
 use Rattle.rules.specs.Rules.Sound.{queueRoom}
 use Rattle.requests.specs.declared.Mode.{Mode}
 use Rattle.requests.specs.declared.Mode.the-variants.{Simplex, Duplex}

@@ -17,7 +17,7 @@ use Rattle.rules.specs.Statement.{charged, notes, owedFor, unchargedTenths}
 use Rattle.rules.specs.Tables.Runs.{station}
 use Rattle.rules.proofs.Tested.{as-expected}
 use Rattle.figures.specs.BoundCases.{boundCases, boundSounds}
-use Rattle.rules.specs.ListAlone.LineWords.{wordsDone, wordAfter, rungAfter}
+use Rattle.rules.specs.ListAlone.LineWords.{wordsDone, wordAfter, ringingAfter}
 use Rattle.figures.specs.Pages.{pageCases, pageRuns}
 use Rattle.figures.specs.Bounds.{bounds}
 
@@ -38,7 +38,7 @@ bound-sounds-computed = refl
 
 -- what the list of each run tells after each entry, and what it counts
 pub pages-computed : map (λ r. r .computed) pageCases ≡ map (λ r. r .expected) pageCases
-unfolding runsOpen charged notes alike blankBook falls reads turn stopsIn stops counted countedByCalls readAll unchargedTenths wordAfter wordsDone rungAfter lastAsked
+unfolding runsOpen charged notes alike blankBook falls reads turn stopsIn stops counted countedByCalls readAll unchargedTenths wordAfter wordsDone ringingAfter lastAsked
 pages-computed = as-expected pageCases refl
 
 -- what is charged in each run

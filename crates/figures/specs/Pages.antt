@@ -15,7 +15,7 @@ use Rattle.rules.specs.ListAlone.Book.{Note, Said, silent, toldBQ, toldRQ, sett
 use Rattle.rules.specs.ListAlone.Book.{Call, quiet, called, dialled, talking, Column, Place, Book, blankBook, alike}
 use Rattle.rules.specs.ListAlone.Reading.{turn, numbered, counted, countedByCalls}
 use Rattle.rules.specs.ListAlone.LineWords.{Line, idle, outward, inward, since, Word, worded, unused}
-use Rattle.rules.specs.ListAlone.LineWords.{wordHeard, wordsDone, wordAfter, wordOf, rungsDone, rungAfter, ringSwitches, change}
+use Rattle.rules.specs.ListAlone.LineWords.{wordHeard, wordsDone, wordAfter, wordOf, ringingsDone, ringingAfter, ringSwitches, change}
 use Rattle.rules.specs.ListAlone.LineWords.{release, releases}
 use Rattle.rules.specs.ListAlone.BeingCalled.{isFor, columnsAfter}
 use Rattle.rules.specs.Statement.{deedsOf, chargesOf, charged, runOf, stationAfter, listOf, stopsOf, tenthsIn, unchargedTenths, eventsOf}
@@ -830,17 +830,18 @@ wordsByEach = record {
 }
 
 -- whether slot 1 rings by each deed alone, by each with a deed after it, and after the entries of a run
-abbrev pub rungByEach : ℕ → List Deed → Bool → List ℕ
-rungByEach i ds b = map (λ d. told (rungsDone 1 (d ∷ ds) b)) (everyDeed i)
+abbrev pub ringingByEach : ℕ → List Deed → Bool → List ℕ
+ringingByEach i ds b = map (λ d. told (ringingsDone 1 (d ∷ ds) b)) (everyDeed i)
 
-abbrev pub rungShown : Row
-rungShown = record {
-  computed = rungByEach 1 [] false ∷ rungByEach 1 [] true ∷ rungByEach 0 [] false ∷ rungByEach 0 [] true ∷ rungByEach 2 [] false ∷
-      rungByEach 2 [] true ∷ rungByEach 1 (ringingOn 1 ∷ []) false ∷ rungByEach 1 (ringingOff 1 ∷ []) true ∷
-      rungByEach 1 (ringingOn 0 ∷ []) false ∷ rungByEach 1 (ringingOff 0 ∷ []) true ∷
-      map (λ n. told (rungAfter 1 (listOf (station 2) (take n bothCalledScript)) false)) (0 ∷ 2 ∷ 5 ∷ 8 ∷ 9 ∷ []) ∷
-      map (λ n. told (rungAfter 0 (listOf (station 2) (take n bothCalledScript)) false)) (0 ∷ 2 ∷ 5 ∷ 8 ∷ 9 ∷ 10 ∷ []) ∷
-      map (λ n. told (rungAfter 1 (listOf (station 2) (take n bothCalledScript)) true)) (0 ∷ 2 ∷ 9 ∷ []) ∷ [];
+abbrev pub ringingShown : Row
+ringingShown = record {
+  computed = ringingByEach 1 [] false ∷ ringingByEach 1 [] true ∷ ringingByEach 0 [] false ∷ ringingByEach 0 [] true ∷
+      ringingByEach 2 [] false ∷ ringingByEach 2 [] true ∷
+      ringingByEach 1 (ringingOn 1 ∷ []) false ∷ ringingByEach 1 (ringingOff 1 ∷ []) true ∷
+      ringingByEach 1 (ringingOn 0 ∷ []) false ∷ ringingByEach 1 (ringingOff 0 ∷ []) true ∷
+      map (λ n. told (ringingAfter 1 (listOf (station 2) (take n bothCalledScript)) false)) (0 ∷ 2 ∷ 5 ∷ 8 ∷ 9 ∷ []) ∷
+      map (λ n. told (ringingAfter 0 (listOf (station 2) (take n bothCalledScript)) false)) (0 ∷ 2 ∷ 5 ∷ 8 ∷ 9 ∷ 10 ∷ []) ∷
+      map (λ n. told (ringingAfter 1 (listOf (station 2) (take n bothCalledScript)) true)) (0 ∷ 2 ∷ 9 ∷ []) ∷ [];
   expected = (0 ∷ 0 ∷ 0 ∷ 0 ∷ 0 ∷ 0 ∷ 0 ∷ 1 ∷ 0 ∷ 0 ∷ []) ∷ (1 ∷ 1 ∷ 1 ∷ 1 ∷ 1 ∷ 1 ∷ 1 ∷ 1 ∷ 0 ∷ 1 ∷ []) ∷ replicate 10 0 ∷ replicate 10 1 ∷
       replicate 10 0 ∷ replicate 10 1 ∷ replicate 10 1 ∷ replicate 10 0 ∷
       (0 ∷ 0 ∷ 0 ∷ 0 ∷ 0 ∷ 0 ∷ 0 ∷ 1 ∷ 0 ∷ 0 ∷ []) ∷ (1 ∷ 1 ∷ 1 ∷ 1 ∷ 1 ∷ 1 ∷ 1 ∷ 1 ∷ 0 ∷ 1 ∷ []) ∷
@@ -1288,7 +1289,7 @@ pageCases =
     onSecondPages ∷ onSecondWords ∷ onSecondTenths ∷ againPages ∷ againWords ∷ againTenths ∷ dialledPages ∷ dialledWords ∷
     dialledTenths ∷ calledPages ∷ calledWords ∷ calledTenths ∷ calledAgainPages ∷ calledAgainWords ∷ calledAgainTenths ∷
     bothCalledPages ∷ bothCalledWords ∷ bothCalledWordsOfFirst ∷ bothCalledTenths ∷ wordsByCalls ∷ wordsTransmitted ∷ shoreAlone ∷
-    shoreDeeds ∷ shoreOthers ∷ wordsByEach ∷ calledOnly ∷ rungShown ∷ switchesShown ∷ releasesShown ∷ isForShown ∷
+    shoreDeeds ∷ shoreOthers ∷ wordsByEach ∷ calledOnly ∷ ringingShown ∷ switchesShown ∷ releasesShown ∷ isForShown ∷
     inQueuePages ∷ inQueueWords ∷ inQueueTenths ∷ twoCallsPages ∷ twoCallsWords ∷ twoCallsWordsOfFirst ∷
     twoCallsTenths ∷ onThirdPages ∷ onThirdWords ∷ onThirdTenths ∷ dialledOnly ∷ unchargedShown ∷ stopsNumbered ∷
     eventsShown ∷ wordsByDeeds ∷ wordsPickedUp ∷ wordsAtOnce ∷ eventsAlone ∷ diallingAlone ∷ deedsAlone ∷ wordsAlone ∷

@@ -1,10 +1,10 @@
 -- `Literally`: the words say of every slot what the book says of its column.
 use mathlib.Core.Path.{_≡_, refl, sym, ap, _∙_}
 use mathlib.Core.List.{List, [], _∷_}
-use mathlib.Core.Bool.{true, false}
+use mathlib.Core.Bool.{Bool, true, false, cond}
 use mathlib.Core.Option.{Option, none, some}
 use Prim.Native.Nat.{ℕ, zero, suc, _<_}
-use lib.Dec.{ltb}
+use lib.Dec.{eqb, ltb}
 use lib.ListN.{getD, length, length-map, replicate}
 use Rattle.rules.specs.Rules.Places.{lowest}
 use Rattle.rules.specs.Rules.Words.{Request, Config, Ashore, What, ashoreIn, Event, Deed, carrierOn, carrierOff, acknowledge, callShip, unable, dial, releaseLine, ringingOn, ringingOff, busyTone}
@@ -16,14 +16,14 @@ use Rattle.rules.specs.Rules.Calls.{actAt, act}
 use Rattle.rules.specs.Rules.Verdict.{verdict, play}
 use Rattle.rules.specs.ListAlone.Book.{Stop, Column, Book, column}
 use Rattle.rules.specs.ListAlone.Reading.{readAll}
-use Rattle.rules.specs.ListAlone.LineWords.{Word, unused, wordCalled, wordHeard, wordDone, wordsDone, wordAfter, wordOf}
+use Rattle.rules.specs.ListAlone.LineWords.{Line, Word, worded, unused, wordHeard, wordDone, wordsDone, wordAfter, wordOf}
 use Rattle.rules.specs.Statement.{deedsOf, notes, Literally}
 use Rattle.rules.proofs.PlaceLaws.{modAt-length}
 use Rattle.rules.proofs.Base.{by-stage, no-caller, callIn, view, seen, slot-lowest, slot-mapped, fresh-mapped, fresh-length, free-is}
 use Rattle.rules.proofs.Outcome.{word}
 use Rattle.rules.proofs.Ruling.{Ruling, passes, repeats, renews, redials, bOrC-ruling}
 use Rattle.rules.proofs.Run.{turn-is, play-on, play-past, fresh-seen}
-use Rattle.rules.proofs.Spoken.{words, dialsLine, freesLine, setsRinging, speak, spoken, SpokenBy, Spoken, told-also, told-if, told-ignored, keeps, turns-to, coastEnd-told, outcome-told, one-of}
+use Rattle.rules.proofs.Spoken.{words, callsLine, dialsLine, freesLine, setsRinging, speak, spoken, SpokenBy, Spoken, told-also, told-if, told-ignored, keeps, turns-to, coastEnd-told, outcome-told, one-of}
 use Rattle.rules.proofs.Effect.{Effect, rests, drops, data-asked, call-asked, to-slot, called-ashore, act-effect, heardBy, lifted-one, lifted-length}
 
 -- ── a request ────────────────────────────────────────────────────────────────
@@ -80,7 +80,7 @@ effect-told cfg st _ _ _ _ _ _ (drops k) = record { telling = refl }
 effect-told cfg st _ _ _ _ _ _ (data-asked x n) = record { telling = refl }
 effect-told cfg st _ _ _ _ _ _ (call-asked r) = request-told st r (slotOf (r .who) st) (placeOf (r .who) st)
 effect-told cfg st _ _ _ _ _ _ (to-slot m i u e) = rw e (outcome-told i st (theSlot st i) u refl)
-effect-told cfg st _ _ _ _ _ _ (called-ashore a i h) = record { telling = turns-to i st (wordCalled (some a)) (calledOf (ashoreRequest cfg a) st) (rw (free-is (theSlot st i) (slot-lowest st isFree i h)) refl) }
+effect-told cfg st _ _ _ _ _ _ (called-ashore a i h) = record { telling = turns-to i st (callsLine (some a)) (calledOf (ashoreRequest cfg a) st) (rw (free-is (theSlot st i) (slot-lowest st isFree i h)) refl) }
 
 act-told : (cfg : Config) (st : Station) (t : ℕ) (w : What) → SpokenBy (ashoreIn w) (heardBy t w (words st)) (actAt cfg st t w)
 unfolding setClock
@@ -88,12 +88,21 @@ act-told cfg st t w = effect-told cfg _ _ _ _ _ _ _ (act-effect cfg st t w)
 
 -- ── one slot of them ─────────────────────────────────────────────────────────
 
+-- a deed on it, or on another slot, changes one part of its word or none
+of-line : (b : Bool) (l : Line) (w : Word) → worded (cond b l (w .line)) (w .rings) ≡ cond b (worded l (w .rings)) w
+of-line true l w = refl
+of-line false l w = refl
+
+of-ringing : (b r : Bool) (w : Word) → worded (w .line) (cond b r (w .rings)) ≡ cond b (worded (w .line) r) w
+of-ringing true r w = refl
+of-ringing false r w = refl
+
 module _ (q : Option Ashore) where
   speak-length : (d : Deed) (ws : List Word) → length (speak q d ws) ≡ length ws
   speak-length (carrierOn i) ws = refl
   speak-length (carrierOff i) ws = refl
   speak-length (acknowledge i r) ws = refl
-  speak-length (callShip i r) ws = modAt-length (wordCalled q) i ws
+  speak-length (callShip i r) ws = modAt-length (callsLine q) i ws
   speak-length (unable n x digits) ws = refl
   speak-length (dial i n) ws = modAt-length dialsLine i ws
   speak-length (releaseLine i) ws = modAt-length freesLine i ws
@@ -105,12 +114,12 @@ module _ (q : Option Ashore) where
   speak-one i (carrierOn j) ws h = refl
   speak-one i (carrierOff j) ws h = refl
   speak-one i (acknowledge j r) ws h = refl
-  speak-one i (callShip j r) ws h = one-of (wordCalled q) i j ws h
+  speak-one i (callShip j r) ws h = of-line (eqb i j) _ (getD ws i unused) ∙ one-of (callsLine q) i j ws h
   speak-one i (unable n x digits) ws h = refl
-  speak-one i (dial j n) ws h = one-of dialsLine i j ws h
-  speak-one i (releaseLine j) ws h = one-of freesLine i j ws h
-  speak-one i (ringingOn j) ws h = one-of (setsRinging true) i j ws h
-  speak-one i (ringingOff j) ws h = one-of (setsRinging false) i j ws h
+  speak-one i (dial j n) ws h = of-line (eqb i j) _ (getD ws i unused) ∙ one-of dialsLine i j ws h
+  speak-one i (releaseLine j) ws h = of-line (eqb i j) _ (getD ws i unused) ∙ one-of freesLine i j ws h
+  speak-one i (ringingOn j) ws h = of-ringing (eqb i j) true (getD ws i unused) ∙ one-of (setsRinging true) i j ws h
+  speak-one i (ringingOff j) ws h = of-ringing (eqb i j) false (getD ws i unused) ∙ one-of (setsRinging false) i j ws h
   speak-one i (busyTone j) ws h = refl
 
   spoken-one : (i : ℕ) (ds : List Deed) (ws : List Word) → i < length ws → wordsDone q i ds (getD ws i unused) ≡ getD (spoken q ds ws) i unused

@@ -17,13 +17,13 @@ use Rattle.rules.specs.Rules.Actions.{Ender, theShip, theCoast, Action}
 use Rattle.rules.specs.Rules.Station.{Kind, isCalled, rings, isCalledIn, Dealing, Slot, free, pending, Waiting, Station, theSlot, setClock, answeredAt, isFree}
 use Rattle.rules.specs.Rules.Requests.{Out, ignored, also, rungBack, freedFor, freed, endActs, coastEnd, owns, slotOf, placeOf, Standing, nowhere, holds, waits, standsAt, standing, calledAt, beingCalled, ruleA, repeated, afresh, ruleD, offer, ruleF, ruleG, eToG, newcomer, dToG, redial, bOrC, requested}
 use Rattle.rules.specs.Rules.Ashore.{ashoreRequest, calledFrom}
-use Rattle.rules.specs.Rules.Calls.{dropActs, heardOn70, actAt, act}
+use Rattle.rules.specs.Rules.Calls.{dropActs, heardOn70, actAt}
 use Rattle.rules.specs.Rules.Verdict.{verdict}
 use Rattle.rules.specs.ListAlone.Book.{Stop, Column, Book, blank}
 use Rattle.rules.specs.ListAlone.Reading.{heardAt}
 use Rattle.rules.specs.ListAlone.LineWords.{Word}
 use Rattle.rules.specs.ListAlone.BeingCalled.{isFor, Uncalled, SaidToOthers, InVain}
-use Rattle.rules.specs.Statement.{deedsOf, CalledNotOffered, CalledAskInVain, AskedBy, IgnoredWhenCalled, CalledIgnored}
+use Rattle.rules.specs.Statement.{deedsOf, CalledNotOffered, CalledAskInVain, AskedBy, CalledIgnored}
 use Rattle.rules.proofs.PlaceLaws.{each-append, each-at, each-dropped, each-others, each-back}
 use Rattle.rules.proofs.Base.{by-slot, by-kind, by-stage, no-caller, lineOf, callIn, view, seen, is-same, deeds-append, slot-lowest, slot-set, slot-mapped}
 use Rattle.rules.proofs.Once.{countS, countQ, Once, distinct-once, count-set, none-count}

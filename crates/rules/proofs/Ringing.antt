@@ -12,7 +12,7 @@ use Rattle.rules.specs.Rules.Actions.{theShip, theCoast, Action}
 use Rattle.rules.specs.Rules.Station.{Kind, isCalled, rings, isCalledIn, ringsIn, answeredAt, Slot, Station, theSlot, fresh}
 use Rattle.rules.specs.Rules.Calls.{dropActs, act}
 use Rattle.rules.specs.ListAlone.Repeated.{Dials}
-use Rattle.rules.specs.ListAlone.LineWords.{rungDone, rungsDone, rungAfter, ringSwitch, ringSwitches, change}
+use Rattle.rules.specs.ListAlone.LineWords.{ringingDone, ringingsDone, ringingAfter, ringSwitch, ringSwitches, change}
 use Rattle.rules.specs.Statement.{deedsOf, IsFreed, RingsAsTold, RingsInTurn}
 use Rattle.rules.proofs.Base.{by-slot, by-kind, saidOf, slot-each, fresh-each}
 use Rattle.rules.proofs.Outcome.{becomes, frees, Move, to-dial, to-agree, to-ring, to-drop, to-call, to-rings, to-answer, to-let-go, to-stage, to-lose, to-regain, to-hold, to-end, to-run-out, to-take, to-give}
@@ -38,14 +38,14 @@ freed-unrung = by-slot (λ s. IsFreed s → ringsIn s ≡ false) (λ h. refl) (�
 -- slot i rings before them by b and after them by c
 record Swung (i : ℕ) (ds : List Deed) (b c : Bool) : Type 0 where
   given : ringSwitches i ds ≡ change b c
-  tells : rungsDone i ds b ≡ c
+  tells : ringingsDone i ds b ≡ c
 
 no-change : (b : Bool) → [] ≡ change b b
 no-change true = refl
 no-change false = refl
 
 module _ (i : ℕ) where
-  one-unrung : (d : Deed) → Unrung i d → (l : List Bool) (b : Bool) → (ringSwitch i d l ≡ l) × (rungDone i d b ≡ b)
+  one-unrung : (d : Deed) → Unrung i d → (l : List Bool) (b : Bool) → (ringSwitch i d l ≡ l) × (ringingDone i d b ≡ b)
   one-unrung (carrierOn j) u l b = (refl, refl)
   one-unrung (carrierOff j) u l b = (refl, refl)
   one-unrung (acknowledge j r) u l b = (refl, refl)
@@ -57,7 +57,7 @@ module _ (i : ℕ) where
   one-unrung (ringingOff j) u l b = (rw (ne-eqb i j u) refl, rw (ne-eqb i j u) refl)
   one-unrung (busyTone j) u l b = (refl, refl)
 
-  all-unrung : (ds : List Deed) → Each (Unrung i) ds → (b : Bool) → (ringSwitches i ds ≡ []) × (rungsDone i ds b ≡ b)
+  all-unrung : (ds : List Deed) → Each (Unrung i) ds → (b : Bool) → (ringSwitches i ds ≡ []) × (ringingsDone i ds b ≡ b)
   all-unrung [] u b = (refl, refl)
   all-unrung (d ∷ ds) u b =
       let x = one-unrung d (u .0) (ringSwitches i ds) b in
@@ -75,9 +75,9 @@ module _ (i : ℕ) where
       tolled [] = all-unrung ds u b .0
       tolled (d ∷ a) = ap (ringSwitch i d) (tolled a)
 
-      rung : (a : List Deed) (b : Bool) → rungsDone i (a ++ ds) b ≡ rungsDone i a b
+      rung : (a : List Deed) (b : Bool) → ringingsDone i (a ++ ds) b ≡ ringingsDone i a b
       rung [] b = all-unrung ds u b .1
-      rung (d ∷ a) b = rung a (rungDone i d b)
+      rung (d ∷ a) b = rung a (ringingDone i d b)
 
   -- ── what a slot does ───────────────────────────────────────────────────────
 
@@ -124,8 +124,8 @@ module _ (i : ℕ) where
   -- ── the run ────────────────────────────────────────────────────────────────
 
   keeps-ringing : Reader Bool
-  unfolding rungAfter
-  keeps-ringing = record { on = λ n. rungsDone i (n .deeds); after = rungAfter i; at-first = λ b. refl; one-by-one = λ n l b. refl }
+  unfolding ringingAfter
+  keeps-ringing = record { on = λ n. ringingsDone i (n .deeds); after = ringingAfter i; at-first = λ b. refl; one-by-one = λ n l b. refl }
 
   abbrev IsRinging : Bool → Station → Type 0
   IsRinging b st = b ≡ ringsIn (theSlot st i)
@@ -148,4 +148,4 @@ rings-as-told cfg set es i = run-final (keeps-ringing i) cfg (IsRinging i) (ring
 -- and they alternate
 pub rings-in-turn : RingsInTurn
 unfolding RingsInTurn keeps-ringing
-rings-in-turn cfg set es before n after e i = run-entries (keeps-ringing i) cfg (IsRinging i) (ringing-on i cfg) (λ b m. ringSwitches i (m .deeds) ≡ change b (rungsDone i (m .deeds) b)) (λ b st x v f. rw f (let s = event-swung i cfg st x in rw (s .tells) (s .given))) es false (fresh cfg) (fresh-rings i cfg) before n after e
+rings-in-turn cfg set es before n after e i = run-entries (keeps-ringing i) cfg (IsRinging i) (ringing-on i cfg) (λ b m. ringSwitches i (m .deeds) ≡ change b (ringingsDone i (m .deeds) b)) (λ b st x v f. rw f (let s = event-swung i cfg st x in rw (s .tells) (s .given))) es false (fresh cfg) (fresh-rings i cfg) before n after e

@@ -13,7 +13,7 @@ use Rattle.rules.specs.Rules.Actions.{theCoast, Action}
 use Rattle.rules.specs.Rules.Station.{Slot, Waiting, Station, theSlot, setSlot, setQueue, ringOf}
 use Rattle.rules.specs.Rules.Requests.{Out, ignored, also, rungBack, freedFor, freed, endActs, coastEnd}
 use Rattle.rules.specs.ListAlone.Book.{Stop, Column}
-use Rattle.rules.specs.ListAlone.LineWords.{Word, worded, unused, idle, outward, wordCalled}
+use Rattle.rules.specs.ListAlone.LineWords.{Word, worded, unused, idle, outward, lineCalled}
 use Rattle.rules.specs.Statement.{deedsOf}
 use Rattle.rules.proofs.PlaceLaws.{modAt-modAt, modAt-none, aside}
 use Rattle.rules.proofs.Base.{deeds-append, slot-set, slot-stays}
@@ -25,6 +25,9 @@ use native.Mathlib.Omega.{arith}
 
 abbrev pub words : Station → List Word
 words st = map word (st .slots)
+
+abbrev pub callsLine : Option Ashore → Word → Word
+callsLine q w = worded (lineCalled q (w .line)) (w .rings)
 
 abbrev pub dialsLine : Word → Word
 dialsLine w = worded outward (w .rings)
@@ -39,7 +42,7 @@ abbrev pub speak : Option Ashore → Deed → List Word → List Word
 speak q (carrierOn i) ws = ws
 speak q (carrierOff i) ws = ws
 speak q (acknowledge i r) ws = ws
-speak q (callShip i r) ws = modAt (wordCalled q) i ws
+speak q (callShip i r) ws = modAt (callsLine q) i ws
 speak q (unable n x digits) ws = ws
 speak q (dial i n) ws = modAt dialsLine i ws
 speak q (releaseLine i) ws = modAt freesLine i ws

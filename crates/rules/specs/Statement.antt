@@ -20,7 +20,7 @@ use Rattle.rules.specs.Rules.Verdict.{verdict, setUpVerdict, Entry, play
 use Rattle.rules.specs.Rules.Bytes.{payloadOf}
 use Rattle.rules.specs.ListAlone.Book.{Book, Note, Stop, column, blankBook}
 use Rattle.rules.specs.ListAlone.Reading.{Numbered, numbered, stops, counted, countedByCalls, heardAt, readAll}
-use Rattle.rules.specs.ListAlone.LineWords.{unused, wordAfter, wordOf, rungAfter, InTurn, releases}
+use Rattle.rules.specs.ListAlone.LineWords.{unused, wordAfter, wordOf, ringingAfter, InTurn, releases}
 use Rattle.rules.specs.ListAlone.Repeated.{Answers, RingsSame, DialsNamed, DeedByDeed}
 use Rattle.rules.specs.ListAlone.BeingCalled.{OffersOthers, AsksInVain}
 
@@ -159,7 +159,8 @@ EveryEntry P c l = (before : List Note) (n : Note) (after : List Note) → l ≡
 abbrev pub OfEveryEntry : (Config → List Note → Note → Type 0) → Type 0
 OfEveryEntry P = OfEveryList (EveryEntry P)
 
--- What is answered or dialled was heard. Whether anything is, and which waiting ship is rung back, the next three leave to the rules.
+-- What is sent or dialled was heard, or asked ashore. Whether anything is, and which waiting ship is rung back, the next three leave to the
+-- rules.
 
 -- an acknowledgement or a 104 repeats the request that its own entry heard, a ring-back the one that its ship was last told to wait with,
 -- a call from ashore the ship, mode and digits of its own event, and what is sent once more those of the first sending
@@ -179,7 +180,7 @@ DialsAsked = OfEveryEntry (DeedByDeed DialsNamed)
 
 -- a slot rings exactly if the last 8 or 9 given on it is 8
 abbrev pub RingsBy : List Note → Station → Type 0
-RingsBy l st = (i : ℕ) → rungAfter i l false ≡ ringsIn (theSlot st i)
+RingsBy l st = (i : ℕ) → ringingAfter i l false ≡ ringsIn (theSlot st i)
 
 unfoldable pub RingsAsTold : Type 0
 RingsAsTold = OfEveryRun (λ c es. RingsBy (listOf c es) (stationAfter c es))

@@ -1,5 +1,5 @@
 -- The list alone, first part: what a reader of the list keeps, and which of its waits is due.
--- Nothing of the rules is used here; the figures and the comparison of requests are written from 01's sentences.
+-- Nothing of the rules is used here; the figures and the comparison of requests are written from the sentences of 01 and 02.
 use mathlib.Core.List.{List, [], _∷_, map}
 use mathlib.Core.Bool.{Bool, true, false, _&&_}
 use mathlib.Core.Option.{Option, none}
@@ -40,16 +40,19 @@ offerTime = 16
 abbrev pub ringTime : ℕ
 ringTime = 5
 
--- a call from ashore, and its ringing
+-- 02, no. 2: "one repeat after 5 s, dropped after another 5 s"
 abbrev pub callTime : ℕ
 callTime = 5
 
+-- "starts the ringing and a wait of one minute"
 abbrev pub ringingTime : ℕ
 ringingTime = 60
 
+-- 02, no. 1: "the wait is 600 for dialling itself"
 abbrev pub diallingTime : ℕ
 diallingTime = 60
 
+-- "at it a new wait of 600 begins"
 abbrev pub replyTime : ℕ
 replyTime = 60
 

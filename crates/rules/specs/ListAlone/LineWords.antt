@@ -1,5 +1,5 @@
 -- One slot's line by a few words alone: idle; outward, dialled for a ship; inward, taken by a caller ashore; answered since a time. And
--- whether it rings at the caller's, by the actions 8 and 9.
+-- whether it rings at the caller's, by the actions 8 and 9: that is meant by ringing here, and no ring-back.
 use mathlib.Core.Path.{_≡_}
 use mathlib.Core.List.{List, [], _∷_}
 use mathlib.Core.Bool.{Bool, true, false, cond}
@@ -50,22 +50,38 @@ wordHeard i t e w =
     (cond (isTransmittingOn i e) (worded (transmit t (w .line) (w .rings)) (w .rings)) w)
 
 -- a call to a ship takes the line in the entry of a caller ashore, and in no other
-abbrev pub wordCalled : Option Ashore → Word → Word
-wordCalled none w = w
-wordCalled (some a) w = worded inward (w .rings)
+abbrev pub lineCalled : Option Ashore → Line → Line
+lineCalled none l = l
+lineCalled (some a) l = inward
 
--- "dial", "release line", "ringing on", "ringing off" on slot i
+-- "dial", "release line" on slot i
+abbrev pub lineDone : Option Ashore → ℕ → Deed → Line → Line
+lineDone q i (carrierOn j) l = l
+lineDone q i (carrierOff j) l = l
+lineDone q i (acknowledge j r) l = l
+lineDone q i (callShip j r) l = cond (eqb i j) (lineCalled q l) l
+lineDone q i (unable n x digits) l = l
+lineDone q i (dial j digits) l = cond (eqb i j) outward l
+lineDone q i (releaseLine j) l = cond (eqb i j) idle l
+lineDone q i (ringingOn j) l = l
+lineDone q i (ringingOff j) l = l
+lineDone q i (busyTone j) l = l
+
+-- 8 and 9, "ringing on" and "ringing off", on slot i
+abbrev pub ringingDone : ℕ → Deed → Bool → Bool
+ringingDone i (carrierOn j) b = b
+ringingDone i (carrierOff j) b = b
+ringingDone i (acknowledge j r) b = b
+ringingDone i (callShip j r) b = b
+ringingDone i (unable n x digits) b = b
+ringingDone i (dial j digits) b = b
+ringingDone i (releaseLine j) b = b
+ringingDone i (ringingOn j) b = cond (eqb i j) true b
+ringingDone i (ringingOff j) b = cond (eqb i j) false b
+ringingDone i (busyTone j) b = b
+
 abbrev pub wordDone : Option Ashore → ℕ → Deed → Word → Word
-wordDone q i (carrierOn j) w = w
-wordDone q i (carrierOff j) w = w
-wordDone q i (acknowledge j r) w = w
-wordDone q i (callShip j r) w = cond (eqb i j) (wordCalled q w) w
-wordDone q i (unable n x digits) w = w
-wordDone q i (dial j digits) w = cond (eqb i j) (worded outward (w .rings)) w
-wordDone q i (releaseLine j) w = cond (eqb i j) (worded idle (w .rings)) w
-wordDone q i (ringingOn j) w = cond (eqb i j) (worded (w .line) true) w
-wordDone q i (ringingOff j) w = cond (eqb i j) (worded (w .line) false) w
-wordDone q i (busyTone j) w = w
+wordDone q i d w = worded (lineDone q i d (w .line)) (ringingDone i d (w .rings))
 
 unfoldable pub wordsDone : Option Ashore → ℕ → List Deed → Word → Word
 wordsDone q i [] w = w
@@ -86,25 +102,13 @@ wordOf (talking x m b) = worded (since b) false
 -- ── 8, 9 and 6 by themselves ─────────────────────────────────────────────────
 
 -- whether slot i rings: the last of 8 and 9 on it is 8
-abbrev pub rungDone : ℕ → Deed → Bool → Bool
-rungDone i (carrierOn j) b = b
-rungDone i (carrierOff j) b = b
-rungDone i (acknowledge j r) b = b
-rungDone i (callShip j r) b = b
-rungDone i (unable n x digits) b = b
-rungDone i (dial j digits) b = b
-rungDone i (releaseLine j) b = b
-rungDone i (ringingOn j) b = cond (eqb i j) true b
-rungDone i (ringingOff j) b = cond (eqb i j) false b
-rungDone i (busyTone j) b = b
+abbrev pub ringingsDone : ℕ → List Deed → Bool → Bool
+ringingsDone i [] b = b
+ringingsDone i (d ∷ ds) b = ringingsDone i ds (ringingDone i d b)
 
-abbrev pub rungsDone : ℕ → List Deed → Bool → Bool
-rungsDone i [] b = b
-rungsDone i (d ∷ ds) b = rungsDone i ds (rungDone i d b)
-
-unfoldable pub rungAfter : ℕ → List Note → Bool → Bool
-rungAfter i [] b = b
-rungAfter i (n ∷ ns) b = rungAfter i ns (rungsDone i (n .deeds) b)
+unfoldable pub ringingAfter : ℕ → List Note → Bool → Bool
+ringingAfter i [] b = b
+ringingAfter i (n ∷ ns) b = ringingAfter i ns (ringingsDone i (n .deeds) b)
 
 -- the 8s and 9s on slot i, in order: true for an 8
 abbrev pub ringSwitch : ℕ → Deed → List Bool → List Bool
@@ -133,7 +137,7 @@ change true true = []
 -- of an entry, with the entries before it
 abbrev pub InTurn : Config → List Note → Note → Type 0
 InTurn c before n = (i : ℕ)
-    → ringSwitches i (n .deeds) ≡ change (rungAfter i before false) (rungsDone i (n .deeds) (rungAfter i before false))
+    → ringSwitches i (n .deeds) ≡ change (ringingAfter i before false) (ringingsDone i (n .deeds) (ringingAfter i before false))
 
 -- how often the line of slot i is released
 abbrev pub release : ℕ → Deed → ℕ

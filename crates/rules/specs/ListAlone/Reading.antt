@@ -308,7 +308,7 @@ summonCall t r (talking x m b) l = rungUp t r l
 abbrev pub summon : ℕ → Request → Column → Column
 summon t r l = summonCall t r (l .call) l
 
--- by what was asked ashore in the same entry
+-- by what was asked ashore in the same entry. A ship that is rung back leaves the queue; one that is called has no place in it to leave
 abbrev pub sendCall : Option Ashore → ℕ → ℕ → Request → Book → Book
 sendCall none t i r b = atPlaces (leave (r .who)) (atColumn i (summon t r) b)
 sendCall (some a) t i r b = atColumn i (callUp t r) b

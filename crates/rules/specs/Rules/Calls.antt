@@ -16,16 +16,13 @@ use Rattle.rules.specs.Rules.Heard.{Heard, callRequest, dataRequest, bq,
 use Rattle.rules.specs.Rules.Heard.{addressed, meaning}
 use Rattle.rules.specs.Rules.Actions.{Action, does, over, theShip}
 use Rattle.rules.specs.Rules.Station.{isFree, isTaken, Kind, offered, firstRing, secondRing, acknowledged, firstCall}
-use Rattle.rules.specs.Rules.Station.{secondCall, ringing, rings}
-use Rattle.rules.specs.Rules.Station.{Stage, dialling, dialledOut, answered, answeredAt, Dealing}
-use Rattle.rules.specs.Rules.Station.{Slot, free, taken, pending, busy, held}
-use Rattle.rules.specs.Rules.Station.{Station, theSlot, fresh, setSlot, setClock, setQueue, dueAfter, rungAgain, calledAgain}
-use Rattle.rules.specs.Rules.Station.{ringingAt}
-use Rattle.rules.specs.Rules.Station.{agreedAt, carrierWait, diallingWait, replyWait, holdWait, table, fires, nextDue}
-use Rattle.rules.specs.Rules.Requests.{Out, done, ignored, also, rungBack, freedFor, freed, lasted, endActs}
-use Rattle.rules.specs.Rules.Requests.{coastEnd, Standing, nowhere, holds, waits, standing, beingCalled, ruleA, repeated}
-use Rattle.rules.specs.Rules.Requests.{afresh, same, ruleB, ruleD, offer}
-use Rattle.rules.specs.Rules.Requests.{ruleF, ruleG, eToG, newcomer, dToG, redial, ruleC, bOrC, requested}
+use Rattle.rules.specs.Rules.Station.{secondCall, ringing, rings, Stage, dialling, dialledOut, answered, answeredAt, Dealing}
+use Rattle.rules.specs.Rules.Station.{Slot, free, taken, pending, busy, held, Station, theSlot, fresh, setSlot, setClock, setQueue}
+use Rattle.rules.specs.Rules.Station.{dueAfter, rungAgain, calledAgain, ringingAt, agreedAt, carrierWait, diallingWait, replyWait}
+use Rattle.rules.specs.Rules.Station.{holdWait, table, fires, nextDue}
+use Rattle.rules.specs.Rules.Requests.{Out, done, ignored, also, rungBack, freedFor, freed, lasted, endActs, coastEnd}
+use Rattle.rules.specs.Rules.Requests.{Standing, nowhere, holds, waits, standing, beingCalled, ruleA, repeated, afresh, same, ruleB}
+use Rattle.rules.specs.Rules.Requests.{ruleD, offer, ruleF, ruleG, eToG, newcomer, dToG, redial, ruleC, bOrC, requested}
 use Rattle.rules.specs.Rules.Ashore.{ashoreRequest, engaged, calledFrom}
 
 -- ── working call ─────────────────────────────────────────────────────────────
