@@ -48,11 +48,11 @@ HostObeys = OfEveryHost Obeys
 
 -- ── beside it ────────────────────────────────────────────────────────────────
 
--- "dial", "release line" and off-hook alone say of every slot what the book says of its line
+-- "dial", "release line", 8, 9, a call from ashore, off-hook and carrier up alone say of every slot what the book says of its line
 unfoldable pub HostLiterally : Type 0
 HostLiterally = OfEveryHost (λ c es s. WordsAgree c (notes es))
 
--- what is acknowledged, rung back, rung back again and dialled is what was heard
+-- what is acknowledged, rung back, called from ashore, sent once more and dialled is what was heard, or asked ashore
 unfoldable pub HostAnswersRepeat : Type 0
 HostAnswersRepeat = OfEveryHost (λ c es s. EveryEntry Answers c (notes es))
 
@@ -69,7 +69,7 @@ HostRingsAsTold = OfEveryHost (λ c es s. RingsBy (notes es) (modelOf s))
 unfoldable pub HostRingsInTurn : Type 0
 HostRingsInTurn = OfEveryHost (λ c es s. EveryEntry InTurn c (notes es))
 
--- a ship that is being called is not offered a slot, and asks in vain
+-- a ship that is being called is not offered a slot, and no deed is given where it asks
 unfoldable pub HostCalledNotOffered : Type 0
 HostCalledNotOffered = OfEveryHost (λ c es s. EveryEntry OffersOthers c (notes es))
 

@@ -231,13 +231,13 @@ each-read : {P Q : Option Ashore → Option ℕ → Book → Deed → Type 0} �
 each-read f q t on b [] p = tt
 each-read f q t on b (d ∷ ds) p = (f q on b d (p .0), each-read f q t (switchedOn d) (read q t d b) ds (p .1))
 
--- every acknowledgement and every ring-back repeats what was asked
+-- every acknowledgement, ring-back and call from ashore repeats what was asked
 pub answers-repeat : AnswersRepeat
 unfolding AnswersRepeat
 answers-repeat cfg set es before n after e =
     each-read (λ q on b d p. p .0) (askedIn n) _ none _ (n .deeds) (all-answered cfg es before n after e .fits _ none)
 
--- and the second ring-back repeats the first
+-- and the second sending repeats the first
 pub second-ring-repeats : SecondRingRepeats
 unfolding SecondRingRepeats
 second-ring-repeats cfg set es before n after e =

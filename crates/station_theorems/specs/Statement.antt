@@ -85,11 +85,11 @@ RackStands = (c : Config) (xs : List Step) (t : Trace c xs)
     → (configOf (lastOf (t .first) xs) ≡ c)
     × ((modelOf (lastOf (t .first) xs) ≡ stationAfter c (eventsIn xs)) × Fits c (stationAfter c (eventsIn xs)))
 
--- "dial", "release line" and off-hook alone say of every slot what the book says of its line
+-- "dial", "release line", 8, 9, a call from ashore, off-hook and carrier up alone say of every slot what the book says of its line
 unfoldable pub RackLiterally : Type 0
 RackLiterally = OfEveryTrace (λ c es s. WordsAgree c (notes es))
 
--- what is acknowledged, rung back, rung back again and dialled is what was heard
+-- what is acknowledged, rung back, called from ashore, sent once more and dialled is what was heard, or asked ashore
 unfoldable pub RackAnswersRepeat : Type 0
 RackAnswersRepeat = OfEveryTrace (λ c es s. EveryEntry Answers c (notes es))
 
@@ -106,7 +106,7 @@ RackRingsAsTold = OfEveryTrace (λ c es s. RingsBy (notes es) (modelOf s))
 unfoldable pub RackRingsInTurn : Type 0
 RackRingsInTurn = OfEveryTrace (λ c es s. EveryEntry InTurn c (notes es))
 
--- a ship that is being called is not offered a slot, and asks in vain
+-- a ship that is being called is not offered a slot, and no deed is given where it asks
 unfoldable pub RackCalledNotOffered : Type 0
 RackCalledNotOffered = OfEveryTrace (λ c es s. EveryEntry OffersOthers c (notes es))
 
