@@ -3,8 +3,8 @@ from reading import NotUnderstood
 from running import Built, Unknown
 
 # What every accepted event passes, whatever the slot's phase.
-PASSED = {'sound': 'true', 'overtaken': 'false', 'slotThere': 'true', 'isDone': 'true', 'calledShip': 'true', 'calledMode': 'true',
-          'callerNumber': 'true'}
+PASSED = {'sound': 'true', 'overtaken': 'false', 'slotThere': 'true', 'isDone': 'true', 'namesShip': 'true', 'namesMode': 'true',
+          'namesNumber': 'true'}
 WITHIN = ['leb roomNeeded event .room', 'leb event .time limit', 'leb clock event .time']
 # Not looked into: who asks for what, what the symbols say, when and how long.
 CLOSED = ['is', 'isFor', 'same', 'ltb', 'length', 'meaning', 'ashoreRequest', 'dueAfter', 'lasted', 'roomNeeded', 'limit']

@@ -27,7 +27,7 @@ use Rattle.rules.specs.Rules.Sound.{configKeeps, numberKeeps, requestKeeps}
 use Rattle.rules.specs.Rules.Requests.{standing, ruleA, Out}
 use Rattle.rules.specs.Rules.Ashore.{ashoreRequest}
 use Rattle.rules.specs.Rules.Calls.{act}
-use Rattle.rules.specs.Rules.Verdict.{calledShip, callerNumber, verdict}
+use Rattle.rules.specs.Rules.Verdict.{namesShip, namesNumber, verdict}
 use Rattle.rules.specs.ListAlone.Book.{Stop, Book}
 use Rattle.rules.specs.ListAlone.Reading.{moment}
 use Rattle.rules.specs.ListAlone.LineWords.{Word}
@@ -95,7 +95,7 @@ module _ (c : Config) (good : configKeeps c ≡ true) where
   effect-says st s _ _ _ _ _ _ (called-ashore x i e) k a = called-says c good (ashoreRequest c x) (k x refl) st s i e
 
 -- 02, no. 2: a request from ashore that is not refused keeps the rules
-pub asked-keeps : (c : Config) (q : Option Ashore) → calledShip q ≡ true → callerNumber q ≡ true → (a : Ashore) → q ≡ some a → requestKeeps c (ashoreRequest c a) ≡ true
+pub asked-keeps : (c : Config) (q : Option Ashore) → namesShip q ≡ true → namesNumber q ≡ true → (a : Ashore) → q ≡ some a → requestKeeps c (ashoreRequest c a) ≡ true
 unfolding ashoreRequest requestKeeps
 asked-keeps c q s n a e = rw (rw e at s, eq-eqb (c .identity) (c .identity) refl, rw e at n) refl
 

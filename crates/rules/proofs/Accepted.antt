@@ -15,7 +15,7 @@ use Rattle.rules.specs.Rules.Waits.{Wait, loss, main, Due, running, queu
 use Rattle.rules.specs.Rules.Station.{Slot, shipOf, Waiting, Station, dueAfter, lossDue, mainDue, slotTable, table, queueWait}
 use Rattle.rules.specs.Rules.Sound.{configKeeps, oneSlotEach, slotKeeps, waitingKeeps, limit, queueRoom, listed, owners, noShipTwice, slotFits, placeFits, storedKeeps, timesFit, sound}
 use Rattle.rules.specs.Rules.Requests.{owns, waitsFor}
-use Rattle.rules.specs.Rules.Verdict.{roomNeeded, overtaken, slotThere, readIn, barred, calledShip, calledMode, callerNumber, calledEngaged, refusals, verdict}
+use Rattle.rules.specs.Rules.Verdict.{roomNeeded, overtaken, slotThere, readIn, barred, namesShip, namesMode, namesNumber, namesEngaged, refusals, verdict}
 use Rattle.rules.proofs.PlaceLaws.{or-false, and-true}
 use Rattle.rules.proofs.Asked.{owned, rest-distinct}
 use Rattle.rules.proofs.Base.{begunBy, fitting}
@@ -46,10 +46,10 @@ pub record Accepted (cfg : Config) (st : Station) (e : Event) : Type 0 where
   pub none-due : overtaken st (e .time) (e .what) ≡ false
   pub there : slotThere (length (st .slots)) (e .what) ≡ true
   pub readable : isDone (readIn (e .what)) ≡ true
-  pub ship : calledShip (ashoreIn (e .what)) ≡ true
-  pub mode : calledMode (ashoreIn (e .what)) ≡ true
-  pub number : callerNumber (ashoreIn (e .what)) ≡ true
-  pub not-engaged : calledEngaged cfg st (ashoreIn (e .what)) ≡ false
+  pub ship : namesShip (ashoreIn (e .what)) ≡ true
+  pub mode : namesMode (ashoreIn (e .what)) ≡ true
+  pub number : namesNumber (ashoreIn (e .what)) ≡ true
+  pub not-engaged : namesEngaged cfg st (ashoreIn (e .what)) ≡ false
 
 pub accepted : (cfg : Config) (st : Station) (e : Event) → verdict cfg st e ≡ none → Accepted cfg st e
 unfolding verdict refusals
@@ -63,10 +63,10 @@ accepted cfg st e h =
     let s = and-true (slotThere (length (st .slots)) (e .what)) _ (d .1) in
     let u = and-true (isDone (readIn (e .what))) _ (s .1) in
     let o = and-true (not (barred st (e .what))) _ (u .1) in
-    let p = and-true (calledShip (ashoreIn (e .what))) _ (o .1) in
-    let m = and-true (calledMode (ashoreIn (e .what))) _ (p .1) in
-    let n = and-true (callerNumber (ashoreIn (e .what))) _ (m .1) in
-    let g = and-true (not (calledEngaged cfg st (ashoreIn (e .what)))) _ (n .1) in
+    let p = and-true (namesShip (ashoreIn (e .what))) _ (o .1) in
+    let m = and-true (namesMode (ashoreIn (e .what))) _ (p .1) in
+    let n = and-true (namesNumber (ashoreIn (e .what))) _ (m .1) in
+    let g = and-true (not (namesEngaged cfg st (ashoreIn (e .what)))) _ (n .1) in
     record { is-sound = a .0; in-limit = l .0; in-time = b .0; none-due = not-true _ (d .0); there = s .0; readable = u .0; ship = p .0; mode = m .0; number = n .0; not-engaged = not-true _ (g .0) }
 
 -- ── what soundness gives ─────────────────────────────────────────────────────

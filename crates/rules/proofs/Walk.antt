@@ -15,7 +15,7 @@ use Rattle.rules.specs.Rules.Sound.{requestKeeps, queueRoom}
 use Rattle.rules.specs.Rules.Requests.{Out, freed, coastEnd, owns, slotOf, placeOf, standsAt, standing, ruleA, repeated, afresh, ruleD, offer, ruleF, ruleG, eToG, newcomer, dToG, redial, requested}
 use Rattle.rules.specs.Rules.Ashore.{ashoreRequest, keepsFor, engaged, calledFrom}
 use Rattle.rules.specs.Rules.Calls.{act}
-use Rattle.rules.specs.Rules.Verdict.{calledShip, callerNumber, calledEngaged, verdict}
+use Rattle.rules.specs.Rules.Verdict.{namesShip, namesNumber, namesEngaged, verdict}
 use Rattle.rules.specs.Rules.Actions.{Action}
 use Rattle.rules.specs.ListAlone.Book.{Stop, Column, Book}
 use Rattle.rules.specs.ListAlone.Reading.{closed, moment}
@@ -64,7 +64,7 @@ is-none : (o : Option ℕ) → isSome o ≡ false → o ≡ none
 is-none none h = refl
 is-none (some n) h = cc
 
-pub asked-callable : (cfg : Config) (st : Station) (q : Option Ashore) → calledShip q ≡ true → callerNumber q ≡ true → calledEngaged cfg st q ≡ false
+pub asked-callable : (cfg : Config) (st : Station) (q : Option Ashore) → namesShip q ≡ true → namesNumber q ≡ true → namesEngaged cfg st q ≡ false
     → (a : Ashore) → q ≡ some a → Callable cfg st (ashoreRequest cfg a)
 unfolding ashoreRequest requestKeeps engaged
 asked-callable cfg st q s n g a e =

@@ -13,7 +13,7 @@ use Rattle.rules.specs.Rules.Places.{isSome}
 use Rattle.rules.specs.Rules.Words.{Happened, signal, operator, What, onSlot, Ashore, fromAshore, ashoreIn, Event}
 use Rattle.rules.specs.Rules.Station.{theSlot, fires}
 use Rattle.rules.specs.Rules.Sound.{limit, sound}
-use Rattle.rules.specs.Rules.Verdict.{unless, roomNeeded, overtaken, slotThere, readIn, barred, calledShip, calledMode, callerNumber, calledEngaged, slotForCaller, refusals, verdict}
+use Rattle.rules.specs.Rules.Verdict.{unless, roomNeeded, overtaken, slotThere, readIn, barred, namesShip, namesMode, namesNumber, namesEngaged, slotIsFree, refusals, verdict}
 use Rattle.gate.specs.declared.Look.{Look}
 use Rattle.gate.specs.Asked.{andThen, askedAlways, askedNow, askedOnSlot}
 use Rattle.gate.proofs.AskedLaws.{one-more}
@@ -34,11 +34,11 @@ module _ (s : Station) (l : Look) (sees : Sees s l) (n t : ℕ) where
   -- what is asked of a call from ashore behind 33
   abbrev ashore : Option Ashore → List (Row (Option ℕ))
   ashore o =
-      unless (calledShip o) 15
-      ∷ unless (calledMode o) 17
-      ∷ unless (callerNumber o) 19
-      ∷ unless (not (calledEngaged (configOf s) (modelOf s) o)) 38
-      ∷ unless (slotForCaller (modelOf s) o) 37
+      unless (namesShip o) 15
+      ∷ unless (namesMode o) 17
+      ∷ unless (namesNumber o) 19
+      ∷ unless (not (namesEngaged (configOf s) (modelOf s) o)) 38
+      ∷ unless (slotIsFree (modelOf s) o) 37
       ∷ []
 
   -- what is asked of an event behind 34, and behind 33

@@ -67,25 +67,25 @@ barred st w = barredAt st (slotIn w) (handIn w)
 
 -- 02, no. 2: "15 for a bad ship identity", "17 for another mode", "19 for a bad number", "38 when that ship already has a slot (a hold
 -- included) or waits", "37 when no slot is free"
-abbrev pub calledShip : Option Ashore → Bool
-calledShip none = true
-calledShip (some a) = isShip (a .ship)
+abbrev pub namesShip : Option Ashore → Bool
+namesShip none = true
+namesShip (some a) = isShip (a .ship)
 
-abbrev pub calledMode : Option Ashore → Bool
-calledMode none = true
-calledMode (some a) = isMode (a .mode)
+abbrev pub namesMode : Option Ashore → Bool
+namesMode none = true
+namesMode (some a) = isMode (a .mode)
 
-abbrev pub callerNumber : Option Ashore → Bool
-callerNumber none = true
-callerNumber (some a) = numberKeeps (a .digits)
+abbrev pub namesNumber : Option Ashore → Bool
+namesNumber none = true
+namesNumber (some a) = numberKeeps (a .digits)
 
-abbrev pub calledEngaged : Config → Station → Option Ashore → Bool
-calledEngaged c st none = false
-calledEngaged c st (some a) = engaged st (ashoreRequest c a .who)
+abbrev pub namesEngaged : Config → Station → Option Ashore → Bool
+namesEngaged c st none = false
+namesEngaged c st (some a) = engaged st (ashoreRequest c a .who)
 
-abbrev pub slotForCaller : Station → Option Ashore → Bool
-slotForCaller st none = true
-slotForCaller st (some a) = isSome (lowest isFree (st .slots))
+abbrev pub slotIsFree : Station → Option Ashore → Bool
+slotIsFree st none = true
+slotIsFree st (some a) = isSome (lowest isFree (st .slots))
 
 -- "Refusals, in this order"
 unfoldable pub refusals : Config → Station → Event → List (Row (Option ℕ))
@@ -98,11 +98,11 @@ refusals c st e =
     ∷ unless (slotThere (length (st .slots)) (e .what)) 34
     ∷ unless (isDone (readIn (e .what))) (answerNumber (readIn (e .what)))
     ∷ unless (not (barred st (e .what))) 35
-    ∷ unless (calledShip (ashoreIn (e .what))) 15
-    ∷ unless (calledMode (ashoreIn (e .what))) 17
-    ∷ unless (callerNumber (ashoreIn (e .what))) 19
-    ∷ unless (not (calledEngaged c st (ashoreIn (e .what)))) 38
-    ∷ unless (slotForCaller st (ashoreIn (e .what))) 37
+    ∷ unless (namesShip (ashoreIn (e .what))) 15
+    ∷ unless (namesMode (ashoreIn (e .what))) 17
+    ∷ unless (namesNumber (ashoreIn (e .what))) 19
+    ∷ unless (not (namesEngaged c st (ashoreIn (e .what)))) 38
+    ∷ unless (slotIsFree st (ashoreIn (e .what))) 37
     ∷ []
 
 -- the number of the refusal, if the event is refused: the first that fits
