@@ -15,7 +15,7 @@ use Rattle.rules.specs.ListAlone.LineWords.{Word}
 use Rattle.rules.specs.Statement.{deedsOf, chargesOf, owed}
 use Rattle.rules.proofs.PlaceLaws.{modAt-modAt, shift-none}
 use Rattle.rules.proofs.Base.{view, place, seen, atLine², stay, moves}
-use Rattle.rules.proofs.Outcome.{Next, stays, becomes, frees, played, leaves, linesDone, About, Apart, move-about, Outcome, passed, moved}
+use Rattle.rules.proofs.Outcome.{Next, stays, becomes, frees, played, leaves, columnsDone, About, Apart, move-about, Outcome, passed, moved}
 use Rattle.rules.proofs.Pieces.{Good, good-also, book-is, freed-good}
 
 pub leave-none : (x : Party) (q : List Waiting) → lowest (waitsFor x) q ≡ none → leave x (map place q) ≡ map place q
@@ -27,7 +27,7 @@ leave-none x (w ∷ q) h = go (is x (w .request .who)) refl (λ e. leave-none x 
     go false e ih = rw e (ap (λ z. place w ∷ z) (ih (shift-none _ (rw e at h))))
 
 -- deeds about one slot are read on its column alone
-reads-here : (t i : ℕ) (b : Book) (ds : List Deed) (f : Column → Column) → Each (About i (b .places)) ds → reads none t ds (atColumn i f b) ≡ atColumn i (λ l. linesDone t ds (f l)) b
+reads-here : (t i : ℕ) (b : Book) (ds : List Deed) (f : Column → Column) → Each (About i (b .places)) ds → reads none t ds (atColumn i f b) ≡ atColumn i (λ l. columnsDone t ds (f l)) b
 unfolding reads
 reads-here t i b [] f a = refl
 reads-here t i b (carrierOn j ∷ ds) f a = reads-here t i b ds f (a .1)
@@ -43,11 +43,11 @@ reads-here t i b (releaseLine j ∷ ds) f a = rw (← (a .0), atLine² i f letGo
 
 module _ (i : ℕ) (st : Station) (p : Slot) (e : theSlot st i ≡ p) where
   played-good : (f : Column → Column) (cs : List Stop) (n : Next) (acts : List Action) → Each (About i (map place (st .queue))) (deedsOf acts)
-      → linesDone (st .clock) (deedsOf acts) (f (view p)) ≡ view (leaves p n) → chargesOf acts ≡ map owed cs → Good (st .clock) (atColumn i f (seen st)) cs (played i st n acts)
+      → columnsDone (st .clock) (deedsOf acts) (f (view p)) ≡ view (leaves p n) → chargesOf acts ≡ map owed cs → Good (st .clock) (atColumn i f (seen st)) cs (played i st n acts)
   unfolding seen
-  played-good f cs stays acts a h c = record { reading = reads-here (st .clock) i (seen st) (deedsOf acts) f a ∙ stay i st p e (λ l. linesDone (st .clock) (deedsOf acts) (f l)) h; charging = c }
-  played-good f cs (becomes q) acts a h c = record { reading = reads-here (st .clock) i (seen st) (deedsOf acts) f a ∙ moves i st p e (λ l. linesDone (st .clock) (deedsOf acts) (f l)) q h; charging = c }
-  played-good f cs frees acts a h c = rw (← (append-nil cs)) (good-also (st .clock) (atColumn i f (seen st)) (atColumn i (λ l. linesDone (st .clock) (deedsOf acts) (f l)) (seen st)) cs [] acts (freed i st) (reads-here (st .clock) i (seen st) (deedsOf acts) f a) c (freed-good i st p e (λ l. linesDone (st .clock) (deedsOf acts) (f l)) h))
+  played-good f cs stays acts a h c = record { reading = reads-here (st .clock) i (seen st) (deedsOf acts) f a ∙ stay i st p e (λ l. columnsDone (st .clock) (deedsOf acts) (f l)) h; charging = c }
+  played-good f cs (becomes q) acts a h c = record { reading = reads-here (st .clock) i (seen st) (deedsOf acts) f a ∙ moves i st p e (λ l. columnsDone (st .clock) (deedsOf acts) (f l)) q h; charging = c }
+  played-good f cs frees acts a h c = rw (← (append-nil cs)) (good-also (st .clock) (atColumn i f (seen st)) (atColumn i (λ l. columnsDone (st .clock) (deedsOf acts) (f l)) (seen st)) cs [] acts (freed i st) (reads-here (st .clock) i (seen st) (deedsOf acts) f a) c (freed-good i st p e (λ l. columnsDone (st .clock) (deedsOf acts) (f l)) h))
 
   pub outcome-good : {f : Column → Column} {w : Word → Word} {cs : List Stop} {o : Out} → Outcome i st f w cs p o → Apart (map place (st .queue)) p → Good (st .clock) (atColumn i f (seen st)) cs o
   unfolding reads

@@ -86,21 +86,21 @@ abbrev pub word : Slot → Word
 word s = wordOf (view s .call)
 
 -- a deed about the slot itself
-abbrev pub lineDone : ℕ → Deed → Column → Column
-lineDone t (carrierOn i) l = l
-lineDone t (carrierOff i) l = hush l
-lineDone t (acknowledge i r) l = tell t r l
-lineDone t (callShip i r) l = summon t r l
-lineDone t (unable n x digits) l = l
-lineDone t (dial i digits) l = dialUp t l
-lineDone t (releaseLine i) l = letGo l
-lineDone t (ringingOn i) l = l
-lineDone t (ringingOff i) l = l
-lineDone t (busyTone i) l = l
+abbrev pub columnDone : ℕ → Deed → Column → Column
+columnDone t (carrierOn i) l = l
+columnDone t (carrierOff i) l = hush l
+columnDone t (acknowledge i r) l = tell t r l
+columnDone t (callShip i r) l = summon t r l
+columnDone t (unable n x digits) l = l
+columnDone t (dial i digits) l = dialUp t l
+columnDone t (releaseLine i) l = letGo l
+columnDone t (ringingOn i) l = l
+columnDone t (ringingOff i) l = l
+columnDone t (busyTone i) l = l
 
-abbrev pub linesDone : ℕ → List Deed → Column → Column
-linesDone t [] l = l
-linesDone t (d ∷ ds) l = linesDone t ds (lineDone t d l)
+abbrev pub columnsDone : ℕ → List Deed → Column → Column
+columnsDone t [] l = l
+columnsDone t (d ∷ ds) l = columnsDone t ds (columnDone t d l)
 
 abbrev pub oneDone : Deed → Word → Word
 oneDone (carrierOn i) w = w
@@ -189,7 +189,7 @@ turned-fits i t _ _ _ to-take h = refl
 pub data Outcome (i : ℕ) (st : Station) (f : Column → Column) (w : Word → Word) (cs : List Stop) (p : Slot) : Out → Type 0 where
   passed : f (view p) ≡ view p → w (word p) ≡ word p → [] ≡ map owed cs → Outcome i st f w cs p (ignored st)
   moved : {n : Next} {acts : List Action} → Move i (st .clock) p n acts
-      → linesDone (st .clock) (deedsOf acts) (f (view p)) ≡ view (leaves p n)
+      → columnsDone (st .clock) (deedsOf acts) (f (view p)) ≡ view (leaves p n)
       → allDone (deedsOf acts) (w (word p)) ≡ word (leaves p n) → chargesOf acts ≡ map owed cs
       → Outcome i st f w cs p (played i st n acts)
 
