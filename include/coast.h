@@ -70,9 +70,9 @@ extern "C" {
 #define COAST_ANSWER_BAD_SYMBOL 12        /* a symbol over 127 */
 #define COAST_ANSWER_BAD_CHECK 13         /* the last symbol is not the exclusive-or of all before it */
 #define COAST_ANSWER_BAD_FORMAT 14        /* the format is not 123 */
-#define COAST_ANSWER_BAD_IDENTITIES 15    /* not nine digits and a final 0 each, not one ship and one coast station; or, ashore, no ship */
+#define COAST_ANSWER_BAD_IDENTITIES 15    /* not nine digits and a final 0, not one ship and one coast station; ashore: no ship */
 #define COAST_ANSWER_BAD_CATEGORY 16      /* the category is not 100 */
-#define COAST_ANSWER_BAD_TELECOMMANDS 17  /* the two telecommands do not go together; or, ashore, not 100 or 101 */
+#define COAST_ANSWER_BAD_TELECOMMANDS 17  /* the two telecommands do not go together; ashore: not 100 or 101 */
 #define COAST_ANSWER_BAD_CHANNEL_FIELD 18 /* the channel field does not go with the first telecommand */
 #define COAST_ANSWER_BAD_NUMBER 19        /* not 1 to 16 digits 0 to 9, or marked odd for even, or not 0 past the count */
 #define COAST_ANSWER_BAD_END 20           /* the end of sequence is not 117, 122 or 127 */
@@ -159,7 +159,7 @@ uint32_t coast_write_sequence(const uint8_t *meaning, size_t size, uint8_t *room
 #define COAST_ONE_ACTION_SIZE 40
 #define COAST_AT_ACTION_KIND 0    /* one of the ten kinds below */
 #define COAST_AT_ACTION_SLOT 1    /* the slot's number, or 255 in an answer that gives no slot */
-#define COAST_AT_ACTION_LENGTH 2  /* count of the payload's bytes */
+#define COAST_AT_ACTION_LENGTH 2  /* count of the payload's bytes, 0 where the kind below names no payload */
 #define COAST_AT_ACTION_PAYLOAD 4 /* the payload, at most 36 bytes; zeros behind it, and at byte 3 */
 
 /* What a host lends for one station, in one piece; it may as well lend the two from different places. */
@@ -223,7 +223,8 @@ uint64_t coast_heard_on_channel_70(
 uint64_t coast_heard_on_slot(uint8_t *station, size_t size, uint32_t time, uint32_t slot, const uint8_t *symbols, size_t count,
     uint8_t *room, size_t room_size);
 
-/* The ship's carrier on a slot's working channel comes, or goes. Answers 0, 1; or 29, 30, 31, 32, 33, 34. */
+/* The ship's carrier on a slot's working channel comes, or goes. While a call from ashore rings, the first that comes answers it
+ * (coast_call_from_ashore). Answers 0, 1; or 29, 30, 31, 32, 33, 34. */
 uint64_t coast_carrier_up(uint8_t *station, size_t size, uint32_t time, uint32_t slot, uint8_t *room, size_t room_size);
 uint64_t coast_carrier_down(uint8_t *station, size_t size, uint32_t time, uint32_t slot, uint8_t *room, size_t room_size);
 
@@ -238,11 +239,11 @@ uint64_t coast_dialling_ended(uint8_t *station, size_t size, uint32_t time, uint
 uint64_t coast_off_hook(uint8_t *station, size_t size, uint32_t time, uint32_t slot, uint8_t *room, size_t room_size);
 uint64_t coast_on_hook(uint8_t *station, size_t size, uint32_t time, uint32_t slot, uint8_t *room, size_t room_size);
 
-/* Somebody ashore calls a ship, in the mode 100 (simplex) or 101 (duplex), which holds for the call. The `count` bytes at
- * `digits` are the caller's own number, 1 to 16 digits 0 to 9. The lowest free slot is taken: its carrier comes on, and the ship
- * is called on channel 70, once more after 5 s. The first action tells which slot it is. The host joins the caller's line to it,
- * and hands in there what the line does, until action 6 releases it; not after that, when the slot may be another's. What comes
- * of the call:
+/* Somebody ashore, the caller, calls a ship, in the mode 100 (simplex) or 101 (duplex), which holds for the call. The `count`
+ * bytes at `digits` are the caller's own number, 1 to 16 digits, one a byte: the numbers 0 to 9, not the characters. The lowest
+ * free slot is taken: its carrier comes on, and the ship is called on channel 70, once more after 5 s. The first action tells
+ * which slot it is. The host joins the caller's line to that slot, and hands in an on-hook there when the caller hangs up, but
+ * not after action 6 has released the line: the slot may then be another's. What comes of the call:
  *   - The ship's first BQ with 100 or 101 that names the slot's channel: it rings (8), for a minute at most.
  *   - The first carrier up while it rings is the ship's transmission, whoever sent it: the ringing ends (9), and the call is
  *     answered. It is charged from here on, and ends as any other does. The charge names the ship alone: whose line it was, the
@@ -251,9 +252,12 @@ uint64_t coast_on_hook(uint8_t *station, size_t size, uint32_t time, uint32_t sl
  *     is dropped. The ringing ends if it rings (9), then carrier off (2), busy tone (10), release (6). The slot is freed at once:
  *     the tone's five seconds are the exchange's, which keeps the caller for so long and then clears the line.
  *   - The caller's on-hook before the answer: dropped, without the tone.
- * Before the answer every request from that ship is ignored, and on the slot all that is heard, a carrier that goes, one that
- * comes before it rings, and the end of dialling; off-hook also after it, since the caller's handset is off already.
- * Refused, no slot is taken and no action given: the host turns the caller away, with 37 and 38 by a busy tone of its own.
+ * Until the answer these are ignored (1): every request from that ship, every sequence on the slot's working channel, a carrier
+ * that goes, and one that comes before it rings. Such a carrier is no answer later either, even if it stays: one must come while
+ * it rings. Off-hook and the end of dialling are ignored after the answer too: the caller's handset is off already, and nothing
+ * was dialled.
+ * Refused, no slot is taken and no action given. After 32 and 33 the host hands the call in once more, as told with the answers.
+ * After 15, 17, 19, 38 and 37 it turns the caller away, with 38 and 37 by a busy tone of its own.
  * Answers 0; or 29, 30, 31, 32, 33, 15 where that is no ship, 17 where it is another mode, 19, 38, 37. */
 uint64_t coast_call_from_ashore(uint8_t *station, size_t size, uint32_t time, uint32_t ship, uint32_t mode, const uint8_t *digits,
     size_t count, uint8_t *room, size_t room_size);
