@@ -177,7 +177,7 @@ static bool take_heard(const char **at, uint32_t station, struct order *order) {
     return take_word(at, "symbols") ? take_bytes(at, order) : take_sequence(at, station, order);
 }
 
-/* Whether there is such a ship, mode and number the library judges. */
+/* Ship, mode and number are the library's to judge. */
 static bool take_call(const char **at, struct order *order) {
     order->kind = FROM_ASHORE;
     return take_whole(at, UINT32_MAX, &order->number) && take_mode(at, &order->mode) &&

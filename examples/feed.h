@@ -3,8 +3,8 @@
  *   # a remark
  *   station 002001234 on 26 27                 set the station up, a slot for each channel
  *   10.0 heard 70 SHIP asks MODE NUMBER        a ship's request; MODE is simplex, duplex or data
- *   10.0 heard 70 SHIP agrees 26 MODE NUMBER   its answer when it is rung back or called, and may come to that channel
- *   10.0 heard 70 SHIP declines NUMBER         its answer when it is called, and unable to come
+ *   10.0 heard 70 SHIP agrees 26 MODE NUMBER   its answer to a ring-back or a call: it comes to that channel
+ *   10.0 heard 70 SHIP declines NUMBER         its answer to a call that it cannot take
  *   14.0 heard 26 SHIP calls MODE NUMBER       its call on the working channel
  *   90.0 heard 26 SHIP ends NUMBER             its end of call
  *   90.0 heard 26 symbols 123 0 20 1 ..        whatever symbols were heard
