@@ -38,7 +38,7 @@ ignoredChannel = record {
 
 -- ── call request ──────────────────────────────────────────────────────────────
 
--- a. data, before anything else
+-- a. data, of a ship that is not being called
 abbrev pub ruleAShown : Row
 ruleAShown = record {
   computed = gives 1 (dataCalls 100 seven ∷ []);
