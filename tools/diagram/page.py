@@ -17,7 +17,7 @@ MATRIX = """
 
 What a slot is afterwards, where the event is about this slot: a sequence comes from its ship, a call from ashore is for its ship. *Stays*:
 answered 0, and this slot is as it was. *Ignored*: answered 1. *Refused*: with that number; a call from ashore with 38 where its ship has a
-slot or waits, else with 37 where no slot is free. Which it is of several others stands in the next table.
+slot or waits, else with 37 where no slot is free. Of any other cell that names several, the next table tells which it is.
 """
 ARROWS = """
 ## Every way from one phase to another
