@@ -22,10 +22,11 @@ use Rattle.layouts.proofs.FieldLaws.{laidAll, laid-all, laid-next}
 use Rattle.layouts.proofs.RecordLaws.{recordsAt-more, flatMap-more, flatMap-length}
 use Rattle.phase_fields.specs.declared.PhaseFields.{PhaseFields}
 use Rattle.phase_fields.specs.Phases.{phaseFields}
-use Rattle.lent_layout.specs.declared.said.FieldBytes.{FieldBytes}
+use Rattle.channel_fields.specs.declared.FieldBytes.{FieldBytes}
+use Rattle.channel_fields.specs.ChannelFields.{fieldBytes}
 use Rattle.lent_layout.specs.Layout.{run, requestFields, slotFields, waitingFields, slotSize, waitingSize}
 use Rattle.lent_layout.specs.Numbers.{numbersFrom, modeMark, requestNumbers, phaseNumbers, slotNumbers, waitingNumbers, inUse}
-use Rattle.lent_layout.specs.Meanings.{fieldBytes, meaningFields, meaningNumbers, meaningBytes}
+use Rattle.lent_layout.specs.Meanings.{meaningFields, meaningNumbers, meaningBytes}
 use Rattle.lent_layout.specs.Stations.{slotBytes, waitingBytes}
 
 -- ── numbers ──────────────────────────────────────────────────────────────────

@@ -1,16 +1,14 @@
 -- A meaning in bytes, as a host in C lends them.
-use Prim.Native.Nat.{ℕ, _%_}
+use Prim.Native.Nat.{ℕ}
 use mathlib.Core.Bool.{cond}
 use mathlib.Core.List.{List, _∷_}
-use lib.Dec.{leb, eqb}
+use lib.Dec.{leb}
 use lib.ListN.{length, getD, drop}
-use Rattle.sequence.specs.declared.Field.{Field as ChannelField}
-use Rattle.sequence.specs.declared.Field.the-variants.{Blank, Channel, Duration}
 use Rattle.sequence.specs.declared.Meaning.{Meaning}
 use Rattle.sequence.specs.Figures.{mostDigits}
 use Rattle.sequence.specs.Reading.{blankMeaning}
 use Rattle.layouts.specs.Fields.{Field, row, size, encode, decode, laid}
-use Rattle.lent_layout.specs.declared.said.FieldBytes.{FieldBytes}
+use Rattle.channel_fields.specs.ChannelFields.{fieldBytes, fieldFrom}
 use Rattle.lent_layout.specs.Layout.{run}
 use Rattle.lent_layout.specs.Numbers.{numbersFrom}
 
@@ -31,12 +29,6 @@ meaningFields =
 abbrev pub meaningSize : ℕ
 meaningSize = size meaningFields
 
--- the kind of a field (0 blank, 1 channel, 2 duration), and what it holds
-abbrev pub fieldBytes : ChannelField → FieldBytes
-fieldBytes Blank = record { kind = 0; first = 0; second = 0; third = 0 }
-fieldBytes (Channel c) = record { kind = 1; first = c .0 % 256; second = 0; third = 0 }
-fieldBytes (Duration d) = record { kind = 2; first = d .hours; second = d .minutes; third = d .seconds }
-
 unfoldable pub meaningNumbers : Meaning → List ℕ
 meaningNumbers m =
     m .address
@@ -53,19 +45,6 @@ meaningNumbers m =
 
 unfoldable pub meaningBytes : Meaning → List ℕ
 meaningBytes m = encode meaningFields (meaningNumbers m)
-
--- four bytes that are no field give channel 0, which the writer refuses with 18
-abbrev pub noField : ChannelField
-noField = Channel (record { 0 = 0 })
-
-unfoldable pub fieldFrom : FieldBytes → ChannelField
-fieldFrom f =
-    cond (eqb (f .kind) 2) (Duration (record { hours = f .first; minutes = f .second; seconds = f .third }))
-    (cond (eqb (f .second) 0)
-    (cond (eqb (f .third) 0)
-    (cond (eqb (f .kind) 1) (Channel (record { 0 = f .first })) (cond (eqb (f .kind) 0) (cond (eqb (f .first) 0) Blank noField) noField))
-    noField)
-    noField)
 
 unfoldable pub meaningIn : List ℕ → Meaning
 meaningIn ns =

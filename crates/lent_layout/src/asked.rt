@@ -8,7 +8,7 @@ ghost use Rattle.lent_layout.specs.Numbers.{modeMark, modeFrom, requestN
 use crate::numbers::digits_at;
 use crate::numbers::four_at;
 use crate::numbers::lay;
-use crate::numbers::low_first;
+use layouts::low_first;
 use requests::Mode;
 use requests::Request;
 use requests::blank_request;

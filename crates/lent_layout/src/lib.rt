@@ -15,10 +15,10 @@ mod numbers;
 mod records;
 pub mod said;
 
+use layouts::low_first;
 use numbers::four_at;
 use numbers::lay;
 use numbers::lay_zeros;
-use numbers::low_first;
 use records::SLOT_SIZE;
 use records::WAITING_SIZE;
 use records::lay_slot;

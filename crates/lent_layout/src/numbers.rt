@@ -3,7 +3,7 @@ ghost use mathlib.Core.Path.{_≡_};
 ghost use Prim.Native.Nat.{_+_, _≤_};
 ghost use lib.ListN.{length, replicate};
 ghost use Rattle.sequence.specs.Figures.{mostDigits};
-ghost use Rattle.layouts.specs.Fields.{lowFirst, numberAt, laid};
+ghost use Rattle.layouts.specs.Fields.{numberAt, laid};
 ghost use Rattle.lent_layout.specs.Numbers.{numbersFrom};
 use sequence::DIGITS;
 
@@ -29,17 +29,6 @@ pub(crate) fn digits_at(bytes: &[u8], place: usize) -> [u8; DIGITS]
         i += 1;
     }
     digits
-}
-
-pub(crate) fn low_first(n: u32) -> [u8; 4]
-    ensures { λ r. ⌜ r ≡ lowFirst 4 n ⌝ }
-{
-    [
-        (n % 256) as u8,
-        (n / 256 % 256) as u8,
-        (n / 256 / 256 % 256) as u8,
-        (n / 256 / 256 / 256) as u8,
-    ]
 }
 
 pub(crate) fn lay(bytes: &[u8], place: usize, room: &mut [u8])

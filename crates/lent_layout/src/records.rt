@@ -12,7 +12,7 @@ use crate::asked::lay_request;
 use crate::asked::request_at;
 use crate::numbers::four_at;
 use crate::numbers::lay;
-use crate::numbers::low_first;
+use layouts::low_first;
 use phase_fields::CarrierFields;
 use phase_fields::PhaseFields;
 use phase_fields::ToldFields;

@@ -1,17 +1,17 @@
 // A meaning in bytes: laid into a lent room, and taken out of one.
 ghost use mathlib.Core.Path.{_≡_};
-ghost use Rattle.lent_layout.specs.Meanings.{fieldBytes, noField, fieldFrom, meaningFrom, meaningLaid};
+ghost use Rattle.lent_layout.specs.Meanings.{meaningFrom, meaningLaid};
+use channel_fields::FieldBytes;
+use channel_fields::field_bytes;
+use channel_fields::field_from;
 use crate::numbers::digits_at;
 use crate::numbers::four_at;
 use crate::numbers::lay;
-use crate::numbers::low_first;
+use layouts::low_first;
 use reading::blank_meaning;
 use sequence::DIGITS;
-use sequence::Field;
 use sequence::Meaning;
 use sequence::Number;
-use units::Channel;
-use units::Duration;
 
 // Where each field stands: behind the one before it, from the address on.
 const SENDER: usize = 4;
@@ -35,39 +35,6 @@ const END: usize = COUNT + 1;
 const DIGITS_PLACE: usize = END + 1;
 
 pub const MEANING_SIZE: usize = DIGITS_PLACE + DIGITS;
-
-// The kind of a channel field, and what it holds.
-struct FieldBytes {
-    kind: u8,
-    first: u8,
-    second: u8,
-    third: u8,
-}
-
-fn field_bytes(field: Field) -> FieldBytes
-    ensures { λ r. ⌜ r ≡ fieldBytes field ⌝ }
-{
-    match field {
-        Field::Blank => FieldBytes {
-            kind: 0,
-            first: 0,
-            second: 0,
-            third: 0,
-        },
-        Field::Channel(c) => FieldBytes {
-            kind: 1,
-            first: (c.0 % 256) as u8,
-            second: 0,
-            third: 0,
-        },
-        Field::Duration(d) => FieldBytes {
-            kind: 2,
-            first: d.hours,
-            second: d.minutes,
-            third: d.seconds,
-        },
-    }
-}
 
 pub fn lay_meaning(m: Meaning, room: &mut [u8])
     ensures { λ _. ⌜ now (room .exit) ≡ meaningLaid m (now (room .entry)) ⌝ }
@@ -95,44 +62,6 @@ pub fn lay_meaning(m: Meaning, room: &mut [u8])
     lay(&sender, SENDER, room);
     lay(&marks, FIRST, room);
     lay(&digits, DIGITS_PLACE, room);
-}
-
-fn no_field() -> Field
-    ensures { λ r. ⌜ r ≡ noField ⌝ }
-{
-    Field::Channel(Channel(0))
-}
-
-fn field_from(f: FieldBytes) -> Field
-    ensures { λ r. ⌜ r ≡ fieldFrom f ⌝ }
-{
-    let kind = f.kind;
-    let first = f.first;
-    let second = f.second;
-    let third = f.third;
-    if kind == 2 {
-        return Field::Duration(Duration {
-            hours: first,
-            minutes: second,
-            seconds: third,
-        });
-    }
-    if second != 0 {
-        return no_field();
-    }
-    if third != 0 {
-        return no_field();
-    }
-    if kind == 1 {
-        return Field::Channel(Channel(first as u32));
-    }
-    if kind != 0 {
-        return no_field();
-    }
-    if first != 0 {
-        return no_field();
-    }
-    Field::Blank
 }
 
 // Fewer bytes tell no meaning.

@@ -1,6 +1,6 @@
 use borrow.Author.Needs.{needs}
-use Rattle.lent_layout.proofs.said.field_bytes.Statement.{statement}
-use Rattle.lent_layout.proofs.said.field_bytes.Tie as tie
+use Rattle.channel_fields.proofs.field_bytes.Statement.{statement}
+use Rattle.channel_fields.proofs.field_bytes.Tie as tie
 
 returns : tie.Need-returns
 returns c = rw (c .enum-told .given .1)

@@ -1,8 +1,8 @@
 use borrow.Author.Tests.{eq-eqb, ne-eqb}
-use Rattle.lent_layout.specs.Meanings.{fieldFrom}
+use Rattle.channel_fields.specs.ChannelFields.{fieldFrom}
 use borrow.Author.Needs.{needs}
-use Rattle.lent_layout.proofs.said.field_from.Statement.{statement}
-use Rattle.lent_layout.proofs.said.field_from.Tie as tie
+use Rattle.channel_fields.proofs.field_from.Statement.{statement}
+use Rattle.channel_fields.proofs.field_from.Tie as tie
 
 returns : tie.Need-returns
 unfolding fieldFrom
