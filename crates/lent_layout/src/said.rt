@@ -1,12 +1,12 @@
 // A meaning in bytes: laid into a lent room, and taken out of one.
 ghost use mathlib.Core.Path.{_≡_};
 ghost use Rattle.lent_layout.specs.Meanings.{meaningFrom, meaningLaid};
-use channel_fields::FieldBytes;
-use channel_fields::field_bytes;
-use channel_fields::field_from;
 use crate::numbers::digits_at;
 use crate::numbers::four_at;
 use crate::numbers::lay;
+use channel_fields::FieldBytes;
+use channel_fields::field_bytes;
+use channel_fields::field_from;
 use layouts::low_first;
 use reading::blank_meaning;
 use sequence::DIGITS;

@@ -4,7 +4,7 @@
 pub mod PlaceLaws
 pub mod KindLaws
 pub mod Readable
--- what an event does, said once: to a slot (Outcome), by rules b and c (Ruling), at all (Effect), to any one slot (Course)
+-- what an event does, said once: to a slot (Outcome), by rules b and c (Ruling), at all (Effect)
 pub mod Base
 pub mod Outcome
 pub mod Ruling
@@ -14,13 +14,11 @@ pub mod Asked
 pub mod Accepted
 pub mod Spoken
 pub mod Effect
-pub mod Course
 -- time: the order of waits, the moment of an event
 pub mod Order
 pub mod Moments
--- the run and the list: every entry of it, who talks, the tenths
+-- the run and the list: stops and charges, who talks, the tenths
 pub mod Run
-pub mod Entries
 pub mod Hears
 pub mod Talked
 pub mod Tenths
@@ -31,24 +29,11 @@ pub mod Whole
 pub mod WholeLater
 pub mod Stored
 pub mod Kept
--- the claims: stops and charges, order, the reading, the words of a line, no channel idle
-pub mod Stopped
-pub mod Orderly
-pub mod Laws
-pub mod Literal
-pub mod Idle
--- the claims on calls from ashore: the ringing, the line, the ship that is called
-pub mod Ringing
-pub mod Released
-pub mod Offered
--- the claims on what is sent: what is repeated, payloads, eight actions, answers, charges
-pub mod Calm
-pub mod Repeats
+-- the claims on what is sent: payloads, eight actions, answers; the others stand in `rules_theorems`
 pub mod Payloads
 pub mod SentLaws
 pub mod Eight
 pub mod Answered
-pub mod Charged
 -- the tables, computed
 pub mod Tested
 pub mod Computed

@@ -19,10 +19,10 @@ use Rattle.rules.specs.Statement.{ZeroOrOne, AtMostEight, ChargesFit, ReleasedW
 use Rattle.rules.proofs.Accepted.{accepted}
 use Rattle.rules.proofs.Eight.{at-most-eight}
 use Rattle.rules.proofs.Answered.{zero-or-one}
-use Rattle.rules.proofs.Charged.{charges-fit}
+use Rattle.rules_theorems.proofs.Charged.{charges-fit}
 use Rattle.rules.proofs.Kept.{stays-sound}
-use Rattle.rules.proofs.Released.{dropped-released, none-dropped}
-use Rattle.rules.proofs.Offered.{called-ignored}
+use Rattle.rules_theorems.proofs.Released.{dropped-released, none-dropped}
+use Rattle.rules_theorems.proofs.Offered.{called-ignored}
 use Rattle.soundness.proofs.FitLaws.{sound-fits}
 use Rattle.station.proofs.ImageLaws.{model-back}
 use Rattle.actions.proofs.Handed.{act-says}

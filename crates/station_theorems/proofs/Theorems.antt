@@ -23,11 +23,11 @@ use Rattle.rules.specs.ListAlone.BeingCalled.{OffersOthers, AsksInVain}
 use Rattle.rules.proofs.Run.{charges-are-stops}
 use Rattle.rules.proofs.Tenths.{tenths-agree}
 use Rattle.rules.proofs.Kept.{always-sound}
-use Rattle.rules.proofs.Literal.{literally}
-use Rattle.rules.proofs.Repeats.{answers-repeat, second-ring-repeats, dials-asked}
-use Rattle.rules.proofs.Ringing.{rings-as-told, rings-in-turn}
-use Rattle.rules.proofs.Offered.{called-not-offered, called-ask-in-vain}
-use Rattle.rules.proofs.Idle.{no-channel-idle}
+use Rattle.rules_theorems.proofs.Literal.{literally}
+use Rattle.rules_theorems.proofs.Repeats.{answers-repeat, second-ring-repeats, dials-asked}
+use Rattle.rules_theorems.proofs.Ringing.{rings-as-told, rings-in-turn}
+use Rattle.rules_theorems.proofs.Offered.{called-not-offered, called-ask-in-vain}
+use Rattle.rules_theorems.proofs.Idle.{no-channel-idle}
 use Rattle.requests.specs.Views.{viewed}
 use Rattle.slots.specs.Views.{slotView}
 use Rattle.slots.specs.Images.{Fits}

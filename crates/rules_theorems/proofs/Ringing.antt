@@ -6,18 +6,18 @@ use Prim.Native.Nat.{ℕ}
 use lib.Dec.{eqb}
 use borrow.Author.Tests.{eq-eqb, ne-eqb}
 use Rattle.sequence.proofs.Tests.{Either, yes!, no!, which}
 use Rattle.rules.specs.Rules.Places.{Each}
 use Rattle.rules.specs.Rules.Words.{Request, Config, Event, Deed, carrierOn, carrierOff, acknowledge, callShip, unable, dial, releaseLine, ringingOn, ringingOff, busyTone}
 use Rattle.rules.specs.Rules.Actions.{theShip, theCoast, Action}
 use Rattle.rules.specs.Rules.Station.{Kind, isCalled, rings, isCalledIn, ringsIn, answeredAt, Slot, Station, theSlot, fresh}
 use Rattle.rules.specs.Rules.Calls.{dropActs, act}
 use Rattle.rules.specs.ListAlone.Repeated.{Dials}
 use Rattle.rules.specs.ListAlone.LineWords.{ringingDone, ringingsDone, ringingAfter, ringSwitch, ringSwitches, change}
 use Rattle.rules.specs.Statement.{deedsOf, IsFreed, RingsAsTold, RingsInTurn}
 use Rattle.rules.proofs.Base.{by-slot, by-kind, saidOf, slot-each, fresh-each}
 use Rattle.rules.proofs.Outcome.{becomes, frees, Move, to-dial, to-agree, to-ring, to-drop, to-call, to-rings, to-answer, to-let-go, to-stage, to-lose, to-regain, to-hold, to-end, to-run-out, to-take, to-give}
-use Rattle.rules.proofs.Course.{Unrung, end-unrung, Course, spared, calls, turned, let-go, act-course}
-use Rattle.rules.proofs.Entries.{Reader, FitsOn, run-final, run-entries}
+use Rattle.rules_theorems.proofs.Course.{Unrung, end-unrung, Course, spared, calls, turned, let-go, act-course}
+use Rattle.rules_theorems.proofs.Entries.{Reader, FitsOn, run-final, run-entries}
 
 -- ── which slots do not ring ──────────────────────────────────────────────────
 

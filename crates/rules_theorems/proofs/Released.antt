@@ -5,17 +5,17 @@ use mathlib.Core.List.{List, []}
 use mathlib.Core.Bool.{Bool, true, false, true≢false}
 use Prim.Native.Nat.{ℕ}
 use borrow.Author.Tests.{eq-eqb}
 use Rattle.rules.specs.Rules.Words.{Request, Deed}
 use Rattle.rules.specs.Rules.Station.{Kind, isCalled, rings, Dealing, Slot, pending, Station}
 use Rattle.rules.specs.Rules.Calls.{dropActs}
 use Rattle.rules.specs.ListAlone.Reading.{moment}
 use Rattle.rules.specs.ListAlone.Repeated.{Dials}
 use Rattle.rules.specs.ListAlone.LineWords.{releases}
 use Rattle.rules.specs.Statement.{deedsOf, GoesOn, IsFreed, ReleasedWhenDropped, DroppedReleased}
 use Rattle.rules.proofs.Base.{by-kind, saidOf, seen}
 use Rattle.rules.proofs.Outcome.{to-dial, to-agree, to-ring, to-drop, to-call, to-rings, to-answer, to-let-go}
-use Rattle.rules.proofs.Course.{releases-append, Course, spared, calls, turned, let-go, act-course}
+use Rattle.rules_theorems.proofs.Course.{releases-append, Course, spared, calls, turned, let-go, act-course}
 use Rattle.rules.proofs.Tenths.{clock-is}
 
 -- nobody dials while a ship is being called
 undialled : (k : Kind) (r : Request) → isCalled k ≡ true → Dials (r .number) (saidOf k r) → ⊥

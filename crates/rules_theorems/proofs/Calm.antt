@@ -4,23 +4,23 @@ use mathlib.Core.List.{List, [], _∷_, _++_, map}
 use mathlib.Core.Bool.{Bool, true, false, _||_}
 use mathlib.Core.Option.{Option, none, some}
 use Prim.Native.Nat.{ℕ}
 use Rattle.rules.specs.Rules.Places.{modAt, dropAt, Each}
 use Rattle.rules.specs.Rules.Words.{Party, Request, Config, Ashore, Deed}
 use Rattle.rules.specs.Rules.Heard.{Heard, callRequest}
 use Rattle.rules.specs.Rules.Actions.{Ender, theShip, theCoast, Action}
 use Rattle.rules.specs.Rules.Station.{Dealing, dealing, Slot, Waiting, Station, theSlot, setSlot, setClock, setQueue, answeredAt, ringOf, rings}
 use Rattle.rules.specs.Rules.Requests.{Out, also, rungBack, freedFor, freed, endActs, coastEnd, done}
 use Rattle.rules.specs.Rules.Calls.{dropActs}
 use Rattle.rules.specs.ListAlone.Book.{Said, silent, Call, quiet, called, dialled, talking, Stop, Column, Book, atColumn, column}
 use Rattle.rules.specs.ListAlone.Reading.{letGo, hush, read, reads}
 use Rattle.rules.specs.ListAlone.Repeated.{putsOff, toldToWait, CallsAsked, Sends, Repeats, switchedOn, RingsSame, DialsNamed, EachRead}
 use Rattle.rules.specs.ListAlone.LineWords.{Word}
 use Rattle.rules.specs.Statement.{deedsOf}
 use Rattle.rules.proofs.PlaceLaws.{each-set, each-dropped}
 use Rattle.rules.proofs.Base.{rungOnce, no-caller, view, deeds-append, slot-each, slot-mapped}
 use Rattle.rules.proofs.Outcome.{Next, stays, becomes, frees, Move, to-dial, to-agree, to-ring, to-drop, to-call, to-rings, to-answer, to-let-go, to-stage, to-lose, to-regain, to-hold, to-end, to-repeat, to-run-out, to-take, to-give, played, Outcome, passed, moved}
 use Rattle.rules.proofs.Hears.{column-of}
-use Rattle.rules.proofs.Laws.{there}
+use Rattle.rules_theorems.proofs.Laws.{there}
 
 -- ── what a station knows: a is what each ship last asked for that was told to wait ──
 

@@ -7,30 +7,30 @@ use Prim.Native.Nat.{ℕ, zero, suc, _+_, _≤_}
 use native.Mathlib.Omega.{arith}
 use lib.Dec.{ltb}
 use lib.ListN.{length}
 use Rattle.rules.specs.Rules.Places.{modAt, shift, lowest, Each}
 use Rattle.rules.specs.Rules.Words.{Party, is, Request, Config, Ashore, What, ashoreIn, Event, Deed}
 use Rattle.rules.specs.Rules.Heard.{Heard, callRequest, nothing}
 use Rattle.rules.specs.Rules.Station.{Slot, Waiting, Station, theSlot, fresh, setSlot, setClock, setQueue, dueAfter, queueWait, answeredAt, isFree, offerOf, calledOf}
 use Rattle.rules.specs.Rules.Requests.{Out, also, rungBack, freedFor, freed, coastEnd, owns, waitsFor, slotOf, placeOf, standsAt, standing, ruleA, repeated, afresh, ruleD, offer, ruleF, ruleG, eToG, newcomer, dToG, redial, requested}
 use Rattle.rules.specs.Rules.Ashore.{isMode, ashoreRequest, calledFrom}
 use Rattle.rules.specs.Rules.Kinds.{ModesKept}
 use Rattle.rules.specs.Rules.Calls.{actAt, act}
 use Rattle.rules.specs.Rules.Verdict.{verdict, play}
 use Rattle.rules.specs.ListAlone.Book.{Note, Stop, Book, blank, column, blankBook}
 use Rattle.rules.specs.ListAlone.Reading.{read, reads, turn, readAll, heardAt}
 use Rattle.rules.specs.ListAlone.Repeated.{heardIn, askedIn, toldToWait, AsksFor, lastAsked, switchedOn, EachRead}
 use Rattle.rules.specs.Statement.{deedsOf, notes, EveryEntry, AnswersRepeat, SecondRingRepeats, DialsAsked}
 use Rattle.rules.specs.ListAlone.LineWords.{Word}
 use Rattle.rules.proofs.PlaceLaws.{shift-some, each-append}
 use Rattle.rules.proofs.KindLaws.{modes-kept}
 use Rattle.rules.proofs.Base.{rung-owns, view, seen, is-same, deeds-append, slot-lowest, slot-mapped, free-is, fresh-each}
 use Rattle.rules.proofs.Accepted.{accepted, sounds}
 use Rattle.rules.proofs.Run.{turn-is, fresh-seen}
-use Rattle.rules.proofs.Entries.{Reader, FitsOn, run-entries}
+use Rattle.rules_theorems.proofs.Entries.{Reader, FitsOn, run-entries}
 use Rattle.rules.proofs.Once.{bit, countS, countQ, Once, distinct-once, none-count, waiting-count, coastEnd-gone}
 use Rattle.rules.proofs.Ruling.{Ruling, passes, repeats, renews, redials, bOrC-ruling}
-use Rattle.rules.proofs.Calm.{Asked, Rung, Known, Fits, Calm, still, set-known, told-append, fits-append, coastEnd-calm, outcome-calm, clock-known, drop-calm}
+use Rattle.rules_theorems.proofs.Calm.{Asked, Rung, Known, Fits, Calm, still, set-known, told-append, fits-append, coastEnd-calm, outcome-calm, clock-known, drop-calm}
 use Rattle.rules.proofs.Effect.{Effect, rests, drops, data-asked, call-asked, to-slot, called-ashore, act-effect}
 
 -- what each ship last asked for, once the deeds are done
 abbrev told : Heard → (Party → Heard) → List Deed → Party → Heard

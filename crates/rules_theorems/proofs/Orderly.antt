@@ -6,23 +6,23 @@ use mathlib.Core.Option.{Option, none}
 use Prim.Native.Nat.{ℕ, _+_, _-_, _≤_}
 use native.Mathlib.Omega.{arith}
 use borrow.Author.Tests.{leb-true}
 use Rattle.rules.specs.Rules.Places.{all, Each}
 use Rattle.rules.specs.Rules.Words.{Config, What, Event}
 use Rattle.rules.specs.Rules.Waits.{Due}
 use Rattle.rules.specs.Rules.Station.{Slot, Station, fresh}
 use Rattle.rules.specs.Rules.Calls.{act}
 use Rattle.rules.specs.Rules.Verdict.{verdict, play, final}
 use Rattle.rules.specs.ListAlone.Book.{Stop, Call, quiet, called, dialled, talking, Book, blankBook}
 use Rattle.rules.specs.ListAlone.Reading.{stopsIn, Numbered, stops, readAll, talkedBy, lengths, countedByCalls, falling, moment, stopOf, stopsAt}
 use Rattle.rules.specs.Statement.{notes, owed, owedFor, ChargesAreStops, tenthsIn, unchargedTenths, TenthsAgree, CountsAgree, InOrder, ClockIsNow, EndsAt}
 use Rattle.rules.proofs.PlaceLaws.{and-true}
 use Rattle.rules.proofs.Base.{view, seen, begunBy}
 use Rattle.rules.proofs.Accepted.{accepted, sounds, begun-all}
 use Rattle.rules.proofs.Run.{noteOf, stops-are, fresh-seen, charges-are-stops}
-use Rattle.rules.proofs.Entries.{read-final}
-use Rattle.rules.proofs.Stopped.{each-stop}
+use Rattle.rules_theorems.proofs.Entries.{read-final}
+use Rattle.rules_theorems.proofs.Stopped.{each-stop}
 use Rattle.rules.proofs.Tenths.{since, since-slot, uncharged-seen, clock-is, tenths-agree}
 use Rattle.rules.proofs.Moments.{moment-on}
 
 -- ── the order of times ───────────────────────────────────────────────────────
 

@@ -10,29 +10,29 @@ use native.Mathlib.Omega.{arith}
 use lib.Dec.{ltb}
 use lib.ListN.{length}
 use Rattle.sequence.proofs.Tests.{Either, yes!, no!, which}
 use Rattle.rules.specs.Rules.Places.{modAt, dropAt, lowest, Each}
 use Rattle.rules.specs.Rules.Words.{Party, Request, Config, Ashore, What, tick, onChannel70, onSlot, fromAshore, ashoreIn, Event}
 use Rattle.rules.specs.Rules.Heard.{Heard, callRequest, dataRequest, bq, workingCall, endOfCall, declined, nothing, meaning}
 use Rattle.rules.specs.Rules.Actions.{Ender, theShip, theCoast, Action}
 use Rattle.rules.specs.Rules.Station.{Kind, isCalled, rings, isCalledIn, Dealing, Slot, free, pending, Waiting, Station, theSlot, setClock, answeredAt, isFree}
 use Rattle.rules.specs.Rules.Requests.{Out, ignored, also, rungBack, freedFor, freed, endActs, coastEnd, owns, slotOf, placeOf, Standing, nowhere, holds, waits, standsAt, standing, calledAt, beingCalled, ruleA, repeated, afresh, ruleD, offer, ruleF, ruleG, eToG, newcomer, dToG, redial, bOrC, requested}
 use Rattle.rules.specs.Rules.Ashore.{ashoreRequest, calledFrom}
 use Rattle.rules.specs.Rules.Calls.{dropActs, heardOn70, actAt}
 use Rattle.rules.specs.Rules.Verdict.{verdict}
 use Rattle.rules.specs.ListAlone.Book.{Stop, Column, Book, blank}
 use Rattle.rules.specs.ListAlone.Reading.{heardAt}
 use Rattle.rules.specs.ListAlone.LineWords.{Word}
 use Rattle.rules.specs.ListAlone.BeingCalled.{isFor, Uncalled, SaidToOthers, InVain}
 use Rattle.rules.specs.Statement.{deedsOf, CalledNotOffered, CalledAskInVain, AskedBy, CalledIgnored}
 use Rattle.rules.proofs.PlaceLaws.{each-append, each-at, each-dropped, each-others, each-back}
 use Rattle.rules.proofs.Base.{by-slot, by-kind, by-stage, no-caller, lineOf, callIn, view, seen, is-same, deeds-append, slot-lowest, slot-set, slot-mapped}
 use Rattle.rules.proofs.Once.{countS, countQ, Once, distinct-once, count-set, none-count}
 use Rattle.rules.proofs.Accepted.{accepted, sounds}
 use Rattle.rules.proofs.Outcome.{Next, stays, becomes, frees, Move, to-dial, to-agree, to-ring, to-drop, to-call, to-rings, to-answer, to-let-go, to-stage, to-lose, to-regain, to-hold, to-end, to-repeat, to-run-out, to-take, to-give, played, Outcome, passed, moved}
 use Rattle.rules.proofs.Ruling.{Ruling, passes, repeats, renews, redials, bOrC-ruling}
 use Rattle.rules.proofs.Effect.{Effect, rests, drops, data-asked, call-asked, to-slot, called-ashore, act-effect}
 use Rattle.rules.proofs.Walk.{asked-callable}
-use Rattle.rules.proofs.Entries.{book-entries}
+use Rattle.rules_theorems.proofs.Entries.{book-entries}
 
 -- ── whom no slot calls ───────────────────────────────────────────────────────
 

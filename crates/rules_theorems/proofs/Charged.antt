@@ -8,22 +8,22 @@ use native.Mathlib.Omega.{arith}
 use lib.Dec.{leb}
 use borrow.Author.Tests.{leb-true}
 use Rattle.sequence.specs.Identity.{isShip}
 use Rattle.rules.specs.Rules.Places.{all, Each}
 use Rattle.rules.specs.Rules.Words.{Request, Config, Event}
 use Rattle.rules.specs.Rules.Station.{Stage, Slot, Station}
 use Rattle.rules.specs.Rules.Sound.{requestKeeps, slotKeeps, limit}
 use Rattle.rules.specs.Rules.Calls.{act}
 use Rattle.rules.specs.Rules.Verdict.{verdict}
 use Rattle.rules.specs.ListAlone.Book.{Stop, Call, quiet, called, dialled, talking}
 use Rattle.rules.specs.ListAlone.Reading.{stopsIn, falling, moment, stopOf}
 use Rattle.rules.specs.Statement.{owed, InOrder, ChargesFit, FourBytes, EndsAt}
 use Rattle.rules.proofs.PlaceLaws.{and-true}
 use Rattle.rules.proofs.Base.{by-kind, by-stage, lineOf, callIn, view, seen, Calling, no-call, a-caller, a-call, calling}
 use Rattle.rules.proofs.Accepted.{accepted, sounds}
 use Rattle.rules.proofs.Run.{noteOf, stops-are}
-use Rattle.rules.proofs.Stopped.{each-stop}
-use Rattle.rules.proofs.Orderly.{in-order}
+use Rattle.rules_theorems.proofs.Stopped.{each-stop}
+use Rattle.rules_theorems.proofs.Orderly.{in-order}
 use Rattle.rules.proofs.Kept.{stays-sound}
 
 -- ── the ship of a call is a ship ─────────────────────────────────────────────
 
