@@ -829,6 +829,23 @@ wordsByEach = record {
       replicate 10 (0 ∷ []) ++ replicate 10 (3 ∷ 8 ∷ []) ++ replicate 10 (0 ∷ []) ++ replicate 10 (3 ∷ 8 ∷ []);
 }
 
+-- the same of a line that is dialled, answered, or taken from ashore and silent
+abbrev pub linesByEach : Row
+linesByEach = record {
+  computed = byEach 1 askedAshore dialledWord ++ byEach 1 none dialledWord ++
+      byEach 1 askedAshore (worded (since 150) false) ++ byEach 1 none (worded (since 150) false) ++
+      byEach 1 askedAshore calledWord ++ byEach 1 none calledWord;
+  expected =
+      ((1 ∷ []) ∷ (1 ∷ []) ∷ (1 ∷ []) ∷ (3 ∷ []) ∷ (1 ∷ []) ∷ (1 ∷ []) ∷ (0 ∷ []) ∷ (1 ∷ 8 ∷ []) ∷ (1 ∷ []) ∷ (1 ∷ []) ∷ []) ++
+      ((1 ∷ []) ∷ (1 ∷ []) ∷ (1 ∷ []) ∷ (1 ∷ []) ∷ (1 ∷ []) ∷ (1 ∷ []) ∷ (0 ∷ []) ∷ (1 ∷ 8 ∷ []) ∷ (1 ∷ []) ∷ (1 ∷ []) ∷ []) ++
+      ((2 ∷ 150 ∷ []) ∷ (2 ∷ 150 ∷ []) ∷ (2 ∷ 150 ∷ []) ∷ (3 ∷ []) ∷ (2 ∷ 150 ∷ []) ∷ (1 ∷ []) ∷ (0 ∷ []) ∷ (2 ∷ 150 ∷ 8 ∷ []) ∷
+      (2 ∷ 150 ∷ []) ∷ (2 ∷ 150 ∷ []) ∷ []) ++
+      ((2 ∷ 150 ∷ []) ∷ (2 ∷ 150 ∷ []) ∷ (2 ∷ 150 ∷ []) ∷ (2 ∷ 150 ∷ []) ∷ (2 ∷ 150 ∷ []) ∷ (1 ∷ []) ∷ (0 ∷ []) ∷
+      (2 ∷ 150 ∷ 8 ∷ []) ∷ (2 ∷ 150 ∷ []) ∷ (2 ∷ 150 ∷ []) ∷ []) ++
+      ((3 ∷ []) ∷ (3 ∷ []) ∷ (3 ∷ []) ∷ (3 ∷ []) ∷ (3 ∷ []) ∷ (1 ∷ []) ∷ (0 ∷ []) ∷ (3 ∷ 8 ∷ []) ∷ (3 ∷ []) ∷ (3 ∷ []) ∷ []) ++
+      ((3 ∷ []) ∷ (3 ∷ []) ∷ (3 ∷ []) ∷ (3 ∷ []) ∷ (3 ∷ []) ∷ (1 ∷ []) ∷ (0 ∷ []) ∷ (3 ∷ 8 ∷ []) ∷ (3 ∷ []) ∷ (3 ∷ []) ∷ []);
+}
+
 -- whether slot 1 rings by each deed alone, by each with a deed after it, and after the entries of a run
 abbrev pub ringingByEach : ℕ → List Deed → Bool → List ℕ
 ringingByEach i ds b = map (λ d. told (ringingsDone 1 (d ∷ ds) b)) (everyDeed i)
@@ -1289,7 +1306,7 @@ pageCases =
     onSecondPages ∷ onSecondWords ∷ onSecondTenths ∷ againPages ∷ againWords ∷ againTenths ∷ dialledPages ∷ dialledWords ∷
     dialledTenths ∷ calledPages ∷ calledWords ∷ calledTenths ∷ calledAgainPages ∷ calledAgainWords ∷ calledAgainTenths ∷
     bothCalledPages ∷ bothCalledWords ∷ bothCalledWordsOfFirst ∷ bothCalledTenths ∷ wordsByCalls ∷ wordsTransmitted ∷ shoreAlone ∷
-    shoreDeeds ∷ shoreOthers ∷ wordsByEach ∷ calledOnly ∷ ringingShown ∷ switchesShown ∷ releasesShown ∷ isForShown ∷
+    shoreDeeds ∷ shoreOthers ∷ wordsByEach ∷ linesByEach ∷ calledOnly ∷ ringingShown ∷ switchesShown ∷ releasesShown ∷ isForShown ∷
     inQueuePages ∷ inQueueWords ∷ inQueueTenths ∷ twoCallsPages ∷ twoCallsWords ∷ twoCallsWordsOfFirst ∷
     twoCallsTenths ∷ onThirdPages ∷ onThirdWords ∷ onThirdTenths ∷ dialledOnly ∷ unchargedShown ∷ stopsNumbered ∷
     eventsShown ∷ wordsByDeeds ∷ wordsPickedUp ∷ wordsAtOnce ∷ eventsAlone ∷ diallingAlone ∷ deedsAlone ∷ wordsAlone ∷
