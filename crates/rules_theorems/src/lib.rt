@@ -1,1 +1,1 @@
-// No code: what is claimed of every run of the rules beside stops, charges and tenths. The claims stand in the Statement of `rules`.
+// No code: what else `rules` claims of every run, in its Statement: of order, lines, ringing, what is repeated, ships that are called.
