@@ -143,8 +143,8 @@ AlwaysFits = OfEveryRun (λ c es. (length (stationAfter c es .slots) ≤ 16) × 
 abbrev pub OfEveryList : (Config → List Note → Type 0) → Type 0
 OfEveryList P = OfEveryRun (λ c es. P c (listOf c es))
 
--- "dial", "release line", 8, 9, a call from ashore, off-hook and carrier up alone say of every slot what the book says in its column,
--- after the last entry
+-- when charging begins, in a few words: "dial", "release line", 8, 9, a call from ashore, off-hook and carrier up alone say of every slot
+-- what the book says in its column, after the last entry
 abbrev pub WordsAgree : Config → List Note → Type 0
 WordsAgree c l = (i : ℕ) → i < length (c .channels) → wordAfter i l unused ≡ wordOf (column (readAll c l (blankBook c)) i .call)
 
