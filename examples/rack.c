@@ -61,13 +61,19 @@ static void act(struct rack *rack) {
     }
 }
 
+static void tell_answer(uint32_t answer) {
+    printf("    ");
+    print_answer(answer);
+    printf("\n");
+}
+
 /* Does what was answered; false where it is a refusal, which leaves everything as it was. With its last event a line counts as
  * followed. A host that ended before that reads the line again, and does nothing twice: all before the last event are ticks, and
  * a wait that has fired is no longer due. */
 static bool follow(struct rack *rack, uint64_t returned, bool last) {
     uint32_t answer = coast_answer(returned);
     if (answer > COAST_ANSWER_IGNORED) {
-        printf("    refused, %u: %s\n", (unsigned)answer, coast_answer_words(answer));
+        tell_answer(answer);
         return false;
     }
     rack->kept.line = last ? rack->line : rack->line - 1u;
@@ -75,7 +81,7 @@ static bool follow(struct rack *rack, uint64_t returned, bool last) {
     rack->kept.done = 0;
     keep(rack);
     if (rack->kept.count == 0u)
-        printf("    %s\n", coast_answer_words(answer));
+        tell_answer(answer);
     act(rack);
     set_timer(rack, returned);
     return true;
@@ -106,7 +112,7 @@ static void pass_time(struct rack *rack, uint32_t until) {
         rack->kept.rung = (uint32_t)ring_time(rack);
         printf("* ");
         print_time(rack->kept.rung);
-        printf(" the timer rings\n");
+        printf(": the timer rings\n");
         tick(rack, rack->kept.rung, true);
     }
 }

@@ -1,4 +1,4 @@
-/* Small helpers over coast.h, for a host in C or C++: numbers in lent bytes, an action taken apart, answers and actions in
+/* Small helpers over coast.h, for a host in C or C++: numbers in lent bytes, an action taken apart, and the library's numbers in
  * words. Each is a line or two of C; what is right or wrong the library alone decides. */
 #ifndef COAST_WORDS_H
 #define COAST_WORDS_H
@@ -112,6 +112,64 @@ static inline const char *coast_action_words(uint32_t kind) {
     case COAST_ACTION_RINGING_OFF: return "ringing off for the caller";
     case COAST_ACTION_BUSY_TONE: return "five seconds of busy tone for the caller";
     default: return "no action of the library";
+    }
+}
+
+/* Of a sequence: its first telecommand, the second where the first is 104 (unable), and its end. */
+static inline const char *coast_telecommand_words(uint32_t first) {
+    switch (first) {
+    case 100: return "simplex";
+    case 101: return "duplex";
+    case 104: return "unable";
+    case 105: return "end of call";
+    case 106: return "data";
+    default: return "no telecommand of a call";
+    }
+}
+
+static inline const char *coast_reason_words(uint32_t second) {
+    switch (second) {
+    case 100: return "no reason given";
+    case 101: return "congestion";
+    case 102: return "busy";
+    case 103: return "queued";
+    case 104: return "station barred";
+    case 105: return "no operator there";
+    case 106: return "no operator for the moment";
+    case 107: return "equipment disabled";
+    case 108: return "not on this channel";
+    case 109: return "not in this mode";
+    case 126: return "nothing told";
+    default: return "no reason to be unable";
+    }
+}
+
+static inline const char *coast_end_words(uint32_t end) {
+    switch (end) {
+    case 117: return "RQ";
+    case 122: return "BQ";
+    case 127: return "no reply wanted";
+    default: return "no end of sequence";
+    }
+}
+
+/* A slot's phase, by its number in a station's bytes. */
+static inline const char *coast_phase_words(uint32_t phase) {
+    switch (phase) {
+    case 0: return "free";
+    case 1: return "offered";
+    case 2: return "ring-back";
+    case 3: return "ring-back repeated";
+    case 4: return "acknowledged";
+    case 5: return "dialling";
+    case 6: return "answered";
+    case 7: return "hold";
+    case 8: return "taken";
+    case 9: return "dialled out";
+    case 10: return "called";
+    case 11: return "called again";
+    case 12: return "ringing";
+    default: return "no phase of a slot";
     }
 }
 
