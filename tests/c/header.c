@@ -60,7 +60,7 @@ struct others {
     const uint8_t *(*payload)(const uint8_t *action);
     char *(*text)(const uint8_t *digits, size_t count, char *text);
     char *(*dialled)(const uint8_t *action, char *text);
-    const char *(*words[2])(uint32_t number);
+    const char *(*words[6])(uint32_t number);
 };
 
 /* Refused by the compiler where one has another type. */
@@ -68,7 +68,8 @@ extern const struct others others;
 const struct others others = {coast_read_sequence, coast_write_sequence, coast_answer, coast_count, coast_waits, coast_due,
     coast_time, coast_number_at, coast_put_number, coast_action_at,
     {coast_action_kind, coast_action_slot, coast_charge_ship, coast_charge_start, coast_charge_stop, coast_charge_seconds},
-    coast_payload_length, coast_payload, coast_digits_text, coast_dialled, {coast_answer_words, coast_action_words}};
+    coast_payload_length, coast_payload, coast_digits_text, coast_dialled,
+    {coast_answer_words, coast_action_words, coast_telecommand_words, coast_reason_words, coast_end_words, coast_phase_words}};
 
 int main(void) {
     uint8_t meaning[COAST_MEANING_SIZE] = {0}, room[COAST_LONGEST_SEQUENCE] = {0};

@@ -165,7 +165,7 @@ static void try_taken_apart(void) {
     want("a number put", coast_number_at(ended.station), 4000000000u);
 }
 
-/* The words of the answers and of the kinds of action: some for each, and none twice. */
+/* The words of answers, kinds of action and the like: some for each, and none twice. */
 static void want_words(const char *(*words)(uint32_t), uint32_t most, uint32_t known) {
     uint32_t count = 0;
     for (uint32_t i = 0; i <= most; i++) {
@@ -413,6 +413,10 @@ void try_stations(void) {
     try_taken_apart();
     want_words(coast_answer_words, 255, 25);
     want_words(coast_action_words, 255, 10);
+    want_words(coast_telecommand_words, 255, 5);
+    want_words(coast_reason_words, 255, 11);
+    want_words(coast_end_words, 255, 3);
+    want_words(coast_phase_words, 255, 13);
     try_sizes();
     try_refusals();
     try_bad_set_ups();
