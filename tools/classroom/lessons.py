@@ -1,0 +1,131 @@
+"""The lessons: their folders with scripts, outputs and pages, and the table of lessons/README.md."""
+import collections, os, re
+
+from running import ROOT, answers_of, lines_of, shown
+
+FOLDER = os.path.join(ROOT, 'lessons')
+TABLE = os.path.join(FOLDER, 'README.md')
+NAME = re.compile(r'\d\d-[a-z][a-z0-9]*(-[a-z0-9]+)*')
+ROW = re.compile(r'^\| \[(?P<name>[^\]]*)\]\((?P<link>[^)]*)\) \| (?P<point>.*) \|$', re.M)
+ANSWER = re.compile(r'\d+ \d+ \d+ (?:\d+|-)')
+REPLY = re.compile(rb'\d+ \d+ \d+ (?:\d+|-)|\d+ \d+(?: \d+)*')
+CODE = re.compile(r'`([^`]+)`')
+QUOTE = re.compile(r'^    (right|wrong): (.*)$', re.M)
+TO_FILL = 'TO BE FILLED IN'
+NO_PROSE = ('#', '|', '![', '<', '    ')   # what a paragraph of a page begins with that is none
+
+Script = collections.namedtuple('Script', 'name text wanted')     # wanted: None where the output is missing
+Quote = collections.namedtuple('Quote', 'kind line paragraph')
+
+
+def contents(path):
+    with open(path, 'rb') as file:
+        return file.read()
+
+
+def names():
+    """The folders of lessons/ that are called as lessons are."""
+    return sorted(name for name in os.listdir(FOLDER) if NAME.fullmatch(name) and os.path.isdir(os.path.join(FOLDER, name)))
+
+
+def rows():
+    """The rows of the table: name, link and point."""
+    return [match.groups() for match in ROW.finditer(contents(TABLE).decode())]
+
+
+def points():
+    """The point of each lesson, or a word that it has none."""
+    told = {name: point for name, _, point in rows()}
+    return {name: told.get(name, '(no row in lessons/README.md)') for name in names()}
+
+
+def listed():
+    return '\n'.join(f'{name:25} {point}' for name, point in points().items())
+
+
+def named(word):
+    """The lesson of this name or number, or None."""
+    fitting = [name for name in names() if word in (name, name.split('-')[0])]
+    return fitting[0] if len(fitting) == 1 else None
+
+
+def path_of(lesson, file=''):
+    return os.path.join(FOLDER, lesson, file)
+
+
+def scripts(lesson):
+    """The scripts of a lesson with their outputs."""
+    found = sorted(name for name in os.listdir(path_of(lesson)) if re.fullmatch(r'script(-.+)?', name))
+    outputs = [path_of(lesson, name.replace('script', 'output', 1)) for name in found]
+    return [Script(name, contents(path_of(lesson, name)), contents(output) if os.path.isfile(output) else None)
+            for name, output in zip(found, outputs)]
+
+
+def is_reply(line):
+    """Whether a line is one that a script program prints: an answer or an action."""
+    return REPLY.fullmatch(line) is not None
+
+
+def fault(script):
+    """What is wrong with a script and its output before anything is run, in words; or None."""
+    if script.wanted is None:
+        return 'has no output'
+    if b'\r' in script.text + script.wanted:
+        return 'has a carriage return, or its output has; a line ends with a line feed alone'
+    rows = script.wanted.split(b'\n')
+    if rows.pop() or not all(is_reply(row) for row in rows):
+        return 'has an output with a line that no script program prints, or without a line feed at its end'
+    try:
+        whole = [len(answer) == 1 + int(answer[0].split()[2]) for answer in answers_of(script.wanted)]
+    except (IndexError, ValueError):
+        whole = [False]
+    if not all(whole) or len(whole) != len(lines_of(script.text)):
+        return 'has an output with more or fewer replies than it has lines, or a reply with more or fewer actions than it says'
+    return None
+
+
+class Page:
+    """A lesson's page: what it quotes, each quote with the paragraph before it, and the rows of its tables."""
+
+    def __init__(self, text):
+        self.text, self.quotes, paragraph = text, [], ''
+        for part in re.split(r'\n\s*\n', text):
+            quoted = QUOTE.findall(part)
+            self.quotes += [Quote(kind, line, paragraph) for kind, line in quoted]
+            if not quoted and not part.startswith(NO_PROSE):
+                paragraph = part
+        self.rows = re.findall(r'^\|(.*)\|$', text, re.M)
+
+    def paragraphs(self, kind, line):
+        """The paragraphs before the quotes of this kind that are this line, each once."""
+        return list(dict.fromkeys(quote.paragraph for quote in self.quotes if (quote.kind, quote.line) == (kind, line)))
+
+    def rows_of(self, played, answer):
+        """The rows for a line of the script that is answered so."""
+        return [row for row in self.rows
+                if any(fits(pattern, played) for pattern in CODE.findall(row)) and
+                (answer in CODE.findall(row) or not any(ANSWER.fullmatch(code) for code in CODE.findall(row)))]
+
+
+def page_of(lesson):
+    return Page(contents(path_of(lesson, 'README.md')).decode('utf-8', 'replace'))
+
+
+def fits(pattern, line):
+    """Whether a line is the one that a page names, where `..` stands for what the page leaves out."""
+    return re.fullmatch('.*'.join(re.escape(part) for part in pattern.split('..')), line) is not None
+
+
+def said_of(lesson, played, answer, wanted, got):
+    """What the lesson's page says of a line that should be printed and was not: a heading, and the words."""
+    page = page_of(lesson)
+    known = page.paragraphs('wrong', shown(got))
+    if known:
+        return 'The page knows this mistake:', known
+    about = page.paragraphs('right', shown(wanted))
+    if about:
+        return 'The page on what should be printed here:', about
+    row = page.rows_of(shown(played), shown(answer))
+    if row:
+        return 'The page on this line of the script:', [' | '.join(cell.strip() for cell in row[0].split('|'))]
+    return "The lesson's point:", [points()[lesson]]

@@ -1,0 +1,39 @@
+"""A program's way to its end in plain words, whatever happens: no traceback."""
+import os, subprocess, sys
+
+WRONG_USAGE = 2
+INTERRUPTED = 130
+
+
+def tell(words):
+    print(f'{os.path.basename(sys.argv[0])}: {words}', file=sys.stderr)
+
+
+def usage(words):
+    """What a program is called with that it does not understand."""
+    print(words, file=sys.stderr)
+    return WRONG_USAGE
+
+
+def begin(main):
+    """Ends the program with the status that `main` gives for its arguments, or with a message."""
+    sys.stdout.reconfigure(errors='backslashreplace')
+    try:
+        status = main(sys.argv[1:])
+        sys.stdout.flush()
+    except KeyboardInterrupt:
+        status = ended('interrupted', INTERRUPTED)
+    except BrokenPipeError:
+        status = ended('nobody reads what it prints any more', 1)
+    except OSError as failed:
+        status = ended(f'{failed.filename or "its output"}: {failed.strerror}', 1)
+    except subprocess.CalledProcessError as failed:
+        status = ended(f'{failed.cmd[0]} ended with status {failed.returncode}', 1)
+    sys.exit(status)
+
+
+def ended(words, status):
+    """Says why, and drops what could not be written, which would be tried once more."""
+    tell(words)
+    os.dup2(os.open(os.devnull, os.O_WRONLY), sys.stdout.fileno())
+    return status
