@@ -26,8 +26,10 @@ def built(name):
 class Words:
     """Lines are text or bytes, whatever stands in them; a line feed at the end may be left out."""
 
-    def __enter__(self):
+    def __init__(self):
         self.program = subprocess.Popen([RUN, 'run', built('explain')], stdin=subprocess.PIPE, stdout=subprocess.PIPE)
+
+    def __enter__(self):
         return self
 
     def __exit__(self, *_):
