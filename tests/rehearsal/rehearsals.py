@@ -1,5 +1,5 @@
 """Scripts by their seeds, run by two programs, and the first line where these differ."""
-import concurrent.futures, itertools, os, subprocess, sys
+import concurrent.futures, itertools, os, shlex, subprocess, sys
 
 sys.path.insert(0, os.path.join(os.path.dirname(os.path.abspath(__file__)), '..', '..', 'tools', 'classroom'))
 from running import PROGRAM, ROOT, answers_of, first_difference, lines_of, said, shown
@@ -10,13 +10,22 @@ LINES = 200_000          # of the gate's run
 
 
 class Room(Workshop):
-    """A workshop with the generator of scripts beside it."""
+    """A workshop with the generator of scripts beside it, and the program on trial with nothing around it: at_hand looks first."""
 
     def __enter__(self):
         super().__enter__()
         self.generator = self.path('generate')
         subprocess.run([os.path.join(ROOT, 'tests', 'rehearsal', 'build'), self.generator], check=True)
+        mine = os.environ.get('REHEARSE')
+        self.program = self.launcher('rehearse', *([os.path.abspath(mine)] if mine else ['tools/x86-64', 'run', 'target/bin/rehearse']))
         return self
+
+    def launcher(self, name, *words):
+        """A program that runs this command of the folder ROOT."""
+        with open(self.path(name), 'w', encoding='utf-8') as run:
+            print('#!/bin/sh', f'cd {shlex.quote(ROOT)} && exec {shlex.join(words)}', sep='\n', file=run)
+        os.chmod(run.name, 0o755)
+        return run.name
 
     def script(self, seed):
         """The script of a seed, and how often it reaches each situation."""
@@ -26,8 +35,8 @@ class Room(Workshop):
 
 
 def at_hand():
-    """Whether the program on trial is built; without it a test cannot run."""
-    return bool(os.environ.get('REHEARSE')) or os.path.exists(os.path.join(ROOT, 'target', 'bin', 'rehearse'))
+    """Whether the program on trial can be run; the project's own is built first where it is older than its sources."""
+    return bool(os.environ.get('REHEARSE')) or subprocess.run([PROGRAM, '--build']).returncode == 0
 
 
 def difference(second, program, script):

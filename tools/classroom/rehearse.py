@@ -1,0 +1,152 @@
+"""A script with its replies, in numbers and below them in words: tools/rehearse --words, which tells more."""
+import os, re, select, subprocess, sys, threading, time
+
+import plainly, running
+from words import Words
+
+MOST_WAIT = 5     # seconds for a line of a reply
+MOST_REST = 4000  # bytes that are looked at behind the last reply
+BELOW = '      '  # before the words
+PROMPT = '> '
+WELCOME = 'A script, line by line. help tells what a line may be; quit ends.'
+HELP = '''\
+S IDENTITY CHANNEL..       sets the station up, with a slot for each channel: the first line, and only once
+Q TIME SYMBOL..            a sequence is heard on channel 70
+W TIME SLOT SYMBOL..       a sequence is heard on a slot's working channel
+U TIME SLOT                the ship's carrier comes         D TIME SLOT   it goes
+P TIME SLOT                the exchange has dialled
+O TIME SLOT                the handset ashore is lifted     H TIME SLOT   it is put down
+C TIME SHIP MODE DIGIT..   somebody ashore calls a ship, MODE 100 simplex or 101 duplex, with the caller's number
+M TIME SLOT                the operator takes a slot        F TIME SLOT   and gives it back
+T TIME                     a tick of the host's clock
+Times are tenths of a second; slots count from 0; lessons/sequence writes symbols; lessons/01-first-call/script is a first call.
+A reply begins with four parts: the answer (0 done, 1 ignored, else a refusal), the clock, how many actions follow, and when
+the next wait falls due (- where none runs). Then each action has a line: kind, slot, payload. lessons/README.md has the kinds.
+help prints this; quit, or the end of the input, ends.'''
+
+
+class Silent(Exception):
+    """The program has no reply."""
+
+
+class Program:
+    """The script program at work: lines go in, their replies come out."""
+
+    def __enter__(self):
+        self.child = subprocess.Popen([running.PROGRAM], stdin=subprocess.PIPE, stdout=subprocess.PIPE, bufsize=0)
+        self.read = b''
+        return self
+
+    def __exit__(self, *_):
+        self.child.kill()
+
+    def send(self, text, end=False):
+        try:
+            self.child.stdin.write(text)
+            if end:
+                self.child.stdin.close()
+        except BrokenPipeError:
+            pass   # then there is no reply, which is told
+
+    def more(self):
+        """Whether it prints more; waits for that."""
+        ready, _, _ = select.select([self.child.stdout], [], [], MOST_WAIT)
+        if not ready:
+            raise Silent(f'not in {MOST_WAIT} s; a program must print each reply at once')
+        more = os.read(self.child.stdout.fileno(), 1 << 16)
+        self.read += more
+        return bool(more)
+
+    def row(self):
+        while b'\n' not in self.read:
+            if not self.more():
+                raise Silent(running.how_it_ended(self.child.wait(), True, 0, 0) or 'it has ended')
+        row, self.read = self.read.split(b'\n', 1)
+        return row
+
+    def reply(self):
+        """Line by line; how many there are the first line tells."""
+        first = self.row()
+        yield first
+        told = re.fullmatch(rb'\d+ \d+ (\d) (?:\d+|-)', first)
+        for _ in range(int(told[1]) if told else 0):
+            yield self.row()
+
+    def rest(self):
+        """What it prints behind the last reply; and, where that is all, how it failed to end well."""
+        while self.more():
+            if len(self.read) > MOST_REST:
+                return self.read, None
+        return self.read, running.how_it_ended(self.child.wait(), True, 0, 0)
+
+
+def tell(mark, line, words):
+    print(mark + running.shown(line), BELOW + words.of(mark.encode() + line), sep='\n')
+
+
+def tell_reply(program, words):
+    for row in program.reply():
+        tell('', row, words)
+
+
+def play(script, program, words):
+    """A whole script. A program that prints its replies late may do so here."""
+    threading.Thread(target=program.send, args=(script, True), daemon=True).start()
+    for line in running.lines_of(script):
+        tell(PROMPT, line.rstrip(b'\n'), words)
+        tell_reply(program, words)
+    rest, ending = program.rest()
+    if rest:
+        plainly.tell(f'the program prints more than the replies: {running.shown(rest)}')
+    if ending:
+        plainly.tell(f'the program printed all replies, but {ending}')
+    return 1 if rest or ending else 0
+
+
+def typed():
+    """The lines of a person at a terminal, up to the end."""
+    while True:
+        try:
+            line = input(PROMPT)
+        except EOFError:
+            print()
+            return
+        if line.strip() in ('quit', 'exit'):
+            return
+        yield line
+
+
+def converse(program, words):
+    print(WELCOME)
+    for line in typed():
+        if line.strip() == 'help':
+            print(HELP)
+        elif line.strip():
+            line = line.encode(errors='surrogateescape')
+            print(BELOW + words.of(PROMPT.encode() + line))
+            program.send(line + b'\n')
+            tell_reply(program, words)
+        sys.stdout.flush()
+    return 0
+
+
+def main(_):
+    with Words() as words, Program() as program:
+        try:
+            if not sys.stdin.isatty():
+                return play(sys.stdin.buffer.read(), program, words)
+            sys.stdin.reconfigure(errors='surrogateescape')
+            return converse(program, words)
+        except Silent as silent:
+            sys.stdout.flush()
+            plainly.tell(f'the program has no reply: {silent}')
+            return 1
+
+
+if __name__ == '__main__':
+    sys.argv[0] = running.PROGRAM
+    try:
+        import readline   # a person's lines can be edited and called back
+    except ImportError:
+        pass
+    plainly.begin(main)
