@@ -32,9 +32,11 @@ class Silent(Exception):
 class Program:
     """The script program at work: lines go in, their replies come out."""
 
-    def __enter__(self):
+    def __init__(self):
         self.child = subprocess.Popen([running.PROGRAM], stdin=subprocess.PIPE, stdout=subprocess.PIPE, bufsize=0)
         self.read = b''
+
+    def __enter__(self):
         return self
 
     def __exit__(self, *_):
