@@ -118,14 +118,13 @@ def fits(pattern, line):
 
 def said_of(lesson, played, answer, wanted, got):
     """What the lesson's page says of a line that should be printed and was not: a heading, and the words."""
-    page = page_of(lesson)
-    known = page.paragraphs('wrong', shown(got))
+    page, path = page_of(lesson), f'lessons/{lesson}/README.md'
+    known, about = page.paragraphs('wrong', shown(got)), page.paragraphs('right', shown(wanted))
+    rows_told = page.rows_of(shown(played), shown(answer))
     if known:
-        return 'The page knows this mistake:', known
-    about = page.paragraphs('right', shown(wanted))
+        return f'{path} knows this mistake:', known
     if about:
-        return 'The page on what should be printed here:', about
-    row = page.rows_of(shown(played), shown(answer))
-    if row:
-        return 'The page on this line of the script:', [' | '.join(cell.strip() for cell in row[0].split('|'))]
-    return "The lesson's point:", [points()[lesson]]
+        return f'{path} on what should be printed here:', about
+    if rows_told:
+        return f'{path} on this line of the script:', [' | '.join(cell.strip() for cell in rows_told[0].split('|'))]
+    return 'The point of the lesson:', [points()[lesson]]

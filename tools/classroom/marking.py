@@ -1,11 +1,11 @@
 """A student's program on a lesson: whether it prints the lesson's output, and the first difference in plain words."""
-import collections, os
+import collections, os, re
 
-import lessons, running
+import lessons, plainly, running
 from running import NOTHING_MORE, shown
 
-SECONDS = 5        # for one script
-LONGEST_LINE = 400 # that is put in words
+SECONDS = 5   # for one script
+INDENT = '      '
 
 
 class Mark(collections.namedtuple('Mark', 'lesson script ran difference')):
@@ -33,7 +33,10 @@ class Mark(collections.namedtuple('Mark', 'lesson script ran difference')):
 
 def seconds():
     """How long a program may take for a script."""
-    return float(os.environ.get('MARK_SECONDS') or SECONDS)
+    given = os.environ.get('MARK_SECONDS') or str(SECONDS)
+    if not re.fullmatch(r'\d+(\.\d+)?', given, re.ASCII):
+        raise plainly.NotUnderstood(f'MARK_SECONDS is no number of seconds: {given}')
+    return float(given)
 
 
 def mark(program, lesson, script, complaints=None):
@@ -44,8 +47,9 @@ def mark(program, lesson, script, complaints=None):
 
 def fault(lesson):
     """Why nothing can be held against a lesson's output, in words; or None."""
-    faults = [f'{lesson}: {script.name} {words}' for script in lessons.scripts(lesson) if (words := lessons.fault(script))]
-    return faults[0] if faults else None
+    scripts = lessons.scripts(lesson)
+    faults = [f'{lesson}: {script.name} {words}' for script in scripts if (words := lessons.fault(script))]
+    return next(iter(faults), None if scripts else f'{lesson}: has no script')
 
 
 def remark(one):
@@ -60,8 +64,6 @@ def remark(one):
         return 'it prints more than it should'
     if one.difference.got == NOTHING_MORE:
         return 'it prints too little'
-    if not lessons.is_reply(one.printed):
-        return 'this is no line of a reply: numbers, one space apart'
     return None
 
 
@@ -73,18 +75,33 @@ def briefly(line, most=40):
 def in_one_line(one):
     """Where and how a script was failed, for a table."""
     if one.difference is None:
-        return one.ran.ending
+        return f'{one.script.name}: {one.ran.ending}'
     parts = [f'{one.script.name} line {one.difference.line + 1}, {briefly(one.line)}:',
              f'{briefly(one.difference.wanted)} should be printed, not {briefly(one.printed) or "an empty line"}']
     remarks = '; '.join(words for words in (remark(one), one.ran.ending) if words)
     return ' '.join(parts) + (f' ({remarks})' if remarks else '')
 
 
-def with_words(head, line, words):
-    """A line, and below it the same in words where it is a line of a script or a reply."""
-    tellable = len(line) <= LONGEST_LINE and (head or lessons.is_reply(line))
-    told = words.of(head + shown(line)) if tellable else ''
-    return [head + (shown(line) or '(an empty line)')] + ([f'      {told}'] if told else [])
+def with_words(line, words):
+    """A line of a script, marked `> `, or of its reply; and below it the same in words."""
+    return [shown(line) or '(an empty line)', INDENT + words.of(line)]
+
+
+def up_to(one):
+    """What the words must have heard before the line that differs."""
+    answers = running.answers_of(one.script.wanted)
+    for number, line in enumerate(running.lines_of(one.script.text)[:one.difference.line + 1]):
+        yield b'> ' + line
+        yield from answers[number] if number < one.difference.line else answers[number][:one.difference.row]
+
+
+def heard(one, row, words):
+    """A row at the place of the difference, with its words."""
+    if row == NOTHING_MORE:
+        return [shown(row)]
+    for line in up_to(one):
+        words.of(line)
+    return with_words(row, words)
 
 
 def in_words(one, words):
@@ -92,10 +109,8 @@ def in_words(one, words):
     where = f'{one.lesson}, {one.script.name}: '
     if one.difference is None:
         return [where + f'all that it printed is right, but {one.ran.ending}']
-    told = [where + f'the first difference is at line {one.difference.line + 1}']
-    told += with_words('> ', one.line, words)
-    told += ['should print:', *with_words('', one.difference.wanted, words)]
-    told += ['prints:', *with_words('', one.printed, words)]
+    told = [where + f'the first difference is at line {one.difference.line + 1}', *heard(one, b'> ' + one.line, words)]
+    told += ['should print:', *heard(one, one.difference.wanted, words), 'prints:', *heard(one, one.printed, words)]
     told += [f'Note: {note}.' for note in (remark(one), one.ran.ending) if note]
     heading, paragraphs = lessons.said_of(one.lesson, one.line, one.answer, one.difference.wanted, one.printed)
-    return told + [heading] + [f'      {line}' for paragraph in paragraphs for line in paragraph.splitlines()]
+    return told + [heading] + [INDENT + line for paragraph in paragraphs for line in paragraph.splitlines()]

@@ -5,6 +5,10 @@ WRONG_USAGE = 2
 INTERRUPTED = 130
 
 
+class NotUnderstood(Exception):
+    """What a program was told and does not understand, in words."""
+
+
 def tell(words):
     print(f'{os.path.basename(sys.argv[0])}: {words}', file=sys.stderr)
 
@@ -21,6 +25,8 @@ def begin(main):
     try:
         status = main(sys.argv[1:])
         sys.stdout.flush()
+    except NotUnderstood as told:
+        status = ended(told, WRONG_USAGE)
     except KeyboardInterrupt:
         status = ended('interrupted', INTERRUPTED)
     except BrokenPipeError:

@@ -7,7 +7,7 @@ MOST_SECONDS = 60        # for one script; a program of ours that takes longer h
 MOST_BYTES = 1 << 20     # of what a student's program prints; no lesson has a hundredth of it
 NOTHING_MORE = b'(nothing more)'
 
-Difference = collections.namedtuple('Difference', 'line wanted got')
+Difference = collections.namedtuple('Difference', 'line row wanted got')
 Ran = collections.namedtuple('Ran', 'output ending started')   # ending: in words, where a program did not end well
 
 
@@ -35,17 +35,17 @@ def answers_of(output):
 
 
 def first_difference(wanted, got):
-    """The number from 0 of the script line where two outputs part, and what each prints there."""
-    line, printed, place = 0, got.split(b'\n'), 0
+    """The script line where two outputs part, the row of its answer, both counted from 0, and what each prints there."""
+    printed, place, line, answer = got.split(b'\n'), 0, 0, []
     if not printed[-1]:
         printed.pop()
     for line, answer in enumerate(answers_of(wanted)):
-        for row in answer:
+        for row, right in enumerate(answer):
             other = printed[place] if place < len(printed) else NOTHING_MORE
-            if other != row:
-                return Difference(line, row, other)
+            if other != right:
+                return Difference(line, row, right, other)
             place += 1
-    return Difference(line, NOTHING_MORE, b'\n'.join(printed[place:]))
+    return Difference(line, len(answer), NOTHING_MORE, b'\n'.join(printed[place:]))
 
 
 def shown(line):

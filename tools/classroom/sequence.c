@@ -1,12 +1,13 @@
 /* Lays numbers out by the library, for lessons/sequence: decimal numbers in its arguments, decimal numbers in its output.
  *
  *   sequence write ADDRESS SENDER FIRST SECOND KIND BYTE BYTE BYTE END [DIGIT]...   the symbols of the sequence with this meaning
- *   sequence read [SYMBOL]...                                                      the same parts, of the sequence with these symbols
+ *   sequence read [SYMBOL]...                                                      the same parts of a sequence; below, its words
  *   sequence charge SHIP START STOP SECONDS                                        the bytes of a charge's payload
  *
  * Status 1 where the library refuses, with the refusal's number and words on standard error; 2 where a number does not fit. */
 #include <stdbool.h>
 #include <coast_words.h>
+#include <words.h>
 
 extern int printf(const char *, ...);
 extern int dprintf(int, const char *, ...);
@@ -96,6 +97,8 @@ static int read_sequence(char **words, size_t count) {
         (unsigned)meaning[COAST_AT_SECOND], (unsigned)meaning[COAST_AT_FIELD_KIND], (unsigned)meaning[COAST_AT_FIELD],
         (unsigned)meaning[COAST_AT_FIELD + 1], (unsigned)meaning[COAST_AT_FIELD + 2], (unsigned)meaning[COAST_AT_END]);
     print_bytes(meaning + COAST_AT_DIGITS, meaning[COAST_AT_DIGIT_COUNT]);
+    print_heard(symbols, count);
+    printf("\n");
     return 0;
 }
 
