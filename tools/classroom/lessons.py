@@ -44,7 +44,8 @@ def listed():
 
 
 def named(word):
-    """The lesson of this name or number, or None."""
+    """The lesson of this name, number or folder, or None."""
+    word = os.path.basename(word.rstrip('/'))
     fitting = [name for name in names() if word in (name, name.split('-')[0])]
     return fitting[0] if len(fitting) == 1 else None
 
