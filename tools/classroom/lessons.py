@@ -12,7 +12,7 @@ REPLY = re.compile(rb'\d+ \d+ \d+ (?:\d+|-)|\d+ \d+(?: \d+)*')
 CODE = re.compile(r'`([^`]+)`')
 QUOTE = re.compile(r'^    (right|wrong): (.*)$', re.M)
 TO_FILL = 'TO BE FILLED IN'
-NO_PROSE = ('#', '|', '![', '<', '    ')   # what a paragraph of a page begins with that is none
+NO_PROSE = ('#', '|', '![', '[![', '<', '    ')   # what a paragraph of a page begins with that is none
 
 Script = collections.namedtuple('Script', 'name text wanted')     # wanted: None where the output is missing
 Quote = collections.namedtuple('Quote', 'kind line paragraph')
