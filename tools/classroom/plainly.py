@@ -21,6 +21,9 @@ def usage(words):
 
 def begin(main):
     """Ends the program with the status that `main` gives for its arguments, or with a message."""
+    if sys.stdout is None:
+        tell('its standard output is closed')
+        sys.exit(1)
     sys.stdout.reconfigure(errors='backslashreplace')
     try:
         status = main(sys.argv[1:])
