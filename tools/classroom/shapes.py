@@ -1,0 +1,56 @@
+"""The shapes of a picture of a script, as SVG. What stands for something has its words in <title>: on hover, and for a screen reader."""
+import html
+
+BAR, WAIT, LINE, MARK = 36, 17, 16, 22  # heights: a phase, a wait, a line of text, an event
+
+
+def escape(words):
+    return html.escape(words, quote=False)
+
+
+def text(x, y, words, style=''):
+    return f'<text{style and f""" class="{style}" """.rstrip()} x="{x}" y="{y}">{escape(words)}</text>'
+
+
+def line(x, y, to_x, to_y, style):
+    return f'<path class="{style}" d="M{x} {y}L{to_x} {to_y}"/>'
+
+
+def titled(words, *parts):
+    return f'<g role="img"><title>{escape(words)}</title>{"".join(parts)}</g>'
+
+
+def bar(style, x, y, to_x, height, opens=(False, False)):
+    """A bar; where it goes on beyond the strip, that side is open."""
+    if opens == (True, True):
+        return f'<path class="{style}" d="M{x} {y}H{to_x}v{height}H{x}z" stroke="none"/>'
+    if opens == (True, False):
+        return f'<path class="{style}" d="M{x} {y}H{to_x}v{height}H{x}"/>'
+    if opens == (False, True):
+        return f'<path class="{style}" d="M{to_x} {y}H{x}v{height}H{to_x}"/>'
+    return f'<rect class="{style}" x="{x}" y="{y}" width="{to_x - x}" height="{height}" rx="3"/>'
+
+
+def wait_bar(x, y, to_x, opens, label, due=None, fires=False):
+    """A wait as it runs. `due` is where it would have fallen due, and whether that lies in the strip."""
+    parts = [bar('wait', x, y, to_x, WAIT, opens), text(x + 6, y + 13, label)]
+    if fires:
+        parts.append(f'<path class="fires" d="M{to_x - 7} {y}h7v{WAIT}h-7l5 -{WAIT // 2}z"/>')
+    if due:
+        place, here = due
+        parts.append(line(to_x, y + WAIT // 2, place, y + WAIT // 2, 'left'))
+        if here:
+            parts.append(line(place, y + 3, place, y + WAIT - 4, 'end'))
+    return parts
+
+
+def event_mark(x, y, letter, answer):
+    """A disc where it was done, a ring where it was ignored, a crossed square where it was refused."""
+    shape = f'<circle class="{"done" if answer == 0 else "ignored"}" cx="{x}" cy="{y}" r="9"/>'
+    if answer > 1:
+        shape = f'<path class="refused" d="M{x - 9} {y - 9}h18v18h-18zl18 18"/>'
+    return shape + text(x, y + 4, letter, 'on' if answer == 0 else 'off')
+
+
+def action_mark(x, y, label):
+    return f'<path class="act" d="M{x + 4} {y - 4}h10m-4 -4l4 4l-4 4"/>' + text(x + 18, y, label)
