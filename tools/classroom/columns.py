@@ -1,6 +1,7 @@
 """Where each line of a script stands along the picture. A longer time is wider, by its logarithm, and every label has its room; where the
 width of a page is used up, a new strip begins. Whole numbers alone, so that every machine draws the same."""
-LEFT, WIDTH, MARGIN = 104, 1060, 14  # the rows' names, a strip, what is free beside a column
+LEFT, MARGIN = 100, 18               # the rows' names, and what is free before the first line
+NARROWEST, WIDEST = 760, 1060        # a strip
 LARGE, SMALL = 13, 12                # sizes of letters
 
 
@@ -30,17 +31,26 @@ def clock_text(tenths):
     return f'{minutes // 60}:{minutes % 60:02}:{seconds:02}.{tenth}'
 
 
-def beside(step):
-    """What stands below an event's label: the time that the line gives where the clock shows another, and how it was answered."""
-    answer, time = int(step.reply[0].split()[0]), step.event.time
-    parts = [] if time in (None, step.clock) else [f'at {time}']
-    return ', '.join(parts + ([] if answer == 0 else ['ignored'] if answer == 1 else [f'refused: {answer}']))
+def answer_of(step):
+    return int(step.reply[0].split()[0])
+
+
+def below(step):
+    """What stands below an event's label: whose it is; the time that the line gives where the clock shows another; how it was answered."""
+    answer, time = answer_of(step), step.event.time
+    who = [str(step.event.who)] if step.event.who else []
+    when = [] if time in (None, step.clock) else [f'at {time}']
+    return who + when + ([] if answer == 0 else ['ignored'] if answer == 1 else [f'refused: {answer}'])
 
 
 def room_of_marks(step):
-    texts = [step.event.label, beside(step)], [does.label for does in step.does]
-    marks = [width_of(text) + 20 for text in texts[0]] + [width_of(text) + 22 for text in texts[1]]
-    return max(marks + [width_of(text) // 2 + 24 for text in (str(step.clock), clock_text(step.clock))])
+    events = [width_of(words) + 28 for words in [step.event.label, *below(step)]]
+    return max(events + [width_of(does.label) + 24 for does in step.does])
+
+
+def half_clock(step):
+    """Half of what the clock at the head of a column takes."""
+    return max(width_of(str(step.clock)), width_of(clock_text(step.clock))) // 2 + 4
 
 
 def room_of_span(span):
@@ -53,8 +63,8 @@ def room_of_span(span):
 class Strip:
     """The lines from `first` on that stand beside each other, with their places."""
 
-    def __init__(self, first):
-        self.first, self.places, self.right = first, [LEFT + MARGIN], WIDTH
+    def __init__(self, first, room):
+        self.first, self.places, self.right = first, [LEFT + max(MARGIN, room)], 0
 
     @property
     def last(self):
@@ -70,7 +80,7 @@ class Strip:
         return self.right if span.end is None or span.end > self.last else self.at(span.end)
 
     def has(self, span):
-        return span.begin <= self.last and (span.end is None or span.end > self.first)
+        return span.begin <= self.last and (span.end is None or span.end >= self.first)
 
     def place_of(self, steps, time, after):
         """The place of a time from the column `after` on, and whether it lies in this strip."""
@@ -85,27 +95,43 @@ class Strip:
         return self.at(column) + (self.at(column + 1) - self.at(column)) * log_of(past) // whole, True
 
 
-def next_place(strip, steps, spans, column):
+class Rooms:
+    """What each column needs: of the marks at it, of all that begins at it, and which spans end at it."""
+
+    def __init__(self, steps, spans):
+        self.marks, self.clocks = [room_of_marks(step) for step in steps], [half_clock(step) for step in steps]
+        self.begun, self.ending = self.marks[:], [[] for _ in steps]
+        for span in spans:
+            self.begun[span.begin] = max(self.begun[span.begin], room_of_span(span))
+            if span.end is not None:
+                self.ending[span.end].append((span, room_of_span(span)))
+
+
+def next_place(strip, steps, rooms, column):
     """The least place of the column behind the strip's last one."""
     before = strip.at(column - 1)
-    wanted = [before + stride(steps[column].clock - steps[column - 1].clock), before + room_of_marks(steps[column - 1])]
-    wanted += [strip.begin_of(span) + room_of_span(span) for span in spans if span.end == column and strip.has(span)]
-    return max(wanted)
+    wanted = [before + stride(steps[column].clock - steps[column - 1].clock), before + rooms.marks[column - 1]]
+    wanted.append(before + rooms.clocks[column - 1] + rooms.clocks[column])
+    return max(wanted + [strip.begin_of(span) + room for span, room in rooms.ending[column]])
 
 
-def edge(steps, spans, column, place):
-    """Where a strip may end behind this column: all that begins there has its room."""
-    return place + max([room_of_marks(steps[column])] + [room_of_span(span) for span in spans if span.begin == column])
+def within(steps, rooms, width):
+    """The strips, none wider than this but where one line alone is."""
+    found = [Strip(0, rooms.clocks[0])]
+    for column in range(1, len(steps)):
+        place = next_place(found[-1], steps, rooms, column)
+        if place + rooms.begun[column] > width:
+            found.append(Strip(column, rooms.clocks[column]))
+        else:
+            found[-1].places.append(place)
+    for strip in found:
+        strip.right = max(width, strip.places[-1] + rooms.begun[strip.last])
+    found[-1].right = found[-1].places[-1] + max(rooms.begun[-1], 60)
+    return found
 
 
 def strips(steps, spans):
-    found = [Strip(0)]
-    for column in range(1, len(steps)):
-        place = next_place(found[-1], steps, spans, column)
-        if edge(steps, spans, column, place) > WIDTH:
-            found.append(Strip(column))
-        else:
-            found[-1].places.append(place)
-    last = found[-1]
-    last.right = max(edge(steps, spans, last.last, last.places[-1]), last.places[-1] + 60)
-    return found
+    """As few as there can be, and then as narrow."""
+    rooms = Rooms(steps, spans)
+    few = len(within(steps, rooms, WIDEST))
+    return next(found for width in range(NARROWEST, WIDEST + 20, 20) for found in [within(steps, rooms, width)] if len(found) <= few)

@@ -1,12 +1,15 @@
 """A script played: each line with its reply and with what the station's record then holds, told by the library itself."""
 import collections, os, re, subprocess
 
+from words import RUN, Words, built
+
 ROOT = os.path.normpath(os.path.join(os.path.dirname(os.path.abspath(__file__)), '..', '..'))
 NONE = '-'
 MOST_SHOWN = 160  # characters of a line that is no line of a script
 
-Step = collections.namedtuple('Step', 'line event does charged reply clock slots queue')
-Event = collections.namedtuple('Event', 'letter time slot label')
+# `words` are those of the line, of the reply's first line, and of each action.
+Step = collections.namedtuple('Step', 'line event does charged reply clock slots queue words')
+Event = collections.namedtuple('Event', 'letter time slot who label')
 Does = collections.namedtuple('Does', 'slot label')
 Charge = collections.namedtuple('Charge', 'slot start stop')
 Slot = collections.namedtuple('Slot', 'channel phase due answered lost ship words')
@@ -17,10 +20,6 @@ class NotPlayed(Exception):
     pass
 
 
-def answer_of(step):
-    return int(step.reply[0].split()[0])
-
-
 def run(what, words, script):
     done = subprocess.run(words, input=script, capture_output=True)
     if done.returncode != 0:
@@ -29,11 +28,10 @@ def run(what, words, script):
     return done.stdout.decode('ascii')
 
 
-def lines_of(script):
-    """The lines as they may be shown, whatever bytes they have."""
-    for line in re.findall(rb'[^\n]*\n|[^\n]+', script):
-        text = line.rstrip(b'\n').decode('latin-1').encode('unicode_escape').decode()
-        yield text if len(text) <= MOST_SHOWN else f'{text[:MOST_SHOWN]}.. ({len(text)} characters)'
+def shown(line):
+    """A line as it may be shown, whatever bytes it has."""
+    text = line.decode('latin-1').encode('unicode_escape').decode()
+    return text if len(text) <= MOST_SHOWN else f'{text[:MOST_SHOWN]}.. ({len(text)} characters)'
 
 
 def number(word):
@@ -49,15 +47,16 @@ def slot_of(row):
     return Slot(*map(number, words[2:13:2]), words[14])
 
 
-def step_of(line, rows):
-    letter, time, slot, label = told(rows, 'event')[0].split(' ', 3)
-    clock = told(rows, 'clock')
+def step_of(line, rows, words):
+    letter, time, slot, who, label = told(rows, 'event')[0].split(' ', 4)
+    clock, reply = told(rows, 'clock'), told(rows, '=')
     return Step(
-        line, Event(letter, number(time), number(slot), label),
+        shown(line), Event(letter, number(time), number(slot), number(who), label),
         [Does(number(word), text) for word, text in (row.split(' ', 1) for row in told(rows, 'does'))],
         [Charge(*map(int, row.split())) for row in told(rows, 'charged')],
-        told(rows, '='), int(clock[0]) if clock else 0, [slot_of(row) for row in told(rows, 'slot')],
-        [Waiting(number(row.split()[1]), number(row.split()[3])) for row in told(rows, 'waiting')])
+        reply, int(clock[0]) if clock else 0, [slot_of(row) for row in told(rows, 'slot')],
+        [Waiting(number(row.split()[1]), number(row.split()[3])) for row in told(rows, 'waiting')],
+        [words.of(text) for text in [b'> ' + line, *reply]])
 
 
 def check_same(steps, printed):
@@ -71,13 +70,11 @@ def check_same(steps, printed):
 
 def play(script):
     """The steps of a script, one for each of its lines."""
-    tool = lambda *names: os.path.join(ROOT, 'tools', *names)
-    record = run('tools/classroom/build record', [tool('classroom', 'build'), 'record'], b'').strip()
-    rows = run('the record', [tool('x86-64'), 'run', record], script)
-    groups = [group.split('\n') for group in rows.split('\n\n')[:-1]]
-    lines = list(lines_of(script))
+    lines = [line.rstrip(b'\n') for line in re.findall(rb'[^\n]*\n|[^\n]+', script)]
     if not lines:
         raise NotPlayed('the script has no line')
-    steps = [step_of(line, group) for line, group in zip(lines, groups)]
-    check_same(steps, run('tools/rehearse', [tool('rehearse')], script).splitlines())
+    groups = run('the record', [RUN, 'run', built('record')], script).split('\n\n')[:-1]
+    with Words() as words:
+        steps = [step_of(line, group.split('\n'), words) for line, group in zip(lines, groups)]
+    check_same(steps, run('tools/rehearse', [os.path.join(ROOT, 'tools', 'rehearse')], script).splitlines())
     return steps

@@ -1,6 +1,6 @@
 /* Plays a script through the library's entries with lent bytes, and prints after each line what a picture of it needs; `-` stands
  * where there is none:
- *   event W 250 0 duplex                   the event: letter, time, slot, a label
+ *   event W 250 0 200056789 duplex         the event: letter, time, slot, who sends or is called, a label
  *   does 0 dial 5551234                    each action: slot, a label; of a charge also its bounds, `charged 0 720 4829`
  *   = 0 250 1 851                          the reply, as the script program prints it
  *   = 5 0 5 5 5 1 2 3 4
@@ -18,6 +18,7 @@ extern int printf(const char *, ...);
 #define CALLING_CHANNEL 70u
 #define NO_SLOT 255u
 #define NO_REPLY_WANTED 127u
+#define UNABLE 104u
 
 /* The station's bytes, as include/coast.h has them for this version of the layout. */
 #define VERSION_READ_HERE 3
@@ -47,8 +48,25 @@ static void print_sequence(const uint8_t *symbols, size_t count) {
         return;
     }
     printf("%s", coast_telecommand_words(meaning[COAST_AT_FIRST]));
-    if (meaning[COAST_AT_END] != NO_REPLY_WANTED)
+    if (meaning[COAST_AT_FIRST] == UNABLE)
+        printf(", %s", coast_reason_words(meaning[COAST_AT_SECOND]));
+    else if (meaning[COAST_AT_END] != NO_REPLY_WANTED)
         printf(" %s", coast_end_words(meaning[COAST_AT_END]));
+}
+
+static void print_number(bool has, uint32_t number) {
+    if (has)
+        printf(" %u", (unsigned)number);
+    else
+        printf(" -");
+}
+
+/* Who sends the sequence, or the ship that is called from ashore. */
+static void print_who(const struct event *event) {
+    uint8_t meaning[COAST_MEANING_SIZE];
+    bool heard = takes_symbols(event->letter) &&
+                 coast_read_sequence(event->list, event->count, meaning, sizeof meaning) == COAST_ANSWER_DONE;
+    print_number(heard || takes_ship(event->letter), heard ? coast_number_at(meaning + COAST_AT_SENDER) : event->ship);
 }
 
 static const char *event_label(char letter) {
@@ -69,14 +87,10 @@ static const char *event_label(char letter) {
 
 static void print_event(const struct event *event) {
     printf("event %c", event->letter);
-    if (event->letter == SET_UP_LETTER)
-        printf(" -");
-    else
-        printf(" %u", (unsigned)event->number);
-    if (takes_slot(event->letter))
-        printf(" %u ", (unsigned)event->slot);
-    else
-        printf(" - ");
+    print_number(event->letter != SET_UP_LETTER, event->number);
+    print_number(takes_slot(event->letter), event->slot);
+    print_who(event);
+    printf(" ");
     if (takes_symbols(event->letter))
         print_sequence(event->list, event->count);
     else
@@ -85,18 +99,18 @@ static void print_event(const struct event *event) {
 }
 
 static void print_channel(const uint8_t *action) {
-    const uint8_t *slot = station + AT_SLOTS + coast_action_slot(action) * SLOT_SIZE;
-    bool working = coast_action_kind(action) == COAST_ACTION_SEND_WORKING;
-    printf("%u: ", working ? (unsigned)coast_number_at(slot + AT_CHANNEL) : CALLING_CHANNEL);
+    uint32_t channel = CALLING_CHANNEL;
+    if (coast_action_kind(action) == COAST_ACTION_SEND_WORKING)
+        channel = coast_number_at(station + AT_SLOTS + coast_action_slot(action) * SLOT_SIZE + AT_CHANNEL);
+    printf("%u: ", (unsigned)channel);
 }
 
 static void print_does(const uint8_t *action) {
     char number[COAST_NUMBER_TEXT];
     uint32_t slot = coast_action_slot(action);
-    if (slot == NO_SLOT)
-        printf("does - ");
-    else
-        printf("does %u ", (unsigned)slot);
+    printf("does");
+    print_number(slot != NO_SLOT, slot);
+    printf(" ");
     switch (coast_action_kind(action)) {
     case COAST_ACTION_SEND_CHANNEL_70:
     case COAST_ACTION_SEND_WORKING:
@@ -141,24 +155,16 @@ static void print_reply(uint32_t answer, size_t count, const uint8_t *actions) {
 
 /* ---- what the bytes hold ---- */
 
-static void print_time(const char *name, bool has, uint32_t time) {
-    if (has)
-        printf(" %s %u", name, (unsigned)time);
-    else
-        printf(" %s -", name);
-}
-
 static void print_due(const char *name, bool has, uint32_t due) {
     if (has && due < earliest)
         earliest = due;
-    print_time(name, has, due);
+    printf(" %s", name);
+    print_number(has, due);
 }
 
 static void print_ship(bool has, const uint8_t *request) {
-    if (has)
-        printf(" ship %09u", (unsigned)coast_number_at(request));
-    else
-        printf(" ship -");
+    printf(" ship");
+    print_number(has, coast_number_at(request));
 }
 
 static void print_slot(unsigned place) {
@@ -167,7 +173,8 @@ static void print_slot(unsigned place) {
     bool deals = phase != FREE && phase != TAKEN, line = phase == DIALLING || phase == ANSWERED || phase == DIALLED_OUT;
     printf("slot %u channel %u phase %u", place, (unsigned)coast_number_at(slot + AT_CHANNEL), (unsigned)phase);
     print_due("due", deals && phase != ANSWERED, coast_number_at(slot + AT_TIME));
-    print_time("answered", phase == ANSWERED, coast_number_at(slot + AT_TIME));
+    printf(" answered");
+    print_number(phase == ANSWERED, coast_number_at(slot + AT_TIME));
     print_due("lost", line && slot[AT_CARRIER] == 1u, coast_number_at(slot + AT_CARRIER_DUE));
     print_ship(deals, slot + AT_REQUEST);
     printf(" words %s\n", coast_phase_words(phase));
@@ -200,7 +207,7 @@ static void do_line(const struct line *line) {
     struct lent_bytes lent = {station, sizeof station, room, sizeof room};
     struct event event;
     if (!read_event(line, &event, list)) {
-        printf("event ? - - unreadable\n");
+        printf("event ? - - - unreadable\n");
         print_reply(UNREADABLE, 0, room);
         return;
     }

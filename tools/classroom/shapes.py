@@ -1,6 +1,8 @@
 """The shapes of a picture of a script, as SVG. What stands for something has its words in <title>: on hover, and for a screen reader."""
 import html
 
+from columns import SMALL, width_of
+
 BAR, WAIT, LINE, MARK = 36, 17, 16, 22  # heights: a phase, a wait, a line of text, an event
 
 
@@ -23,7 +25,8 @@ def titled(words, *parts):
 def bar(style, x, y, to_x, height, opens=(False, False)):
     """A bar; where it goes on beyond the strip, that side is open."""
     if opens == (True, True):
-        return f'<path class="{style}" d="M{x} {y}H{to_x}v{height}H{x}z" stroke="none"/>'
+        return (f'<path class="{style} face" d="M{x} {y}H{to_x}v{height}H{x}z"/>'
+                f'<path class="{style}" d="M{x} {y}H{to_x}m0 {height}H{x}"/>')
     if opens == (True, False):
         return f'<path class="{style}" d="M{x} {y}H{to_x}v{height}H{x}"/>'
     if opens == (False, True):
@@ -31,9 +34,14 @@ def bar(style, x, y, to_x, height, opens=(False, False)):
     return f'<rect class="{style}" x="{x}" y="{y}" width="{to_x - x}" height="{height}" rx="3"/>'
 
 
+def fitting(x, y, to_x, words, size=SMALL, style=''):
+    """The words in a bar, where they fit: of a bar that goes on from strip to strip, an end may be short."""
+    return [text(x + 6, y, words, style)] if x + 6 + width_of(words, size) <= to_x else []
+
+
 def wait_bar(x, y, to_x, opens, label, due=None, fires=False):
     """A wait as it runs. `due` is where it would have fallen due, and whether that lies in the strip."""
-    parts = [bar('wait', x, y, to_x, WAIT, opens), text(x + 6, y + 13, label)]
+    parts = [bar('wait', x, y, to_x, WAIT, opens)] + fitting(x, y + 13, to_x, label)
     if fires:
         parts.append(f'<path class="fires" d="M{to_x - 7} {y}h7v{WAIT}h-7l5 -{WAIT // 2}z"/>')
     if due:

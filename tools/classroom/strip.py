@@ -1,7 +1,7 @@
 """One strip of the picture: the lines of the script and the clock at its head, then a row for the station, one for each slot with its
 phases, waits, charges, events and actions, and the queue."""
-from columns import LARGE, LEFT, SMALL, beside, clock_text, width_of
-from shapes import BAR, LINE, MARK, WAIT, action_mark, bar, event_mark, line, text, titled, wait_bar
+from columns import LARGE, LEFT, answer_of, below, clock_text
+from shapes import BAR, LINE, MARK, WAIT, action_mark, bar, event_mark, fitting, line, text, titled, wait_bar
 from spans import ran_out
 
 HEAD, PAD = 52, 6
@@ -31,8 +31,8 @@ class Drawn:
         for column in self.columns:
             x, clock = self.strip.at(column), self.played.steps[column].clock
             self.parts.append(text(x, 14, str(column + 1), 'number'))
-            if clock != before:
-                self.parts += [text(x, 30, str(clock), 'tick'), text(x, 46, clock_text(clock), 'tick')]
+            style = 'tick dim' if clock == before else 'tick'
+            self.parts += [text(x, 30, str(clock), style), text(x, 46, clock_text(clock), style)]
             before = clock
         self.y = HEAD
 
@@ -47,14 +47,14 @@ class Drawn:
 
     def events(self, chosen):
         """The events of these columns, in one line of marks."""
+        most = 0
         for column in chosen:
             step, x = self.played.steps[column], self.strip.at(column)
-            parts = [event_mark(x, self.y + 11, step.event.letter, int(step.reply[0].split()[0])), text(x + 14, self.y + 15, step.event.label)]
-            if beside(step):
-                parts.append(text(x + 14, self.y + 29, beside(step), 'dim'))
+            parts = [event_mark(x, self.y + 11, step.event.letter, answer_of(step)), text(x + 14, self.y + 15, step.event.label)]
+            parts += [text(x + 14, self.y + 29 + row * 14, words, 'dim') for row, words in enumerate(below(step))]
             self.parts.append(titled(self.played.event_words(column), *parts))
-        if chosen:
-            self.y += MARK + (LINE - 3) * any(beside(self.played.steps[column]) for column in chosen) + 3
+            most = max(most, MARK + 14 * len(below(step)) + 4)
+        self.y += most
 
     def actions(self, slot):
         """What is to be done there, one below the other in the order told."""
@@ -71,22 +71,22 @@ class Drawn:
     # ── what lasts ────────────────────────────────────────────────────────────
 
     def phases(self, spans):
+        middle = self.y + BAR // 2
+        self.parts.append(line(LEFT, middle, self.strip.right, middle, 'grid'))
         for span in spans:
             x, to_x = self.ends(span)
-            labels = [text(x + 6, self.y + 15, span.label, 'name')] if to_x - x >= width_of(span.label, LARGE) else []
-            if span.ship and to_x - x >= width_of(str(span.ship), SMALL):
-                labels.append(text(x + 6, self.y + 30, str(span.ship)))
+            labels = fitting(x, self.y + 15, to_x, span.label, LARGE, 'name') + fitting(x, self.y + 30, to_x, str(span.ship or ''))
             self.parts.append(titled(self.played.span_words(span), bar(STYLES[span.phase], x, self.y, to_x, BAR, self.opens(span)), *labels))
         self.y += BAR + 3
 
+    def fires(self, span):
+        return ran_out(self.played.steps, span) and span.end <= self.strip.last
+
     def due_place(self, span):
-        """Where a wait that ended before would have fallen due, or one that still runs will."""
-        strip = self.strip
-        if ran_out(self.played.steps, span) or (span.end is not None and span.end > strip.last):
+        """Where a wait that was ended here would have fallen due."""
+        if span.end is None or span.end > self.strip.last or self.fires(span):
             return None
-        if span.end is None:
-            return None
-        return strip.place_of(self.played.steps, span.due, span.end)
+        return self.strip.place_of(self.played.steps, span.due, span.end)
 
     def waits(self, spans):
         lanes = []
@@ -94,15 +94,14 @@ class Drawn:
             (x, to_x), due = self.ends(span), self.due_place(span)
             lane = next((lane for lane, free in enumerate(lanes) if free + 3 <= x), len(lanes))
             lanes[lane:lane + 1] = [max(to_x, due[0] if due else 0)]
-            fires = ran_out(self.played.steps, span) and span.end <= self.strip.last
-            parts = wait_bar(x, self.y + lane * (WAIT + 3), to_x, self.opens(span), span.label, due, fires)
+            parts = wait_bar(x, self.y + lane * (WAIT + 3), to_x, self.opens(span), span.label, due, self.fires(span))
             self.parts.append(titled(self.played.span_words(span), *parts))
         self.y += len(lanes) * (WAIT + 3)
 
     def charges(self, spans):
         for span in spans:
             x, to_x = self.ends(span)
-            parts = bar('charge', x, self.y, to_x, WAIT, self.opens(span)), text(x + 6, self.y + 13, span.label, 'name')
+            parts = [bar('charge', x, self.y, to_x, WAIT, self.opens(span))] + fitting(x, self.y + 13, to_x, span.label, LARGE, 'name')
             self.parts.append(titled(self.played.span_words(span), *parts))
         self.y += (WAIT + 3) if spans else 0
 
@@ -120,20 +119,41 @@ class Drawn:
         self.actions(None)
         self.y = max(self.y, top + 26)
 
+    def goes_through(self, span):
+        return span.begin < self.strip.first and (span.end is None or span.end > self.strip.last)
+
+    def quiet(self, slot, phases, waits):
+        """Whether a slot only stays in its phase."""
+        steps = self.played.steps[self.strip.first:self.strip.last + 1]
+        marked = any(does.slot == slot for step in steps for does in step.does) or any(self.played.row_of(c) == slot for c in self.columns)
+        return not marked and len(phases) == 1 and all(map(self.goes_through, phases + waits))
+
+    def through(self, span, waits):
+        """A quiet slot, in one line."""
+        x, to_x = self.ends(span)
+        words = ', '.join([f'{span.label} {span.ship or ""}'.strip(), *(wait.label for wait in waits)])
+        parts = bar(STYLES[span.phase], x, self.y, to_x, WAIT, self.opens(span)), *fitting(x, self.y + 13, to_x, words)
+        self.parts.append(titled(self.played.span_words(span), *parts))
+        self.y += WAIT + 3
+
     def slot_row(self, slot):
-        of_slot = lambda spans: [span for span in spans if span.row == slot and self.strip.has(span)]
+        phases, waits, charges = ([span for span in spans if span.row == slot and self.strip.has(span)]
+                                  for spans in (self.played.spans.phases, self.played.spans.waits, self.played.spans.charges))
         self.across('edge')
         top, self.y = self.y, self.y + PAD
-        self.events([column for column in self.columns if self.played.row_of(column) == slot])
-        phases = of_slot(self.played.spans.phases)
-        if phases:
-            self.phases(phases)
-        self.waits(of_slot(self.played.spans.waits))
-        self.charges(of_slot(self.played.spans.charges))
+        if self.quiet(slot, phases, waits):
+            self.through(phases[0], waits)
+        else:
+            self.events([column for column in self.columns if self.played.row_of(column) == slot])
+            if phases:
+                self.phases(phases)
+            self.waits(waits)
+        self.charges(charges)
         self.actions(slot)
-        names = f'slot {slot}', f'channel {self.played.channel(slot)}'
-        self.y = max(self.y + 2, top + (42 if self.y > top + PAD else 26))
-        self.named(top, *(names if self.y > top + 40 else [f'{names[0]}, ch. {self.played.channel(slot)}']))
+        high = self.y > top + 34
+        self.y = max(self.y + 2, top + (42 if high else 26))
+        channel = self.played.channel(slot)
+        self.named(top, *([f'slot {slot}', f'channel {channel}'] if high else [f'slot {slot}, ch. {channel}']))
 
     def queue_rows(self):
         self.across('edge')
@@ -143,8 +163,8 @@ class Drawn:
         rows = {row: place for place, row in enumerate(sorted({span.row for span in spans}))}
         for span in spans:
             (x, to_x), y = self.ends(span), self.y + rows[span.row] * (WAIT + 3)
-            fires = ran_out(self.played.steps, span) and span.end <= self.strip.last
-            self.parts.append(titled(self.played.span_words(span), *wait_bar(x, y, to_x, self.opens(span), span.label, None, fires)))
+            parts = wait_bar(x, y, to_x, self.opens(span), span.label, None, self.fires(span))
+            self.parts.append(titled(self.played.span_words(span), *parts))
         self.y = max(self.y + len(rows) * (WAIT + 3) + 2, top + 26)
 
 
