@@ -1,6 +1,6 @@
 """Where each line of a script stands along the picture. A longer time is wider, by its logarithm, and every label has its room; where the
 width of a page is used up, a new strip begins. Whole numbers alone, so that every machine draws the same."""
-LEFT, MARGIN = 100, 18               # the rows' names, and what is free before the first line
+LEFT, MARGIN = 110, 18               # the rows' names, and what is free before the first line
 NARROWEST, WIDEST = 760, 1060        # a strip
 LARGE, SMALL = 13, 12                # sizes of letters
 

@@ -37,21 +37,26 @@ IN_DARK = dict(DARK, grid='#29323d', edge='#48566a', bad='#ff8a80', asked='#1b2f
 PAGE = f"""body{{margin:0 auto;padding:1em;max-width:100em;font:16px/1.4 Arial,Helvetica,sans-serif}}
 h1{{font-size:1.4em;margin:0}}
 .wide{{overflow-x:auto}}
-svg{{display:block;margin-bottom:1em}}
+.wide svg{{display:block;margin-bottom:1em}}
+.signs{{padding:0;display:flex;flex-wrap:wrap;gap:.4em 2em;list-style:none}}.signs svg{{vertical-align:middle;margin-right:6px}}
 table{{border-collapse:collapse}}
-th,td{{text-align:left;vertical-align:top;padding:.4em .7em;border-top:1px solid;white-space:pre-line}}
+tbody{{border-top:1px solid;break-inside:avoid}}
+th,td{{text-align:left;vertical-align:top;padding:.15em .7em}}
 code{{font:13px/1.5 monospace;overflow-wrap:anywhere}}
+tr:first-child code{{font-weight:bold}}
 :root{{color-scheme:light dark;color:{LIGHT['ink']};background:{LIGHT['paper']}}}
 @media(prefers-color-scheme:dark){{:root{{color:{DARK['ink']};background:{DARK['paper']}}}}}
-@media(max-width:50em){{thead{{display:none}}td{{display:block;border:0;padding:.2em .7em}}tbody th{{padding-bottom:0}}}}
-@media print{{@page{{size:landscape}}body{{padding:0}}svg,tr{{break-inside:avoid}}svg{{min-width:0!important}}.wide{{overflow:visible}}}}
+@media screen and (max-width:50em){{thead{{display:none}}td{{display:block;padding-left:0}}}}
+@media print{{@page{{size:landscape}}body{{padding:0;font-size:12px}}code{{font-size:10px}}svg{{break-inside:avoid}}
+.wide{{overflow:visible}}.wide svg{{min-width:0;max-height:98vh}}}}
 """
 STYLE = f'{SHAPES}{COLOURS.format(**IN_LIGHT)}@media(prefers-color-scheme:dark){{{COLOURS.format(**IN_DARK)}}}\n.face{{stroke:none}}'
 HATCH = ('<pattern id="hatch" width="6" height="6" patternUnits="userSpaceOnUse" patternTransform="rotate(45)">'
          '<path class="hatch" d="M0 0V6" stroke-width="5"/></pattern>')
 
-NOTES = ['Not to scale: a longer time is drawn wider, but not in proportion. The clock is written at each line.',
-         'Below an event stand the ship, and the time that the line gives where the clock shows another.']
+NOTES = ['Not to scale: a longer time is drawn wider, but not in proportion.',
+         'The clock stands at each line: in tenths, and below them in s, min:s or h:min:s.',
+         'Below an event stand its ship, and the time that the line gives where the clock shows another.']
 SIGNS = [
     (lambda y: event_mark(17, y, 'Q', 0), 26, 'an event, done'),
     (lambda y: event_mark(17, y, 'O', 1), 26, 'ignored'),
@@ -65,11 +70,18 @@ SIGNS = [
 WIDEST = max(wide + width_of(words) for _, wide, words in SIGNS) + 10
 
 
+def signs():
+    """What the signs mean, for a page."""
+    yield f'<p>{" ".join(NOTES)}</p>\n<ul class="signs">'
+    yield from (f'<li><svg width="{wide}" height="24" aria-hidden="true">{sign(12)}</svg>{words}</li>' for sign, wide, words in SIGNS)
+    yield '</ul>'
+
+
 def legend(width):
     """The signs in columns of one width, and the height."""
-    across = width // WIDEST
+    across, top = width // WIDEST, 26 + len(NOTES) * LINE
     parts = [text(8, 16 + row * LINE, words) for row, words in enumerate(NOTES)]
     for place, (sign, wide, words) in enumerate(SIGNS):
-        x, y = place % across * WIDEST, 58 + place // across * 26
+        x, y = place % across * WIDEST, top + place // across * 26
         parts.append(f'<g transform="translate({x})">{sign(y)}{text(wide + 6, y + 4, words)}</g>')
-    return parts, 58 + (len(SIGNS) - 1) // across * 26 + 16
+    return parts, top + (len(SIGNS) - 1) // across * 26 + 16

@@ -2,7 +2,7 @@
 import os, re
 
 from columns import NARROWEST
-from look import HATCH, PAGE, STYLE, legend
+from look import HATCH, PAGE, STYLE, legend, signs
 from played import Played
 from playing import ROOT
 from shapes import escape
@@ -13,16 +13,15 @@ BETWEEN = 20  # height between two strips
 
 
 def drawn(played):
-    """The parts and the height of each strip and of the legend; and the width of all."""
-    width = max([NARROWEST] + [strip.right for strip in played.strips]) + 4
-    return [*(draw(played, strip) for strip in played.strips), legend(width)], width
+    """The parts and the height of each strip; and the width of all."""
+    return [draw(played, strip) for strip in played.strips], max([NARROWEST] + [strip.right for strip in played.strips]) + 4
 
 
 def svg(played, title):
     """The picture by itself."""
     pieces, width = drawn(played)
     parts, y = [], 6
-    for piece, height in pieces:
+    for piece, height in [*pieces, legend(width)]:
         parts += [f'<g transform="translate(0 {y})">', *piece, '</g>']
         y += height + BETWEEN
     return '\n'.join([
@@ -33,26 +32,30 @@ def svg(played, title):
 
 
 def table(played):
-    yield '<table>\n<thead><tr><th>line<th>script<th>reply<th>in words</thead>\n<tbody>'
+    """Each line of the script and of its reply, its words beside it."""
+    yield '<table>\n<thead><tr><th scope="col">line</th><th scope="col">script and reply</th><th scope="col">in words</th></tr></thead>'
     for place, step in enumerate(played.steps):
-        reply, words = ('\n'.join(map(escape, lines)) for lines in (step.reply, step.words))
-        yield f'<tr><th>{place + 1}<td><code>{escape(step.line)}</code><td><code>{reply}</code><td>{words}'
-    yield '</tbody>\n</table>'
+        number = f'<th scope="rowgroup" rowspan="{len(step.words)}">{place + 1}</th>'
+        lines = zip([step.line, *step.reply], step.words)
+        rows = [f'<td><code>{escape(line)}</code></td><td>{escape(words)}</td>' for line, words in lines]
+        yield f'<tbody>\n<tr>{number}' + '</tr>\n<tr>'.join(rows) + '</tr>\n</tbody>'
+    yield '</table>'
 
 
 def page(played, title):
+    """The picture, strip by strip, and a table of all lines; well-formed as XML too."""
     pieces, width = drawn(played)
-    size = f'width:100%;min-width:{width}px;max-width:{width * 3 // 2}px'
     parts = []
-    for number, (piece, height) in enumerate(pieces):
-        name = 'what the signs mean' if number == len(played.strips) else f'the picture, part {number + 1} of {len(played.strips)}'
-        parts += [f'<svg viewBox="0 0 {width} {height + 2}" style="{size}" role="group" aria-label="{name}">', *piece, '</svg>']
+    for number, (piece, height) in enumerate(pieces, 1):
+        parts += [f'<svg viewBox="0 0 {width} {height + 2}" role="group" aria-label="part {number} of {len(pieces)}">', *piece, '</svg>']
+    size = f'.wide svg{{width:100%;min-width:{width}px;max-width:{width * 3 // 2}px}}'
     return '\n'.join([
-        '<!DOCTYPE html>', '<html lang="en">', '<meta charset="utf-8">',
-        '<meta name="viewport" content="width=device-width,initial-scale=1">', f'<title>{escape(title)}</title>',
-        f'<style>{PAGE}{STYLE}</style>', f'<h1>{escape(title)}</h1>', f'<p>{escape(played.summary())}.',
-        f'<svg width="0" height="0" aria-hidden="true">{HATCH}</svg>',
-        '<div class="wide">', *parts, '</div>', *table(played), '</html>', ''])
+        '<!DOCTYPE html>', '<html lang="en">', '<head>', '<meta charset="utf-8"/>',
+        '<meta name="viewport" content="width=device-width,initial-scale=1"/>', f'<title>{escape(title)}</title>',
+        f'<style>{size}\n{PAGE}{STYLE}</style>', '</head>', '<body>', f'<h1>{escape(title)}</h1>',
+        f'<p>{escape(played.summary())}.</p>', f'<svg width="0" height="0" aria-hidden="true">{HATCH}</svg>',
+        '<div class="wide" tabindex="0" role="region" aria-label="the picture">', *parts, '</div>', *signs(), *table(played),
+        '</body>', '</html>', ''])
 
 
 # ── the lessons ───────────────────────────────────────────────────────────────

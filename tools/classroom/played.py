@@ -49,4 +49,5 @@ class Played:
         count, charges = len(self.spans.queue), [span.label for span in self.spans.charges]
         told += [f'queue: {count} {"ship waits" if count == 1 else "ships wait"}'] if count else []
         told += [', '.join(charges) if len(charges) <= MOST_TOLD else f'{len(charges)} charges'] if charges else []
-        return '; '.join(told) or 'no station stands'
+        words = '; '.join(told) or 'no station stands'
+        return words[0].upper() + words[1:]

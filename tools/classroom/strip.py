@@ -75,8 +75,9 @@ class Drawn:
         self.parts.append(line(LEFT, middle, self.strip.right, middle, 'grid'))
         for span in spans:
             x, to_x = self.ends(span)
-            labels = fitting(x, self.y + 15, to_x, span.label, LARGE, 'name') + fitting(x, self.y + 30, to_x, str(span.ship or ''))
-            self.parts.append(titled(self.played.span_words(span), bar(STYLES[span.phase], x, self.y, to_x, BAR, self.opens(span)), *labels))
+            parts = [bar(STYLES[span.phase], x, self.y, to_x, BAR, self.opens(span))]
+            parts += fitting(x, self.y + 15, to_x, span.label, LARGE, 'name') + fitting(x, self.y + 30, to_x, str(span.ship or ''))
+            self.parts.append(titled(self.played.span_words(span), *parts))
         self.y += BAR + 3
 
     def fires(self, span):
@@ -153,7 +154,11 @@ class Drawn:
         high = self.y > top + 34
         self.y = max(self.y + 2, top + (42 if high else 26))
         channel = self.played.channel(slot)
-        self.named(top, *([f'slot {slot}', f'channel {channel}'] if high else [f'slot {slot}, ch. {channel}']))
+        if high:
+            self.named(top, f'slot {slot}', f'channel {channel}')
+        else:
+            self.named(top, f'slot {slot}')
+            self.parts.append(text(64, top + 17, f'ch. {channel}'))
 
     def queue_rows(self):
         self.across('edge')

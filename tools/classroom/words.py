@@ -5,7 +5,7 @@
         print(words.of('0 261 1 -'))      and, in their order, the lines of its reply
         print(words.of('2 0'))
 """
-import os, subprocess
+import functools, os, subprocess
 
 HERE = os.path.dirname(os.path.abspath(__file__))
 RUN = os.path.join(HERE, '..', 'x86-64')
@@ -15,6 +15,7 @@ class NoWords(SystemExit):
     """There are no words to be had. What catches nothing ends with this sentence and status 1."""
 
 
+@functools.lru_cache(maxsize=None)
 def built(name):
     """The path of a program of the classroom."""
     done = subprocess.run([os.path.join(HERE, 'build'), name], stdout=subprocess.PIPE, text=True)
