@@ -93,7 +93,7 @@ class Drawn:
         lanes = []
         for span in spans:
             (x, to_x), due = self.ends(span), self.due_place(span)
-            lane = next((lane for lane, free in enumerate(lanes) if free + 3 <= x), len(lanes))
+            lane = next((lane for lane, free in enumerate(lanes) if free <= x), len(lanes))
             lanes[lane:lane + 1] = [max(to_x, due[0] if due else 0)]
             parts = wait_bar(x, self.y + lane * (WAIT + 3), to_x, self.opens(span), span.label, due, self.fires(span))
             self.parts.append(titled(self.played.span_words(span), *parts))
