@@ -23,8 +23,8 @@ class NotPlayed(Exception):
 def run(what, words, script):
     done = subprocess.run(words, input=script, capture_output=True)
     if done.returncode != 0:
-        said = (done.stderr or done.stdout).decode('utf-8', 'replace').strip()
-        raise NotPlayed(f'{what} failed with status {done.returncode}: {said[-400:]}')
+        said = (done.stderr or done.stdout).decode('utf-8', 'replace').splitlines()
+        raise NotPlayed(f'{what} ended with status {done.returncode}: {said[-1] if said else "nothing said"}')
     return done.stdout.decode('ascii')
 
 
@@ -73,7 +73,7 @@ def play(script):
     lines = [line.rstrip(b'\n') for line in re.findall(rb'[^\n]*\n|[^\n]+', script)]
     if not lines:
         raise NotPlayed('the script has no line')
-    groups = run('the record', [RUN, 'run', built('record')], script).split('\n\n')[:-1]
+    groups = run('tools/classroom/record.c', [RUN, 'run', built('record')], script).split('\n\n')[:-1]
     with Words() as words:
         steps = [step_of(line, group.split('\n'), words) for line, group in zip(lines, groups)]
     check_same(steps, run('tools/rehearse', [os.path.join(ROOT, 'tools', 'rehearse')], script).splitlines())

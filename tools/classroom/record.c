@@ -33,7 +33,7 @@ enum {
     WAITING_SIZE = 31
 };
 enum { AT_PHASE = 0, AT_TIME = 1, AT_CARRIER = 5, AT_CARRIER_DUE = 6, AT_CHANNEL = 14, AT_REQUEST = 18, AT_WAITING_REQUEST = 4 };
-enum phase { FREE = 0, DIALLING = 5, ANSWERED = 6, TAKEN = 8, DIALLED_OUT = 9 };
+enum phase { FREE = 0, DIALLING = 5, ANSWERED = 6, TAKEN = 8, DIALLED_OUT = 9, LAST_PHASE = 12 };
 
 static uint8_t station[COAST_STATION_SIZE];
 static bool stands;
@@ -167,7 +167,7 @@ static void print_ship(bool has, const uint8_t *request) {
     print_number(has, coast_number_at(request));
 }
 
-static void print_slot(unsigned place) {
+static bool print_slot(unsigned place) {
     const uint8_t *slot = station + AT_SLOTS + place * SLOT_SIZE;
     uint8_t phase = slot[AT_PHASE];
     bool deals = phase != FREE && phase != TAKEN, line = phase == DIALLING || phase == ANSWERED || phase == DIALLED_OUT;
@@ -178,6 +178,7 @@ static void print_slot(unsigned place) {
     print_due("lost", line && slot[AT_CARRIER] == 1u, coast_number_at(slot + AT_CARRIER_DUE));
     print_ship(deals, slot + AT_REQUEST);
     printf(" words %s\n", coast_phase_words(phase));
+    return phase <= LAST_PHASE;
 }
 
 static void print_waiting(unsigned place) {
@@ -188,16 +189,18 @@ static void print_waiting(unsigned place) {
     printf("\n");
 }
 
-/* False where the earliest due time found is not the one that the library tells: then these bytes are laid out otherwise. */
+/* False where a phase is none, or the earliest due time found is not the one that the library tells: then these bytes are laid out
+ * otherwise. */
 static bool print_record(void) {
     uint64_t due = coast_next_due(station, sizeof station);
+    bool as_read = true;
     earliest = UINT32_MAX;
     printf("clock %u\n", (unsigned)coast_number_at(station + AT_CLOCK));
     for (unsigned i = 0; i < station[AT_SLOT_COUNT]; i++)
-        print_slot(i);
+        as_read = print_slot(i) && as_read;
     for (unsigned i = 0; i < station[AT_WAITING_COUNT]; i++)
         print_waiting(i);
-    return earliest == (coast_waits(due) ? coast_due(due) : UINT32_MAX);
+    return as_read && earliest == (coast_waits(due) ? coast_due(due) : UINT32_MAX);
 }
 
 /* ---- a line ---- */
