@@ -1,14 +1,11 @@
 """A script as a picture: an SVG by itself, and a page that has the same with every line in numbers and in words."""
-import os, re
-
+import lessons
 from columns import NARROWEST
 from look import HATCH, PAGE, STYLE, legend, signs
 from played import Played
-from playing import ROOT
 from shapes import escape
 from strip import draw
 
-LESSONS = os.path.join(ROOT, 'lessons')
 BETWEEN = 20  # height between two strips
 
 
@@ -58,30 +55,15 @@ def page(played, title):
         '</body>', '</html>', ''])
 
 
-# ── the lessons ───────────────────────────────────────────────────────────────
-
-def contents(path):
-    with open(path, 'rb') as file:
-        return file.read()
-
-
-def scripts_of(lesson):
-    return sorted(name for name in os.listdir(os.path.join(LESSONS, lesson)) if re.fullmatch(r'script(-.*)?', name))
-
-
 def title_of(lesson, script):
     """The heading of the lesson's page, and the script's name where there are several."""
-    heading = contents(os.path.join(LESSONS, lesson, 'README.md')).decode().splitlines()[0].lstrip('# ')
-    return heading if len(scripts_of(lesson)) == 1 else f'{heading} ({script})'
+    heading = lessons.contents(lessons.path_of(lesson, 'README.md')).decode('utf-8', 'replace').split('\n')[0].lstrip('# ')
+    return heading if len(lessons.scripts(lesson)) == 1 else f'{heading} ({script})'
 
 
 def of_lesson(lesson):
     """The files of a lesson's pictures, and what has to stand in them."""
-    for script in scripts_of(lesson):
-        played = Played(contents(os.path.join(LESSONS, lesson, script)))
-        for make, end in ((svg, 'svg'), (page, 'html')):
-            yield os.path.join(LESSONS, lesson, f'{script.replace("script", "picture", 1)}.{end}'), make(played, title_of(lesson, script))
-
-
-def lessons():
-    return sorted(name for name in os.listdir(LESSONS) if os.path.isdir(os.path.join(LESSONS, name)))
+    for script in lessons.scripts(lesson):
+        played, title, name = Played(script.text), title_of(lesson, script.name), script.name.replace('script', 'picture', 1)
+        yield lessons.path_of(lesson, f'{name}.svg'), svg(played, title)
+        yield lessons.path_of(lesson, f'{name}.html'), page(played, title)

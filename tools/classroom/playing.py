@@ -1,11 +1,11 @@
 """A script played: each line with its reply and with what the station's record then holds, told by the library itself."""
-import collections, os, re, subprocess
+import collections, subprocess
 
+from plainly import NotUnderstood
+from running import MOST_SECONDS, PROGRAM, lines_of, ran, shown
 from words import RUN, Words, built
 
-ROOT = os.path.normpath(os.path.join(os.path.dirname(os.path.abspath(__file__)), '..', '..'))
 NONE = '-'
-MOST_SHOWN = 160  # characters of a line that is no line of a script
 
 # `words` are those of the line, of the reply's first line, and of each action.
 Step = collections.namedtuple('Step', 'line event does charged reply clock slots queue words')
@@ -16,22 +16,8 @@ Slot = collections.namedtuple('Slot', 'channel phase due answered lost ship word
 Waiting = collections.namedtuple('Waiting', 'due ship')
 
 
-class NotPlayed(Exception):
-    pass
-
-
-def run(what, words, script):
-    done = subprocess.run(words, input=script, capture_output=True)
-    if done.returncode != 0:
-        said = (done.stderr or done.stdout).decode('utf-8', 'replace').splitlines()
-        raise NotPlayed(f'{what} ended with status {done.returncode}: {said[-1] if said else "nothing said"}')
-    return done.stdout.decode('ascii')
-
-
-def shown(line):
-    """A line as it may be shown, whatever bytes it has."""
-    text = line.decode('latin-1').encode('unicode_escape').decode()
-    return text if len(text) <= MOST_SHOWN else f'{text[:MOST_SHOWN]}.. ({len(text)} characters)'
+class NotPlayed(NotUnderstood):
+    """Why there is no picture."""
 
 
 def number(word):
@@ -59,9 +45,21 @@ def step_of(line, rows, words):
         [words.of(text) for text in [b'> ' + line, *reply]])
 
 
-def check_same(steps, printed):
+def record_of(script):
+    """What record.c tells of each line."""
+    done = subprocess.run([RUN, 'run', built('record')], input=script, capture_output=True)
+    told = done.stdout.decode('ascii')
+    if done.returncode != 0:
+        raise NotPlayed(f'tools/classroom/record.c ended with status {done.returncode}: {told.splitlines()[-1:] or "nothing told"}')
+    return [group.split('\n') for group in told.split('\n\n')[:-1]]
+
+
+def check_same(steps, script):
     """The library's replies must be what the script program prints: then the picture is of the run that the class sees."""
-    wanted = [row for step in steps for row in step.reply]
+    played = ran(PROGRAM, script, MOST_SECONDS)
+    if played.ending:
+        raise NotPlayed(f'tools/rehearse did not play the script: {played.ending}')
+    wanted, printed = [row for step in steps for row in step.reply], played.output.decode('latin-1').splitlines()
     for place, (row, other) in enumerate(zip(wanted + [None], printed + [None])):
         if row != other:
             raise NotPlayed(f'line {place + 1} of the output is {other!r} by tools/rehearse and {row!r} by the library: '
@@ -70,11 +68,10 @@ def check_same(steps, printed):
 
 def play(script):
     """The steps of a script, one for each of its lines."""
-    lines = [line.rstrip(b'\n') for line in re.findall(rb'[^\n]*\n|[^\n]+', script)]
+    lines = [line.rstrip(b'\n') for line in lines_of(script)]
     if not lines:
         raise NotPlayed('the script has no line')
-    groups = run('tools/classroom/record.c', [RUN, 'run', built('record')], script).split('\n\n')[:-1]
     with Words() as words:
-        steps = [step_of(line, group.split('\n'), words) for line, group in zip(lines, groups)]
-    check_same(steps, run('tools/rehearse', [os.path.join(ROOT, 'tools', 'rehearse')], script).splitlines())
+        steps = [step_of(line, rows, words) for line, rows in zip(lines, record_of(script))]
+    check_same(steps, script)
     return steps
