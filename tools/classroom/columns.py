@@ -38,7 +38,7 @@ def answer_of(step):
 def below(step):
     """What stands below an event's label: whose it is; the time that the line gives where the clock shows another; how it was answered."""
     answer, time = answer_of(step), step.event.time
-    who = [str(step.event.who)] if step.event.who else []
+    who = [] if step.event.who is None else [f'{step.event.who:09}']
     when = [] if time in (None, step.clock) else [f'at {time}']
     return who + when + ([] if answer == 0 else ['ignored'] if answer == 1 else [f'refused: {answer}'])
 
@@ -87,7 +87,7 @@ class Strip:
         column = after
         while column < self.last and steps[column + 1].clock <= time:
             column += 1
-        past = time - steps[column].clock
+        past = max(time - steps[column].clock, 0)
         if column == self.last:
             place = self.at(column) + stride(past)
             return min(place, self.right), place <= self.right

@@ -58,10 +58,10 @@ NOTES = ['Not to scale: a longer time is drawn wider, but not in proportion.',
          'The clock stands at each line: in tenths, and below them in s, min:s or h:min:s.',
          'Below an event stand its ship, and the time that the line gives where the clock shows another.']
 SIGNS = [
-    (lambda y: event_mark(17, y, 'Q', 0), 26, 'an event, done'),
+    (lambda y: event_mark(17, y, 'Q', 0), 26, 'an event by its letter: done'),
     (lambda y: event_mark(17, y, 'O', 1), 26, 'ignored'),
     (lambda y: event_mark(17, y, 'T', 32), 26, 'refused, with the number'),
-    (lambda y: action_mark(6, y + 4, ''), 22, 'an action, to be done at once'),
+    (lambda y: action_mark(6, y + 4, ''), 22, 'an action, in the order told'),
     (lambda y: bar('asked', 8, y - 9, 36, 18), 40, "a slot's phase, and its ship"),
     (lambda y: ''.join(wait_bar(8, y - 9, 36, (False, False), '', None, True)), 40, 'a wait that ran out: it fell due'),
     (lambda y: ''.join(wait_bar(8, y - 9, 36, (False, False), '', (58, True))), 62, 'a wait that ended before it was due'),

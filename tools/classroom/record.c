@@ -78,8 +78,8 @@ static const char *event_label(char letter) {
     case 'P': return "dialling ended";
     case 'O': return "off-hook";
     case 'H': return "on-hook";
-    case 'M': return "taken";
-    case 'F': return "given back";
+    case 'M': return "operator takes";
+    case 'F': return "operator gives back";
     case 'T': return "tick";
     default: return "?";
     }

@@ -11,7 +11,8 @@ def escape(words):
 
 
 def text(x, y, words, style=''):
-    return f'<text{style and f""" class="{style}" """.rstrip()} x="{x}" y="{y}">{escape(words)}</text>'
+    named = f' class="{style}"' if style else ''
+    return f'<text{named} x="{x}" y="{y}">{escape(words)}</text>'
 
 
 def line(x, y, to_x, to_y, style):

@@ -37,12 +37,15 @@ def waits(steps, slot):
 
 
 def charges(steps, slot):
+    """Each from the line that answered the call, which is as far back as the record has that answer, to the line that charges it."""
     answered = seen(steps, slot, lambda s: s.answered)
-    for place, step in enumerate(steps):
-        for charge in step.charged:
-            if charge.slot == slot:
-                seconds = next(does.label for does in step.does if does.slot == slot and does.label.startswith('charge'))
-                yield Span('charge', slot, answered.index(charge.start), place, seconds, None, None, None)
+    for end, step in enumerate(steps):
+        for charge in (charge for charge in step.charged if charge.slot == slot):
+            begin = end
+            while begin and answered[begin - 1] == charge.start:
+                begin -= 1
+            label = next(does.label for does in step.does if does.slot == slot and does.label.startswith('charge'))
+            yield Span('charge', slot, begin, end, label, None, None, None)
 
 
 def queue(steps):
