@@ -67,7 +67,7 @@ SIGNS = [
     (lambda y: ''.join(wait_bar(8, y - 9, 36, (False, False), '', (58, True))), 62, 'a wait that ended before it was due'),
     (lambda y: bar('charge', 8, y - 9, 36, WAIT), 40, 'a charge, from the answer to the stop'),
 ]
-WIDEST = max(wide + width_of(words) for _, wide, words in SIGNS) + 10
+SIGN = max(wide + width_of(words) for _, wide, words in SIGNS) + 10
 
 
 def signs():
@@ -79,9 +79,9 @@ def signs():
 
 def legend(width):
     """The signs in columns of one width, and the height."""
-    across, top = width // WIDEST, 26 + len(NOTES) * LINE
+    across, top = width // SIGN, 26 + len(NOTES) * LINE
     parts = [text(8, 16 + row * LINE, words) for row, words in enumerate(NOTES)]
     for place, (sign, wide, words) in enumerate(SIGNS):
-        x, y = place % across * WIDEST, top + place // across * 26
+        x, y = place % across * SIGN, top + place // across * 26
         parts.append(f'<g transform="translate({x})">{sign(y)}{text(wide + 6, y + 4, words)}</g>')
     return parts, top + (len(SIGNS) - 1) // across * 26 + 16

@@ -27,14 +27,21 @@ class Played:
     def action_words(self, column, place):
         return self.steps[column].words[2 + place]
 
+    def whose(self, span):
+        """Of a phase: the ship, and the number or numbers that it asks for."""
+        if span.kind != 'phase' or not span.ship:
+            return ''
+        numbers = dict.fromkeys(step.slots[span.row].number for step in self.steps[span.begin:span.end])
+        return f', ship {span.ship}, number {", then ".join(numbers)}'
+
     def span_words(self, span):
-        where = 'queue' if span.kind == 'queue' else f'slot {span.row}, channel {self.channel(span.row)}'
-        ship = f', ship {span.ship}' if span.kind == 'phase' and span.ship else ''
-        began = clock_text(self.steps[span.begin].clock)
+        slot = '' if span.kind == 'queue' else f'slot {span.row}, channel {self.channel(span.row)}: '
+        what = {'queue': 'in the queue, ship ', 'wait': 'a wait, '}.get(span.kind, '')
+        words = f'{slot}{what}{span.label}{self.whose(span)}, from {clock_text(self.steps[span.begin].clock)}'
         if span.end is None:
-            return f'{where}: {span.label}{ship}, from {began} on'
+            return f'{words} on'
         how = '' if span.due is None else ', when it fell due' if ran_out(self.steps, span) else ', before it was due'
-        return f'{where}: {span.label}{ship}, from {began} to {clock_text(self.steps[span.end].clock)}{how}'
+        return f'{words} to {clock_text(self.steps[span.end].clock)}{how}'
 
     def slot_words(self, slot):
         names = [span.label for span in self.spans.phases if span.row == slot]

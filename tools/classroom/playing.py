@@ -12,7 +12,7 @@ Step = collections.namedtuple('Step', 'line event does charged reply clock slots
 Event = collections.namedtuple('Event', 'letter time slot who label')
 Does = collections.namedtuple('Does', 'slot label')
 Charge = collections.namedtuple('Charge', 'slot start stop')
-Slot = collections.namedtuple('Slot', 'channel phase due answered lost ship words')
+Slot = collections.namedtuple('Slot', 'channel phase due answered lost ship number words')
 Waiting = collections.namedtuple('Waiting', 'due ship')
 
 
@@ -29,8 +29,8 @@ def told(rows, head):
 
 
 def slot_of(row):
-    words = row.split(' ', 14)
-    return Slot(*map(number, words[2:13:2]), words[14])
+    words = row.split(' ', 16)
+    return Slot(*map(number, words[2:13:2]), words[14], words[16])
 
 
 def step_of(line, rows, words):
@@ -48,10 +48,10 @@ def step_of(line, rows, words):
 def record_of(script):
     """What record.c tells of each line."""
     done = subprocess.run([RUN, 'run', built('record')], input=script, capture_output=True)
-    told = done.stdout.decode('ascii')
+    *groups, rest = done.stdout.decode('ascii').split('\n\n')
     if done.returncode != 0:
-        raise NotPlayed(f'tools/classroom/record.c ended with status {done.returncode}: {told.splitlines()[-1:] or "nothing told"}')
-    return [group.split('\n') for group in told.split('\n\n')[:-1]]
+        raise NotPlayed(f'tools/classroom/record.c ended with status {done.returncode}: {" ".join(rest.splitlines()[-1:])}')
+    return [group.split('\n') for group in groups]
 
 
 def check_same(steps, script):

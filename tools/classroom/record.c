@@ -4,10 +4,11 @@
  *   does 0 dial 5551234                    each action: slot, a label; of a charge also its bounds, `charged 0 720 4829`
  *   = 0 250 1 851                          the reply, as the script program prints it
  *   = 5 0 5 5 5 1 2 3 4
- *   clock 250                              what the station's bytes then hold, as include/coast.h lays them out; `lost` is the due
- *   slot 0 channel 26 phase 5 due 851 answered - lost - ship 200056789 words dialling           time of a carrier that is lost
- *   waiting due 10001 ship 200056790
- * and an empty line. Labels are short, for the marks of a picture: what happens in sentences, explain.c tells. */
+ *   clock 250                              and what the station's bytes then hold, as include/coast.h lays them out
+ *   slot 0 channel 26 phase 5 due 851 answered - lost - ship 200056789 number 5551234 words dialling
+ *   waiting due 10001 ship 200056790 number 5551234
+ * and an empty line. `lost` is the due time of a carrier that is lost. Labels are short, for the marks of a picture: what happens in
+ * sentences, explain.c tells. */
 #include <coast_words.h>
 #include "../../tests/host/event.h"
 
@@ -33,6 +34,7 @@ enum {
     WAITING_SIZE = 31
 };
 enum { AT_PHASE = 0, AT_TIME = 1, AT_CARRIER = 5, AT_CARRIER_DUE = 6, AT_CHANNEL = 14, AT_REQUEST = 18, AT_WAITING_REQUEST = 4 };
+enum { AT_SHIP = 0, AT_DIGIT_COUNT = 10, AT_DIGITS = 11 };
 enum phase { FREE = 0, DIALLING = 5, ANSWERED = 6, TAKEN = 8, DIALLED_OUT = 9, LAST_PHASE = 12 };
 
 static uint8_t station[COAST_STATION_SIZE];
@@ -162,9 +164,11 @@ static void print_due(const char *name, bool has, uint32_t due) {
     print_number(has, due);
 }
 
-static void print_ship(bool has, const uint8_t *request) {
+static void print_request(bool has, const uint8_t *request) {
+    char number[COAST_NUMBER_TEXT];
     printf(" ship");
-    print_number(has, coast_number_at(request));
+    print_number(has, coast_number_at(request + AT_SHIP));
+    printf(" number %s", has ? coast_digits_text(request + AT_DIGITS, request[AT_DIGIT_COUNT], number) : "-");
 }
 
 static bool print_slot(unsigned place) {
@@ -176,7 +180,7 @@ static bool print_slot(unsigned place) {
     printf(" answered");
     print_number(phase == ANSWERED, coast_number_at(slot + AT_TIME));
     print_due("lost", line && slot[AT_CARRIER] == 1u, coast_number_at(slot + AT_CARRIER_DUE));
-    print_ship(deals, slot + AT_REQUEST);
+    print_request(deals, slot + AT_REQUEST);
     printf(" words %s\n", coast_phase_words(phase));
     return phase <= LAST_PHASE;
 }
@@ -185,7 +189,7 @@ static void print_waiting(unsigned place) {
     const uint8_t *waiting = station + AT_WAITING + place * WAITING_SIZE;
     printf("waiting");
     print_due("due", true, coast_number_at(waiting));
-    print_ship(true, waiting + AT_WAITING_REQUEST);
+    print_request(true, waiting + AT_WAITING_REQUEST);
     printf("\n");
 }
 

@@ -30,7 +30,8 @@ def phases(steps, slot):
 
 
 def waits(steps, slot):
-    for due, begin, end in runs(seen(steps, slot, lambda s: s.due)):
+    """Each phase has a wait of its own; that of a lost carrier goes on from phase to phase."""
+    for (_, due), begin, end in runs(seen(steps, slot, lambda s: None if s.due is None else (s.phase, s.due))):
         yield Span('wait', slot, begin, end, f'due {due}', None, due, None)
     for due, begin, end in runs(seen(steps, slot, lambda s: s.lost)):
         yield Span('wait', slot, begin, end, f'no carrier: due {due}', None, due, None)
