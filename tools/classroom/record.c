@@ -83,7 +83,7 @@ static const char *event_label(char letter) {
     case 'M': return "operator takes";
     case 'F': return "operator gives back";
     case 'T': return "tick";
-    default: return "?";
+    default: return "no label";
     }
 }
 
