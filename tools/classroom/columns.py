@@ -54,10 +54,8 @@ def half_clock(step):
 
 
 def room_of_span(span):
-    sizes = [width_of(span.label, LARGE if span.kind == 'phase' else SMALL)]
-    if span.kind == 'phase' and span.ship:
-        sizes.append(width_of(str(span.ship)))
-    return max(sizes) + 14
+    label = width_of(span.label, LARGE if span.kind in ('phase', 'charge') else SMALL)
+    return 14 + max(label, width_of(str(span.ship)) if span.kind == 'phase' and span.ship else 0)
 
 
 class Strip:

@@ -72,7 +72,7 @@ class Spans:
         self.slots = max(len(step.slots) for step in steps)
         each = range(self.slots)
         self.phases = [span for slot in each for span in phases(steps, slot)]
-        self.waits = [span for slot in each for span in waits(steps, slot)]
+        self.waits = sorted((span for slot in each for span in waits(steps, slot)), key=lambda span: span.begin)
         self.charges = [span for slot in each for span in charges(steps, slot)]
         self.queue = list(queue(steps))
         self.all = [*self.phases, *self.waits, *self.charges, *self.queue]
