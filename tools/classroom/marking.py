@@ -41,6 +41,8 @@ def seconds():
 
 def mark(program, lesson, script, complaints=None):
     ran = running.ran(running.located(program), script.text, seconds(), complaints)
+    if ran.output + b'\n' == script.wanted:
+        ran = ran._replace(output=script.wanted, ending=ran.ending or 'its last line has no line feed')
     same = ran.output == script.wanted
     return Mark(lesson, script, ran, None if same else running.first_difference(script.wanted, ran.output))
 
@@ -56,8 +58,6 @@ def remark(one):
     """What is to be said of an output that differs, beside the two lines."""
     if not one.ran.output:
         return 'it printed nothing'
-    if one.ran.output + b'\n' == one.script.wanted:
-        return 'its last line has no line feed'
     if one.printed == one.difference.wanted + b'\r':
         return 'its line ends with a carriage return and a line feed; here a line ends with a line feed alone'
     if one.difference.wanted == NOTHING_MORE:
@@ -67,7 +67,7 @@ def remark(one):
     return None
 
 
-def briefly(line, most=40):
+def briefly(line, most):
     text = shown(line)
     return text if len(text) <= most else text[:most - 3] + ' ..'
 
@@ -76,8 +76,8 @@ def in_one_line(one):
     """Where and how a script was failed, for a table."""
     if one.difference is None:
         return f'{one.script.name}: {one.ran.ending}'
-    parts = [f'{one.script.name} line {one.difference.line + 1}, {briefly(one.line)}:',
-             f'{briefly(one.difference.wanted)} should be printed, not {briefly(one.printed) or "an empty line"}']
+    parts = [f'{one.script.name} line {one.difference.line + 1}, {briefly(one.line, 30)}:',
+             f'{shown(one.difference.wanted)} should be printed, not {briefly(one.printed, 120) or "an empty line"}']
     remarks = '; '.join(words for words in (remark(one), one.ran.ending) if words)
     return ' '.join(parts) + (f' ({remarks})' if remarks else '')
 
