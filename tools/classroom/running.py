@@ -1,5 +1,5 @@
 """Script programs at work, and what they print: its lines, its answers, and the first line where two outputs part."""
-import collections, errno, os, re, select, signal, subprocess, tempfile, time
+import collections, contextlib, errno, os, re, select, signal, subprocess, tempfile, time
 
 ROOT = os.path.normpath(os.path.join(os.path.dirname(os.path.abspath(__file__)), '..', '..'))
 PROGRAM = os.path.join(ROOT, 'tools', 'rehearse')   # the project's own, or the one that REHEARSE names
@@ -73,7 +73,8 @@ def ran(program, script, seconds, complaints=None):
         output, ended = printed_by(child, time.monotonic() + seconds)
     finally:
         if not ended:
-            os.killpg(child.pid, signal.SIGKILL)
+            with contextlib.suppress(ProcessLookupError):
+                os.killpg(child.pid, signal.SIGKILL)
             child.wait()
         child.stdout.close()
     return Ran(output, how_it_ended(child.returncode, ended, len(output), seconds), True)
