@@ -125,7 +125,7 @@ def said_of(lesson, played, answer, wanted, got):
     if known:
         return f'{path} knows this mistake:', known
     if about:
-        return f'{path} on what students print in place of this:', about
+        return f'{path} on what often goes wrong here:', about
     if rows_told:
         return f'{path} on this line of the script:', [' | '.join(cell.strip() for cell in rows_told[0].split('|'))]
     return 'The point of the lesson:', [points()[lesson]]
