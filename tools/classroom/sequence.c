@@ -12,6 +12,7 @@
 extern int printf(const char *, ...);
 extern int dprintf(int, const char *, ...);
 extern int fflush(void *);
+extern int strcmp(const char *, const char *);
 
 #define STANDARD_ERROR 2
 #define REFUSED 1
@@ -113,16 +114,19 @@ static int lay_charge(char **words, size_t count) {
     return 0;
 }
 
-static int do_order(const char *order, char **words, size_t count) {
-    switch (order[0]) {
-    case 'w': return write_sequence(words, count);
-    case 'r': return read_sequence(words, count);
-    case 'c': return lay_charge(words, count);
-    default: return WRONG_USAGE;
-    }
+static const struct {
+    const char *name;
+    int (*done)(char **words, size_t count);
+} orders[] = {{"write", write_sequence}, {"read", read_sequence}, {"charge", lay_charge}};
+
+static int do_order(char **words, size_t count) {
+    for (size_t i = 0; count > 0u && i < sizeof orders / sizeof orders[0]; i++)
+        if (strcmp(words[0], orders[i].name) == 0)
+            return orders[i].done(words + 1, count - 1u);
+    return WRONG_USAGE;
 }
 
 int main(int count, char **words) {
-    int status = count < 2 ? WRONG_USAGE : do_order(words[1], words + 2, (size_t)count - 2);
+    int status = do_order(words + 1, (size_t)count - 1u);
     return fflush(NULL) == 0 ? status : REFUSED;
 }
