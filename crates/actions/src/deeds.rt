@@ -15,79 +15,79 @@ use units::SlotNumber;
 use units::Tenths;
 use units::Told;
 
-fn plain(kind: u8, i: SlotNumber) -> Action
-    ensures { λ r. ⌜ r ≡ actionOf kind (i .0) [] ⌝ }
+fn plain(kind: u8, slot: SlotNumber) -> Action
+    ensures { λ r. ⌜ r ≡ actionOf kind (slot .0) [] ⌝ }
 {
     Action {
         kind: kind,
-        slot: i,
+        slot: slot,
         length: 0,
         payload: [0u8; PAYLOAD],
     }
 }
 
-pub fn carrier_on(i: SlotNumber) -> Action
-    ensures { λ r. ⌜ r ≡ actionOf 1 (i .0) [] ⌝ }
-    ensures { λ r. ⌜ actionBlock r ≡ block 1 (i .0) [] ⌝ }
+pub fn carrier_on(slot: SlotNumber) -> Action
+    ensures { λ r. ⌜ r ≡ actionOf 1 (slot .0) [] ⌝ }
+    ensures { λ r. ⌜ actionBlock r ≡ block 1 (slot .0) [] ⌝ }
 {
-    plain(1, i)
+    plain(1, slot)
 }
 
-pub fn carrier_off(i: SlotNumber) -> Action
-    ensures { λ r. ⌜ r ≡ actionOf 2 (i .0) [] ⌝ }
-    ensures { λ r. ⌜ actionBlock r ≡ block 2 (i .0) [] ⌝ }
+pub fn carrier_off(slot: SlotNumber) -> Action
+    ensures { λ r. ⌜ r ≡ actionOf 2 (slot .0) [] ⌝ }
+    ensures { λ r. ⌜ actionBlock r ≡ block 2 (slot .0) [] ⌝ }
 {
-    plain(2, i)
+    plain(2, slot)
 }
 
-pub fn release_line(i: SlotNumber) -> Action
-    ensures { λ r. ⌜ r ≡ actionOf 6 (i .0) [] ⌝ }
-    ensures { λ r. ⌜ actionBlock r ≡ block 6 (i .0) [] ⌝ }
+pub fn release_line(slot: SlotNumber) -> Action
+    ensures { λ r. ⌜ r ≡ actionOf 6 (slot .0) [] ⌝ }
+    ensures { λ r. ⌜ actionBlock r ≡ block 6 (slot .0) [] ⌝ }
 {
-    plain(6, i)
+    plain(6, slot)
 }
 
 // Document 02, no. 2: "8 ringing on"
-pub fn ringing_on(i: SlotNumber) -> Action
-    ensures { λ r. ⌜ r ≡ actionOf 8 (i .0) [] ⌝ }
-    ensures { λ r. ⌜ actionBlock r ≡ block 8 (i .0) [] ⌝ }
+pub fn ringing_on(slot: SlotNumber) -> Action
+    ensures { λ r. ⌜ r ≡ actionOf 8 (slot .0) [] ⌝ }
+    ensures { λ r. ⌜ actionBlock r ≡ block 8 (slot .0) [] ⌝ }
 {
-    plain(8, i)
+    plain(8, slot)
 }
 
 // "9 ringing off"
-pub fn ringing_off(i: SlotNumber) -> Action
-    ensures { λ r. ⌜ r ≡ actionOf 9 (i .0) [] ⌝ }
-    ensures { λ r. ⌜ actionBlock r ≡ block 9 (i .0) [] ⌝ }
+pub fn ringing_off(slot: SlotNumber) -> Action
+    ensures { λ r. ⌜ r ≡ actionOf 9 (slot .0) [] ⌝ }
+    ensures { λ r. ⌜ actionBlock r ≡ block 9 (slot .0) [] ⌝ }
 {
-    plain(9, i)
+    plain(9, slot)
 }
 
 // "10 five seconds of busy tone"
-pub fn busy_tone(i: SlotNumber) -> Action
-    ensures { λ r. ⌜ r ≡ actionOf 10 (i .0) [] ⌝ }
-    ensures { λ r. ⌜ actionBlock r ≡ block 10 (i .0) [] ⌝ }
+pub fn busy_tone(slot: SlotNumber) -> Action
+    ensures { λ r. ⌜ r ≡ actionOf 10 (slot .0) [] ⌝ }
+    ensures { λ r. ⌜ actionBlock r ≡ block 10 (slot .0) [] ⌝ }
 {
-    plain(10, i)
+    plain(10, slot)
 }
 
 // "digits, one a byte"
-pub fn dial(i: SlotNumber, number: Number) -> Action
-    ensures { λ r. ⌜ r ≡ actionOf 5 (i .0) (digitsOf number) ⌝ }
-    ensures { λ r. ⌜ actionBlock r ≡ block 5 (i .0) (digitsOf number) ⌝ }
+pub fn dial(slot: SlotNumber, number: Number) -> Action
+    ensures { λ r. ⌜ r ≡ actionOf 5 (slot .0) (digitsOf number) ⌝ }
+    ensures { λ r. ⌜ actionBlock r ≡ block 5 (slot .0) (digitsOf number) ⌝ }
 {
     let count = least(number.count, MOST_DIGITS);
-    let n = count as usize;
+    let length = count as usize;
     let digits = number.digits;
     let mut payload = [0u8; PAYLOAD];
-    let mut k = 0;
-    while k < n {
-        payload[k] = digits[k];
-        k += 1;
+    let mut i = 0;
+    while i < length {
+        payload[i] = digits[i];
+        i += 1;
     }
     Action {
         kind: 5,
-        slot: i,
+        slot: slot,
         length: count,
         payload: payload,
     }
@@ -107,41 +107,41 @@ fn span_of(start: Tenths, stop: Tenths) -> Tenths
 pub fn lasted(start: Tenths, stop: Tenths) -> Told
     ensures { λ r. ⌜ r ≡ durationOf (wholeSeconds (span start stop)) ⌝ }
 {
-    let s = span_of(start, stop);
-    let seconds = s.whole_seconds();
+    let span = span_of(start, stop);
+    let seconds = span.whole_seconds();
     seconds.duration()
 }
 
 // "ship, start, stop, seconds; four bytes each, low first"
-pub fn charge(i: SlotNumber, ship: u32, start: Tenths, stop: Tenths) -> Action
-    ensures { λ r. ⌜ r ≡ actionOf 7 (i .0) (chargeBytes ship start stop) ⌝ }
-    ensures { λ r. ⌜ actionBlock r ≡ block 7 (i .0) (chargeBytes ship start stop) ⌝ }
+pub fn charge(slot: SlotNumber, ship: u32, start: Tenths, stop: Tenths) -> Action
+    ensures { λ r. ⌜ r ≡ actionOf 7 (slot .0) (chargeBytes ship start stop) ⌝ }
+    ensures { λ r. ⌜ actionBlock r ≡ block 7 (slot .0) (chargeBytes ship start stop) ⌝ }
 {
-    let s = span_of(start, stop);
-    let seconds = s.whole_seconds();
-    let n = seconds.count();
-    let a = start.0;
-    let b = stop.0;
+    let span = span_of(start, stop);
+    let charged = span.whole_seconds();
+    let seconds = charged.count();
+    let begun = start.0;
+    let ended = stop.0;
     let mut payload = [0u8; PAYLOAD];
     payload[0] = (ship % 256) as u8;
     payload[1] = (ship / 256 % 256) as u8;
     payload[2] = (ship / 65536 % 256) as u8;
     payload[3] = (ship / 16777216 % 256) as u8;
-    payload[4] = (a % 256) as u8;
-    payload[5] = (a / 256 % 256) as u8;
-    payload[6] = (a / 65536 % 256) as u8;
-    payload[7] = (a / 16777216 % 256) as u8;
-    payload[8] = (b % 256) as u8;
-    payload[9] = (b / 256 % 256) as u8;
-    payload[10] = (b / 65536 % 256) as u8;
-    payload[11] = (b / 16777216 % 256) as u8;
-    payload[12] = (n % 256) as u8;
-    payload[13] = (n / 256 % 256) as u8;
-    payload[14] = (n / 65536 % 256) as u8;
-    payload[15] = (n / 16777216 % 256) as u8;
+    payload[4] = (begun % 256) as u8;
+    payload[5] = (begun / 256 % 256) as u8;
+    payload[6] = (begun / 65536 % 256) as u8;
+    payload[7] = (begun / 16777216 % 256) as u8;
+    payload[8] = (ended % 256) as u8;
+    payload[9] = (ended / 256 % 256) as u8;
+    payload[10] = (ended / 65536 % 256) as u8;
+    payload[11] = (ended / 16777216 % 256) as u8;
+    payload[12] = (seconds % 256) as u8;
+    payload[13] = (seconds / 256 % 256) as u8;
+    payload[14] = (seconds / 65536 % 256) as u8;
+    payload[15] = (seconds / 16777216 % 256) as u8;
     Action {
         kind: 7,
-        slot: i,
+        slot: slot,
         length: 16,
         payload: payload,
     }

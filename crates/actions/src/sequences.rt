@@ -32,17 +32,17 @@ use units::Told;
 use writing::write;
 
 // A number laid out anew: its digits, and 0 in each place that is not used.
-fn tidied(n: Number) -> Number
-    ensures { λ r. ⌜ r ≡ numberOf (digitsOf n) ⌝ }
+fn tidied(number: Number) -> Number
+    ensures { λ r. ⌜ r ≡ numberOf (digitsOf number) ⌝ }
 {
-    let count = least(n.count, MOST_DIGITS);
-    let m = count as usize;
-    let d = n.digits;
+    let count = least(number.count, MOST_DIGITS);
+    let length = count as usize;
+    let stored = number.digits;
     let mut digits = [0u8; DIGITS];
-    let mut k = 0;
-    while k < m {
-        digits[k] = d[k];
-        k += 1;
+    let mut i = 0;
+    while i < length {
+        digits[i] = stored[i];
+        i += 1;
     }
     Number {
         count: count,
@@ -51,62 +51,62 @@ fn tidied(n: Number) -> Number
 }
 
 // The sequence of a valid meaning; nothing for another.
-fn send(kind: u8, i: SlotNumber, m: Meaning) -> Action
-    ensures { λ r. ⌜ r ≡ actionOf kind (i .0) (sent m) ⌝ }
+fn send(kind: u8, slot: SlotNumber, meaning: Meaning) -> Action
+    ensures { λ r. ⌜ r ≡ actionOf kind (slot .0) (sent meaning) ⌝ }
 {
     let mut payload = [0u8; PAYLOAD];
-    let w = write(m, &mut payload);
+    let written = write(meaning, &mut payload);
     Action {
         kind: kind,
-        slot: i,
-        length: w.length as u8,
+        slot: slot,
+        length: written.length as u8,
         payload: payload,
     }
 }
 
-fn first_of(m: Mode) -> u8
-    ensures { λ r. ⌜ r ≡ modeNumber (modeOf m) ⌝ }
+fn first_of(mode: Mode) -> u8
+    ensures { λ r. ⌜ r ≡ modeNumber (modeOf mode) ⌝ }
 {
-    match m {
+    match mode {
         Mode::Simplex => FIRST_SIMPLEX,
         Mode::Duplex => FIRST_DUPLEX,
     }
 }
 
 // "Answers repeat the request with identities exchanged", here with the channel of its slot.
-fn able(i: SlotNumber, channel: Channel, end: u8, q: Request) -> Action
-    ensures { λ r. ⌜ r ≡ actionOf 3 (i .0) (sent (ableSaid channel end (requestOf q))) ⌝ }
+fn able(slot: SlotNumber, channel: Channel, end: u8, request: Request) -> Action
+    ensures { λ r. ⌜ r ≡ actionOf 3 (slot .0) (sent (ableSaid channel end (requestOf request))) ⌝ }
 {
-    let stored = q.number;
+    let stored = request.number;
     let number = tidied(stored);
-    let mode = q.mode;
+    let mode = request.mode;
     let first = first_of(mode);
-    let m = Meaning {
-        address: q.ship,
-        sender: q.station,
+    let meaning = Meaning {
+        address: request.ship,
+        sender: request.station,
         first: first,
-        second: q.second,
+        second: request.second,
         field: Field::Channel(channel),
         number: number,
         end: end,
     };
-    send(3, i, m)
+    send(3, slot, meaning)
 }
 
 // "acknowledgement with the channel and BQ"
-pub fn acknowledgement(i: SlotNumber, channel: Channel, q: Request) -> Action
-    ensures { λ r. ⌜ r ≡ actionOf 3 (i .0) (sent (ableSaid channel endBq (requestOf q))) ⌝ }
-    ensures { λ r. ⌜ actionBlock r ≡ block 3 (i .0) (sent (ableSaid channel endBq (requestOf q))) ⌝ }
+pub fn acknowledgement(slot: SlotNumber, channel: Channel, request: Request) -> Action
+    ensures { λ r. ⌜ r ≡ actionOf 3 (slot .0) (sent (ableSaid channel endBq (requestOf request))) ⌝ }
+    ensures { λ r. ⌜ actionBlock r ≡ block 3 (slot .0) (sent (ableSaid channel endBq (requestOf request))) ⌝ }
 {
-    able(i, channel, END_BQ, q)
+    able(slot, channel, END_BQ, request)
 }
 
 // "the able answer but with RQ": a ring-back, or a call from ashore
-pub fn call_ship(i: SlotNumber, channel: Channel, q: Request) -> Action
-    ensures { λ r. ⌜ r ≡ actionOf 3 (i .0) (sent (ableSaid channel endRq (requestOf q))) ⌝ }
-    ensures { λ r. ⌜ actionBlock r ≡ block 3 (i .0) (sent (ableSaid channel endRq (requestOf q))) ⌝ }
+pub fn call_ship(slot: SlotNumber, channel: Channel, request: Request) -> Action
+    ensures { λ r. ⌜ r ≡ actionOf 3 (slot .0) (sent (ableSaid channel endRq (requestOf request))) ⌝ }
+    ensures { λ r. ⌜ actionBlock r ≡ block 3 (slot .0) (sent (ableSaid channel endRq (requestOf request))) ⌝ }
 {
-    able(i, channel, END_RQ, q)
+    able(slot, channel, END_RQ, request)
 }
 
 // "for 104 the field 126s", and 255 in the slot's place
@@ -114,26 +114,26 @@ pub fn unable(second: u8, ship: u32, station: u32, number: Number) -> Action
     ensures { λ r. ⌜ r ≡ actionOf 3 unableSlot (sent (unableSaid second (party ship station) (digitsOf number))) ⌝ }
     ensures { λ r. ⌜ actionBlock r ≡ block 3 unableSlot (sent (unableSaid second (party ship station) (digitsOf number))) ⌝ }
 {
-    let n = tidied(number);
-    let m = Meaning {
+    let tidy = tidied(number);
+    let meaning = Meaning {
         address: ship,
         sender: station,
         first: FIRST_UNABLE,
         second: second,
         field: Field::Blank,
-        number: n,
+        number: tidy,
         end: END_BQ,
     };
-    send(3, UNABLE_SLOT, m)
+    send(3, UNABLE_SLOT, meaning)
 }
 
 // The same answer to a stored request.
-pub fn unable_to(second: u8, q: Request) -> Action
-    ensures { λ r. ⌜ r ≡ actionOf 3 unableSlot (sent (unableSaid second (requestOf q .who) (requestOf q .number))) ⌝ }
-    ensures { λ r. ⌜ actionBlock r ≡ block 3 unableSlot (sent (unableSaid second (requestOf q .who) (requestOf q .number))) ⌝ }
+pub fn unable_to(second: u8, request: Request) -> Action
+    ensures { λ r. ⌜ r ≡ actionOf 3 unableSlot (sent (unableSaid second (requestOf request .who) (requestOf request .number))) ⌝ }
+    ensures { λ r. ⌜ actionBlock r ≡ block 3 unableSlot (sent (unableSaid second (requestOf request .who) (requestOf request .number))) ⌝ }
 {
-    let number = q.number;
-    unable(second, q.ship, q.station, number)
+    let number = request.number;
+    unable(second, request.ship, request.station, number)
 }
 
 fn field_of(told: Told) -> Field
@@ -141,7 +141,7 @@ fn field_of(told: Told) -> Field
 {
     match told {
         Told::Nothing => Field::Blank,
-        Told::Lasting(d) => Field::Duration(d),
+        Told::Lasting(duration) => Field::Duration(duration),
     }
 }
 
@@ -156,22 +156,25 @@ fn end_of(by: Ender) -> u8
 }
 
 // "send 105/126 .. and the duration"; "the number sent is the stored request's"
-pub fn over(i: SlotNumber, by: Ender, q: Request, told: Told) -> Action
-    ensures { λ r. ⌜ r ≡ actionOf 4 (i .0) (sent (overSaid (enderOf by) (requestOf q .who) (requestOf q .number) told)) ⌝ }
-    ensures { λ r. ⌜ actionBlock r ≡ block 4 (i .0) (sent (overSaid (enderOf by) (requestOf q .who) (requestOf q .number) told)) ⌝ }
+pub fn over(slot: SlotNumber, by: Ender, request: Request, told: Told) -> Action
+    ensures { λ r. ⌜ r ≡ actionOf 4 (slot .0) (sent (overSaid (enderOf by) (requestOf request .who) (requestOf request .number) told)) ⌝ }
+    ensures { λ r. ⌜
+        actionBlock r
+        ≡ block 4 (slot .0) (sent (overSaid (enderOf by) (requestOf request .who) (requestOf request .number) told))
+        ⌝ }
 {
-    let stored = q.number;
+    let stored = request.number;
     let number = tidied(stored);
     let field = field_of(told);
     let end = end_of(by);
-    let m = Meaning {
-        address: q.ship,
-        sender: q.station,
+    let meaning = Meaning {
+        address: request.ship,
+        sender: request.station,
         first: FIRST_OVER,
         second: UNTOLD,
         field: field,
         number: number,
         end: end,
     };
-    send(4, i, m)
+    send(4, slot, meaning)
 }

@@ -13,39 +13,39 @@ use units::SlotNumber;
 const MOST_BYTES: u8 = PAYLOAD as u8;
 
 // A slot's number in its block's byte; 255, which no slot has, for one past it.
-fn slot_byte(i: SlotNumber) -> u8
-    ensures { λ r. ⌜ r ≡ min (i .0) 255 ⌝ }
+fn slot_byte(slot: SlotNumber) -> u8
+    ensures { λ r. ⌜ r ≡ min (slot .0) 255 ⌝ }
 {
-    if i.0 <= 255 {
-        return i.0 as u8;
+    if slot.0 <= 255 {
+        return slot.0 as u8;
     }
     255
 }
 
-// "kind, slot .., payload length, 0, payload, zeros": lays an action as block number k where the room holds it, and returns the number
-// of the next block.
-pub fn lay(x: Action, k: u8, room: &mut [u8]) -> u8
-    ensures { λ r. ⌜ r ≡ layCount k (length (now (room .entry))) ⌝ }
-    ensures { λ _. ⌜ now (room .exit) ≡ layRoom (actionBlock x) k (now (room .entry)) ⌝ }
+// "kind, slot .., payload length, 0, payload, zeros": lays an action as the block of that number where the room holds it, and
+// returns the number of the next block.
+pub fn lay(action: Action, block: u8, room: &mut [u8]) -> u8
+    ensures { λ r. ⌜ r ≡ layCount block (length (now (room .entry))) ⌝ }
+    ensures { λ _. ⌜ now (room .exit) ≡ layRoom (actionBlock action) block (now (room .entry)) ⌝ }
 {
-    if k == 255 {
-        return k;
+    if block == 255 {
+        return block;
     }
-    let place = BLOCK * k as usize;
+    let place = BLOCK * block as usize;
     if room.len() < place + BLOCK {
-        return k;
+        return block;
     }
-    let i = x.slot;
-    let n = x.length as usize;
-    let p = x.payload;
-    room[place] = x.kind;
-    room[place + 1] = slot_byte(i);
-    room[place + 2] = least(x.length, MOST_BYTES);
+    let slot = action.slot;
+    let length = action.length as usize;
+    let payload = action.payload;
+    room[place] = action.kind;
+    room[place + 1] = slot_byte(slot);
+    room[place + 2] = least(action.length, MOST_BYTES);
     room[place + 3] = 0;
-    let mut j = 0;
-    while j < PAYLOAD {
-        room[place + 4 + j] = if j < n { p[j] } else { 0 };
-        j += 1;
+    let mut i = 0;
+    while i < PAYLOAD {
+        room[place + 4 + i] = if i < length { payload[i] } else { 0 };
+        i += 1;
     }
-    k + 1
+    block + 1
 }

@@ -23,10 +23,10 @@ use units::Tenths;
 pub const QUEUE_WAIT: Tenths = Tenths(9000);
 
 // "a wait of 50 duplex, 450 simplex"
-pub fn carrier_wait(m: Mode) -> Tenths
-    ensures { λ r. ⌜ r .0 ≡ carrierWait (modeOf m) ⌝ }
+pub fn carrier_wait(mode: Mode) -> Tenths
+    ensures { λ r. ⌜ r .0 ≡ carrierWait (modeOf mode) ⌝ }
 {
-    match m {
+    match mode {
         Mode::Simplex => Tenths(450),
         Mode::Duplex => Tenths(50),
     }
@@ -34,72 +34,76 @@ pub fn carrier_wait(m: Mode) -> Tenths
 
 const LAST: u64 = GREATEST as u64;
 
-// A wait of p begun at s; the greatest time stands for all that lie past it.
-pub fn due_after(s: Tenths, p: Tenths) -> Tenths
-    ensures { λ r. ⌜ r .0 ≡ min (dueAfter (s .0) (p .0)) greatest ⌝ }
+// When a wait falls due that begins at `start`; the greatest time stands for all that lie past it.
+pub fn due_after(start: Tenths, wait: Tenths) -> Tenths
+    ensures { λ r. ⌜ r .0 ≡ min (dueAfter (start .0) (wait .0)) greatest ⌝ }
 {
-    let d = s.0 as u64 + (p.0 as u64 + 1);
-    if d <= LAST {
-        return Tenths(d as u32);
+    let due = start.0 as u64 + (wait.0 as u64 + 1);
+    if due <= LAST {
+        return Tenths(due as u32);
     }
     Tenths(GREATEST)
 }
 
-// The wait w due at t, or d where that is due before it.
-pub fn sooner_of(t: Tenths, w: Wait, d: Due) -> Due
-    ensures { λ r. ⌜ dueView r ≡ sooner (record { what = waitView w; at = t .0 }) (dueView d) ⌝ }
+// The wait that falls due at that time, or `first` where that falls due before it.
+pub fn sooner_of(time: Tenths, wait: Wait, first: Due) -> Due
+    ensures { λ r. ⌜ dueView r ≡ sooner (record { what = waitView wait; at = time .0 }) (dueView first) ⌝ }
 {
-    match d {
-        Due::Never => Due::In(t, w),
-        Due::In(u, _) => if t.0 <= u.0 { Due::In(t, w) } else { d },
+    match first {
+        Due::Never => Due::In(time, wait),
+        Due::In(moment, _) => if time.0 <= moment.0 {
+            Due::In(time, wait)
+        } else {
+            first
+        },
     }
 }
 
-// A wait that may run, before d.
-fn sooner_when(t: When, w: Wait, d: Due) -> Due
-    ensures { λ r. ⌜ dueView r ≡ joinDue (waitView w) (whenView t) (dueView d) ⌝ }
+// The same of a wait that may run.
+fn sooner_when(when: When, wait: Wait, first: Due) -> Due
+    ensures { λ r. ⌜ dueView r ≡ joinDue (waitView wait) (whenView when) (dueView first) ⌝ }
 {
-    match t {
-        When::Never => d,
-        When::At(u) => sooner_of(u, w, d),
+    match when {
+        When::Never => first,
+        When::At(moment) => sooner_of(moment, wait, first),
     }
 }
 
-// The carrier's absence in the slot i, before d.
-pub fn loss_due(s: Slot, i: SlotNumber, d: Due) -> Due
-    ensures { λ r. ⌜ dueView r ≡ joinDue (loss (i .0)) (lossDue (slotView s)) (dueView d) ⌝ }
+// The same of the carrier's absence in a slot.
+pub fn loss_due(slot: Slot, number: SlotNumber, first: Due) -> Due
+    ensures { λ r. ⌜ dueView r ≡ joinDue (loss (number .0)) (lossDue (slotView slot)) (dueView first) ⌝ }
 {
-    let t = loss_of(s);
-    sooner_when(t, Wait::Loss(i), d)
+    let when = loss_of(slot);
+    sooner_when(when, Wait::Loss(number), first)
 }
 
-// The other wait of the slot i, before d.
-pub fn main_due(s: Slot, i: SlotNumber, d: Due) -> Due
-    ensures { λ r. ⌜ dueView r ≡ joinDue (main (i .0)) (mainDue (slotView s)) (dueView d) ⌝ }
+// The same of a slot's other wait.
+pub fn main_due(slot: Slot, number: SlotNumber, first: Due) -> Due
+    ensures { λ r. ⌜ dueView r ≡ joinDue (main (number .0)) (mainDue (slotView slot)) (dueView first) ⌝ }
 {
-    let t = main_of(s);
-    sooner_when(t, Wait::Main(i), d)
+    let when = main_of(slot);
+    sooner_when(when, Wait::Main(number), first)
 }
 
-// The wait, where it is due at or before t.
-pub fn due_by(d: Due, t: Tenths) -> Due
-    ensures { λ r. ⌜ dueView r ≡ ifDue (t .0) (dueView d) ⌝ }
+// The wait, where it falls due by that time.
+pub fn due_by(due: Due, time: Tenths) -> Due
+    ensures { λ r. ⌜ dueView r ≡ ifDue (time .0) (dueView due) ⌝ }
 {
-    match d {
-        Due::Never => d,
-        Due::In(u, w) => if u.0 <= t.0 {
-            Due::In(u, w)
+    match due {
+        Due::Never => due,
+        Due::In(moment, wait) => if moment.0 <= time.0 {
+            Due::In(moment, wait)
         } else {
             Due::Never
         },
     }
 }
 
-pub fn falls_due(d: Due, t: Tenths) -> bool
-    ensures { λ r. ⌜ r ≡ isSome (ifDue (t .0) (dueView d)) ⌝ }
+pub fn falls_due(due: Due, time: Tenths) -> bool
+    ensures { λ r. ⌜ r ≡ isSome (ifDue (time .0) (dueView due)) ⌝ }
 {
-    match d {
+    match due {
         Due::Never => false,
-        Due::In(u, _) => u.0 <= t.0,
+        Due::In(moment, _) => moment.0 <= time.0,
     }
 }

@@ -31,7 +31,7 @@ impl Verdict {
         ensures { λ r. ⌜ verdictOf r ≡ andThen (verdictOf self) passes number ⌝ }
     {
         match self {
-            Verdict::Refused(n) => Verdict::Refused(n),
+            Verdict::Refused(first) => Verdict::Refused(first),
             Verdict::Accepted => {
                 if passes {
                     return Verdict::Accepted;
@@ -42,43 +42,43 @@ impl Verdict {
     }
 
     // The reader's test: 11 to 20.
-    pub fn and_read(self, a: Answer) -> Verdict
-        ensures { λ r. ⌜ verdictOf r ≡ andThen (verdictOf self) (isDone a) (answerNumber a) ⌝ }
+    pub fn and_read(self, answer: Answer) -> Verdict
+        ensures { λ r. ⌜ verdictOf r ≡ andThen (verdictOf self) (isDone answer) (answerNumber answer) ⌝ }
     {
-        let n = a.number();
-        self.and_then(a.is_done(), n)
+        let number = answer.number();
+        self.and_then(answer.is_done(), number)
     }
 }
 
 impl Look {
     // Of every event: 29 to 32.
-    pub fn judge(self, size: usize, t: Tenths) -> Verdict
-        ensures { λ r. ⌜ verdictOf r ≡ firstRefusal (askedAlways self size (t .0)) none ⌝ }
+    pub fn judge(self, size: usize, time: Tenths) -> Verdict
+        ensures { λ r. ⌜ verdictOf r ≡ firstRefusal (askedAlways self size (time .0)) none ⌝ }
     {
         let sound = self.sound;
         let clock = self.clock.0;
-        let time = t.0;
+        let tenths = time.0;
         Verdict::Accepted
             .and_then(sound, 29)
             .and_then(ROOM <= size, 30)
-            .and_then(time <= LIMIT, 31)
-            .and_then(clock <= time, 32)
+            .and_then(tenths <= LIMIT, 31)
+            .and_then(clock <= tenths, 32)
     }
 
     // Of every event but a tick: 33 besides.
-    pub fn judge_now(self, size: usize, t: Tenths) -> Verdict
-        ensures { λ r. ⌜ verdictOf r ≡ firstRefusal (askedNow self size (t .0)) none ⌝ }
+    pub fn judge_now(self, size: usize, time: Tenths) -> Verdict
+        ensures { λ r. ⌜ verdictOf r ≡ firstRefusal (askedNow self size (time .0)) none ⌝ }
     {
-        let d = self.due;
-        let late = falls_due(d, t);
-        self.judge(size, t).and_then(!late, 33)
+        let due = self.due;
+        let late = falls_due(due, time);
+        self.judge(size, time).and_then(!late, 33)
     }
 
     // Of an event on a slot: 34 besides.
-    pub fn judge_slot(self, size: usize, t: Tenths, i: SlotNumber) -> Verdict
-        ensures { λ r. ⌜ verdictOf r ≡ firstRefusal (askedOnSlot self size (t .0) (i .0)) none ⌝ }
+    pub fn judge_slot(self, size: usize, time: Tenths, slot: SlotNumber) -> Verdict
+        ensures { λ r. ⌜ verdictOf r ≡ firstRefusal (askedOnSlot self size (time .0) (slot .0)) none ⌝ }
     {
-        let n = self.count as u32;
-        self.judge_now(size, t).and_then(i.0 < n, 34)
+        let count = self.count as u32;
+        self.judge_now(size, time).and_then(slot.0 < count, 34)
     }
 }

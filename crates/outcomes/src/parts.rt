@@ -129,21 +129,27 @@ pub fn queue_change(outcome: Outcome, time: Tenths, waiting: u8) -> QueueChange
 }
 
 // Rule d: what the ship asks for now, its due time kept.
-fn asking(w: Waiting, q: Request) -> Waiting
-    ensures { λ r. ⌜ r ≡ record { due = w .due; request = q } ⌝ }
+fn asking(entry: Waiting, request: Request) -> Waiting
+    ensures { λ r. ⌜ r ≡ record { due = entry .due; request = request } ⌝ }
 {
-    let d = w.due;
-    Waiting { due: d, request: q }
+    let due = entry.due;
+    Waiting {
+        due: due,
+        request: request,
+    }
 }
 
-// What is written over the record w of a waiting ship, where q is asked for.
-pub fn entered(change: QueueChange, w: Waiting, q: Request) -> Waiting
-    ensures { λ r. ⌜ r ≡ enteredOf q w change ⌝ }
+// What is written over the entry of a waiting ship, where that request is asked for.
+pub fn entered(change: QueueChange, entry: Waiting, request: Request) -> Waiting
+    ensures { λ r. ⌜ r ≡ enteredOf request entry change ⌝ }
 {
     match change {
-        QueueChange::Same => w,
-        QueueChange::Leaves(_) => w,
-        QueueChange::Joins(u) => Waiting { due: u, request: q },
-        QueueChange::Replaces(_) => asking(w, q),
+        QueueChange::Same => entry,
+        QueueChange::Leaves(_) => entry,
+        QueueChange::Joins(due) => Waiting {
+            due: due,
+            request: request,
+        },
+        QueueChange::Replaces(_) => asking(entry, request),
     }
 }

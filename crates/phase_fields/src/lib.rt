@@ -30,44 +30,45 @@ pub struct PhaseFields {
     pub told: ToldFields,
 }
 
-fn carrier_fields(c: Carrier) -> CarrierFields
-    ensures { λ r. ⌜ r ≡ carrierFields c ⌝ }
+fn carrier_fields(carrier: Carrier) -> CarrierFields
+    ensures { λ r. ⌜ r ≡ carrierFields carrier ⌝ }
 {
-    match c {
+    match carrier {
         Carrier::Present => CarrierFields { mark: 0, due: 0 },
-        Carrier::Lost(t) => CarrierFields { mark: 1, due: t.0 },
+        Carrier::Lost(due) => CarrierFields {
+            mark: 1,
+            due: due.0,
+        },
     }
 }
 
-fn told_fields(n: Told) -> ToldFields
-    ensures { λ r. ⌜ r ≡ toldFields n ⌝ }
+fn told_fields(told: Told) -> ToldFields
+    ensures { λ r. ⌜ r ≡ toldFields told ⌝ }
 {
-    match n {
+    match told {
         Told::Nothing => ToldFields {
             mark: 0,
             hours: 0,
             minutes: 0,
             seconds: 0,
         },
-        Told::Lasting(d) => ToldFields {
+        Told::Lasting(duration) => ToldFields {
             mark: 1,
-            hours: d.hours,
-            minutes: d.minutes,
-            seconds: d.seconds,
+            hours: duration.hours,
+            minutes: duration.minutes,
+            seconds: duration.seconds,
         },
     }
 }
 
-fn fields_of(kind: u8, time: Tenths, c: Carrier, n: Told) -> PhaseFields
-    ensures { λ r. ⌜ r ≡ fieldsOf kind (time .0) c n ⌝ }
+fn fields_of(kind: u8, time: Tenths, carrier: Carrier, told: Told) -> PhaseFields
+    ensures { λ r. ⌜ r ≡ fieldsOf kind (time .0) carrier told ⌝ }
 {
-    let carrier = carrier_fields(c);
-    let told = told_fields(n);
     PhaseFields {
         kind: kind,
         time: time.0,
-        carrier: carrier,
-        told: told,
+        carrier: carrier_fields(carrier),
+        told: told_fields(told),
     }
 }
 
@@ -78,49 +79,49 @@ fn plain(kind: u8, time: Tenths) -> PhaseFields
     fields_of(kind, time, Carrier::Present, Told::Nothing)
 }
 
-pub fn phase_fields(p: Phase) -> PhaseFields
-    ensures { λ r. ⌜ r ≡ phaseFields p ⌝ }
+pub fn phase_fields(phase: Phase) -> PhaseFields
+    ensures { λ r. ⌜ r ≡ phaseFields phase ⌝ }
 {
-    match p {
+    match phase {
         Phase::Free => plain(0, Tenths(0)),
-        Phase::Offered(t) => plain(1, t),
-        Phase::RingBack(t) => plain(2, t),
-        Phase::RingAgain(t) => plain(3, t),
-        Phase::Acknowledged(t) => plain(4, t),
-        Phase::Dialling(t, c) => fields_of(5, t, c, Told::Nothing),
-        Phase::Answered(t, c) => fields_of(6, t, c, Told::Nothing),
-        Phase::Hold(t, n) => fields_of(7, t, Carrier::Present, n),
+        Phase::Offered(due) => plain(1, due),
+        Phase::RingBack(due) => plain(2, due),
+        Phase::RingAgain(due) => plain(3, due),
+        Phase::Acknowledged(due) => plain(4, due),
+        Phase::Dialling(due, carrier) => fields_of(5, due, carrier, Told::Nothing),
+        Phase::Answered(start, carrier) => fields_of(6, start, carrier, Told::Nothing),
+        Phase::Hold(due, told) => fields_of(7, due, Carrier::Present, told),
         Phase::Taken => plain(8, Tenths(0)),
-        Phase::DialledOut(t, c) => fields_of(9, t, c, Told::Nothing),
-        Phase::Called(t) => plain(10, t),
-        Phase::CalledAgain(t) => plain(11, t),
-        Phase::Ringing(t) => plain(12, t),
+        Phase::DialledOut(due, carrier) => fields_of(9, due, carrier, Told::Nothing),
+        Phase::Called(due) => plain(10, due),
+        Phase::CalledAgain(due) => plain(11, due),
+        Phase::Ringing(due) => plain(12, due),
     }
 }
 
-fn carrier_from(f: CarrierFields) -> Carrier
-    ensures { λ r. ⌜ r ≡ carrierFrom f ⌝ }
+fn carrier_from(fields: CarrierFields) -> Carrier
+    ensures { λ r. ⌜ r ≡ carrierFrom fields ⌝ }
 {
-    if f.mark == 0 {
+    if fields.mark == 0 {
         return Carrier::Present;
     }
-    if f.mark == 1 {
-        return Carrier::Lost(Tenths(f.due));
+    if fields.mark == 1 {
+        return Carrier::Lost(Tenths(fields.due));
     }
     Carrier::Lost(Tenths(GREATEST))
 }
 
-fn told_from(f: ToldFields) -> Told
-    ensures { λ r. ⌜ r ≡ toldFrom f ⌝ }
+fn told_from(fields: ToldFields) -> Told
+    ensures { λ r. ⌜ r ≡ toldFrom fields ⌝ }
 {
-    if f.mark == 0 {
+    if fields.mark == 0 {
         return Told::Nothing;
     }
-    if f.mark == 1 {
+    if fields.mark == 1 {
         return Told::Lasting(Duration {
-            hours: f.hours,
-            minutes: f.minutes,
-            seconds: f.seconds,
+            hours: fields.hours,
+            minutes: fields.minutes,
+            seconds: fields.seconds,
         });
     }
     Told::Lasting(Duration {
@@ -146,45 +147,45 @@ fn ashore_from(kind: u8, time: Tenths) -> Phase
     Phase::Offered(Tenths(GREATEST))
 }
 
-pub fn phase_from(f: PhaseFields) -> Phase
-    ensures { λ r. ⌜ r ≡ phaseFrom f ⌝ }
+pub fn phase_from(fields: PhaseFields) -> Phase
+    ensures { λ r. ⌜ r ≡ phaseFrom fields ⌝ }
 {
-    let kind = f.kind;
-    let carrier = f.carrier;
-    let told = f.told;
+    let kind = fields.kind;
+    let of_carrier = fields.carrier;
+    let of_told = fields.told;
     if kind == 0 {
         return Phase::Free;
     }
     if kind == 1 {
-        return Phase::Offered(Tenths(f.time));
+        return Phase::Offered(Tenths(fields.time));
     }
     if kind == 2 {
-        return Phase::RingBack(Tenths(f.time));
+        return Phase::RingBack(Tenths(fields.time));
     }
     if kind == 3 {
-        return Phase::RingAgain(Tenths(f.time));
+        return Phase::RingAgain(Tenths(fields.time));
     }
     if kind == 4 {
-        return Phase::Acknowledged(Tenths(f.time));
+        return Phase::Acknowledged(Tenths(fields.time));
     }
     if kind == 5 {
-        let c = carrier_from(carrier);
-        return Phase::Dialling(Tenths(f.time), c);
+        let carrier = carrier_from(of_carrier);
+        return Phase::Dialling(Tenths(fields.time), carrier);
     }
     if kind == 6 {
-        let c = carrier_from(carrier);
-        return Phase::Answered(Tenths(f.time), c);
+        let carrier = carrier_from(of_carrier);
+        return Phase::Answered(Tenths(fields.time), carrier);
     }
     if kind == 7 {
-        let n = told_from(told);
-        return Phase::Hold(Tenths(f.time), n);
+        let told = told_from(of_told);
+        return Phase::Hold(Tenths(fields.time), told);
     }
     if kind == 8 {
         return Phase::Taken;
     }
     if kind == 9 {
-        let c = carrier_from(carrier);
-        return Phase::DialledOut(Tenths(f.time), c);
+        let carrier = carrier_from(of_carrier);
+        return Phase::DialledOut(Tenths(fields.time), carrier);
     }
-    ashore_from(kind, Tenths(f.time))
+    ashore_from(kind, Tenths(fields.time))
 }

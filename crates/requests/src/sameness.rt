@@ -11,45 +11,45 @@ use sequence::MOST_DIGITS;
 use sequence::Number;
 
 // The request is of this ship, at this station.
-pub fn is_by(q: Request, ship: u32, station: u32) -> bool
-    ensures { λ r. ⌜ r ≡ is (partyOf ship station) (requestOf q .who) ⌝ }
+pub fn is_by(request: Request, ship: u32, station: u32) -> bool
+    ensures { λ r. ⌜ r ≡ is (partyOf ship station) (requestOf request .who) ⌝ }
 {
-    let x = q.ship;
-    let y = q.station;
-    if ship == x {
-        return station == y;
+    let stored_ship = request.ship;
+    let stored_station = request.station;
+    if ship == stored_ship {
+        return station == stored_station;
     }
     false
 }
 
-fn same_mode(a: Mode, b: Mode) -> bool
-    ensures { λ r. ⌜ r ≡ sameMode (modeOf a) (modeOf b) ⌝ }
+fn same_mode(asked: Mode, stored: Mode) -> bool
+    ensures { λ r. ⌜ r ≡ sameMode (modeOf asked) (modeOf stored) ⌝ }
 {
-    match a {
-        Mode::Simplex => match b {
+    match asked {
+        Mode::Simplex => match stored {
             Mode::Simplex => true,
             Mode::Duplex => false,
         },
-        Mode::Duplex => match b {
+        Mode::Duplex => match stored {
             Mode::Simplex => false,
             Mode::Duplex => true,
         },
     }
 }
 
-fn same_number(a: Number, b: Number) -> bool
-    ensures { λ r. ⌜ r ≡ sameNumber (digitsOf a) (digitsOf b) ⌝ }
+fn same_number(asked: Number, stored: Number) -> bool
+    ensures { λ r. ⌜ r ≡ sameNumber (digitsOf asked) (digitsOf stored) ⌝ }
 {
-    let n = least(a.count, MOST_DIGITS);
-    let m = least(b.count, MOST_DIGITS);
-    if n != m {
+    let count = least(asked.count, MOST_DIGITS);
+    let stored_count = least(stored.count, MOST_DIGITS);
+    if count != stored_count {
         return false;
     }
-    let x = a.digits;
-    let y = b.digits;
+    let digits = asked.digits;
+    let stored_digits = stored.digits;
     let mut i: u8 = 0;
-    while i < n {
-        if x[i as usize] != y[i as usize] {
+    while i < count {
+        if digits[i as usize] != stored_digits[i as usize] {
             return false;
         }
         i += 1;
@@ -57,23 +57,23 @@ fn same_number(a: Number, b: Number) -> bool
     true
 }
 
-pub fn same_request(a: Request, b: Request) -> bool
-    ensures { λ r. ⌜ r ≡ same (requestOf a) (requestOf b) ⌝ }
+pub fn same_request(asked: Request, stored: Request) -> bool
+    ensures { λ r. ⌜ r ≡ same (requestOf asked) (requestOf stored) ⌝ }
 {
-    let m = a.mode;
-    let n = b.mode;
-    let s = a.second;
-    let t = b.second;
-    let x = a.number;
-    let y = b.number;
-    if !is_by(b, a.ship, a.station) {
+    let mode = asked.mode;
+    let stored_mode = stored.mode;
+    let second = asked.second;
+    let stored_second = stored.second;
+    let number = asked.number;
+    let stored_number = stored.number;
+    if !is_by(stored, asked.ship, asked.station) {
         return false;
     }
-    if !same_mode(m, n) {
+    if !same_mode(mode, stored_mode) {
         return false;
     }
-    if s == t {
-        return same_number(x, y);
+    if second == stored_second {
+        return same_number(number, stored_number);
     }
     false
 }

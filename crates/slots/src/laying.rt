@@ -27,72 +27,72 @@ fn at_most(digit: u8, most: u8) -> u8
     least(digit, most)
 }
 
-// The first n digits, and 0 behind them: by the smaller of two, which the compiler works out for all sixteen at once.
-fn cleared(d: [u8; DIGITS], n: u8) -> [u8; DIGITS]
-    ensures { λ r. ⌜ r ≡ padded 0 mostDigits (viewed itself n d) ⌝ }
+// The first `count` digits, and 0 behind them: by the smaller of two, which the compiler works out for all sixteen at once.
+fn cleared(digits: [u8; DIGITS], count: u8) -> [u8; DIGITS]
+    ensures { λ r. ⌜ r ≡ padded 0 mostDigits (viewed itself count digits) ⌝ }
 {
-    let mut a = [0u8; DIGITS];
+    let mut kept = [0u8; DIGITS];
     let mut i: u8 = 0;
     while i < MOST_DIGITS {
-        let x = d[i as usize];
-        let most: u8 = if i < n { 255 } else { 0 };
-        a[i as usize] = at_most(x, most);
+        let digit = digits[i as usize];
+        let most: u8 = if i < count { 255 } else { 0 };
+        kept[i as usize] = at_most(digit, most);
         i += 1;
     }
-    a
+    kept
 }
 
-fn tidy_request(q: Request) -> Request
-    ensures { λ r. ⌜ r ≡ tidyRequest q ⌝ }
+fn tidy_request(request: Request) -> Request
+    ensures { λ r. ⌜ r ≡ tidyRequest request ⌝ }
 {
-    let number = q.number;
-    let k = number.count;
-    let n = least(k, MOST_DIGITS);
-    let d = number.digits;
-    let e = cleared(d, k);
-    let mode = q.mode;
+    let number = request.number;
+    let stored = number.count;
+    let count = least(stored, MOST_DIGITS);
+    let places = number.digits;
+    let digits = cleared(places, stored);
+    let mode = request.mode;
     Request {
-        ship: q.ship,
-        station: q.station,
+        ship: request.ship,
+        station: request.station,
         mode: mode,
-        second: q.second,
+        second: request.second,
         number: Number {
-            count: n,
-            digits: e,
+            count: count,
+            digits: digits,
         },
     }
 }
 
-pub fn tidy_slot(s: Slot) -> Slot
-    ensures { λ r. ⌜ r ≡ tidySlot s ⌝ }
+pub fn tidy_slot(slot: Slot) -> Slot
+    ensures { λ r. ⌜ r ≡ tidySlot slot ⌝ }
 {
-    let p = s.phase;
-    let c = s.channel;
-    let q = s.request;
-    if stores(p) {
-        let t = tidy_request(q);
+    let phase = slot.phase;
+    let channel = slot.channel;
+    let request = slot.request;
+    if stores(phase) {
+        let tidied = tidy_request(request);
         return Slot {
-            phase: p,
-            channel: c,
-            request: t,
+            phase: phase,
+            channel: channel,
+            request: tidied,
         };
     }
-    let b = blank_request();
+    let blank = blank_request();
     Slot {
-        phase: p,
-        channel: c,
-        request: b,
+        phase: phase,
+        channel: channel,
+        request: blank,
     }
 }
 
-pub fn free_on(c: Channel) -> Slot
-    ensures { λ r. ⌜ r ≡ freeOn c ⌝ }
+pub fn free_on(channel: Channel) -> Slot
+    ensures { λ r. ⌜ r ≡ freeOn channel ⌝ }
 {
-    let b = blank_request();
+    let blank = blank_request();
     Slot {
         phase: Phase::Free,
-        channel: c,
-        request: b,
+        channel: channel,
+        request: blank,
     }
 }
 
@@ -102,21 +102,24 @@ pub fn blank_slot() -> Slot
     free_on(Channel(0))
 }
 
-pub fn tidy_waiting(w: Waiting) -> Waiting
-    ensures { λ r. ⌜ r ≡ tidyWaiting w ⌝ }
+pub fn tidy_waiting(entry: Waiting) -> Waiting
+    ensures { λ r. ⌜ r ≡ tidyWaiting entry ⌝ }
 {
-    let t = w.due;
-    let q = w.request;
-    let n = tidy_request(q);
-    Waiting { due: t, request: n }
+    let due = entry.due;
+    let request = entry.request;
+    let tidied = tidy_request(request);
+    Waiting {
+        due: due,
+        request: tidied,
+    }
 }
 
 pub fn blank_waiting() -> Waiting
     ensures { λ r. ⌜ r ≡ blankWaiting ⌝ }
 {
-    let b = blank_request();
+    let blank = blank_request();
     Waiting {
         due: Tenths(0),
-        request: b,
+        request: blank,
     }
 }

@@ -140,10 +140,10 @@ pub enum Standing {
 }
 
 // A phase that stores a request.
-pub fn stores(p: Phase) -> bool
-    ensures { λ r. ⌜ r ≡ stored p ⌝ }
+pub fn stores(phase: Phase) -> bool
+    ensures { λ r. ⌜ r ≡ stored phase ⌝ }
 {
-    match p {
+    match phase {
         Phase::Free => false,
         Phase::Offered(_) => true,
         Phase::RingBack(_) => true,
@@ -161,10 +161,10 @@ pub fn stores(p: Phase) -> bool
 }
 
 // A phase in which a slot is its ship's: in a hold it is nobody's.
-pub fn has_ship(p: Phase) -> bool
-    ensures { λ r. ⌜ r ≡ owned p ⌝ }
+pub fn has_ship(phase: Phase) -> bool
+    ensures { λ r. ⌜ r ≡ owned phase ⌝ }
 {
-    match p {
+    match phase {
         Phase::Free => false,
         Phase::Offered(_) => true,
         Phase::RingBack(_) => true,
@@ -182,10 +182,10 @@ pub fn has_ship(p: Phase) -> bool
 }
 
 // Document 02, no. 2, "a ship being called": a phase before the ship's transmission in a call from ashore.
-pub fn is_called(p: Phase) -> bool
-    ensures { λ r. ⌜ r ≡ calledIn p ⌝ }
+pub fn is_called(phase: Phase) -> bool
+    ensures { λ r. ⌜ r ≡ calledIn phase ⌝ }
 {
-    match p {
+    match phase {
         Phase::Free => false,
         Phase::Offered(_) => false,
         Phase::RingBack(_) => false,
@@ -202,11 +202,11 @@ pub fn is_called(p: Phase) -> bool
     }
 }
 
-pub fn is_free(s: Slot) -> bool
-    ensures { λ r. ⌜ r ≡ isFree (slotView s) ⌝ }
+pub fn is_free(slot: Slot) -> bool
+    ensures { λ r. ⌜ r ≡ isFree (slotView slot) ⌝ }
 {
-    let p = s.phase;
-    match p {
+    let phase = slot.phase;
+    match phase {
         Phase::Free => true,
         Phase::Offered(_) => false,
         Phase::RingBack(_) => false,
@@ -223,11 +223,11 @@ pub fn is_free(s: Slot) -> bool
     }
 }
 
-pub fn is_taken(s: Slot) -> bool
-    ensures { λ r. ⌜ r ≡ isTaken (slotView s) ⌝ }
+pub fn is_taken(slot: Slot) -> bool
+    ensures { λ r. ⌜ r ≡ isTaken (slotView slot) ⌝ }
 {
-    let p = s.phase;
-    match p {
+    let phase = slot.phase;
+    match phase {
         Phase::Free => false,
         Phase::Offered(_) => false,
         Phase::RingBack(_) => false,
@@ -245,10 +245,10 @@ pub fn is_taken(s: Slot) -> bool
 }
 
 // The duration that a hold tells.
-pub fn told_in(p: Phase) -> Told
-    ensures { λ r. ⌜ r ≡ toldIn p ⌝ }
+pub fn told_in(phase: Phase) -> Told
+    ensures { λ r. ⌜ r ≡ toldIn phase ⌝ }
 {
-    match p {
+    match phase {
         Phase::Free => Told::Nothing,
         Phase::Offered(_) => Told::Nothing,
         Phase::RingBack(_) => Told::Nothing,
@@ -257,7 +257,7 @@ pub fn told_in(p: Phase) -> Told
         Phase::Dialling(_, _) => Told::Nothing,
         Phase::DialledOut(_, _) => Told::Nothing,
         Phase::Answered(_, _) => Told::Nothing,
-        Phase::Hold(_, t) => t,
+        Phase::Hold(_, told) => told,
         Phase::Taken => Told::Nothing,
         Phase::Called(_) => Told::Nothing,
         Phase::CalledAgain(_) => Told::Nothing,
@@ -265,39 +265,39 @@ pub fn told_in(p: Phase) -> Told
     }
 }
 
-pub fn span_of(p: Phase) -> Span
-    ensures { λ r. ⌜ r ≡ spanOf p ⌝ }
+pub fn span_of(phase: Phase) -> Span
+    ensures { λ r. ⌜ r ≡ spanOf phase ⌝ }
 {
-    match p {
+    match phase {
         Phase::Free => Span::Untimed,
-        Phase::Offered(t) => Span::Until(t, OFFER_WAIT),
-        Phase::RingBack(t) => Span::Until(t, RING_WAIT),
-        Phase::RingAgain(t) => Span::Until(t, RING_WAIT),
-        Phase::Acknowledged(t) => Span::Until(t, OFFER_WAIT),
-        Phase::Dialling(t, _) => Span::Until(t, DIALLING_WAIT),
-        Phase::DialledOut(t, _) => Span::Until(t, REPLY_WAIT),
-        Phase::Answered(t, _) => Span::Since(t),
-        Phase::Hold(t, _) => Span::Until(t, HOLD_WAIT),
+        Phase::Offered(due) => Span::Until(due, OFFER_WAIT),
+        Phase::RingBack(due) => Span::Until(due, RING_WAIT),
+        Phase::RingAgain(due) => Span::Until(due, RING_WAIT),
+        Phase::Acknowledged(due) => Span::Until(due, OFFER_WAIT),
+        Phase::Dialling(due, _) => Span::Until(due, DIALLING_WAIT),
+        Phase::DialledOut(due, _) => Span::Until(due, REPLY_WAIT),
+        Phase::Answered(start, _) => Span::Since(start),
+        Phase::Hold(due, _) => Span::Until(due, HOLD_WAIT),
         Phase::Taken => Span::Untimed,
-        Phase::Called(t) => Span::Until(t, CALL_WAIT),
-        Phase::CalledAgain(t) => Span::Until(t, CALL_WAIT),
-        Phase::Ringing(t) => Span::Until(t, RINGING_WAIT),
+        Phase::Called(due) => Span::Until(due, CALL_WAIT),
+        Phase::CalledAgain(due) => Span::Until(due, CALL_WAIT),
+        Phase::Ringing(due) => Span::Until(due, RINGING_WAIT),
     }
 }
 
 // The carrier of a phase's call, present where there is none.
-pub fn carrier_in(p: Phase) -> Carrier
-    ensures { λ r. ⌜ r ≡ carrierIn p ⌝ }
+pub fn carrier_in(phase: Phase) -> Carrier
+    ensures { λ r. ⌜ r ≡ carrierIn phase ⌝ }
 {
-    match p {
+    match phase {
         Phase::Free => Carrier::Present,
         Phase::Offered(_) => Carrier::Present,
         Phase::RingBack(_) => Carrier::Present,
         Phase::RingAgain(_) => Carrier::Present,
         Phase::Acknowledged(_) => Carrier::Present,
-        Phase::Dialling(_, c) => c,
-        Phase::DialledOut(_, c) => c,
-        Phase::Answered(_, c) => c,
+        Phase::Dialling(_, carrier) => carrier,
+        Phase::DialledOut(_, carrier) => carrier,
+        Phase::Answered(_, carrier) => carrier,
         Phase::Hold(_, _) => Carrier::Present,
         Phase::Taken => Carrier::Present,
         Phase::Called(_) => Carrier::Present,
@@ -306,37 +306,37 @@ pub fn carrier_in(p: Phase) -> Carrier
     }
 }
 
-fn loss_when(c: Carrier) -> When
-    ensures { λ r. ⌜ whenView r ≡ carrierOf c ⌝ }
+fn loss_when(carrier: Carrier) -> When
+    ensures { λ r. ⌜ whenView r ≡ carrierOf carrier ⌝ }
 {
-    match c {
+    match carrier {
         Carrier::Present => When::Never,
-        Carrier::Lost(t) => When::At(t),
+        Carrier::Lost(due) => When::At(due),
     }
 }
 
 // When the carrier's absence in a slot falls due.
-pub fn loss_of(s: Slot) -> When
-    ensures { λ r. ⌜ whenView r ≡ lossDue (slotView s) ⌝ }
+pub fn loss_of(slot: Slot) -> When
+    ensures { λ r. ⌜ whenView r ≡ lossDue (slotView slot) ⌝ }
 {
-    let p = s.phase;
-    loss_when(carrier_in(p))
+    let phase = slot.phase;
+    loss_when(carrier_in(phase))
 }
 
-fn main_when(s: Span) -> When
-    ensures { λ r. ⌜ whenView r ≡ dueIn s ⌝ }
+fn main_when(span: Span) -> When
+    ensures { λ r. ⌜ whenView r ≡ dueIn span ⌝ }
 {
-    match s {
+    match span {
         Span::Untimed => When::Never,
-        Span::Until(t, _) => When::At(t),
+        Span::Until(due, _) => When::At(due),
         Span::Since(_) => When::Never,
     }
 }
 
 // When the other wait of a slot falls due.
-pub fn main_of(s: Slot) -> When
-    ensures { λ r. ⌜ whenView r ≡ mainDue (slotView s) ⌝ }
+pub fn main_of(slot: Slot) -> When
+    ensures { λ r. ⌜ whenView r ≡ mainDue (slotView slot) ⌝ }
 {
-    let p = s.phase;
-    main_when(span_of(p))
+    let phase = slot.phase;
+    main_when(span_of(phase))
 }

@@ -9,16 +9,16 @@ pub struct Mast {
     pub identity: u32,
 }
 
-// Whether calls to n are the station's.
-pub fn is_ours(m: Mast, n: u32) -> bool
-    ensures { λ r. ⌜ r ≡ ours (named m) n ⌝ }
+// Whether calls to that identity are the station's.
+pub fn is_ours(mast: Mast, identity: u32) -> bool
+    ensures { λ r. ⌜ r ≡ ours (named mast) identity ⌝ }
 {
-    n == m.identity
+    identity == mast.identity
 }
 
 // Whether it is a coast station's.
-pub fn mast_keeps(m: Mast) -> bool
-    ensures { λ r. ⌜ r ≡ identityKeeps (named m) ⌝ }
+pub fn mast_keeps(mast: Mast) -> bool
+    ensures { λ r. ⌜ r ≡ identityKeeps (named mast) ⌝ }
 {
-    is_coast(m.identity)
+    is_coast(mast.identity)
 }

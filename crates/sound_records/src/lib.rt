@@ -16,26 +16,26 @@ use times::fits_wait;
 use times::slot_fits;
 use units::Tenths;
 
-pub fn slot_sound(s: Slot, mast: Mast, clock: Tenths) -> bool
-    ensures { λ r. ⌜ r ≡ slotSound mast clock s ⌝ }
+pub fn slot_sound(slot: Slot, mast: Mast, clock: Tenths) -> bool
+    ensures { λ r. ⌜ r ≡ slotSound mast clock slot ⌝ }
 {
-    let c = s.channel;
-    if !channel_ok(c) {
+    let channel = slot.channel;
+    if !channel_ok(channel) {
         return false;
     }
-    if !slot_fits(s, clock) {
+    if !slot_fits(slot, clock) {
         return false;
     }
-    slot_stored(s, mast)
+    slot_stored(slot, mast)
 }
 
-pub fn waiting_sound(w: Waiting, mast: Mast, clock: Tenths) -> bool
-    ensures { λ r. ⌜ r ≡ waitingSound mast clock w ⌝ }
+pub fn waiting_sound(entry: Waiting, mast: Mast, clock: Tenths) -> bool
+    ensures { λ r. ⌜ r ≡ waitingSound mast clock entry ⌝ }
 {
-    let q = w.request;
-    let d = w.due;
-    if !fits_wait(clock, QUEUE_WAIT, d) {
+    let request = entry.request;
+    let due = entry.due;
+    if !fits_wait(clock, QUEUE_WAIT, due) {
         return false;
     }
-    request_stored(q, mast)
+    request_stored(request, mast)
 }

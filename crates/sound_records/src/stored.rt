@@ -51,47 +51,47 @@ fn number_stored(number: Number) -> bool
 }
 
 // From a ship, to this station, the second telecommand 100 to 126.
-pub(crate) fn request_stored(q: Request, mast: Mast) -> bool
-    ensures { λ r. ⌜ r ≡ (requestKeeps (named mast) (requestOf q) && numberExact (q .number)) ⌝ }
+pub(crate) fn request_stored(request: Request, mast: Mast) -> bool
+    ensures { λ r. ⌜ r ≡ (requestKeeps (named mast) (requestOf request) && numberExact (request .number)) ⌝ }
 {
-    let y = q.station;
-    let s = q.second;
-    let n = q.number;
-    if !is_ship(q.ship) {
+    let station = request.station;
+    let second = request.second;
+    let number = request.number;
+    if !is_ship(request.ship) {
         return false;
     }
-    if !is_ours(mast, y) {
+    if !is_ours(mast, station) {
         return false;
     }
-    if s < LEAST_SECOND {
+    if second < LEAST_SECOND {
         return false;
     }
-    if LAST_SECOND < s {
+    if LAST_SECOND < second {
         return false;
     }
-    number_stored(n)
+    number_stored(number)
 }
 
-fn told_keeps(t: Told) -> bool
-    ensures { λ r. ⌜ r ≡ durationKeeps t ⌝ }
+fn told_keeps(told: Told) -> bool
+    ensures { λ r. ⌜ r ≡ durationKeeps told ⌝ }
 {
-    match t {
+    match told {
         Told::Nothing => true,
-        Told::Lasting(d) => duration_ok(d),
+        Told::Lasting(duration) => duration_ok(duration),
     }
 }
 
 // "stored requests (simplex or duplex, to this station) and hold durations keep these rules"
-pub(crate) fn slot_stored(s: Slot, mast: Mast) -> bool
-    ensures { λ r. ⌜ r ≡ (slotKeeps (named mast) (slotView s) && slotExact s) ⌝ }
+pub(crate) fn slot_stored(slot: Slot, mast: Mast) -> bool
+    ensures { λ r. ⌜ r ≡ (slotKeeps (named mast) (slotView slot) && slotExact slot) ⌝ }
 {
-    let p = s.phase;
-    let q = s.request;
-    if !stores(p) {
+    let phase = slot.phase;
+    let request = slot.request;
+    if !stores(phase) {
         return true;
     }
-    if !told_keeps(told_in(p)) {
+    if !told_keeps(told_in(phase)) {
         return false;
     }
-    request_stored(q, mast)
+    request_stored(request, mast)
 }

@@ -15,46 +15,46 @@ use slots::span_of;
 use units::Tenths;
 
 // "each due time lies from the clock to the clock plus its wait and 1"
-pub(crate) fn fits_wait(c: Tenths, p: Tenths, d: Tenths) -> bool
-    ensures { λ r. ⌜ r ≡ fits (c .0) (p .0) (d .0) ⌝ }
+pub(crate) fn fits_wait(clock: Tenths, wait: Tenths, due: Tenths) -> bool
+    ensures { λ r. ⌜ r ≡ fits (clock .0) (wait .0) (due .0) ⌝ }
 {
-    let x = c.0;
-    let y = d.0;
-    let w = p.0;
-    if y < x {
+    let now = clock.0;
+    let then = due.0;
+    let span = wait.0;
+    if then < now {
         return false;
     }
-    y as u64 <= x as u64 + (w as u64 + 1)
+    then as u64 <= now as u64 + (span as u64 + 1)
 }
 
-fn loss_fits(c: Tenths, m: Mode, l: Carrier) -> bool
-    ensures { λ r. ⌜ r ≡ lossFits (c .0) (modeOf m) (carrierOf l) ⌝ }
+fn loss_fits(clock: Tenths, mode: Mode, carrier: Carrier) -> bool
+    ensures { λ r. ⌜ r ≡ lossFits (clock .0) (modeOf mode) (carrierOf carrier) ⌝ }
 {
-    match l {
+    match carrier {
         Carrier::Present => true,
-        Carrier::Lost(t) => fits_wait(c, carrier_wait(m), t),
+        Carrier::Lost(due) => fits_wait(clock, carrier_wait(mode), due),
     }
 }
 
 // "no answered start is after the clock"
-fn span_fits(c: Tenths, s: Span) -> bool
-    ensures { λ r. ⌜ r ≡ spanFits (c .0) s ⌝ }
+fn span_fits(clock: Tenths, span: Span) -> bool
+    ensures { λ r. ⌜ r ≡ spanFits (clock .0) span ⌝ }
 {
-    match s {
+    match span {
         Span::Untimed => true,
-        Span::Until(t, w) => fits_wait(c, w, t),
-        Span::Since(t) => t.0 <= c.0,
+        Span::Until(due, wait) => fits_wait(clock, wait, due),
+        Span::Since(start) => start.0 <= clock.0,
     }
 }
 
-pub(crate) fn slot_fits(s: Slot, c: Tenths) -> bool
-    ensures { λ r. ⌜ r ≡ slotFits (c .0) (slotView s) ⌝ }
+pub(crate) fn slot_fits(slot: Slot, clock: Tenths) -> bool
+    ensures { λ r. ⌜ r ≡ slotFits (clock .0) (slotView slot) ⌝ }
 {
-    let p = s.phase;
-    let q = s.request;
-    let m = q.mode;
-    if !loss_fits(c, m, carrier_in(p)) {
+    let phase = slot.phase;
+    let request = slot.request;
+    let mode = request.mode;
+    if !loss_fits(clock, mode, carrier_in(phase)) {
         return false;
     }
-    span_fits(c, span_of(p))
+    span_fits(clock, span_of(phase))
 }

@@ -18,49 +18,49 @@ use units::LIMIT;
 use units::Tenths;
 
 // "1 to 16 distinct channels of the kind above"
-fn channels_keep(a: [Slot; SLOTS], n: u8) -> bool
-    ensures { λ r. ⌜ r ≡ channelsKeep (viewed channelOf n a) ⌝ }
+fn channels_keep(slots: [Slot; SLOTS], count: u8) -> bool
+    ensures { λ r. ⌜ r ≡ channelsKeep (viewed channelOf count slots) ⌝ }
 {
-    if n < 1 {
+    if count < 1 {
         return false;
     }
-    let m = least(n, MOST_SLOTS);
+    let used = least(count, MOST_SLOTS);
     let mut numbers = [0u32; SLOTS];
     let mut i: u8 = 0;
-    while i < m {
-        let s = a[i as usize];
-        let c = s.channel;
-        if !channel_ok(c) {
+    while i < used {
+        let slot = slots[i as usize];
+        let channel = slot.channel;
+        if !channel_ok(channel) {
             return false;
         }
-        numbers[i as usize] = c.0;
+        numbers[i as usize] = channel.0;
         i += 1;
     }
-    let end = m as usize;
+    let end = used as usize;
     all_apart(&numbers[..end])
 }
 
 // The identity and the channels: what set-up asks, and every event after it.
-pub fn config_keeps(mast: Mast, a: [Slot; SLOTS], n: u8) -> bool
-    ensures { λ r. ⌜ r ≡ configKeeps (configFor mast n a) ⌝ }
+pub fn config_keeps(mast: Mast, slots: [Slot; SLOTS], count: u8) -> bool
+    ensures { λ r. ⌜ r ≡ configKeeps (configFor mast count slots) ⌝ }
 {
     if !mast_keeps(mast) {
         return false;
     }
-    channels_keep(a, n)
+    channels_keep(slots, count)
 }
 
 // The counts are within the arrays, there is a slot, the identity is a coast station's, the clock within the limit.
-pub fn head_sound(mast: Mast, clock: Tenths, n: u8, m: u8) -> bool
-    ensures { λ r. ⌜ r ≡ headSound mast clock n m ⌝ }
+pub fn head_sound(mast: Mast, clock: Tenths, count: u8, waiting: u8) -> bool
+    ensures { λ r. ⌜ r ≡ headSound mast clock count waiting ⌝ }
 {
-    if MOST_SLOTS < n {
+    if MOST_SLOTS < count {
         return false;
     }
-    if MOST_WAITING < m {
+    if MOST_WAITING < waiting {
         return false;
     }
-    if n < 1 {
+    if count < 1 {
         return false;
     }
     if !mast_keeps(mast) {

@@ -77,7 +77,7 @@ fn close_of(outcome: Outcome) -> Close
         Outcome::ShipEnds(talk) => Close::Ends(Ender::Ship, talk),
         Outcome::SaysAgain(told) => Close::Again(told),
         Outcome::Redials(talk) => Close::Ends(Ender::Coast, talk),
-        Outcome::DropsCall(rung, tone) => Close::DropsCall(rung, tone),
+        Outcome::DropsCall(rings, tone) => Close::DropsCall(rings, tone),
         _ => Close::Leaves,
     }
 }
@@ -109,104 +109,108 @@ fn say_of(outcome: Outcome, waiting: u8) -> Say
         Outcome::Repeats | Outcome::Renews => Say::Plain(Word::Acknowledges),
         Outcome::Offers => Say::Lifted(Word::Acknowledges),
         Outcome::Joins | Outcome::Replaces(_) => Say::Plain(Word::Unable(103)),
-        Outcome::Unable(n) => Say::Plain(Word::Unable(n)),
+        Outcome::Unable(second) => Say::Plain(Word::Unable(second)),
         _ => Say::Nothing,
     }
 }
 
 impl Scene {
     // "charge if answered"
-    fn bill(self, talk: Talk, k: u8, room: &mut [u8]) -> u8
-        ensures { λ r. ⌜ r ≡ telling self (billActs (sceneView self) talk) k (now (room .entry)) .next ⌝ }
-        ensures { λ _. ⌜ now (room .exit) ≡ telling self (billActs (sceneView self) talk) k (now (room .entry)) .room ⌝ }
+    fn bill(self, talk: Talk, block: u8, room: &mut [u8]) -> u8
+        ensures { λ r. ⌜ r ≡ telling self (billActs (sceneView self) talk) block (now (room .entry)) .next ⌝ }
+        ensures { λ _. ⌜ now (room .exit) ≡ telling self (billActs (sceneView self) talk) block (now (room .entry)) .room ⌝ }
     {
         match talk {
-            Talk::Unanswered => k,
-            Talk::Since(b) => lay(charge(self.slot, self.own.ship, b, self.clock), k, room),
+            Talk::Unanswered => block,
+            Talk::Since(start) => lay(
+                charge(self.slot, self.own.ship, start, self.clock),
+                block,
+                room,
+            ),
         }
     }
 
     // "send 105/126 .. and the duration, carrier off"
-    fn sign_off(self, by: Ender, told: Told, k: u8, room: &mut [u8]) -> u8
-        ensures { λ r. ⌜ r ≡ telling self (offActs (sceneView self) (enderOf by) told) k (now (room .entry)) .next ⌝ }
-        ensures { λ _. ⌜ now (room .exit) ≡ telling self (offActs (sceneView self) (enderOf by) told) k (now (room .entry)) .room ⌝ }
+    fn sign_off(self, by: Ender, told: Told, block: u8, room: &mut [u8]) -> u8
+        ensures { λ r. ⌜ r ≡ telling self (offActs (sceneView self) (enderOf by) told) block (now (room .entry)) .next ⌝ }
+        ensures { λ _. ⌜ now (room .exit) ≡ telling self (offActs (sceneView self) (enderOf by) told) block (now (room .entry)) .room ⌝ }
     {
-        let n = lay(over(self.slot, by, self.own, told), k, room);
-        lay(carrier_off(self.slot), n, room)
+        let said = lay(over(self.slot, by, self.own, told), block, room);
+        lay(carrier_off(self.slot), said, room)
     }
 
     // "charge if answered, release line, send .."
-    fn end(self, by: Ender, talk: Talk, k: u8, room: &mut [u8]) -> u8
-        ensures { λ r. ⌜ r ≡ telling self (endedActs (sceneView self) (enderOf by) talk) k (now (room .entry)) .next ⌝ }
-        ensures { λ _. ⌜ now (room .exit) ≡ telling self (endedActs (sceneView self) (enderOf by) talk) k (now (room .entry)) .room ⌝ }
+    fn end(self, by: Ender, talk: Talk, block: u8, room: &mut [u8]) -> u8
+        ensures { λ r. ⌜ r ≡ telling self (endedActs (sceneView self) (enderOf by) talk) block (now (room .entry)) .next ⌝ }
+        ensures { λ _. ⌜ now (room .exit) ≡ telling self (endedActs (sceneView self) (enderOf by) talk) block (now (room .entry)) .room ⌝ }
     {
         let told = told_of(talk, self.clock);
-        let m = self.bill(talk, k, room);
-        let n = lay(release_line(self.slot), m, room);
-        self.sign_off(by, told, n, room)
+        let billed = self.bill(talk, block, room);
+        let released = lay(release_line(self.slot), billed, room);
+        self.sign_off(by, told, released, room)
     }
 
     // "in the hold: carrier on, the same answer sent, carrier off"
-    fn again(self, told: Told, k: u8, room: &mut [u8]) -> u8
-        ensures { λ r. ⌜ r ≡ telling self (againActs (sceneView self) told) k (now (room .entry)) .next ⌝ }
-        ensures { λ _. ⌜ now (room .exit) ≡ telling self (againActs (sceneView self) told) k (now (room .entry)) .room ⌝ }
+    fn again(self, told: Told, block: u8, room: &mut [u8]) -> u8
+        ensures { λ r. ⌜ r ≡ telling self (againActs (sceneView self) told) block (now (room .entry)) .next ⌝ }
+        ensures { λ _. ⌜ now (room .exit) ≡ telling self (againActs (sceneView self) told) block (now (room .entry)) .room ⌝ }
     {
-        let n = lay(carrier_on(self.slot), k, room);
-        self.sign_off(Ender::Ship, told, n, room)
+        let on = lay(carrier_on(self.slot), block, room);
+        self.sign_off(Ender::Ship, told, on, room)
     }
 
     // "ringing off if it rings"
-    fn stop_ringing(self, rung: bool, k: u8, room: &mut [u8]) -> u8
-        ensures { λ r. ⌜ r ≡ telling self (stopRingingActs (sceneView self) rung) k (now (room .entry)) .next ⌝ }
-        ensures { λ _. ⌜ now (room .exit) ≡ telling self (stopRingingActs (sceneView self) rung) k (now (room .entry)) .room ⌝ }
+    fn stop_ringing(self, rings: bool, block: u8, room: &mut [u8]) -> u8
+        ensures { λ r. ⌜ r ≡ telling self (stopRingingActs (sceneView self) rings) block (now (room .entry)) .next ⌝ }
+        ensures { λ _. ⌜ now (room .exit) ≡ telling self (stopRingingActs (sceneView self) rings) block (now (room .entry)) .room ⌝ }
     {
-        if rung {
-            return lay(ringing_off(self.slot), k, room);
+        if rings {
+            return lay(ringing_off(self.slot), block, room);
         }
-        k
+        block
     }
 
     // "the tone unless the caller hung up"
-    fn give_tone(self, tone: bool, k: u8, room: &mut [u8]) -> u8
-        ensures { λ r. ⌜ r ≡ telling self (toneActs (sceneView self) tone) k (now (room .entry)) .next ⌝ }
-        ensures { λ _. ⌜ now (room .exit) ≡ telling self (toneActs (sceneView self) tone) k (now (room .entry)) .room ⌝ }
+    fn give_tone(self, tone: bool, block: u8, room: &mut [u8]) -> u8
+        ensures { λ r. ⌜ r ≡ telling self (toneActs (sceneView self) tone) block (now (room .entry)) .next ⌝ }
+        ensures { λ _. ⌜ now (room .exit) ≡ telling self (toneActs (sceneView self) tone) block (now (room .entry)) .room ⌝ }
     {
         if tone {
-            return lay(busy_tone(self.slot), k, room);
+            return lay(busy_tone(self.slot), block, room);
         }
-        k
+        block
     }
 
     // "ringing off if it rings, carrier off, the tone unless the caller hung up, release line"
-    fn drop_call(self, rung: bool, tone: bool, k: u8, room: &mut [u8]) -> u8
-        ensures { λ r. ⌜ r ≡ telling self (dropCallActs (sceneView self) rung tone) k (now (room .entry)) .next ⌝ }
-        ensures { λ _. ⌜ now (room .exit) ≡ telling self (dropCallActs (sceneView self) rung tone) k (now (room .entry)) .room ⌝ }
+    fn drop_call(self, rings: bool, tone: bool, block: u8, room: &mut [u8]) -> u8
+        ensures { λ r. ⌜ r ≡ telling self (dropCallActs (sceneView self) rings tone) block (now (room .entry)) .next ⌝ }
+        ensures { λ _. ⌜ now (room .exit) ≡ telling self (dropCallActs (sceneView self) rings tone) block (now (room .entry)) .room ⌝ }
     {
-        let silent = self.stop_ringing(rung, k, room);
+        let silent = self.stop_ringing(rings, block, room);
         let off = lay(carrier_off(self.slot), silent, room);
         let toned = self.give_tone(tone, off, room);
         lay(release_line(self.slot), toned, room)
     }
 
-    fn close(self, c: Close, k: u8, room: &mut [u8]) -> u8
-        ensures { λ r. ⌜ r ≡ telling self (closeActs (sceneView self) c) k (now (room .entry)) .next ⌝ }
-        ensures { λ _. ⌜ now (room .exit) ≡ telling self (closeActs (sceneView self) c) k (now (room .entry)) .room ⌝ }
+    fn close(self, close: Close, block: u8, room: &mut [u8]) -> u8
+        ensures { λ r. ⌜ r ≡ telling self (closeActs (sceneView self) close) block (now (room .entry)) .next ⌝ }
+        ensures { λ _. ⌜ now (room .exit) ≡ telling self (closeActs (sceneView self) close) block (now (room .entry)) .room ⌝ }
     {
-        match c {
-            Close::Leaves => k,
-            Close::CarrierOff => lay(carrier_off(self.slot), k, room),
-            Close::Ends(by, talk) => self.end(by, talk, k, room),
-            Close::DropsCall(rung, tone) => self.drop_call(rung, tone, k, room),
-            Close::Again(told) => self.again(told, k, room),
+        match close {
+            Close::Leaves => block,
+            Close::CarrierOff => lay(carrier_off(self.slot), block, room),
+            Close::Ends(by, talk) => self.end(by, talk, block, room),
+            Close::DropsCall(rings, tone) => self.drop_call(rings, tone, block, room),
+            Close::Again(told) => self.again(told, block, room),
         }
     }
 
-    fn word(self, w: Word) -> Action
-        ensures { λ r. ⌜ actionBlock r ≡ sentOn (self .channel) (wordAct (sceneView self) w) ⌝ }
+    fn word(self, word: Word) -> Action
+        ensures { λ r. ⌜ actionBlock r ≡ sentOn (self .channel) (wordAct (sceneView self) word) ⌝ }
     {
         let slot = self.slot;
         let channel = self.channel;
-        match w {
+        match word {
             Word::Dials => dial(slot, self.own.number),
             Word::CallsOwn => call_ship(slot, channel, self.own),
             Word::CallsOldest => call_ship(slot, channel, self.oldest),
@@ -214,36 +218,36 @@ impl Scene {
             Word::RingingOn => ringing_on(slot),
             Word::RingingOff => ringing_off(slot),
             Word::Acknowledges => acknowledgement(slot, channel, self.asked),
-            Word::Unable(n) => unable_to(n, self.asked),
+            Word::Unable(second) => unable_to(second, self.asked),
         }
     }
 
-    fn say(self, s: Say, k: u8, room: &mut [u8]) -> u8
-        ensures { λ r. ⌜ r ≡ telling self (sayActs (sceneView self) s) k (now (room .entry)) .next ⌝ }
-        ensures { λ _. ⌜ now (room .exit) ≡ telling self (sayActs (sceneView self) s) k (now (room .entry)) .room ⌝ }
+    fn say(self, say: Say, block: u8, room: &mut [u8]) -> u8
+        ensures { λ r. ⌜ r ≡ telling self (sayActs (sceneView self) say) block (now (room .entry)) .next ⌝ }
+        ensures { λ _. ⌜ now (room .exit) ≡ telling self (sayActs (sceneView self) say) block (now (room .entry)) .room ⌝ }
     {
-        match s {
-            Say::Nothing => k,
-            Say::Plain(w) => {
-                let x = self.word(w);
-                lay(x, k, room)
+        match say {
+            Say::Nothing => block,
+            Say::Plain(word) => {
+                let action = self.word(word);
+                lay(action, block, room)
             }
-            Say::Lifted(w) => {
-                let x = self.word(w);
-                let n = lay(carrier_on(self.slot), k, room);
-                lay(x, n, room)
+            Say::Lifted(word) => {
+                let action = self.word(word);
+                let on = lay(carrier_on(self.slot), block, room);
+                lay(action, on, room)
             }
         }
     }
 
-    // Lays the blocks of an outcome's actions from block number k on, and returns the number of the next block.
-    pub fn tell(self, outcome: Outcome, k: u8, room: &mut [u8]) -> u8
-        ensures { λ r. ⌜ r ≡ telling self (actsOf (sceneView self) outcome) k (now (room .entry)) .next ⌝ }
-        ensures { λ _. ⌜ now (room .exit) ≡ telling self (actsOf (sceneView self) outcome) k (now (room .entry)) .room ⌝ }
+    // Lays the blocks of an outcome's actions from that block on, and returns the number of the next block.
+    pub fn tell(self, outcome: Outcome, block: u8, room: &mut [u8]) -> u8
+        ensures { λ r. ⌜ r ≡ telling self (actsOf (sceneView self) outcome) block (now (room .entry)) .next ⌝ }
+        ensures { λ _. ⌜ now (room .exit) ≡ telling self (actsOf (sceneView self) outcome) block (now (room .entry)) .room ⌝ }
     {
         let close = close_of(outcome);
         let say = say_of(outcome, self.waiting);
-        let n = self.close(close, k, room);
-        self.say(say, n, room)
+        let closed = self.close(close, block, room);
+        self.say(say, closed, room)
     }
 }

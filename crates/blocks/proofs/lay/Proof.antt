@@ -21,7 +21,7 @@ abbrev μ-loop : tie.MeasureT-loop
 
 returns : tie.Need-returns Inv-loop μ-loop
 returns c = let a = c .before .before .args in
-    no-number (actionBlock (a .x)) (a .k) (now (a .room)) (omega (arith, c .if1 .taken))
+    no-number (actionBlock (a .action)) (a .block) (now (a .room)) (omega (arith, c .if1 .taken))
 
 cast-place : tie.Need-cast-place Inv-loop μ-loop
 cast-place c = search needs
@@ -34,10 +34,10 @@ add-if2 c = search needs
 
 returns-2 : tie.Need-returns-2 Inv-loop μ-loop
 returns-2 c = let a = c .before .before .before .args in
-    no-room (actionBlock (a .x)) (a .k) (now (a .room)) (omega arith) (omega arith)
+    no-room (actionBlock (a .action)) (a .block) (now (a .room)) (omega arith) (omega arith)
 
-cast-n : tie.Need-cast-n Inv-loop μ-loop
-cast-n c = search needs
+cast-length : tie.Need-cast-length Inv-loop μ-loop
+cast-length c = search needs
 
 slice-write-room : tie.Need-slice-write-room Inv-loop μ-loop
 slice-write-room c = omega arith
@@ -68,7 +68,7 @@ slice-write-room-4 c = simp length-set (omega arith)
 
 loop-holds : tie.Need-loop-holds Inv-loop μ-loop
 loop-holds c = let a = c .before .before .before .before .before .before .before .args in
-    (paste-zero _ (40 * a .k + 4) (padded 0 36 (take (a .x .length) (a .x .payload))), omega arith, refl, simp length-set (omega arith), search needs)
+    (paste-zero _ (40 * a .block + 4) (padded 0 36 (take (a .action .length) (a .action .payload))), omega arith, refl, simp length-set (omega arith), search needs)
 
 array-read-room : tie.Need-array-read-room Inv-loop μ-loop
 array-read-room c = omega arith
@@ -82,8 +82,8 @@ add-room-5 c = search needs
 slice-write-room-5 : tie.Need-slice-write-room-5 Inv-loop μ-loop
 slice-write-room-5 c = let v = c .before .before .loop .inv in omega (arith, v .2, v .3)
 
-add-j : tie.Need-add-j Inv-loop μ-loop
-add-j c = omega arith
+add-i : tie.Need-add-i Inv-loop μ-loop
+add-i c = omega arith
 
 loop-less : tie.Need-loop-less Inv-loop μ-loop
 loop-less c = omega arith
@@ -91,9 +91,9 @@ loop-less c = omega arith
 loop-again : tie.Need-loop-again Inv-loop μ-loop
 loop-again c = let l = c .before .before .loop in
     let t = c .before .loop-test .taken in
-    let x = c .before .before .before .before .before .before .before .before .before .before .args .x in (
-      turned _ _ (x .length) (x .payload) _ (l .j) _ (l .inv .0) (l .inv .3) t
-          (⊎-elim (λ w. w .1 ∙ payload-at (x .length) (x .payload) (l .j) t (w .0 .taken)) (λ w. w .1 ∙ payload-past (x .length) (x .payload) (l .j) t (w .0 .left)) (c .if3 .came)),
+    let x = c .before .before .before .before .before .before .before .before .before .before .args .action in (
+      turned _ _ (x .length) (x .payload) _ (l .i) _ (l .inv .0) (l .inv .3) t
+          (⊎-elim (λ w. w .1 ∙ payload-at (x .length) (x .payload) (l .i) t (w .0 .taken)) (λ w. w .1 ∙ payload-past (x .length) (x .payload) (l .i) t (w .0 .left)) (c .if3 .came)),
       omega arith,
       length-set (l .room) _ _ ∙ l .inv .2,
       l .inv .3,
@@ -109,8 +109,8 @@ same-length c = simp length-set at (c .before .loop .inv .2)
 returns-3 : tie.Need-returns-3 Inv-loop μ-loop
 returns-3 c = let a = c .before .before .before .before .before .before .before .before .before .args in
     let l = c .before .loop in
-    let e : l .j ≡ 36 = omega arith in
-    block-laid (a .x) (a .k) (now (a .room)) _ _ _ (l .inv .4) (omega arith) (omega arith) (c .before .before .before .slot-byte .ensures) (c .before .before .least .ensures) (rw e at (l .inv .0))
+    let e : l .i ≡ 36 = omega arith in
+    block-laid (a .action) (a .block) (now (a .room)) _ _ _ (l .inv .4) (omega arith) (omega arith) (c .before .before .before .slot-byte .ensures) (c .before .before .least .ensures) (rw e at (l .inv .0))
 
 pub lay-spec : {M : Type 1} → statement M
 lay-spec =
@@ -123,7 +123,7 @@ lay-spec =
     mul-place
     add-if2
     returns-2
-    cast-n
+    cast-length
     slice-write-room
     slot-byte-requires
     add-room
@@ -138,7 +138,7 @@ lay-spec =
     add-room-4
     add-room-5
     slice-write-room-5
-    add-j
+    add-i
     loop-less
     loop-again
     add-result

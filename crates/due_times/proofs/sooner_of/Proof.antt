@@ -7,10 +7,10 @@ returns : tie.Need-returns
 returns c = rw (c .enum-told .given .1)
 
 returns-2 : tie.Need-returns-2
-returns-2 c = rw (c .before .before .before .before .d .given .1, le-leb _ _ (c .if1 .taken))
+returns-2 c = rw (c .before .before .before .before .first .given .1, le-leb _ _ (c .if1 .taken))
 
 returns-3 : tie.Need-returns-3
-returns-3 c = rw (c .before .before .before .before .d .given .1, lt-leb _ _ (c .if1 .left))
+returns-3 c = rw (c .before .before .before .before .first .given .1, lt-leb _ _ (c .if1 .left))
 
 pub sooner-of-spec : {M : Type 1} → statement M
 sooner-of-spec = tie.close (tie.spec (λ c. search needs) (λ c. search needs) returns returns-2 returns-3)

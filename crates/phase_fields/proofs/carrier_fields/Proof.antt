@@ -6,7 +6,7 @@ returns : tie.Need-returns
 returns c = rw (c .enum-told .given .1)
 
 returns-2 : tie.Need-returns-2
-returns-2 c = rw (c .before .c .given .1)
+returns-2 c = rw (c .before .carrier .given .1)
 
 pub carrier-fields-spec : {M : Type 1} → statement M
 carrier-fields-spec = tie.close (tie.spec (λ c. search needs) (λ c. search needs) returns returns-2)

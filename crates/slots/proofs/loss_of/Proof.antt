@@ -8,7 +8,7 @@ use Rattle.slots.proofs.loss_of.Tie as tie
 
 returns : tie.Need-returns
 returns c =
-    let x = c .before .before .args .s in
+    let x = c .before .before .args .slot in
     c .loss-when .ensures ∙ ap carrierOf (c .before .carrier-in .ensures) ∙ sym (loss-view (x .phase) (requestOf (x .request)))
 
 pub loss-of-spec : {M : Type 1} → statement M

@@ -8,7 +8,7 @@ use Rattle.slots.proofs.main_of.Tie as tie
 
 returns : tie.Need-returns
 returns c =
-    let x = c .before .before .args .s in
+    let x = c .before .before .args .slot in
     c .main-when .ensures ∙ ap dueIn (c .before .span-of .ensures) ∙ sym (main-view (x .phase) (requestOf (x .request)))
 
 pub main-of-spec : {M : Type 1} → statement M

@@ -27,7 +27,7 @@ returns : tie.Need-returns Inv-loop μ-loop
 unfolding channelsKeep
 returns c = let x = c .before .args in
     let e : length (x .t1) ≡ 16 = search needs in
-    rw (lt-leb 1 (length (viewed channelOf (x .n) (x .t1))) (omega (arith, viewed-length channelOf (x .n) (x .t1))))
+    rw (lt-leb 1 (length (viewed channelOf (x .count) (x .t1))) (omega (arith, viewed-length channelOf (x .count) (x .t1))))
 
 loop-holds : tie.Need-loop-holds Inv-loop μ-loop
 unfolding padded viewed
@@ -37,9 +37,9 @@ returns-2 : tie.Need-returns-2 Inv-loop μ-loop
 unfolding channelsKeep
 returns-2 c = let x = c .before .before .before .before .before .before .before .before .args in
     let l = c .before .before .before .before .before .loop in
-    let n = length (viewed channelOf (x .n) (x .t1)) in
-    let k = viewed-length channelOf (x .n) (x .t1) in
-    rw (le-leb 1 n (omega (arith, k)), le-leb n 16 (omega (arith, k)), l .inv .5 ∙ all-off channelOf channelOk (x .n) (x .t1) (l .i) noSlot (omega arith) (omega arith) (sym (c .before .channel-ok .ensures) ∙ not-true _ (c .if2 .taken)))
+    let n = length (viewed channelOf (x .count) (x .t1)) in
+    let k = viewed-length channelOf (x .count) (x .t1) in
+    rw (le-leb 1 n (omega (arith, k)), le-leb n 16 (omega (arith, k)), l .inv .5 ∙ all-off channelOf channelOk (x .count) (x .t1) (l .i) noSlot (omega arith) (omega arith) (sym (c .before .channel-ok .ensures) ∙ not-true _ (c .if2 .taken)))
 
 loop-less : tie.Need-loop-less Inv-loop μ-loop
 loop-less c = omega arith
@@ -47,7 +47,7 @@ loop-less c = omega arith
 loop-again : tie.Need-loop-again Inv-loop μ-loop
 loop-again c = let x = c .before .before .before .before .before .before .before .before .args in
     let l = c .before .before .before .before .before .loop in
-    (search needs, c .before .before .before .before .before .before .least .ensures, omega arith, search needs, rw (l .inv .4) (laid-more numberOf 0 16 (l .i) (x .t1) noSlot (omega arith) (omega arith)), l .inv .5 ∙ all-on channelOf channelOk (x .n) (x .t1) (l .i) noSlot (omega arith) (omega arith) (sym (c .before .channel-ok .ensures) ∙ not-false _ (c .if2 .left)))
+    (search needs, c .before .before .before .before .before .before .least .ensures, omega arith, search needs, rw (l .inv .4) (laid-more numberOf 0 16 (l .i) (x .t1) noSlot (omega arith) (omega arith)), l .inv .5 ∙ all-on channelOf channelOk (x .count) (x .t1) (l .i) noSlot (omega arith) (omega arith) (sym (c .before .channel-ok .ensures) ∙ not-false _ (c .if2 .left)))
 
 slice-aggregate : tie.Need-slice-aggregate-all-apart Inv-loop μ-loop
 slice-aggregate c = simp length-take (omega arith)
@@ -56,10 +56,10 @@ returns-3 : tie.Need-returns-3 Inv-loop μ-loop
 unfolding channelsKeep
 returns-3 c = let x = c .before .before .before .before .before .before .args in
     let l = c .before .before .before .loop in
-    let n = length (viewed channelOf (x .n) (x .t1)) in
-    let k = viewed-length channelOf (x .n) (x .t1) in
+    let n = length (viewed channelOf (x .count) (x .t1)) in
+    let k = viewed-length channelOf (x .count) (x .t1) in
     let e : c .before .before .before .before .least .result ≡ l .i = omega arith in
-    rw (le-leb 1 n (omega (arith, k)), le-leb n 16 (omega (arith, k)), l .inv .5 ∙ ap (all channelOk) (left-none channelOf (x .n) (x .t1) (l .i) (omega arith))) (c .all-apart .ensures ∙ ap (distinct eqb) (ap (λ j. take j (l .numbers)) e ∙ channels-front (x .n) (l .i) (x .t1) (l .numbers) (omega arith) (omega arith) (l .inv .4)) ∙ channels-apart (x .n) (x .t1))
+    rw (le-leb 1 n (omega (arith, k)), le-leb n 16 (omega (arith, k)), l .inv .5 ∙ ap (all channelOk) (left-none channelOf (x .count) (x .t1) (l .i) (omega arith))) (c .all-apart .ensures ∙ ap (distinct eqb) (ap (λ j. take j (l .numbers)) e ∙ channels-front (x .count) (l .i) (x .t1) (l .numbers) (omega arith) (omega arith) (l .inv .4)) ∙ channels-apart (x .count) (x .t1))
 
 pub channels-keep-spec : {M : Type 1} → statement M
 channels-keep-spec =

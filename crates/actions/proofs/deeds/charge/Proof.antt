@@ -118,7 +118,7 @@ returns : tie.Need-returns
 unfolding actionOf padded
 returns c = let a = c .before .before .before .args in
     let e : c .count .result ≡ wholeSeconds (span (a .start) (a .stop)) .0 = rw (c .count .ensures, c .before .whole-seconds .ensures, c .before .before .span-of .ensures) in
-    both 7 (a .i .0) (chargeBytes (a .ship) (a .start) (a .stop)) _ (omega arith) (rw (← e))
+    both 7 (a .slot .0) (chargeBytes (a .ship) (a .start) (a .stop)) _ (omega arith) (rw (← e))
 
 pub charge-spec : {M : Type 1} → statement M
 charge-spec =

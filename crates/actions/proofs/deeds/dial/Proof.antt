@@ -14,16 +14,16 @@ use Rattle.actions.proofs.deeds.dial.Statement.{statement}
 use Rattle.actions.proofs.deeds.dial.Tie as tie
 
 abbrev Inv-loop : tie.InvT-loop
-Inv-loop i count n digits payload₀ k₀ payload k = (length digits ≡ 16) × (k ≤ n) × (n ≡ count) × (length payload ≡ 36) × (payload ≡ padded 0 36 (viewed itself k digits))
+Inv-loop slot count n digits payload₀ k₀ payload k = (length digits ≡ 16) × (k ≤ n) × (n ≡ count) × (length payload ≡ 36) × (payload ≡ padded 0 36 (viewed itself k digits))
 
 abbrev μ-loop : tie.MeasureT-loop
-μ-loop i count n digits payload₀ k₀ payload k = n - k
+μ-loop slot count n digits payload₀ k₀ payload k = n - k
 
 least-requires : tie.Need-least-requires Inv-loop μ-loop
 least-requires c κs = search needs
 
-cast-n : tie.Need-cast-n Inv-loop μ-loop
-cast-n c = search needs
+cast-length : tie.Need-cast-length Inv-loop μ-loop
+cast-length c = search needs
 
 loop-holds : tie.Need-loop-holds Inv-loop μ-loop
 unfolding padded viewed
@@ -35,8 +35,8 @@ array-read-payload c = omega (arith, c .before .before .before .least .ensures)
 array-write-payload : tie.Need-array-write-payload Inv-loop μ-loop
 array-write-payload c = omega (arith, c .before .before .before .least .ensures)
 
-add-k : tie.Need-add-k Inv-loop μ-loop
-add-k c = omega (arith, c .before .before .before .least .ensures)
+add-i : tie.Need-add-i Inv-loop μ-loop
+add-i c = omega (arith, c .before .before .before .least .ensures)
 
 loop-less : tie.Need-loop-less Inv-loop μ-loop
 loop-less c = omega arith
@@ -49,7 +49,7 @@ returns : tie.Need-returns Inv-loop μ-loop
 returns c = let n = c .before .before .before .before .args .number in
     let b = c .before .before .before .least .ensures in
     let w = c .before .loop .inv .0 in
-    let h = digits-all n (c .before .loop .k) w (omega arith) in
+    let h = digits-all n (c .before .loop .i) w (omega arith) in
     both 5 _ (digitsOf n) _ (omega (arith, digits-few n w)) (made 5 _ _ (digitsOf n) _ (omega (arith, h .1)) (c .before .loop .inv .4 ∙ ap (padded 0 36) (h .0)))
 
 pub dial-spec : {M : Type 1} → statement M
@@ -59,11 +59,11 @@ dial-spec =
     Inv-loop
     μ-loop
     least-requires
-    cast-n
+    cast-length
     loop-holds
     array-read-payload
     array-write-payload
-    add-k
+    add-i
     loop-less
     loop-again
     returns)

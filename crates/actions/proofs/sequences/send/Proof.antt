@@ -15,12 +15,12 @@ write-requires : tie.Need-write-requires
 write-requires c κs = search needs
 
 cast-t8 : tie.Need-cast-t8
-cast-t8 c = let m = c .before .before .before .before .args .m in
+cast-t8 c = let m = c .before .before .before .before .args .meaning in
     let e : c .before .before .write .result .length ≡ length (sent m) = ap (λ w. w .length) (c .before .before .write .ensures .0) ∙ laid m .0 in
     omega (arith, sent-short m)
 
 returns : tie.Need-returns
-returns c = let m = c .before .before .before .before .args .m in
+returns c = let m = c .before .before .before .before .args .meaning in
     made _ _ _ (sent m) _ (ap (λ w. w .length) (c .before .before .write .ensures .0) ∙ laid m .0) (c .before .before .write .ensures .1 ∙ laid m .1)
 
 pub send-spec : {M : Type 1} → statement M

@@ -19,8 +19,8 @@ abbrev μ-loop : tie.MeasureT-loop
 least-requires : tie.Need-least-requires Inv-loop μ-loop
 least-requires c κs = search needs
 
-cast-m : tie.Need-cast-m Inv-loop μ-loop
-cast-m c = search needs
+cast-length : tie.Need-cast-length Inv-loop μ-loop
+cast-length c = search needs
 
 loop-holds : tie.Need-loop-holds Inv-loop μ-loop
 unfolding padded viewed
@@ -32,8 +32,8 @@ array-read-digits c = omega (arith, c .before .before .before .least .ensures)
 array-write-digits : tie.Need-array-write-digits Inv-loop μ-loop
 array-write-digits c = omega (arith, c .before .before .before .least .ensures)
 
-add-k : tie.Need-add-k Inv-loop μ-loop
-add-k c = omega (arith, c .before .before .before .least .ensures)
+add-i : tie.Need-add-i Inv-loop μ-loop
+add-i c = omega (arith, c .before .before .before .least .ensures)
 
 loop-less : tie.Need-loop-less Inv-loop μ-loop
 loop-less c = omega arith
@@ -44,7 +44,7 @@ loop-again c = let b = c .before .before .before .least .ensures in
 
 returns : tie.Need-returns Inv-loop μ-loop
 returns c = let b = c .before .before .before .least .ensures in
-    tidy (c .before .before .before .before .args .n) _ (c .before .loop .k) _ (c .before .loop .inv .0) b (omega arith) (c .before .loop .inv .4)
+    tidy (c .before .before .before .before .args .number) _ (c .before .loop .i) _ (c .before .loop .inv .0) b (omega arith) (c .before .loop .inv .4)
 
 pub tidied-spec : {M : Type 1} → statement M
 tidied-spec =
@@ -53,11 +53,11 @@ tidied-spec =
     Inv-loop
     μ-loop
     least-requires
-    cast-m
+    cast-length
     loop-holds
     array-read-digits
     array-write-digits
-    add-k
+    add-i
     loop-less
     loop-again
     returns)

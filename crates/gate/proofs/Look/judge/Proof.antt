@@ -18,7 +18,7 @@ four true true false d = refl
 four true true true d = refl
 
 returns : tie.Need-returns
-returns c = let a = c .before .before .before .before .args in rw (c .and-then4 .ensures, c .before .and-then3 .ensures, c .before .before .and-then2 .ensures, c .before .before .before .and-then .ensures) (four (a .self .sound) (leb roomNeeded (a .size)) (leb (a .t .0) limit) (leb (a .self .clock .0) (a .t .0)))
+returns c = let a = c .before .before .before .before .args in rw (c .and-then4 .ensures, c .before .and-then3 .ensures, c .before .before .and-then2 .ensures, c .before .before .before .and-then .ensures) (four (a .self .sound) (leb roomNeeded (a .size)) (leb (a .time .0) limit) (leb (a .self .clock .0) (a .time .0)))
 
 pub judge-spec : {M : Type 1} → statement M
 judge-spec = tie.close (tie.spec (λ c κs. search needs) (λ c κs. search needs) (λ c κs. search needs) (λ c κs. search needs) returns)

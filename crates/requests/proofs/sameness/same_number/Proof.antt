@@ -18,7 +18,7 @@ abbrev μ-loop : tie.MeasureT-loop
 
 returns : tie.Need-returns Inv-loop μ-loop
 unfolding digitsOf
-returns c = let x = c .before .before .before .args .a in let y = c .before .before .before .args .b in
+returns c = let x = c .before .before .before .args .asked in let y = c .before .before .before .args .stored in
     let e : length (x .digits) ≡ 16 = search needs in
     let f : length (y .digits) ≡ 16 = search needs in
     sym (lengths-differ (viewed itself (x .count) (x .digits)) (viewed itself (y .count) (y .digits)) (λ h. omega (arith, viewed-length itself (x .count) (x .digits), viewed-length itself (y .count) (y .digits))))
@@ -28,7 +28,7 @@ loop-holds c = (search needs, search needs, omega arith, omega arith, rw (left-a
 
 returns-2 : tie.Need-returns-2 Inv-loop μ-loop
 unfolding digitsOf
-returns-2 c = let x = c .before .before .before .before .before .before .before .before .args .a in let y = c .before .before .before .before .before .before .before .before .args .b in
+returns-2 c = let x = c .before .before .before .before .before .before .before .before .args .asked in let y = c .before .before .before .before .before .before .before .before .args .stored in
     let e : c .before .before .before .before .before .before .before .least .result ≡ min (x .count) (length (x .digits)) = omega arith in
     let f : c .before .before .before .before .before .before .least2 .result ≡ min (y .count) (length (y .digits)) = omega arith in
     sym (rw (← viewed-min itself (x .count) (x .digits), ← viewed-min itself (y .count) (y .digits), ← e, ← f) (c .before .before .loop .inv .4 ∙ digit-differs _ _ _ _ (c .before .before .loop .i) (omega arith) (omega arith) (omega arith) (omega arith) (c .if2 .taken)))
@@ -41,7 +41,7 @@ loop-again c = (search needs, search needs, omega arith, omega arith, c .before 
 
 returns-3 : tie.Need-returns-3 Inv-loop μ-loop
 unfolding digitsOf
-returns-3 c = let x = c .before .before .before .before .before .before .before .args .a in let y = c .before .before .before .before .before .before .before .args .b in
+returns-3 c = let x = c .before .before .before .before .before .before .before .args .asked in let y = c .before .before .before .before .before .before .before .args .stored in
     let e : c .before .before .before .before .before .before .least .result ≡ min (x .count) (length (x .digits)) = omega arith in
     let f : c .before .before .before .before .before .least2 .result ≡ min (y .count) (length (y .digits)) = omega arith in
     sym (rw (← viewed-min itself (x .count) (x .digits), ← viewed-min itself (y .count) (y .digits), ← e, ← f) (c .before .loop .inv .4 ∙ rw (left-none itself (c .before .before .before .before .before .before .least .result) (x .digits) (c .before .loop .i) (omega arith), left-none itself (c .before .before .before .before .before .least2 .result) (y .digits) (c .before .loop .i) (omega arith)) refl))

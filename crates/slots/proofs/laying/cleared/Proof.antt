@@ -19,7 +19,7 @@ abbrev μ-loop : tie.MeasureT-loop
 
 loop-holds : tie.Need-loop-holds Inv-loop μ-loop
 unfolding padded viewed
-loop-holds c = (search needs, omega arith, search needs, (let e : min 0 (c .args .n) ≡ 0 = omega arith in rw e refl))
+loop-holds c = (search needs, omega arith, search needs, (let e : min 0 (c .args .count) ≡ 0 = omega arith in rw e refl))
 
 loop-less : tie.Need-loop-less Inv-loop μ-loop
 loop-less c = omega arith
@@ -33,22 +33,22 @@ loop-again c =
       search needs,
       ⊎-elim
           (λ w.
-          let h : l .i < x .n = w .0 .taken in
-          let e : min (l .i) (x .n) ≡ l .i = omega arith in
-          let f : min (l .i + 1) (x .n) ≡ l .i + 1 = omega arith in
+          let h : l .i < x .count = w .0 .taken in
+          let e : min (l .i) (x .count) ≡ l .i = omega arith in
+          let f : min (l .i + 1) (x .count) ≡ l .i + 1 = omega arith in
           let g : min (getD (x .t1) (l .i) 0) 255 ≡ getD (x .t1) (l .i) 0 = omega (arith, c .at-most .ensures .1) in
           rw (c .at-most .ensures .0, w .1, l .inv .3, e, f, g) (laid-more itself 0 16 (l .i) (x .t1) 0 (omega arith) (omega arith)))
           (λ w.
-          let h : x .n ≤ l .i = w .0 .left in
-          let e : min (l .i) (x .n) ≡ x .n = omega arith in
-          let f : min (l .i + 1) (x .n) ≡ x .n = omega arith in
+          let h : x .count ≤ l .i = w .0 .left in
+          let e : min (l .i) (x .count) ≡ x .count = omega arith in
+          let f : min (l .i + 1) (x .count) ≡ x .count = omega arith in
           let g : min (getD (x .t1) (l .i) 0) 0 ≡ 0 = omega arith in
-          rw (c .at-most .ensures .0, w .1, l .inv .3, e, f, g) (padded-blank 0 16 (viewed itself (x .n) (x .t1)) (l .i) (omega (arith, viewed-length itself (x .n) (x .t1)))))
+          rw (c .at-most .ensures .0, w .1, l .inv .3, e, f, g) (padded-blank 0 16 (viewed itself (x .count) (x .t1)) (l .i) (omega (arith, viewed-length itself (x .count) (x .t1)))))
           (c .before .if1 .came),
     )
 
 returns : tie.Need-returns Inv-loop μ-loop
-returns c = c .before .loop .inv .3 ∙ ap (λ z. padded 0 16 z) (let e : min (c .before .loop .i) (c .before .before .args .n) ≡ min (c .before .before .args .n) (length (c .before .before .args .t1)) = omega arith in rw e (viewed-min itself _ _))
+returns c = c .before .loop .inv .3 ∙ ap (λ z. padded 0 16 z) (let e : min (c .before .loop .i) (c .before .before .args .count) ≡ min (c .before .before .args .count) (length (c .before .before .args .t1)) = omega arith in rw e (viewed-min itself _ _))
 
 pub cleared-spec : {M : Type 1} → statement M
 cleared-spec =

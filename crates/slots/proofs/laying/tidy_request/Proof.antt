@@ -11,7 +11,7 @@ use Rattle.slots.proofs.laying.tidy_request.Tie as tie
 returns : tie.Need-returns
 unfolding tidyRequest requestImage requestOf digitsOf
 returns c =
-    let q = c .before .before .before .before .args .q in
+    let q = c .before .before .before .before .args .request in
     let wide : length (q .number .digits) ≡ 16 = search needs in
     rw (c .cleared .ensures, c .before .before .least .ensures, mode-back (q .mode), viewed-length itself (q .number .count) (q .number .digits), wide)
 

@@ -12,19 +12,19 @@ use Rattle.sound_records.proofs.stored.slot_stored.Tie as tie
 returns : tie.Need-returns
 unfolding slotExact
 returns c = let x = c .before .before .before .args in
-    rw (keeps-view (named (x .mast)) (x .s .phase) (requestOf (x .s .request)), sym (c .before .stores .ensures) ∙ not-true _ (c .if1 .taken))
+    rw (keeps-view (named (x .mast)) (x .slot .phase) (requestOf (x .slot .request)), sym (c .before .stores .ensures) ∙ not-true _ (c .if1 .taken))
 
 returns-2 : tie.Need-returns-2
 unfolding slotExact
 returns-2 c = let x = c .before .before .before .before .before .before .args in
     let told = ap durationKeeps (sym (c .before .before .told-in .ensures)) ∙ sym (c .before .told-keeps .ensures) ∙ not-true _ (c .if2 .taken) in
-    rw (keeps-view (named (x .mast)) (x .s .phase) (requestOf (x .s .request)), sym (c .before .before .before .before .stores .ensures) ∙ not-false _ (c .before .before .before .if1 .left), told)
+    rw (keeps-view (named (x .mast)) (x .slot .phase) (requestOf (x .slot .request)), sym (c .before .before .before .before .stores .ensures) ∙ not-false _ (c .before .before .before .if1 .left), told)
 
 returns-3 : tie.Need-returns-3
 unfolding slotExact
 returns-3 c = let x = c .before .before .before .before .before .before .before .args in
     let told = ap durationKeeps (sym (c .before .before .before .told-in .ensures)) ∙ sym (c .before .before .told-keeps .ensures) ∙ not-false _ (c .before .if2 .left) in
-    rw (keeps-view (named (x .mast)) (x .s .phase) (requestOf (x .s .request)), sym (c .before .before .before .before .before .stores .ensures) ∙ not-false _ (c .before .before .before .before .if1 .left), told, ← c .request-stored .ensures)
+    rw (keeps-view (named (x .mast)) (x .slot .phase) (requestOf (x .slot .request)), sym (c .before .before .before .before .before .stores .ensures) ∙ not-false _ (c .before .before .before .before .if1 .left), told, ← c .request-stored .ensures)
 
 pub slot-stored-spec : {M : Type 1} → statement M
 slot-stored-spec =

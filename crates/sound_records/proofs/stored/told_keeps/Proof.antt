@@ -9,7 +9,7 @@ returns c = rw (c .enum-told .given .1)
 
 returns-2 : tie.Need-returns-2
 unfolding durationKeeps
-returns-2 c = rw (c .before .before .t .given .1, ← c .duration-ok .ensures)
+returns-2 c = rw (c .before .before .told .given .1, ← c .duration-ok .ensures)
 
 pub told-keeps-spec : {M : Type 1} → statement M
 told-keeps-spec =

@@ -6,7 +6,7 @@ returns : tie.Need-returns
 returns c = search needs
 
 returns-2 : tie.Need-returns-2
-returns-2 c = rw (c .before .before .before .l .given .1, ← c .before .carrier-wait .ensures, ← c .fits-wait .ensures)
+returns-2 c = rw (c .before .before .before .carrier .given .1, ← c .before .carrier-wait .ensures, ← c .fits-wait .ensures)
 
 pub loss-fits-spec : {M : Type 1} → statement M
 loss-fits-spec =

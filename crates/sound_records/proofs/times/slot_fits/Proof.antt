@@ -11,14 +11,14 @@ use Rattle.sound_records.proofs.times.slot_fits.Tie as tie
 returns : tie.Need-returns
 unfolding requestOf
 returns c = let x = c .before .before .before .before .args in
-    let lost = ap (λ l. lossFits (x .c .0) (modeOf (x .s .request .mode)) (carrierOf l)) (sym (c .before .before .carrier-in .ensures)) ∙ sym (c .before .loss-fits .ensures) ∙ not-true _ (c .if1 .taken) in
-    rw (fits-view (x .c .0) (x .s .phase) (requestOf (x .s .request)), lost)
+    let lost = ap (λ l. lossFits (x .clock .0) (modeOf (x .slot .request .mode)) (carrierOf l)) (sym (c .before .before .carrier-in .ensures)) ∙ sym (c .before .loss-fits .ensures) ∙ not-true _ (c .if1 .taken) in
+    rw (fits-view (x .clock .0) (x .slot .phase) (requestOf (x .slot .request)), lost)
 
 returns-2 : tie.Need-returns-2
 unfolding requestOf
 returns-2 c = let x = c .before .before .before .before .before .before .args in
-    let lost = ap (λ l. lossFits (x .c .0) (modeOf (x .s .request .mode)) (carrierOf l)) (sym (c .before .before .before .before .carrier-in .ensures)) ∙ sym (c .before .before .before .loss-fits .ensures) ∙ not-false _ (c .before .before .if1 .left) in
-    rw (fits-view (x .c .0) (x .s .phase) (requestOf (x .s .request)), lost) (c .span-fits .ensures ∙ ap (spanFits (x .c .0)) (c .before .span-of .ensures))
+    let lost = ap (λ l. lossFits (x .clock .0) (modeOf (x .slot .request .mode)) (carrierOf l)) (sym (c .before .before .before .before .carrier-in .ensures)) ∙ sym (c .before .before .before .loss-fits .ensures) ∙ not-false _ (c .before .before .if1 .left) in
+    rw (fits-view (x .clock .0) (x .slot .phase) (requestOf (x .slot .request)), lost) (c .span-fits .ensures ∙ ap (spanFits (x .clock .0)) (c .before .span-of .ensures))
 
 pub slot-fits-spec : {M : Type 1} → statement M
 slot-fits-spec =

@@ -11,7 +11,7 @@ use Rattle.telling.proofs.Scene.again.Tie as tie
 returns : tie.Need-returns
 unfolding sceneView sentOn sentPayload
 returns c = let a = c .before .before .before .before .before .before .before .before .before .before .args in
-    tells-more (a .self) (a .k) (now (a .room)) (does (carrierOn (a .self .slot .0))) _ _ _ _ _ _ (c .before .before .before .before .before .before .before .before .carrier-on .ensures .1) (c .before .before .before .before .before .before .lay .ensures)
+    tells-more (a .self) (a .block) (now (a .room)) (does (carrierOn (a .self .slot .0))) _ _ _ _ _ _ (c .before .before .before .before .before .before .before .before .carrier-on .ensures .1) (c .before .before .before .before .before .before .lay .ensures)
     (c .before .before .sign-off .ensures)
 
 pub again-spec : {M : Type 1} → statement M

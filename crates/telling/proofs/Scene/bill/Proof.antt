@@ -10,12 +10,12 @@ use Rattle.telling.proofs.Scene.bill.Tie as tie
 
 returns : tie.Need-returns
 unfolding sceneView sentOn sentPayload requestOf
-returns c = let a = c .before .before .before .args in rw (c .enum-told .given .1) (tells-none (a .self) (a .k) (now (a .room)))
+returns c = let a = c .before .before .before .args in rw (c .enum-told .given .1) (tells-none (a .self) (a .block) (now (a .room)))
 
 returns-2 : tie.Need-returns-2
 unfolding sceneView sentOn sentPayload requestOf
 returns-2 c = let a = c .before .before .before .before .before .before .before .before .before .args in
-    rw (c .before .before .before .before .before .before .talk .given .1) (tells-one (a .self) (a .k) (now (a .room)) _ _ _ _ (c .before .before .before .before .charge .ensures .1) (c .before .before .lay .ensures))
+    rw (c .before .before .before .before .before .before .talk .given .1) (tells-one (a .self) (a .block) (now (a .room)) _ _ _ _ (c .before .before .before .before .charge .ensures .1) (c .before .before .lay .ensures))
 
 pub bill-spec : {M : Type 1} → statement M
 bill-spec =

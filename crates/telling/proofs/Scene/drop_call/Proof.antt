@@ -20,11 +20,11 @@ returns c =
     let silent = carrier .before .before .before in
     let a = silent .before .before .before .args in
     let sc = sceneView (a .self) in
-    let quiet = stopRingingActs sc (a .rung) in
+    let quiet = stopRingingActs sc (a .rings) in
     let tone = toneActs sc (a .tone) in
     let cut = does (carrierOff (sc .slot)) in
-    tells-append (a .self) (a .k) (now (a .room)) (quiet ++ (cut ∷ tone)) (does (releaseLine (sc .slot)) ∷ []) _ _ _ _
-    (tells-append (a .self) (a .k) (now (a .room)) quiet (cut ∷ tone) _ _ _ _ (silent .stop-ringing .ensures) (tells-more (a .self) _ _ cut tone _ _ _ _ _ (carrier .carrier-off .ensures .1) (off .lay .ensures) (toned .give-tone .ensures)))
+    tells-append (a .self) (a .block) (now (a .room)) (quiet ++ (cut ∷ tone)) (does (releaseLine (sc .slot)) ∷ []) _ _ _ _
+    (tells-append (a .self) (a .block) (now (a .room)) quiet (cut ∷ tone) _ _ _ _ (silent .stop-ringing .ensures) (tells-more (a .self) _ _ cut tone _ _ _ _ _ (carrier .carrier-off .ensures .1) (off .lay .ensures) (toned .give-tone .ensures)))
     (tells-one (a .self) _ _ (does (releaseLine (sc .slot))) _ _ _ (line .release-line .ensures .1) (laid .lay2 .ensures))
 
 pub drop-call-spec : {M : Type 1} → statement M

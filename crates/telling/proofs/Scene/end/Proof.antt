@@ -15,7 +15,7 @@ unfolding sceneView sentOn sentPayload
 returns c = let a = c .before .before .before .before .before .before .before .before .before .before .before .before .before .before .before .args in
     let sc = sceneView (a .self) in
     let off = offActs sc (enderOf (a .by)) (toldOf (a .talk) (a .self .clock)) in
-    tells-append (a .self) (a .k) (now (a .room)) (billActs sc (a .talk)) (does (releaseLine (sc .slot)) ∷ off) _ _ _ _ (c .before .before .before .before .before .before .before .before .before .before .before .bill .ensures)
+    tells-append (a .self) (a .block) (now (a .room)) (billActs sc (a .talk)) (does (releaseLine (sc .slot)) ∷ off) _ _ _ _ (c .before .before .before .before .before .before .before .before .before .before .before .bill .ensures)
     (tells-more (a .self) _ _ (does (releaseLine (sc .slot))) off _ _ _ _ _ (c .before .before .before .before .before .before .before .before .release-line .ensures .1) (c .before .before .before .before .before .before .lay .ensures)
     (rw (c .before .before .before .before .before .before .before .before .before .before .before .before .before .told-of .ensures) at (c .before .before .sign-off .ensures)))
 

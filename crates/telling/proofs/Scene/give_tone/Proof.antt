@@ -11,11 +11,11 @@ use Rattle.telling.proofs.Scene.give_tone.Tie as tie
 returns : tie.Need-returns
 unfolding sceneView sentOn sentPayload
 returns c = let a = c .before .before .before .before .before .before .before .args in
-    rw (c .before .before .before .before .before .if1 .taken) (tells-one (a .self) (a .k) (now (a .room)) (does (busyTone (a .self .slot .0))) _ _ _ (c .before .before .before .before .busy-tone .ensures .1) (c .before .before .lay .ensures))
+    rw (c .before .before .before .before .before .if1 .taken) (tells-one (a .self) (a .block) (now (a .room)) (does (busyTone (a .self .slot .0))) _ _ _ (c .before .before .before .before .busy-tone .ensures .1) (c .before .before .lay .ensures))
 
 returns-2 : tie.Need-returns-2
 unfolding sceneView
-returns-2 c = let a = c .before .before .args in rw (c .if1 .left) (tells-none (a .self) (a .k) (now (a .room)))
+returns-2 c = let a = c .before .before .args in rw (c .if1 .left) (tells-none (a .self) (a .block) (now (a .room)))
 
 pub give-tone-spec : {M : Type 1} → statement M
 give-tone-spec =

@@ -35,7 +35,7 @@ returns-7 c = rw (c .before .enum-told7 .given .1) (c .acknowledgement .ensures 
 
 returns-8 : tie.Need-returns-8
 unfolding sceneView sentOn sentPayload requestOf
-returns-8 c = rw (c .before .before .w .given .1) (c .unable-to .ensures .1)
+returns-8 c = rw (c .before .before .word .given .1) (c .unable-to .ensures .1)
 
 pub word-spec : {M : Type 1} → statement M
 word-spec =
