@@ -14,7 +14,7 @@ STEPS = {
     'read': ('reading', LEFT, 4, FULL, 'symbols to their meaning', ['readingOf']),
     'looked': ('station', LEFT, 5, FULL, 'is it sound, and which wait is due first', ['Sees']),
     'judge_slot, and_read': ('gate', LEFT, 6, FULL, "the refusals, in document 01's order", ['askedOnSlot', 'firstRefusal', 'andThen']),
-    'told_by': ('hearing', LEFT, 7, FULL, 'which kind of sequence, and who asks for what', ['heardOf', 'addressed']),
+    'heard_in': ('hearing', LEFT, 7, FULL, 'which kind of sequence, and who asks for what', ['heardOf', 'addressed']),
     'by_kind': ('station', LEFT, 8, FULL, 'which rule it is for', ['byKind']),
     'working_call': ('deciding', LEFT, 9, FULL, "an outcome, by the slot's phase", ['workingBy']),
     'enact': ('station', RIGHT, 9, FULL, 'the outcome is carried out', ['outAt', 'handedBack', 'roomLaid']),
@@ -26,7 +26,7 @@ STEPS = {
 }
 CALLS = {  # what each calls
     'coast_heard_on_slot': ['station_from', 'heard_on_slot', 'hand_back'],
-    'heard_on_slot': ['read', 'looked', 'judge_slot', 'and_read', 'refused', 'told_by', 'by_kind', 'enact'],
+    'heard_on_slot': ['read', 'looked', 'judge_slot', 'and_read', 'refused', 'heard_in', 'by_kind', 'enact'],
     'by_kind': ['working_call'], 'enact': ['tell', 'turn_of', 'queue_change'], 'hand_back': ['lay_station'],
 }
 # Where definitions and laws say what the picture says of them: a file, what stands there, and the names in that line.

@@ -8,7 +8,7 @@ use native.Mathlib.Omega.{arith}
 use lib.Dec.{leb}
 use lib.ListN.{length, getD}
 use borrow.Author.Tests.{leb-true, eqb-true}
-use Rattle.units.specs.declared.Told.{Told}
+use Rattle.units.specs.declared.Lasted.{Lasted}
 use Rattle.sequence.specs.Symbols.{within}
 use Rattle.sequence.specs.Identity.{isShip, isCoast}
 use Rattle.sequence.specs.Field.{unableSecond, channelOk}
@@ -101,5 +101,5 @@ module _ (c : Config) (keeps : configKeeps c ≡ true) where
         let d = both-true (within 100 126 (r .second)) (numberKeeps (r .number)) (b .1) in
         (unable-valid second (r .who) (r .number) (a .0) (coast (r .who .station) (eqb-true _ _ (b .0))) u (d .1), omega arith)
 
-    pub over-speaks : (i : ℕ) → i < length (c .channels) → (e : Ender) (n : Told) → durationKeeps n ≡ true → Speaks c (over i e (r .who) (r .number) n)
+    pub over-speaks : (i : ℕ) → i < length (c .channels) → (e : Ender) (n : Lasted) → durationKeeps n ≡ true → Speaks c (over i e (r .who) (r .number) n)
     over-speaks i l e n h = (over-valid c coast r kept e n h, small i l)

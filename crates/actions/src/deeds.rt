@@ -11,9 +11,9 @@ use crate::PAYLOAD;
 use requests::least;
 use sequence::MOST_DIGITS;
 use sequence::Number;
+use units::Lasted;
 use units::SlotNumber;
 use units::Tenths;
-use units::Told;
 
 fn plain(kind: u8, slot: SlotNumber) -> Action
     ensures { λ r. ⌜ r ≡ actionOf kind (slot .0) [] ⌝ }
@@ -104,7 +104,7 @@ fn span_of(start: Tenths, stop: Tenths) -> Tenths
 }
 
 // "whole seconds, rounded down", as an end of call tells them
-pub fn lasted(start: Tenths, stop: Tenths) -> Told
+pub fn lasted(start: Tenths, stop: Tenths) -> Lasted
     ensures { λ r. ⌜ r ≡ durationOf (wholeSeconds (span start stop)) ⌝ }
 {
     let span = span_of(start, stop);

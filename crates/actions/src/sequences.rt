@@ -2,7 +2,7 @@
 ghost use mathlib.Core.Path.{_≡_};
 ghost use Rattle.sequence.specs.Figures.{endRq, endBq};
 ghost use Rattle.rules.specs.Rules.Words.{modeNumber};
-ghost use Rattle.rules.specs.Rules.Bytes.{block, numberOf, ableSaid, unableSaid, overSaid, toldField, endSymbol, unableSlot};
+ghost use Rattle.rules.specs.Rules.Bytes.{block, numberOf, ableSaid, unableSaid, overSaid, lastedField, endSymbol, unableSlot};
 ghost use Rattle.requests.specs.Views.{digitsOf, requestOf, modeOf};
 ghost use Rattle.actions.specs.Blocks.{actionOf, actionBlock};
 ghost use Rattle.actions.specs.Sent.{sent, party, enderOf};
@@ -27,8 +27,8 @@ use sequence::Meaning;
 use sequence::Number;
 use sequence::UNTOLD;
 use units::Channel;
+use units::Lasted;
 use units::SlotNumber;
-use units::Told;
 use writing::write;
 
 // A number laid out anew: its digits, and 0 in each place that is not used.
@@ -136,12 +136,12 @@ pub fn unable_to(second: u8, request: Request) -> Action
     unable(second, request.ship, request.station, number)
 }
 
-fn field_of(told: Told) -> Field
-    ensures { λ r. ⌜ r ≡ toldField told ⌝ }
+fn field_of(lasted: Lasted) -> Field
+    ensures { λ r. ⌜ r ≡ lastedField lasted ⌝ }
 {
-    match told {
-        Told::Nothing => Field::Blank,
-        Told::Lasting(duration) => Field::Duration(duration),
+    match lasted {
+        Lasted::Nothing => Field::Blank,
+        Lasted::Lasting(duration) => Field::Duration(duration),
     }
 }
 
@@ -156,16 +156,16 @@ fn end_of(by: Ender) -> u8
 }
 
 // "send 105/126 .. and the duration"; "the number sent is the stored request's"
-pub fn over(slot: SlotNumber, by: Ender, request: Request, told: Told) -> Action
-    ensures { λ r. ⌜ r ≡ actionOf 4 (slot .0) (sent (overSaid (enderOf by) (requestOf request .who) (requestOf request .number) told)) ⌝ }
+pub fn over(slot: SlotNumber, by: Ender, request: Request, lasted: Lasted) -> Action
+    ensures { λ r. ⌜ r ≡ actionOf 4 (slot .0) (sent (overSaid (enderOf by) (requestOf request .who) (requestOf request .number) lasted)) ⌝ }
     ensures { λ r. ⌜
         actionBlock r
-        ≡ block 4 (slot .0) (sent (overSaid (enderOf by) (requestOf request .who) (requestOf request .number) told))
+        ≡ block 4 (slot .0) (sent (overSaid (enderOf by) (requestOf request .who) (requestOf request .number) lasted))
         ⌝ }
 {
     let stored = request.number;
     let number = tidied(stored);
-    let field = field_of(told);
+    let field = field_of(lasted);
     let end = end_of(by);
     let meaning = Meaning {
         address: request.ship,

@@ -8,8 +8,8 @@ use slots::Slot;
 use slots::Waiting;
 use station::Station;
 use units::Channel;
+use units::Lasted;
 use units::Tenths;
-use units::Told;
 
 // A number that begins with 5551234, and the digit behind it.
 pub(crate) fn number_of(count: u8, eighth: u8) -> Number {
@@ -193,6 +193,6 @@ pub(crate) fn silent(due: Tenths) -> Station {
     in_phase(Phase::Answered(Tenths(900), Carrier::Lost(due)))
 }
 
-pub(crate) fn held(due: Tenths, told: Told) -> Station {
-    in_phase(Phase::Hold(due, told))
+pub(crate) fn held(due: Tenths, lasted: Lasted) -> Station {
+    in_phase(Phase::Hold(due, lasted))
 }

@@ -26,8 +26,8 @@ use sequence::Number;
 use station::Station;
 use units::Channel;
 use units::Duration;
+use units::Lasted;
 use units::Tenths;
-use units::Told;
 
 fn sound(title: &[u8], given: Station) {
     answered(title, judged(given), 0);
@@ -59,7 +59,7 @@ fn held_for_sixty_minutes() -> Station {
         minutes: 60,
         seconds: 0,
     };
-    held(Tenths(1041), Told::Lasting(duration))
+    held(Tenths(1041), Lasted::Lasting(duration))
 }
 
 fn stored(number: Number) -> Station {
@@ -128,7 +128,7 @@ fn try_waits() {
     );
     unsound(b"29 dialling due 602 later", dialling(Tenths(1602)));
     unsound(b"29 a reply due 602 later", dialled_out(Tenths(1602)));
-    unsound(b"29 a hold due 42 later", held(hold, Told::Nothing));
+    unsound(b"29 a hold due 42 later", held(hold, Lasted::Nothing));
     sound(b"a queue entry due 9001 later is sound", queued_to(10001));
     unsound(b"29 a queue entry due 9002 later", queued_to(10002));
 }

@@ -12,7 +12,7 @@ use Rattle.station.specs.declared.Stepped.{Stepped}
 use Rattle.station.specs.declared.NextDue.the-variants.{Never}
 use Rattle.station.specs.Step.{setUpOf}
 use Rattle.lent_layout.specs.Stations.{sized, stationLaid}
-use Rattle.coast.specs.Events.{told, kept, setUpLeaves}
+use Rattle.coast.specs.Events.{packed, kept, setUpLeaves}
 
 either-way : (t : Bool) (b : List ℕ) → b ≡ cond t b b
 either-way true b = refl
@@ -27,10 +27,10 @@ nowhere u b h = rw h (either-way (eqb (u .answer) 0) b)
 abbrev pub made : SetUp → Stepped
 made u = record { answer = u .answer; count = 0; due = Never; station = u .station }
 
-pub made-back : (c : Config) (b : List ℕ) → (told (made (setUpOf c)) ≡ setUpOf c .answer) × (kept b (made (setUpOf c)) ≡ setUpLeaves (setUpOf c) b)
-unfolding told kept setUpVerdict
+pub made-back : (c : Config) (b : List ℕ) → (packed (made (setUpOf c)) ≡ setUpOf c .answer) × (kept b (made (setUpOf c)) ≡ setUpLeaves (setUpOf c) b)
+unfolding packed kept setUpVerdict
 made-back c b = go (configKeeps c) refl
   where
-    go : (k : Bool) → configKeeps c ≡ k → (told (made (setUpOf c)) ≡ setUpOf c .answer) × (kept b (made (setUpOf c)) ≡ setUpLeaves (setUpOf c) b)
+    go : (k : Bool) → configKeeps c ≡ k → (packed (made (setUpOf c)) ≡ setUpOf c .answer) × (kept b (made (setUpOf c)) ≡ setUpLeaves (setUpOf c) b)
     go true h = rw h (refl, refl)
     go false h = rw h (refl, refl)

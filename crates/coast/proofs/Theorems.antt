@@ -29,8 +29,8 @@ use Rattle.station.proofs.GateLaws.{passed}
 use Rattle.lent_layout.specs.Stations.{sized, current, stationBytes, stationFrom, stationLaid}
 use Rattle.lent_layout.specs.Statement.{FoundAgain}
 use Rattle.lent_layout.proofs.FoundAgain.{handed-out-is-found-again, other-layout-is-not-sound}
-use Rattle.coast.specs.Events.{told, kept, returned, stationAfter, roomLeft, stationSetUp, dueNumber, dueReturned, clockReturned}
-use Rattle.coast.specs.Statement.{RefusalLeavesAll, AcceptedLeavesItsStation, OtherLayoutTellsNothing, TakenApart, waits, dueTime, returnedBy, leftBy, toldBy, handedBy, HostHandsOn}
+use Rattle.coast.specs.Events.{packed, kept, returned, stationAfter, roomLeft, stationSetUp, dueNumber, dueReturned, clockReturned}
+use Rattle.coast.specs.Statement.{RefusalLeavesAll, AcceptedLeavesItsStation, OtherLayoutTellsNothing, TakenApart, waits, dueTime, returnedBy, leftBy, packedBy, handedBy, HostHandsOn}
 
 -- ── any call, on any bytes ───────────────────────────────────────────────────
 
@@ -83,13 +83,13 @@ apart a n Never h k = (omega arith, omega arith, omega arith, omega arith)
 apart a n (At t) h k = (omega arith, omega arith, omega arith, omega arith)
 
 pub taken-apart : TakenApart
-unfolding told
+unfolding packed
 taken-apart r h k = apart (r .answer) (r .count) (r .due) h k
 
 -- ── a host that hands on what it was left ────────────────────────────────────
 
 module _ (s : Station) (f : FoundAgain s) (e : Event) where
-  returned-is : returned (stationBytes s) e ≡ told (steppedBy s e)
+  returned-is : returned (stationBytes s) e ≡ packed (steppedBy s e)
   unfolding returned
   returned-is = rw (f .1)
 
@@ -101,7 +101,7 @@ module _ (s : Station) (f : FoundAgain s) (e : Event) where
       (stays ∙ ap stationBytes (sym same), rw same f)
 
 along : (s : Station) → FoundAgain s → (es : List Event)
-    → (returnedBy (stationBytes s) es ≡ toldBy s es)
+    → (returnedBy (stationBytes s) es ≡ packedBy s es)
     × (leftBy (stationBytes s) es ≡ stationBytes (handedBy s es))
     × ((e : Event) (room : List ℕ) → roomLeft (leftBy (stationBytes s) es) room e ≡ roomAfter (handedBy s es) room e)
 unfolding roomLeft

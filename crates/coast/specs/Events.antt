@@ -22,15 +22,15 @@ abbrev pub dueNumber : NextDue → ℕ
 dueNumber Never = 0
 dueNumber (At t) = 65536 + 4294967296 * t .0
 
-unfoldable pub told : Stepped → ℕ
-told r = r .answer + 256 * r .count + dueNumber (r .due)
+unfoldable pub packed : Stepped → ℕ
+packed r = r .answer + 256 * r .count + dueNumber (r .due)
 
 -- an event answered 0 or 1 leaves the next station's bytes; with any other answer they stay
 unfoldable pub kept : List ℕ → Stepped → List ℕ
 kept b r = cond (leb (r .answer) 1) (stationLaid (r .station) b) b
 
 unfoldable pub returned : List ℕ → Event → ℕ
-returned b e = told (steppedBy (stationFrom b) e)
+returned b e = packed (steppedBy (stationFrom b) e)
 
 unfoldable pub stationAfter : List ℕ → Event → List ℕ
 stationAfter b e = kept b (steppedBy (stationFrom b) e)

@@ -13,7 +13,7 @@ use Rattle.station.specs.declared.Stepped.{Stepped}
 use Rattle.station.specs.Step.{refusal, steppedBy, roomAfter, setUpOf}
 use Rattle.lent_layout.specs.Stations.{sized, current, stationBytes, stationFrom}
 use Rattle.lent_layout.specs.Statement.{FoundAgain}
-use Rattle.coast.specs.Events.{told, returned, stationAfter, roomLeft, stationSetUp, dueReturned, clockReturned}
+use Rattle.coast.specs.Events.{packed, returned, stationAfter, roomLeft, stationSetUp, dueReturned, clockReturned}
 
 -- ── any call, on any bytes ───────────────────────────────────────────────────
 
@@ -42,8 +42,8 @@ dueTime (At t) = t .0
 
 abbrev pub TakenApart : Type 0
 TakenApart = (r : Stepped) → r .answer < 256 → r .count < 256
-    → (told r % 256 ≡ r .answer) × (told r / 256 % 256 ≡ r .count)
-    × (told r / 65536 % 2 ≡ waits (r .due)) × (told r / 4294967296 ≡ dueTime (r .due))
+    → (packed r % 256 ≡ r .answer) × (packed r / 256 % 256 ≡ r .count)
+    × (packed r / 65536 % 2 ≡ waits (r .due)) × (packed r / 4294967296 ≡ dueTime (r .due))
 
 -- ── a host that hands on what it was left ────────────────────────────────────
 
@@ -57,9 +57,9 @@ leftBy b [] = b
 leftBy b (e ∷ es) = leftBy (stationAfter b e) es
 
 -- each event on the station that the one before handed back
-abbrev pub toldBy : Station → List Event → List ℕ
-toldBy s [] = []
-toldBy s (e ∷ es) = told (steppedBy s e) ∷ toldBy (steppedBy s e .station) es
+abbrev pub packedBy : Station → List Event → List ℕ
+packedBy s [] = []
+packedBy s (e ∷ es) = packed (steppedBy s e) ∷ packedBy (steppedBy s e .station) es
 
 abbrev pub handedBy : Station → List Event → Station
 handedBy s [] = s
@@ -69,7 +69,7 @@ handedBy s (e ∷ es) = handedBy (steppedBy s e .station) es
 -- in the room of one event more the same actions
 abbrev pub HostHandsOn : Type 0
 HostHandsOn = (c : Config) (lent : List ℕ) → setUpVerdict c ≡ none → sized lent ≡ true → (es : List Event)
-    → (returnedBy (stationSetUp c lent) es ≡ toldBy (setUpOf c .station) es)
+    → (returnedBy (stationSetUp c lent) es ≡ packedBy (setUpOf c .station) es)
     × (leftBy (stationSetUp c lent) es ≡ stationBytes (handedBy (setUpOf c .station) es))
     × ((e : Event) (room : List ℕ)
     → roomLeft (leftBy (stationSetUp c lent) es) room e ≡ roomAfter (handedBy (setUpOf c .station) es) room e)

@@ -5,7 +5,7 @@ ghost use Rattle.rules.specs.Rules.Words.{heard, carrierUp, carrierDown, dialli
 ghost use Rattle.rules.specs.Rules.Words.{onChannel70};
 ghost use Rattle.station.specs.Step.{eventAt, slotAt};
 ghost use Rattle.station.specs.Pieces.{plainView};
-ghost use Rattle.coast.specs.Events.{dueNumber, told, kept, returned, stationAfter, roomLeft};
+ghost use Rattle.coast.specs.Events.{dueNumber, packed, kept, returned, stationAfter, roomLeft};
 use lent_layout::lay_station;
 use lent_layout::station_from;
 use slots::Hand;
@@ -28,7 +28,7 @@ pub(crate) fn due_number(due: NextDue) -> u64
 
 // What an event came to, as one number; the next station is laid where it was accepted.
 pub(crate) fn hand_back(stepped: Stepped, station: &mut [u8]) -> u64
-    ensures { λ n. ⌜ n ≡ told stepped ⌝ }
+    ensures { λ n. ⌜ n ≡ packed stepped ⌝ }
     ensures { λ _. ⌜ now (station .exit) ≡ kept (now (station .entry)) stepped ⌝ }
 {
     let answer = stepped.answer;

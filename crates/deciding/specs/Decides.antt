@@ -3,7 +3,7 @@ use Prim.Native.Nat.{ℕ}
 use mathlib.Core.Bool.{Bool, true, false, cond}
 use lib.Dec.{ltb}
 use Rattle.units.specs.declared.Tenths.{Tenths}
-use Rattle.units.specs.declared.Told.{Told}
+use Rattle.units.specs.declared.Lasted.{Lasted}
 use Rattle.rules.specs.Rules.Station.{Kind, offered, firstRing, secondRing, acknowledged, firstCall, secondCall, ringing}
 use Rattle.rules.specs.Rules.Station.{kindWait, replyWait, carrierWait}
 use Rattle.rules.specs.Rules.Sound.{queueRoom}
@@ -29,7 +29,7 @@ use Rattle.outcomes.specs.Does.{waitFrom}
 
 -- the columns: free; taken; before the line is dialled, or called from ashore; dialling; dialled out; answered; in the hold
 abbrev pub on : Outcome → Outcome → (Kind → Outcome) → (Tenths → Carrier → Outcome) → (Tenths → Carrier → Outcome)
-    → (Tenths → Carrier → Outcome) → (Told → Outcome) → Phase → Outcome
+    → (Tenths → Carrier → Outcome) → (Lasted → Outcome) → Phase → Outcome
 on a b k d o c h Free = a
 on a b k d o c h (Offered t) = k offered
 on a b k d o c h (RingBack t) = k firstRing

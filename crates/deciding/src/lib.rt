@@ -147,7 +147,7 @@ pub fn ship_end(own: bool, phase: Phase) -> Outcome
         return match phase {
             Phase::Dialling(_, _) | Phase::DialledOut(_, _) => Outcome::ShipEnds(Talk::Unanswered),
             Phase::Answered(since, _) => Outcome::ShipEnds(Talk::Since(since)),
-            Phase::Hold(_, told) => Outcome::SaysAgain(told),
+            Phase::Hold(_, lasted) => Outcome::SaysAgain(lasted),
             _ => Outcome::Ignored,
         };
     }

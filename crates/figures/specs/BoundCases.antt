@@ -4,7 +4,7 @@ use mathlib.Core.List.{List, [], _∷_, _++_, map}
 use mathlib.Core.Bool.{Bool, cond}
 use Prim.Native.Nat.{ℕ}
 use lib.ListN.{replicate, take, drop}
-use Rattle.units.specs.declared.Told.the-variants.{Nothing}
+use Rattle.units.specs.declared.Lasted.the-variants.{Nothing}
 use Rattle.sequence.specs.declared.Field.{Field}
 use Rattle.sequence.specs.declared.Field.the-variants.{Blank, Channel}
 use Rattle.sequence.specs.Layout.{valid, layout}
@@ -57,8 +57,8 @@ abbrev pub other : Config
 other = stationOf 7999999 (60 ∷ 88 ∷ [])
 
 -- 1 where a test holds, 0 where it fails
-abbrev pub told : Bool → ℕ
-told b = cond b 1 0
+abbrev pub bit : Bool → ℕ
+bit b = cond b 1 0
 
 -- ── the sequences sent ───────────────────────────────────────────────────────
 
@@ -771,8 +771,8 @@ at1235 = record { ship = seven; station = 2001235 }
 -- one ship at two stations, and two ships at one, are not the same party
 abbrev pub sameShip : Row
 sameShip = record {
-  computed = (told (is (at1234 seven) (at1234 seven)) ∷ told (is (at1234 seven) at1235) ∷ told (is at1235 (at1234 seven)) ∷
-      told (is (at1234 seven) (at1234 eight)) ∷ told (is (at1234 eight) (at1234 seven)) ∷ []) ∷ [];
+  computed = (bit (is (at1234 seven) (at1234 seven)) ∷ bit (is (at1234 seven) at1235) ∷ bit (is at1235 (at1234 seven)) ∷
+      bit (is (at1234 seven) (at1234 eight)) ∷ bit (is (at1234 eight) (at1234 seven)) ∷ []) ∷ [];
   expected = (1 ∷ 0 ∷ 0 ∷ 0 ∷ 0 ∷ []) ∷ [];
 }
 
@@ -1244,9 +1244,9 @@ blocksShown = record {
 -- what is sent is a sequence
 abbrev pub sentValid : Row
 sentValid = record {
-  computed = (told (valid (ableSaid (channel 26) 122 (from seven duplex))) ∷
-      told (valid (ableSaid (channel 26) 117 (from seven simplex))) ∷ told (valid (unableSaid 103 (from seven duplex .who) (7 ∷ []))) ∷
-      told (valid (overSaid theShip (from seven duplex .who) (replicate 16 9) (lasting 99 59 59))) ∷ []) ∷ [];
+  computed = (bit (valid (ableSaid (channel 26) 122 (from seven duplex))) ∷
+      bit (valid (ableSaid (channel 26) 117 (from seven simplex))) ∷ bit (valid (unableSaid 103 (from seven duplex .who) (7 ∷ []))) ∷
+      bit (valid (overSaid theShip (from seven duplex .who) (replicate 16 9) (lasting 99 59 59))) ∷ []) ∷ [];
   expected = (1 ∷ 1 ∷ 1 ∷ 1 ∷ []) ∷ [];
 }
 

@@ -6,8 +6,8 @@ use lib.ListN.{length, take, drop, replicate}
 use Rattle.units.specs.declared.Channel.{Channel as ChannelNumber}
 use Rattle.units.specs.Units.{wholeSeconds, durationOf}
 use Rattle.units.specs.declared.Duration.{Duration as Span}
-use Rattle.units.specs.declared.Told.{Told}
-use Rattle.units.specs.declared.Told.the-variants.{Nothing, Lasting}
+use Rattle.units.specs.declared.Lasted.{Lasted}
+use Rattle.units.specs.declared.Lasted.the-variants.{Nothing, Lasting}
 use Rattle.sequence.specs.declared.Answer.the-variants.{Done, BadLength}
 use Rattle.sequence.specs.declared.Field.{Field}
 use Rattle.sequence.specs.declared.Field.the-variants.{Blank, Channel, Duration}
@@ -33,11 +33,11 @@ abbrev pub gives : List ℕ → List ℕ → Bound
 gives c e = record { computed = c; expected = e }
 
 -- 1 where a test holds, 0 where it fails
-abbrev pub told : Bool → ℕ
-told b = cond b 1 0
+abbrev pub bit : Bool → ℕ
+bit b = cond b 1 0
 
 abbrev pub holds : List Bool → List ℕ → Bound
-holds c e = gives (map told c) e
+holds c e = gives (map bit c) e
 
 abbrev pub channel : ℕ → ChannelNumber
 channel n = record { 0 = n }
@@ -73,7 +73,7 @@ meant m = m .address ∷ m .sender ∷ m .first ∷ m .second ∷ (fieldTold (m 
     []))
 
 -- seconds as a duration; nothing where there is none
-abbrev pub durationTold : Told → List ℕ
+abbrev pub durationTold : Lasted → List ℕ
 durationTold Nothing = []
 durationTold (Lasting d) = d .hours ∷ d .minutes ∷ d .seconds ∷ []
 

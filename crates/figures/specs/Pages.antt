@@ -4,7 +4,7 @@ use mathlib.Core.Bool.{Bool, true, false, cond}
 use mathlib.Core.Option.{Option, none, some}
 use Prim.Native.Nat.{ℕ, _+_}
 use lib.ListN.{length, getD, take, replicate}
-use Rattle.units.specs.declared.Told.the-variants.{Nothing}
+use Rattle.units.specs.declared.Lasted.the-variants.{Nothing}
 use Rattle.sequence.specs.declared.Field.the-variants.{Blank}
 use Rattle.rules.specs.Rules.Words.{Party, simplex, duplex, modeNumber, Request, Config, Ashore, Event}
 use Rattle.rules.specs.Rules.Words.{Deed, carrierOn, carrierOff, acknowledge, callShip, unable, dial, releaseLine}
@@ -27,7 +27,7 @@ use Rattle.rules.specs.Tables.Cases.{Row}
 use Rattle.rules.specs.Rules.Requests.{same}
 use Rattle.rules.specs.Tables.SoundCases.{asking, from}
 use Rattle.rules.specs.Tables.Phases.{phases}
-use Rattle.figures.specs.BoundCases.{told, callsAs, secondSlotDialledScript, secondSlotCalledScript}
+use Rattle.figures.specs.BoundCases.{bit, callsAs, secondSlotDialledScript, secondSlotCalledScript}
 use Rattle.figures.specs.BoundCases.{secondSlotCalledAgainScript, bothCalledScript}
 
 -- ── a book as numbers ────────────────────────────────────────────────────────
@@ -49,8 +49,8 @@ said (settled r) = 3 ∷ request r
 -- a line that is dialled: ship, mode, whether its dialling has ended; a call from ashore: what is asked, whether it rings
 abbrev pub call : Call → List ℕ
 call quiet = 0 ∷ []
-call (called r rings) = 3 ∷ (request r ++ told rings ∷ [])
-call (dialled x m e) = 1 ∷ x .ship ∷ modeNumber m ∷ told e ∷ []
+call (called r rings) = 3 ∷ (request r ++ bit rings ∷ [])
+call (dialled x m e) = 1 ∷ x .ship ∷ modeNumber m ∷ bit e ∷ []
 call (talking x m b) = 2 ∷ x .ship ∷ modeNumber m ∷ b ∷ []
 
 abbrev pub column : Column → List ℕ
@@ -848,7 +848,7 @@ linesByEach = record {
 
 -- whether slot 1 rings by each deed alone, by each with a deed after it, and after the entries of a run
 abbrev pub ringingByEach : ℕ → List Deed → Bool → List ℕ
-ringingByEach i ds b = map (λ d. told (ringingsDone 1 (d ∷ ds) b)) (everyDeed i)
+ringingByEach i ds b = map (λ d. bit (ringingsDone 1 (d ∷ ds) b)) (everyDeed i)
 
 abbrev pub ringingShown : Row
 ringingShown = record {
@@ -856,9 +856,9 @@ ringingShown = record {
       ringingByEach 2 [] false ∷ ringingByEach 2 [] true ∷
       ringingByEach 1 (ringingOn 1 ∷ []) false ∷ ringingByEach 1 (ringingOff 1 ∷ []) true ∷
       ringingByEach 1 (ringingOn 0 ∷ []) false ∷ ringingByEach 1 (ringingOff 0 ∷ []) true ∷
-      map (λ n. told (ringingAfter 1 (listOf (station 2) (take n bothCalledScript)) false)) (0 ∷ 2 ∷ 5 ∷ 8 ∷ 9 ∷ []) ∷
-      map (λ n. told (ringingAfter 0 (listOf (station 2) (take n bothCalledScript)) false)) (0 ∷ 2 ∷ 5 ∷ 8 ∷ 9 ∷ 10 ∷ []) ∷
-      map (λ n. told (ringingAfter 1 (listOf (station 2) (take n bothCalledScript)) true)) (0 ∷ 2 ∷ 9 ∷ []) ∷ [];
+      map (λ n. bit (ringingAfter 1 (listOf (station 2) (take n bothCalledScript)) false)) (0 ∷ 2 ∷ 5 ∷ 8 ∷ 9 ∷ []) ∷
+      map (λ n. bit (ringingAfter 0 (listOf (station 2) (take n bothCalledScript)) false)) (0 ∷ 2 ∷ 5 ∷ 8 ∷ 9 ∷ 10 ∷ []) ∷
+      map (λ n. bit (ringingAfter 1 (listOf (station 2) (take n bothCalledScript)) true)) (0 ∷ 2 ∷ 9 ∷ []) ∷ [];
   expected = (0 ∷ 0 ∷ 0 ∷ 0 ∷ 0 ∷ 0 ∷ 0 ∷ 1 ∷ 0 ∷ 0 ∷ []) ∷ (1 ∷ 1 ∷ 1 ∷ 1 ∷ 1 ∷ 1 ∷ 1 ∷ 1 ∷ 0 ∷ 1 ∷ []) ∷ replicate 10 0 ∷ replicate 10 1 ∷
       replicate 10 0 ∷ replicate 10 1 ∷ replicate 10 1 ∷ replicate 10 0 ∷
       (0 ∷ 0 ∷ 0 ∷ 0 ∷ 0 ∷ 0 ∷ 0 ∷ 1 ∷ 0 ∷ 0 ∷ []) ∷ (1 ∷ 1 ∷ 1 ∷ 1 ∷ 1 ∷ 1 ∷ 1 ∷ 1 ∷ 0 ∷ 1 ∷ []) ∷
@@ -870,10 +870,10 @@ ringingShown = record {
 -- the 8s and 9s on slot 1: of each deed with an 8 after it, of all, in their order; and what is to be given
 abbrev pub switchesShown : Row
 switchesShown = record {
-  computed = map (λ d. map told (ringSwitches 1 (d ∷ []))) (everyDeed 1) ++
-      map (λ d. map told (ringSwitches 1 (d ∷ ringingOn 1 ∷ []))) (everyDeed 1) ++
-      map told (ringSwitches 1 (everyDeed 0 ++ everyDeed 2)) ∷ map told (ringSwitches 1 (everyDeed 1 ++ everyDeed 1)) ∷
-      map told (change false false) ∷ map told (change false true) ∷ map told (change true false) ∷ map told (change true true) ∷ [];
+  computed = map (λ d. map bit (ringSwitches 1 (d ∷ []))) (everyDeed 1) ++
+      map (λ d. map bit (ringSwitches 1 (d ∷ ringingOn 1 ∷ []))) (everyDeed 1) ++
+      map bit (ringSwitches 1 (everyDeed 0 ++ everyDeed 2)) ∷ map bit (ringSwitches 1 (everyDeed 1 ++ everyDeed 1)) ∷
+      map bit (change false false) ∷ map bit (change false true) ∷ map bit (change true false) ∷ map bit (change true true) ∷ [];
   expected = replicate 7 [] ++ (1 ∷ []) ∷ (0 ∷ []) ∷ [] ∷ replicate 7 (1 ∷ []) ++ (1 ∷ 1 ∷ []) ∷ (0 ∷ 1 ∷ []) ∷ (1 ∷ []) ∷
       [] ∷ (1 ∷ 0 ∷ 1 ∷ 0 ∷ []) ∷ [] ∷ (1 ∷ []) ∷ (0 ∷ []) ∷ [] ∷ [];
 }
@@ -890,7 +890,7 @@ releasesShown = record {
 -- for whom a call from ashore is, ringing or not; a dialled line and an answered one are for nobody; and the columns after some entries
 abbrev pub isForShown : Row
 isForShown = record {
-  computed = map (λ k. told (isFor party k)) (quiet ∷ called (from seven duplex) false ∷ called (from seven simplex) true ∷
+  computed = map (λ k. bit (isFor party k)) (quiet ∷ called (from seven duplex) false ∷ called (from seven simplex) true ∷
       called (from eight duplex) false ∷ called (from eight duplex) true ∷ dialled party duplex false ∷ dialled party simplex true ∷
       talking party duplex 300 ∷ talking party simplex 300 ∷ []) ∷
       map column (columnsAfter (station 2) (listOf (station 2) (take 2 bothCalledScript)));
@@ -1206,9 +1206,9 @@ wordsAlone = record {
 -- told to wait: 104/103 to the ship itself, whatever is done before, and neither 102 nor 109
 abbrev pub toldToWaitShown : Row
 toldToWaitShown = record {
-  computed = (told (toldToWait party deeds) ∷ told (toldToWait party (unable 102 party usual ∷ [])) ∷
-      told (toldToWait party (unable 109 party usual ∷ [])) ∷ told (toldToWait party (unable 103 (from eight duplex .who) usual ∷
-      [])) ∷ told (toldToWait party (unable 102 party usual ∷ unable 103 party usual ∷ [])) ∷ []) ∷ [];
+  computed = (bit (toldToWait party deeds) ∷ bit (toldToWait party (unable 102 party usual ∷ [])) ∷
+      bit (toldToWait party (unable 109 party usual ∷ [])) ∷ bit (toldToWait party (unable 103 (from eight duplex .who) usual ∷
+      [])) ∷ bit (toldToWait party (unable 102 party usual ∷ unable 103 party usual ∷ [])) ∷ []) ∷ [];
   expected = (1 ∷ 0 ∷ 0 ∷ 0 ∷ 1 ∷ []) ∷ [];
 }
 
@@ -1276,15 +1276,15 @@ told102 = record {
 -- which requests are alike, to the rules and to the reader of the list: one ship, mode, second telecommand and number
 abbrev pub compared : (Request → Request → Bool) → List ℕ
 compared t =
-    told (t (from seven duplex) (from seven duplex)) ∷ told (t (from seven simplex) (from seven simplex)) ∷
-    told (t (from seven simplex) (from seven duplex))
-    ∷ told (t (from seven duplex) (from seven simplex)) ∷ told (t (from seven duplex) (from eight duplex))
-    ∷ told (t (asking seven 2001234 duplex 100 usual) (asking seven 2001234 duplex 101 usual)) ∷
-    told (t (asking seven 2001234 duplex 101 usual) (asking seven 2001234 duplex 100 usual))
-    ∷ told (t (calling (4 ∷ 2 ∷ [])) (calling (4 ∷ 2 ∷ []))) ∷ told (t (calling (4 ∷ 2 ∷ [])) (calling (4 ∷ 2 ∷ 1 ∷ []))) ∷
-    told (t (calling (4 ∷ 2 ∷ 1 ∷ [])) (calling (4 ∷ 2 ∷ [])))
-    ∷ told (t (calling (4 ∷ 2 ∷ [])) (calling (5 ∷ 2 ∷ []))) ∷ told (t (calling (5 ∷ 2 ∷ [])) (calling (4 ∷ 2 ∷ []))) ∷
-    told (t (calling (4 ∷ 2 ∷ [])) (calling (4 ∷ 1 ∷ []))) ∷ told (t (calling (4 ∷ 1 ∷ [])) (calling (4 ∷ 2 ∷ [])))
+    bit (t (from seven duplex) (from seven duplex)) ∷ bit (t (from seven simplex) (from seven simplex)) ∷
+    bit (t (from seven simplex) (from seven duplex))
+    ∷ bit (t (from seven duplex) (from seven simplex)) ∷ bit (t (from seven duplex) (from eight duplex))
+    ∷ bit (t (asking seven 2001234 duplex 100 usual) (asking seven 2001234 duplex 101 usual)) ∷
+    bit (t (asking seven 2001234 duplex 101 usual) (asking seven 2001234 duplex 100 usual))
+    ∷ bit (t (calling (4 ∷ 2 ∷ [])) (calling (4 ∷ 2 ∷ []))) ∷ bit (t (calling (4 ∷ 2 ∷ [])) (calling (4 ∷ 2 ∷ 1 ∷ []))) ∷
+    bit (t (calling (4 ∷ 2 ∷ 1 ∷ [])) (calling (4 ∷ 2 ∷ [])))
+    ∷ bit (t (calling (4 ∷ 2 ∷ [])) (calling (5 ∷ 2 ∷ []))) ∷ bit (t (calling (5 ∷ 2 ∷ [])) (calling (4 ∷ 2 ∷ []))) ∷
+    bit (t (calling (4 ∷ 2 ∷ [])) (calling (4 ∷ 1 ∷ []))) ∷ bit (t (calling (4 ∷ 1 ∷ [])) (calling (4 ∷ 2 ∷ [])))
     ∷ []
 
 abbrev pub sameShown : Row

@@ -11,8 +11,8 @@ use Rattle.rules.specs.Rules.Words.{simplex, duplex}
 use Rattle.rules.specs.Rules.Heard as H
 use Rattle.rules.specs.Rules.Heard.{callRequest, dataRequest, bq, declined, workingCall, endOfCall, nothing, isBlank, says, requestIn}
 use Rattle.requests.specs.Views.{viewed, digitsOf, modeOf, requestOf}
-use Rattle.hearing.specs.declared.Kind.{Kind}
-use Rattle.hearing.specs.declared.Kind.the-variants.{CallRequest, DataRequest, Bq, Declined, WorkingCall, EndOfCall, Nothing}
+use Rattle.hearing.specs.declared.HeardKind.{HeardKind}
+use Rattle.hearing.specs.declared.HeardKind.the-variants.{CallRequest, DataRequest, Bq, Declined, WorkingCall, EndOfCall, Nothing}
 use Rattle.hearing.specs.declared.Heard.{Heard}
 use Rattle.hearing.specs.Said.{modeIn, askedIn, heardAs, heardOf}
 
@@ -35,7 +35,7 @@ simplex-asked m h = asked-is m ∙ ap (λ f. requestIn (modeOf (modeIn f)) m) (f
 pub duplex-asked : (m : Meaning) → says 117 101 m ≡ true → requestOf (askedIn m) ≡ requestIn duplex m
 duplex-asked m h = asked-is m ∙ ap (λ f. requestIn (modeOf (modeIn f)) m) (first-is 117 101 m h)
 
-abbrev kindIn : H.Heard → Kind
+abbrev kindIn : H.Heard → HeardKind
 kindIn (callRequest r) = CallRequest
 kindIn (dataRequest x n) = DataRequest
 kindIn (bq i x) = Bq (record { 0 = i })
@@ -44,7 +44,7 @@ kindIn (workingCall x) = WorkingCall
 kindIn (endOfCall x) = EndOfCall
 kindIn nothing = Nothing
 
-kind-back : (k : Kind) (r : W.Request) → kindIn (heardAs k r) ≡ k
+kind-back : (k : HeardKind) (r : W.Request) → kindIn (heardAs k r) ≡ k
 kind-back CallRequest r = refl
 kind-back DataRequest r = refl
 kind-back (Bq i) r = refl

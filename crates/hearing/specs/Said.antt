@@ -10,8 +10,8 @@ use Rattle.requests.specs.declared.Mode.{Mode}
 use Rattle.requests.specs.declared.Mode.the-variants.{Simplex, Duplex}
 use Rattle.requests.specs.declared.Request.{Request}
 use Rattle.requests.specs.Views.{requestOf}
-use Rattle.hearing.specs.declared.Kind.{Kind}
-use Rattle.hearing.specs.declared.Kind.the-variants.{CallRequest, DataRequest, Bq, Declined, WorkingCall, EndOfCall, Nothing}
+use Rattle.hearing.specs.declared.HeardKind.{HeardKind}
+use Rattle.hearing.specs.declared.HeardKind.the-variants.{CallRequest, DataRequest, Bq, Declined, WorkingCall, EndOfCall, Nothing}
 use Rattle.hearing.specs.declared.Heard.{Heard}
 
 -- "101 duplex"
@@ -23,7 +23,7 @@ unfoldable pub askedIn : Meaning → Request
 askedIn m = record { ship = m .sender; station = m .address; mode = modeIn (m .first); second = m .second; number = m .number }
 
 -- a kind, and who asks for what
-abbrev pub heardAs : Kind → W.Request → H.Heard
+abbrev pub heardAs : HeardKind → W.Request → H.Heard
 heardAs CallRequest r = callRequest r
 heardAs DataRequest r = dataRequest (r .who) (r .number)
 heardAs (Bq i) r = bq (i .0) (r .who)

@@ -30,7 +30,7 @@ use slots::mast::is_ours;
 use units::SlotNumber;
 
 // Document 01's kinds of sequences, and 02's "BQ with 104"; another BQ names the channel of a slot.
-pub enum Kind {
+pub enum HeardKind {
     CallRequest,
     DataRequest,
     Bq(SlotNumber),
@@ -42,7 +42,7 @@ pub enum Kind {
 
 // The request of a kind that asks for nothing tells who sent it.
 pub struct Heard {
-    pub kind: Kind,
+    pub kind: HeardKind,
     pub request: Request,
 }
 
@@ -133,47 +133,47 @@ fn named(slots: [Slot; SLOTS], count: u8, field: Field) -> Found
 }
 
 // A BQ that names the channel of a slot.
-fn bq_on(slot: Found) -> Kind
+fn bq_on(slot: Found) -> HeardKind
     ensures { λ r. ⌜ ((x : W.Request) → heardAs r x ≡ bqOn (x .who) (foundView slot)) ⌝ }
 {
     match slot {
-        Found::At(k) => Kind::Bq(k),
-        Found::Nothing => Kind::Nothing,
+        Found::At(k) => HeardKind::Bq(k),
+        Found::Nothing => HeardKind::Nothing,
     }
 }
 
 // Which of the documents' kinds it is, where its field names the slot.
-fn kind_of(meaning: Meaning, slot: Found) -> Kind
+fn kind_of(meaning: Meaning, slot: Found) -> HeardKind
     ensures { λ r. ⌜
         ((c : Config) → foundView slot ≡ slotNamed c (meaning .field) → heardAs r (requestOf (askedIn meaning)) ≡ kindOf c meaning)
         ⌝ }
 {
     if says(meaning, END_RQ, FIRST_SIMPLEX) {
-        return Kind::CallRequest;
+        return HeardKind::CallRequest;
     }
     if says(meaning, END_RQ, FIRST_DUPLEX) {
-        return Kind::CallRequest;
+        return HeardKind::CallRequest;
     }
     if says(meaning, END_RQ, FIRST_DATA) {
-        return Kind::DataRequest;
+        return HeardKind::DataRequest;
     }
     if works(meaning) {
-        return Kind::WorkingCall;
+        return HeardKind::WorkingCall;
     }
     if says(meaning, END_RQ, FIRST_OVER) {
-        return Kind::EndOfCall;
+        return HeardKind::EndOfCall;
     }
     if agrees(meaning) {
         return bq_on(slot);
     }
     if says(meaning, END_BQ, FIRST_UNABLE) {
-        return Kind::Declined;
+        return HeardKind::Declined;
     }
-    Kind::Nothing
+    HeardKind::Nothing
 }
 
 // "a sequence not addressed to this station" says nothing.
-pub fn told_by(mast: Mast, slots: [Slot; SLOTS], count: u8, meaning: Meaning) -> Heard
+pub fn heard_in(mast: Mast, slots: [Slot; SLOTS], count: u8, meaning: Meaning) -> Heard
     ensures { λ r. ⌜ r .request ≡ askedIn meaning ⌝ }
     ensures { λ r. ⌜ heardOf r ≡ addressed (configFor mast count slots) meaning ⌝ }
 {
@@ -187,7 +187,7 @@ pub fn told_by(mast: Mast, slots: [Slot; SLOTS], count: u8, meaning: Meaning) ->
         };
     }
     Heard {
-        kind: Kind::Nothing,
+        kind: HeardKind::Nothing,
         request: request,
     }
 }

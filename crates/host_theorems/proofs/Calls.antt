@@ -26,7 +26,7 @@ use Rattle.soundness.proofs.FitLaws.{sound-fits}
 use Rattle.station.specs.declared.Stepped.{Stepped}
 use Rattle.station.specs.Step.{eventAt, ashoreOf, steppedBy}
 use Rattle.lent_layout.specs.Stations.{stationFrom}
-use Rattle.coast.specs.Events.{told, returned, stationAfter, roomLeft}
+use Rattle.coast.specs.Events.{packed, returned, stationAfter, roomLeft}
 use Rattle.coast.proofs.Theorems.{taken-apart}
 use Rattle.station_theorems.proofs.Steps.{lives, lent}
 use Rattle.host_theorems.specs.Calls.{Call, callOf, WhatInC, HappenedInC, Entered, by-tick, by-heard-on-channel-70, by-heard-on-slot, by-carrier-up, by-carrier-down, by-dialling-ended, by-off-hook, by-on-hook, by-take-slot, by-give-back, by-call-from-ashore}
@@ -61,7 +61,7 @@ module _ (x : Call) (a : Entered x) where
   abbrev stepped : Stepped
   stepped = steppedBy (stationFrom (x .station)) (x .event)
 
-  number-is : x .number ≡ told stepped
+  number-is : x .number ≡ packed stepped
   unfolding returned
   number-is = called x a .number-is
 

@@ -98,12 +98,12 @@ meaning-laid m f room w e =
 
 pub phase-laid : (f : PhaseFields) (room : List ℕ) (p : ℕ) → p ≤ length room
     → laidAll (laid room p (f .kind ∷ [])) p 1
-    (lowFirst 4 (f .time) ∷ (f .carrier .mark ∷ []) ∷ lowFirst 4 (f .carrier .due) ∷ (f .told .mark ∷ f .told .hours ∷ f .told .minutes ∷ f .told .seconds ∷ []) ∷ [])
+    (lowFirst 4 (f .time) ∷ (f .carrier .mark ∷ []) ∷ lowFirst 4 (f .carrier .due) ∷ (f .lasted .mark ∷ f .lasted .hours ∷ f .lasted .minutes ∷ f .lasted .seconds ∷ []) ∷ [])
     ≡ laid room p (encode (take 8 slotFields) (phaseNumbers f []))
 unfolding flatten slotFields
 phase-laid f room p h =
     laid-all room p (f .kind ∷ [])
-    (lowFirst 4 (f .time) ∷ (f .carrier .mark ∷ []) ∷ lowFirst 4 (f .carrier .due) ∷ (f .told .mark ∷ f .told .hours ∷ f .told .minutes ∷ f .told .seconds ∷ []) ∷ []) h
+    (lowFirst 4 (f .time) ∷ (f .carrier .mark ∷ []) ∷ lowFirst 4 (f .carrier .due) ∷ (f .lasted .mark ∷ f .lasted .hours ∷ f .lasted .minutes ∷ f .lasted .seconds ∷ []) ∷ []) h
 
 pub slot-laid : (s : Slot) (f : PhaseFields) (room : List ℕ) (p : ℕ) → f ≡ phaseFields (s .phase) → p ≤ length room
     → laidAll (laid room p (encode (take 8 slotFields) (phaseNumbers f []))) p (size (take 8 slotFields))

@@ -61,10 +61,10 @@ phaseNumbers f l =
     ∷ f .time
     ∷ f .carrier .mark
     ∷ f .carrier .due
-    ∷ f .told .mark
-    ∷ f .told .hours
-    ∷ f .told .minutes
-    ∷ f .told .seconds
+    ∷ f .lasted .mark
+    ∷ f .lasted .hours
+    ∷ f .lasted .minutes
+    ∷ f .lasted .seconds
     ∷ l
 
 unfoldable pub slotNumbers : Slot → List ℕ
@@ -89,7 +89,7 @@ phaseIn ns =
       kind = getD ns 0 0;
       time = getD ns 1 0;
       carrier = record { mark = getD ns 2 0; due = getD ns 3 0 };
-      told = record { mark = getD ns 4 0; hours = getD ns 5 0; minutes = getD ns 6 0; seconds = getD ns 7 0 };
+      lasted = record { mark = getD ns 4 0; hours = getD ns 5 0; minutes = getD ns 6 0; seconds = getD ns 7 0 };
     }
 
 unfoldable pub slotFrom : List ℕ → Slot

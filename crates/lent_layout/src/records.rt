@@ -14,8 +14,8 @@ use crate::numbers::four_at;
 use crate::numbers::lay;
 use layouts::low_first;
 use phase_fields::CarrierFields;
+use phase_fields::LastedFields;
 use phase_fields::PhaseFields;
-use phase_fields::ToldFields;
 use phase_fields::phase_fields;
 use phase_fields::phase_from;
 use slots::Slot;
@@ -57,7 +57,7 @@ fn phase_at(bytes: &[u8], place: usize) -> PhaseFields
         mark: bytes[place + CARRIER],
         due: four_at(bytes, place + CARRIER_DUE),
     };
-    let told = ToldFields {
+    let lasted = LastedFields {
         mark: bytes[place + TOLD],
         hours: bytes[place + HOURS],
         minutes: bytes[place + MINUTES],
@@ -67,7 +67,7 @@ fn phase_at(bytes: &[u8], place: usize) -> PhaseFields
         kind: bytes[place],
         time: four_at(bytes, place + TIME),
         carrier: carrier,
-        told: told,
+        lasted: lasted,
     }
 }
 
@@ -101,12 +101,12 @@ fn lay_phase(f: PhaseFields, place: usize, room: &mut [u8])
     ensures { λ _. ⌜ now (room .exit) ≡ laid (now (room .entry)) place (encode (take 8 slotFields) (phaseNumbers f [])) ⌝ }
 {
     let carrier = f.carrier;
-    let told = f.told;
+    let lasted = f.lasted;
     let kind = [f.kind];
     let time = low_first(f.time);
     let lost = [carrier.mark];
     let due = low_first(carrier.due);
-    let duration = [told.mark, told.hours, told.minutes, told.seconds];
+    let duration = [lasted.mark, lasted.hours, lasted.minutes, lasted.seconds];
     lay(&kind, place, room);
     lay(&time, place + TIME, room);
     lay(&lost, place + CARRIER, room);

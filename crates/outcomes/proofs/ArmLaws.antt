@@ -6,7 +6,7 @@ use mathlib.Core.Path.{_≡_}
 use mir.Val.{hasKey}
 use types.Run.{OneOf}
 use denote.Enum.Declared.{tagOf}
-use Rattle.units.specs.declared.Told.{Told}
+use Rattle.units.specs.declared.Lasted.{Lasted}
 use Rattle.slots.specs.declared.Phase.{Phase}
 use Rattle.slots.specs.declared.QueuePlace.{QueuePlace}
 use Rattle.slots.proofs.PhaseLaws.{Where, where-held}
@@ -27,7 +27,7 @@ EachOutcome ks a f =
     × Where (hasKey ks 6) (a ≡ f Clears)
     × ((x : Talk) → Where (hasKey ks 7) (a ≡ f (CoastEnds x)))
     × ((x : Talk) → Where (hasKey ks 8) (a ≡ f (ShipEnds x)))
-    × ((x : Told) → Where (hasKey ks 9) (a ≡ f (SaysAgain x)))
+    × ((x : Lasted) → Where (hasKey ks 9) (a ≡ f (SaysAgain x)))
     × Where (hasKey ks 10) (a ≡ f Repeats)
     × Where (hasKey ks 11) (a ≡ f Renews)
     × ((x : Talk) → Where (hasKey ks 12) (a ≡ f (Redials x)))

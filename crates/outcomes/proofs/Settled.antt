@@ -1,15 +1,15 @@
 -- Any two results that meet a contract are equal.
 use mathlib.Core.Path.{_≡_, sym, _∙_}
 use contract.Lifetimes.{Lfts}
-use Rattle.outcomes.proofs.parts.told_of.Reads as told-of
+use Rattle.outcomes.proofs.parts.lasted_of.Reads as lasted-of
 use Rattle.outcomes.proofs.parts.answer_of.Reads as answer-of
 use Rattle.outcomes.proofs.parts.goes_on.Reads as goes-on
 use Rattle.outcomes.proofs.parts.turn_of.Reads as turn-of
 use Rattle.outcomes.proofs.parts.queue_change.Reads as queue-change
 use Rattle.outcomes.proofs.parts.entered.Reads as entered
 
-pub told-of-settled : (κs : Lfts 0) (a : _) (r r' : _) (s s' : _) → told-of.Post κs a r s → told-of.Post κs a r' s' → r ≡ r'
-told-of-settled κs a r r' s s' p q = p ∙ sym q
+pub lasted-of-settled : (κs : Lfts 0) (a : _) (r r' : _) (s s' : _) → lasted-of.Post κs a r s → lasted-of.Post κs a r' s' → r ≡ r'
+lasted-of-settled κs a r r' s s' p q = p ∙ sym q
 
 pub answer-of-settled : (κs : Lfts 0) (a : _) (r r' : _) (s s' : _) → answer-of.Post κs a r s → answer-of.Post κs a r' s' → r ≡ r'
 answer-of-settled κs a r r' s s' p q = p ∙ sym q

@@ -5,7 +5,7 @@ use mathlib.Core.List.{List, [], _∷_, _++_}
 use mathlib.Core.Bool.{Bool, true, false, cond}
 use lib.ListN.{length, getD}
 use Rattle.units.specs.declared.Tenths.{Tenths}
-use Rattle.units.specs.declared.Told.{Told}
+use Rattle.units.specs.declared.Lasted.{Lasted}
 use Rattle.rules.specs.Rules.Places.{modAt, dropAt}
 use Rattle.rules.specs.Rules.Words.{Request, carrierOn, carrierOff, acknowledge, callShip, unable, dial, ringingOn, ringingOff}
 use Rattle.rules.specs.Rules.Actions.{Action, does, over, theShip, theCoast}
@@ -202,8 +202,8 @@ abbrev pub waitFrom : Tenths → ℕ → Tenths
 waitFrom t p = record { 0 = min (dueAfter (t .0) p) 4294967295 }
 
 -- what an end of call at t tells
-abbrev pub toldOf : Talk → Tenths → Told
-toldOf k t = lasted (sinceOf k) (t .0)
+abbrev pub lastedOf : Talk → Tenths → Lasted
+lastedOf k t = lasted (sinceOf k) (t .0)
 
 abbrev pub freeTurn : Tenths → ℕ → Turn
 freeTurn t zero = Own Free
@@ -219,7 +219,7 @@ turnOf t waiting RingsAgain = Own (RingAgain (waitFrom t (kindWait secondRing)))
 turnOf t waiting Frees = freeTurn t waiting
 turnOf t waiting Clears = freeTurn t waiting
 turnOf t waiting (CoastEnds k) = freeTurn t waiting
-turnOf t waiting (ShipEnds k) = Own (Hold (waitFrom t holdWait) (toldOf k t))
+turnOf t waiting (ShipEnds k) = Own (Hold (waitFrom t holdWait) (lastedOf k t))
 turnOf t waiting (SaysAgain n) = Stays
 turnOf t waiting Repeats = Stays
 turnOf t waiting Renews = Asked (Offered (waitFrom t (kindWait offered)))

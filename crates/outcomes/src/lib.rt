@@ -3,8 +3,8 @@ pub mod parts;
 
 use slots::Phase;
 use slots::QueuePlace;
+use units::Lasted;
 use units::Tenths;
-use units::Told;
 
 // How far the call of a slot has come: nobody has answered, or somebody since then.
 pub enum Talk {
@@ -23,7 +23,7 @@ pub enum Outcome {
     Clears, // carrier off, and freed
     CoastEnds(Talk), // charge if answered, release, end of call, carrier off, freed
     ShipEnds(Talk), // the same, but held
-    SaysAgain(Told), // in the hold
+    SaysAgain(Lasted), // in the hold
     Repeats, // rule b, an identical request
     Renews, // rule b, offered afresh
     Redials(Talk), // rule c: the coast ends the call, then d to g apply

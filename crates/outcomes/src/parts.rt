@@ -1,6 +1,6 @@
 // What an outcome comes to: the answer, the slot, the queue.
 ghost use mathlib.Core.Path.{_≡_};
-ghost use Rattle.outcomes.specs.Does.{answerOf, goesOn, toldOf, freeTurn, turnOf, freeChange, queueChange, enteredOf};
+ghost use Rattle.outcomes.specs.Does.{answerOf, goesOn, lastedOf, freeTurn, turnOf, freeChange, queueChange, enteredOf};
 use crate::Outcome;
 use crate::QueueChange;
 use crate::Talk;
@@ -19,15 +19,15 @@ use slots::QueuePlace;
 use slots::RING_WAIT;
 use slots::RINGING_WAIT;
 use slots::Waiting;
+use units::Lasted;
 use units::Tenths;
-use units::Told;
 
 // What an end of call at that time tells: of an unanswered one nothing.
-pub fn told_of(talk: Talk, time: Tenths) -> Told
-    ensures { λ r. ⌜ r ≡ toldOf talk time ⌝ }
+pub fn lasted_of(talk: Talk, time: Tenths) -> Lasted
+    ensures { λ r. ⌜ r ≡ lastedOf talk time ⌝ }
 {
     match talk {
-        Talk::Unanswered => Told::Nothing,
+        Talk::Unanswered => Lasted::Nothing,
         Talk::Since(since) => lasted(since, time),
     }
 }
@@ -78,9 +78,9 @@ pub fn turn_of(outcome: Outcome, time: Tenths, waiting: u8) -> Turn
             Turn::Own(Phase::RingAgain(due))
         }
         Outcome::ShipEnds(talk) => {
-            let told = told_of(talk, time);
+            let lasted = lasted_of(talk, time);
             let due = due_after(time, HOLD_WAIT);
-            Turn::Own(Phase::Hold(due, told))
+            Turn::Own(Phase::Hold(due, lasted))
         }
         Outcome::Calls => Turn::Asked(Phase::Called(due_after(time, CALL_WAIT))),
         Outcome::CallsAgain => Turn::Own(Phase::CalledAgain(due_after(time, CALL_WAIT))),

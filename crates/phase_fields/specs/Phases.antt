@@ -3,8 +3,8 @@ use Prim.Native.Nat.{ℕ}
 use mathlib.Core.Bool.{cond}
 use lib.Dec.{eqb}
 use Rattle.units.specs.declared.Tenths.{Tenths}
-use Rattle.units.specs.declared.Told.{Told}
-use Rattle.units.specs.declared.Told.the-variants.{Nothing, Lasting}
+use Rattle.units.specs.declared.Lasted.{Lasted}
+use Rattle.units.specs.declared.Lasted.the-variants.{Nothing, Lasting}
 use Rattle.units.specs.Units.{greatest}
 use Rattle.slots.specs.declared.Carrier.{Carrier}
 use Rattle.slots.specs.declared.Carrier.the-variants.{Present, Lost}
@@ -13,19 +13,19 @@ use Rattle.slots.specs.declared.Phase.the-variants.{Free, Offered, RingBack, Ri
 use Rattle.slots.specs.declared.Phase.the-variants.{Dialling, Answered, Hold, Taken, DialledOut, Called, CalledAgain, Ringing}
 use Rattle.slots.specs.Images.{tenths}
 use Rattle.phase_fields.specs.declared.CarrierFields.{CarrierFields}
-use Rattle.phase_fields.specs.declared.ToldFields.{ToldFields}
+use Rattle.phase_fields.specs.declared.LastedFields.{LastedFields}
 use Rattle.phase_fields.specs.declared.PhaseFields.{PhaseFields}
 
 abbrev pub carrierFields : Carrier → CarrierFields
 carrierFields Present = record { mark = 0; due = 0 }
 carrierFields (Lost t) = record { mark = 1; due = t .0 }
 
-abbrev pub toldFields : Told → ToldFields
-toldFields Nothing = record { mark = 0; hours = 0; minutes = 0; seconds = 0 }
-toldFields (Lasting d) = record { mark = 1; hours = d .hours; minutes = d .minutes; seconds = d .seconds }
+abbrev pub lastedFields : Lasted → LastedFields
+lastedFields Nothing = record { mark = 0; hours = 0; minutes = 0; seconds = 0 }
+lastedFields (Lasting d) = record { mark = 1; hours = d .hours; minutes = d .minutes; seconds = d .seconds }
 
-abbrev pub fieldsOf : ℕ → ℕ → Carrier → Told → PhaseFields
-fieldsOf kind time c n = record { kind = kind; time = time; carrier = carrierFields c; told = toldFields n }
+abbrev pub fieldsOf : ℕ → ℕ → Carrier → Lasted → PhaseFields
+fieldsOf kind time c n = record { kind = kind; time = time; carrier = carrierFields c; lasted = lastedFields n }
 
 -- every part that the phase does not use is 0
 abbrev pub phaseFields : Phase → PhaseFields
@@ -47,8 +47,8 @@ phaseFields (Ringing t) = fieldsOf 12 (t .0) Present Nothing
 unfoldable pub carrierFrom : CarrierFields → Carrier
 carrierFrom f = cond (eqb (f .mark) 0) Present (cond (eqb (f .mark) 1) (Lost (tenths (f .due))) (Lost (tenths greatest)))
 
-unfoldable pub toldFrom : ToldFields → Told
-toldFrom f =
+unfoldable pub lastedFrom : LastedFields → Lasted
+lastedFrom f =
     cond (eqb (f .mark) 0) Nothing
     (cond (eqb (f .mark) 1) (Lasting (record { hours = f .hours; minutes = f .minutes; seconds = f .seconds }))
     (Lasting (record { hours = 255; minutes = 255; seconds = 255 })))
@@ -69,7 +69,7 @@ phaseFrom f =
     (cond (eqb (f .kind) 4) (Acknowledged (tenths (f .time)))
     (cond (eqb (f .kind) 5) (Dialling (tenths (f .time)) (carrierFrom (f .carrier)))
     (cond (eqb (f .kind) 6) (Answered (tenths (f .time)) (carrierFrom (f .carrier)))
-    (cond (eqb (f .kind) 7) (Hold (tenths (f .time)) (toldFrom (f .told)))
+    (cond (eqb (f .kind) 7) (Hold (tenths (f .time)) (lastedFrom (f .lasted)))
     (cond (eqb (f .kind) 8) Taken
     (cond (eqb (f .kind) 9) (DialledOut (tenths (f .time)) (carrierFrom (f .carrier)))
     (ashoreFrom (f .kind) (tenths (f .time))))))))))))

@@ -1,22 +1,22 @@
 // A phase as the numbers that a lent slot holds of it, and the phase that such numbers stand for.
 ghost use mathlib.Core.Path.{_≡_};
-ghost use Rattle.units.specs.declared.Told.the-variants.{Nothing};
+ghost use Rattle.units.specs.declared.Lasted.the-variants.{Nothing};
 ghost use Rattle.slots.specs.declared.Carrier.the-variants.{Present};
-ghost use Rattle.phase_fields.specs.Phases.{carrierFields, toldFields, fieldsOf, phaseFields, carrierFrom, toldFrom};
+ghost use Rattle.phase_fields.specs.Phases.{carrierFields, lastedFields, fieldsOf, phaseFields, carrierFrom, lastedFrom};
 ghost use Rattle.phase_fields.specs.Phases.{ashoreFrom, phaseFrom};
 use slots::Carrier;
 use slots::Phase;
 use units::Duration;
 use units::GREATEST;
+use units::Lasted;
 use units::Tenths;
-use units::Told;
 
 pub struct CarrierFields {
     pub mark: u8,
     pub due: u32,
 }
 
-pub struct ToldFields {
+pub struct LastedFields {
     pub mark: u8,
     pub hours: u8,
     pub minutes: u8,
@@ -27,7 +27,7 @@ pub struct PhaseFields {
     pub kind: u8,
     pub time: u32,
     pub carrier: CarrierFields,
-    pub told: ToldFields,
+    pub lasted: LastedFields,
 }
 
 fn carrier_fields(carrier: Carrier) -> CarrierFields
@@ -42,17 +42,17 @@ fn carrier_fields(carrier: Carrier) -> CarrierFields
     }
 }
 
-fn told_fields(told: Told) -> ToldFields
-    ensures { λ r. ⌜ r ≡ toldFields told ⌝ }
+fn lasted_fields(lasted: Lasted) -> LastedFields
+    ensures { λ r. ⌜ r ≡ lastedFields lasted ⌝ }
 {
-    match told {
-        Told::Nothing => ToldFields {
+    match lasted {
+        Lasted::Nothing => LastedFields {
             mark: 0,
             hours: 0,
             minutes: 0,
             seconds: 0,
         },
-        Told::Lasting(duration) => ToldFields {
+        Lasted::Lasting(duration) => LastedFields {
             mark: 1,
             hours: duration.hours,
             minutes: duration.minutes,
@@ -61,14 +61,14 @@ fn told_fields(told: Told) -> ToldFields
     }
 }
 
-fn fields_of(kind: u8, time: Tenths, carrier: Carrier, told: Told) -> PhaseFields
-    ensures { λ r. ⌜ r ≡ fieldsOf kind (time .0) carrier told ⌝ }
+fn fields_of(kind: u8, time: Tenths, carrier: Carrier, lasted: Lasted) -> PhaseFields
+    ensures { λ r. ⌜ r ≡ fieldsOf kind (time .0) carrier lasted ⌝ }
 {
     PhaseFields {
         kind: kind,
         time: time.0,
         carrier: carrier_fields(carrier),
-        told: told_fields(told),
+        lasted: lasted_fields(lasted),
     }
 }
 
@@ -76,7 +76,7 @@ fn fields_of(kind: u8, time: Tenths, carrier: Carrier, told: Told) -> PhaseField
 fn plain(kind: u8, time: Tenths) -> PhaseFields
     ensures { λ r. ⌜ r ≡ fieldsOf kind (time .0) Present Nothing ⌝ }
 {
-    fields_of(kind, time, Carrier::Present, Told::Nothing)
+    fields_of(kind, time, Carrier::Present, Lasted::Nothing)
 }
 
 pub fn phase_fields(phase: Phase) -> PhaseFields
@@ -88,11 +88,11 @@ pub fn phase_fields(phase: Phase) -> PhaseFields
         Phase::RingBack(due) => plain(2, due),
         Phase::RingAgain(due) => plain(3, due),
         Phase::Acknowledged(due) => plain(4, due),
-        Phase::Dialling(due, carrier) => fields_of(5, due, carrier, Told::Nothing),
-        Phase::Answered(start, carrier) => fields_of(6, start, carrier, Told::Nothing),
-        Phase::Hold(due, told) => fields_of(7, due, Carrier::Present, told),
+        Phase::Dialling(due, carrier) => fields_of(5, due, carrier, Lasted::Nothing),
+        Phase::Answered(start, carrier) => fields_of(6, start, carrier, Lasted::Nothing),
+        Phase::Hold(due, lasted) => fields_of(7, due, Carrier::Present, lasted),
         Phase::Taken => plain(8, Tenths(0)),
-        Phase::DialledOut(due, carrier) => fields_of(9, due, carrier, Told::Nothing),
+        Phase::DialledOut(due, carrier) => fields_of(9, due, carrier, Lasted::Nothing),
         Phase::Called(due) => plain(10, due),
         Phase::CalledAgain(due) => plain(11, due),
         Phase::Ringing(due) => plain(12, due),
@@ -111,20 +111,20 @@ fn carrier_from(fields: CarrierFields) -> Carrier
     Carrier::Lost(Tenths(GREATEST))
 }
 
-fn told_from(fields: ToldFields) -> Told
-    ensures { λ r. ⌜ r ≡ toldFrom fields ⌝ }
+fn lasted_from(fields: LastedFields) -> Lasted
+    ensures { λ r. ⌜ r ≡ lastedFrom fields ⌝ }
 {
     if fields.mark == 0 {
-        return Told::Nothing;
+        return Lasted::Nothing;
     }
     if fields.mark == 1 {
-        return Told::Lasting(Duration {
+        return Lasted::Lasting(Duration {
             hours: fields.hours,
             minutes: fields.minutes,
             seconds: fields.seconds,
         });
     }
-    Told::Lasting(Duration {
+    Lasted::Lasting(Duration {
         hours: 255,
         minutes: 255,
         seconds: 255,
@@ -152,7 +152,7 @@ pub fn phase_from(fields: PhaseFields) -> Phase
 {
     let kind = fields.kind;
     let of_carrier = fields.carrier;
-    let of_told = fields.told;
+    let of_lasted = fields.lasted;
     if kind == 0 {
         return Phase::Free;
     }
@@ -177,8 +177,8 @@ pub fn phase_from(fields: PhaseFields) -> Phase
         return Phase::Answered(Tenths(fields.time), carrier);
     }
     if kind == 7 {
-        let told = told_from(of_told);
-        return Phase::Hold(Tenths(fields.time), told);
+        let lasted = lasted_from(of_lasted);
+        return Phase::Hold(Tenths(fields.time), lasted);
     }
     if kind == 8 {
         return Phase::Taken;

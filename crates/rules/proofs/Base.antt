@@ -7,7 +7,7 @@ use Prim.Native.Nat.{ℕ, suc, _*_, _+_, _≤_, zero, _<_}
 use lib.Dec.{eqb, leb}
 use lib.ListN.{List·getD-map, getD, length, replicate, length-replicate}
 use borrow.Author.Tests.{eq-eqb, eqb-true, leb-true, le-leb}
-use Rattle.units.specs.declared.Told.{Told}
+use Rattle.units.specs.declared.Lasted.{Lasted}
 use Rattle.rules.specs.Rules.Words.{Party, is, Mode, simplex, duplex, Request, Ashore, Deed, Config}
 use Rattle.rules.specs.Rules.Actions.{Action, does, over, charge}
 use Rattle.rules.specs.Rules.Station.{bySlot, shipOf, Kind, offered, firstRing, secondRing, acknowledged, firstCall, secondCall, ringing, Slot, free, taken, pending, busy, held, Waiting, Station, theSlot, setSlot, carrierWait, lossDue, stageDue, mainDue, slotTable, table, fires, answeredAt, answeredIn, Dealing, Stage, dialling, dialledOut, answered, fresh, dueAfter, kindWait, diallingWait, replyWait, holdWait, isFree, offerOf, ringOf, rungAgain, agreedAt, calledOf, calledAgain, ringingAt, isCalled}
@@ -23,7 +23,7 @@ use native.Mathlib.Omega.{arith}
 -- ── a law on every slot, on every kind before the dialling, on every stage of a call ──
 
 pub by-slot : (P : Slot → Type 0) → P free → P taken → ((k : Kind) (r : Dealing) (d : ℕ) → P (pending k r d)) → ((r : Dealing) (g : Stage) (c : Option ℕ) → P (busy r g c))
-    → ((r : Dealing) (n : Told) (d : ℕ) → P (held r n d)) → (s : Slot) → P s
+    → ((r : Dealing) (n : Lasted) (d : ℕ) → P (held r n d)) → (s : Slot) → P s
 by-slot P a b f g h free = a
 by-slot P a b f g h taken = b
 by-slot P a b f g h (pending k r d) = f k r d

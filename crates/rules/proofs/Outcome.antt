@@ -4,7 +4,7 @@ use mathlib.Core.List.{List, [], _∷_, map}
 use mathlib.Core.Bool.{Bool, true, false, cond, _&&_}
 use mathlib.Core.Option.{Option, none, some}
 use Prim.Native.Nat.{ℕ}
-use Rattle.units.specs.declared.Told.{Told}
+use Rattle.units.specs.declared.Lasted.{Lasted}
 use Rattle.rules.specs.Rules.Places.{Each}
 use Rattle.rules.specs.Rules.Words.{Party, is, Request, Config, lineDialledOut, lineLifted, lineHung, carrierHeard, carrierLost, handTakes, handGives, Happened, heard, signal, operator, offHook, Deed, carrierOn, carrierOff, acknowledge, callShip, unable, dial, releaseLine, ringingOn, ringingOff, busyTone, Mode, isAnswering, isTransmitting, carrierUp}
 use Rattle.rules.specs.Rules.Heard.{Heard, callRequest, dataRequest, bq, workingCall, endOfCall, declined, nothing, meaning}
@@ -55,9 +55,9 @@ pub data Move (i t : ℕ) : Slot → Next → List Action → Type 0 where
       → Move i t (busy r g c) (becomes (held r (lasted (answeredAt g) t) (dueAfter t holdWait))) (endActs i theShip (r .request) (answeredAt g) t)
   to-end : (r : Dealing) (g : Stage) (c : Option ℕ) → Move i t (busy r g c) frees (endActs i theCoast (r .request) (answeredAt g) t)
   -- in its hold
-  to-repeat : (r : Dealing) (n : Told) (d : ℕ)
+  to-repeat : (r : Dealing) (n : Lasted) (d : ℕ)
       → Move i t (held r n d) stays (does (carrierOn i) ∷ over i theShip (r .request .who) (r .request .number) n ∷ does (carrierOff i) ∷ [])
-  to-run-out : (r : Dealing) (n : Told) (d : ℕ) → Move i t (held r n d) frees []
+  to-run-out : (r : Dealing) (n : Lasted) (d : ℕ) → Move i t (held r n d) frees []
   -- the operator's
   to-take : Move i t free (becomes taken) []
   to-give : Move i t taken frees []

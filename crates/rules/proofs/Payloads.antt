@@ -7,7 +7,7 @@ use Prim.Native.Nat.{ℕ, zero, suc, _*_, _/_, _%_, _≤_}
 use native.Mathlib.Omega.{arith}
 use lib.Dec.{eqb, leb}
 use borrow.Author.Tests.{leb-true}
-use Rattle.units.specs.declared.Told.{Told}
+use Rattle.units.specs.declared.Lasted.{Lasted}
 use Rattle.sequence.specs.Symbols.{within}
 use Rattle.sequence.specs.Identity.{isShip}
 use lib.ListN.{length, take, length-append, length-take}
@@ -103,7 +103,7 @@ module _ (cfg : Config) where
   unfolding payloadOf unableSaid answerTo
   unable-slim n x digits = sent-length (unableSaid n x digits) digits refl
 
-  pub over-slim : (i : ℕ) (a : Ender) (x : Party) (digits : List ℕ) (n : Told) → Slim cfg (over i a x digits n)
+  pub over-slim : (i : ℕ) (a : Ender) (x : Party) (digits : List ℕ) (n : Lasted) → Slim cfg (over i a x digits n)
   unfolding payloadOf overSaid answerTo
   over-slim i a x digits n = sent-length (overSaid a x digits n) digits refl
 

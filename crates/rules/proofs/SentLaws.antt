@@ -7,8 +7,8 @@ use lib.Dec.{leb, leb·zero}
 use lib.ListN.{length, drop}
 use borrow.Author.Tests.{eqb-true}
 use Rattle.units.specs.declared.Channel.{Channel as ChannelNumber}
-use Rattle.units.specs.declared.Told.{Told}
-use Rattle.units.specs.declared.Told.the-variants.{Nothing, Lasting}
+use Rattle.units.specs.declared.Lasted.{Lasted}
+use Rattle.units.specs.declared.Lasted.the-variants.{Nothing, Lasting}
 use Rattle.sequence.specs.declared.Field.{Field}
 use Rattle.sequence.specs.declared.Field.the-variants.{Blank, Channel}
 use Rattle.sequence.specs.Symbols.{within, allAtMost}
@@ -19,7 +19,7 @@ use Rattle.sequence.specs.Layout.{endOk, valid}
 use Rattle.rules.specs.Rules.Words.{Party, Mode, simplex, duplex, modeNumber, Request, Config, ours, Ours}
 use Rattle.rules.specs.Rules.Actions.{Ender, theShip, theCoast}
 use Rattle.rules.specs.Rules.Sound.{numberKeeps, requestKeeps, durationKeeps}
-use Rattle.rules.specs.Rules.Bytes.{padded, numberOf, answerTo, ableSaid, unableSaid, toldField, endSymbol, overSaid}
+use Rattle.rules.specs.Rules.Bytes.{padded, numberOf, answerTo, ableSaid, unableSaid, lastedField, endSymbol, overSaid}
 use Rattle.rules.proofs.PlaceLaws.{and-true}
 use Rattle.rules.proofs.Spoken.{keeps}
 use Rattle.rules.proofs.Payloads.{padded-length}
@@ -66,10 +66,10 @@ over-telecommands : telecommandsOk 105 126 ≡ true
 unfolding telecommandsOk isCall
 over-telecommands = refl
 
-told-fits : (n : Told) → durationKeeps n ≡ true → fieldOk 105 (toldField n) ≡ true
+lasted-fits : (n : Lasted) → durationKeeps n ≡ true → fieldOk 105 (lastedField n) ≡ true
 unfolding durationKeeps fieldOk
-told-fits Nothing h = refl
-told-fits (Lasting d) h = h
+lasted-fits Nothing h = refl
+lasted-fits (Lasting d) h = h
 
 ender-ok : (a : Ender) → endOk (endSymbol a) ≡ true
 unfolding endOk
@@ -102,6 +102,6 @@ module _ (cfg : Config) (coast : (n : ℕ) → Ours cfg n → isCoast n ≡ true
   able-valid n h end e = answer-valid (r .who) (modeNumber (r .mode)) (r .second) (Channel n) (r .number) end (parts .ship) (parts .station) (mode-second (r .mode) (r .second) (parts .second)) (mode-field (r .mode) n h) (parts .number) e
 
   -- the end of a call
-  pub over-valid : (a : Ender) (n : Told) → durationKeeps n ≡ true → valid (overSaid a (r .who) (r .number) n) ≡ true
+  pub over-valid : (a : Ender) (n : Lasted) → durationKeeps n ≡ true → valid (overSaid a (r .who) (r .number) n) ≡ true
   unfolding overSaid
-  over-valid a n h = answer-valid (r .who) 105 126 (toldField n) (r .number) (endSymbol a) (parts .ship) (parts .station) over-telecommands (told-fits n h) (parts .number) (ender-ok a)
+  over-valid a n h = answer-valid (r .who) 105 126 (lastedField n) (r .number) (endSymbol a) (parts .ship) (parts .station) over-telecommands (lasted-fits n h) (parts .number) (ender-ok a)

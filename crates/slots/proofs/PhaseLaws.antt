@@ -8,7 +8,7 @@ use mir.Val.{hasKey}
 use types.Run.{OneOf, miss}
 use denote.Enum.Declared.{tagOf}
 use Rattle.units.specs.declared.Tenths.{Tenths}
-use Rattle.units.specs.declared.Told.{Told}
+use Rattle.units.specs.declared.Lasted.{Lasted}
 use Rattle.rules.specs.Rules.Words as W
 use Rattle.rules.specs.Rules.Words.{is, Party, Config}
 use Rattle.rules.specs.Rules.Places.{isSome}
@@ -23,7 +23,7 @@ use Rattle.slots.specs.declared.Carrier.{Carrier}
 use Rattle.slots.specs.declared.Carrier.the-variants.{Present, Lost}
 use Rattle.slots.specs.declared.Phase.{Phase}
 use Rattle.slots.specs.declared.Phase.the-variants.{Free, Offered, RingBack, RingAgain, Acknowledged, Dialling, Answered, Hold, Taken, DialledOut, Called, CalledAgain, Ringing}
-use Rattle.slots.specs.Phases.{carrierOf, phaseView, carrierImage, phaseImage, keptIn, stored, owned, calledIn, answeredSince, toldIn, spanOf, dueIn, spanFits, carrierIn}
+use Rattle.slots.specs.Phases.{carrierOf, phaseView, carrierImage, phaseImage, keptIn, stored, owned, calledIn, answeredSince, lastedIn, spanOf, dueIn, spanFits, carrierIn}
 use Rattle.slots.specs.Images.{imageOr, storedImage, Short, ShortSlot}
 use Rattle.slots.proofs.Phase as phase
 
@@ -36,7 +36,7 @@ pub by-phase : (P : Phase → Type 0)
     → ((t : Tenths) → P (Acknowledged t))
     → ((t : Tenths) (c : Carrier) → P (Dialling t c))
     → ((t : Tenths) (c : Carrier) → P (Answered t c))
-    → ((t : Tenths) (n : Told) → P (Hold t n))
+    → ((t : Tenths) (n : Lasted) → P (Hold t n))
     → P Taken
     → ((t : Tenths) (c : Carrier) → P (DialledOut t c))
     → ((t : Tenths) → P (Called t))
@@ -81,7 +81,7 @@ EachPhase ks a f =
     × ((t : Tenths) → Where (hasKey ks 4) (a ≡ f (Acknowledged t)))
     × ((t : Tenths) (c : Carrier) → Where (hasKey ks 5) (a ≡ f (Dialling t c)))
     × ((t : Tenths) (c : Carrier) → Where (hasKey ks 6) (a ≡ f (Answered t c)))
-    × ((t : Tenths) (n : Told) → Where (hasKey ks 7) (a ≡ f (Hold t n)))
+    × ((t : Tenths) (n : Lasted) → Where (hasKey ks 7) (a ≡ f (Hold t n)))
     × Where (hasKey ks 8) (a ≡ f Taken)
     × ((t : Tenths) (c : Carrier) → Where (hasKey ks 9) (a ≡ f (DialledOut t c)))
     × ((t : Tenths) → Where (hasKey ks 10) (a ≡ f (Called t)))
@@ -207,9 +207,9 @@ either-way true false = refl
 either-way false true = refl
 either-way false false = refl
 
-pub keeps-view : (c : Config) (p : Phase) (r : W.Request) → slotKeeps c (phaseView p r) ≡ cond (stored p) (durationKeeps (toldIn p) && requestKeeps c r) true
+pub keeps-view : (c : Config) (p : Phase) (r : W.Request) → slotKeeps c (phaseView p r) ≡ cond (stored p) (durationKeeps (lastedIn p) && requestKeeps c r) true
 unfolding durationKeeps
-keeps-view c p r = by-phase (λ p. slotKeeps c (phaseView p r) ≡ cond (stored p) (durationKeeps (toldIn p) && requestKeeps c r) true) refl (λ t. refl) (λ t. refl) (λ t. refl) (λ t. refl) (λ t l. refl) (λ t l. refl) (λ t n. either-way (requestKeeps c r) (durationKeeps n)) refl (λ t l. refl) (λ t. refl) (λ t. refl) (λ t. refl) p
+keeps-view c p r = by-phase (λ p. slotKeeps c (phaseView p r) ≡ cond (stored p) (durationKeeps (lastedIn p) && requestKeeps c r) true) refl (λ t. refl) (λ t. refl) (λ t. refl) (λ t. refl) (λ t l. refl) (λ t l. refl) (λ t n. either-way (requestKeeps c r) (durationKeeps n)) refl (λ t l. refl) (λ t. refl) (λ t. refl) (λ t. refl) p
 
 pub owned-stored : (p : Phase) → owned p ≡ true → stored p ≡ true
 owned-stored = by-phase (λ p. owned p ≡ true → stored p ≡ true) (λ h. h) (λ t h. refl) (λ t h. refl) (λ t h. refl) (λ t h. refl) (λ t c h. refl) (λ t c h. refl) (λ t n h. refl) (λ h. h) (λ t c h. refl) (λ t h. refl) (λ t h. refl) (λ t h. refl)

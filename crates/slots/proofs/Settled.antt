@@ -16,7 +16,7 @@ use Rattle.slots.proofs.loss_of.Reads as loss-of
 use Rattle.slots.proofs.main_of.Reads as main-of
 use Rattle.slots.proofs.mast.is_ours.Reads as is-ours
 use Rattle.slots.proofs.mast.mast_keeps.Reads as mast-keeps
-use Rattle.slots.proofs.told_in.Reads as told-in
+use Rattle.slots.proofs.lasted_in.Reads as lasted-in
 use Rattle.slots.proofs.span_of.Reads as span-of
 use Rattle.slots.proofs.carrier_in.Reads as carrier-in
 
@@ -62,8 +62,8 @@ loss-of-settled κs a r r' s s' p q = when-one _ _ (p ∙ sym q)
 pub main-of-settled : (κs : Lfts 0) (a : _) (r r' : _) (s s' : _) → main-of.Post κs a r s → main-of.Post κs a r' s' → r ≡ r'
 main-of-settled κs a r r' s s' p q = when-one _ _ (p ∙ sym q)
 
-pub told-in-settled : (κs : Lfts 0) (a : _) (r r' : _) (s s' : _) → told-in.Post κs a r s → told-in.Post κs a r' s' → r ≡ r'
-told-in-settled κs a r r' s s' p q = p ∙ sym q
+pub lasted-in-settled : (κs : Lfts 0) (a : _) (r r' : _) (s s' : _) → lasted-in.Post κs a r s → lasted-in.Post κs a r' s' → r ≡ r'
+lasted-in-settled κs a r r' s s' p q = p ∙ sym q
 
 pub span-of-settled : (κs : Lfts 0) (a : _) (r r' : _) (s s' : _) → span-of.Post κs a r s → span-of.Post κs a r' s' → r ≡ r'
 span-of-settled κs a r r' s s' p q = p ∙ sym q

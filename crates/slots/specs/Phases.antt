@@ -3,8 +3,8 @@ use Prim.Native.Nat.{ℕ}
 use mathlib.Core.Bool.{Bool, true, false}
 use mathlib.Core.Option.{Option, none, some}
 use lib.Dec.{leb}
-use Rattle.units.specs.declared.Told.{Told}
-use Rattle.units.specs.declared.Told.the-variants.{Nothing}
+use Rattle.units.specs.declared.Lasted.{Lasted}
+use Rattle.units.specs.declared.Lasted.the-variants.{Nothing}
 use Rattle.rules.specs.Rules.Words as W
 use Rattle.rules.specs.Rules.Station as R
 use Rattle.rules.specs.Rules.Station.{dealing, free, taken, pending, busy, held, offered, firstRing, secondRing, acknowledged}
@@ -142,20 +142,20 @@ answeredSince (CalledAgain t) = none
 answeredSince (Ringing t) = none
 
 -- the duration that a hold tells
-abbrev pub toldIn : Phase → Told
-toldIn Free = Nothing
-toldIn (Offered t) = Nothing
-toldIn (RingBack t) = Nothing
-toldIn (RingAgain t) = Nothing
-toldIn (Acknowledged t) = Nothing
-toldIn (Dialling t c) = Nothing
-toldIn (DialledOut t c) = Nothing
-toldIn (Answered t c) = Nothing
-toldIn (Hold t n) = n
-toldIn Taken = Nothing
-toldIn (Called t) = Nothing
-toldIn (CalledAgain t) = Nothing
-toldIn (Ringing t) = Nothing
+abbrev pub lastedIn : Phase → Lasted
+lastedIn Free = Nothing
+lastedIn (Offered t) = Nothing
+lastedIn (RingBack t) = Nothing
+lastedIn (RingAgain t) = Nothing
+lastedIn (Acknowledged t) = Nothing
+lastedIn (Dialling t c) = Nothing
+lastedIn (DialledOut t c) = Nothing
+lastedIn (Answered t c) = Nothing
+lastedIn (Hold t n) = n
+lastedIn Taken = Nothing
+lastedIn (Called t) = Nothing
+lastedIn (CalledAgain t) = Nothing
+lastedIn (Ringing t) = Nothing
 
 -- its time, and how long its wait is
 abbrev pub spanOf : Phase → Span

@@ -4,13 +4,13 @@ pub mod mast;
 
 ghost use mathlib.Core.Path.{_≡_};
 ghost use Rattle.rules.specs.Rules.Station.{isFree, isTaken, lossDue, mainDue};
-ghost use Rattle.slots.specs.Phases.{carrierOf, stored, owned, calledIn, toldIn, spanOf, dueIn, carrierIn};
+ghost use Rattle.slots.specs.Phases.{carrierOf, stored, owned, calledIn, lastedIn, spanOf, dueIn, carrierIn};
 ghost use Rattle.slots.specs.Views.{slotView, whenView};
 use requests::Request;
 use units::Channel;
+use units::Lasted;
 use units::SlotNumber;
 use units::Tenths;
-use units::Told;
 
 // "1 to 16 distinct channels .., one slot each"
 pub const SLOTS: usize = 16;
@@ -58,7 +58,7 @@ pub enum Phase {
     Acknowledged(Tenths),
     Dialling(Tenths, Carrier),
     Answered(Tenths, Carrier),
-    Hold(Tenths, Told),
+    Hold(Tenths, Lasted),
     Taken,
     DialledOut(Tenths, Carrier),
     Called(Tenths),
@@ -245,23 +245,23 @@ pub fn is_taken(slot: Slot) -> bool
 }
 
 // The duration that a hold tells.
-pub fn told_in(phase: Phase) -> Told
-    ensures { λ r. ⌜ r ≡ toldIn phase ⌝ }
+pub fn lasted_in(phase: Phase) -> Lasted
+    ensures { λ r. ⌜ r ≡ lastedIn phase ⌝ }
 {
     match phase {
-        Phase::Free => Told::Nothing,
-        Phase::Offered(_) => Told::Nothing,
-        Phase::RingBack(_) => Told::Nothing,
-        Phase::RingAgain(_) => Told::Nothing,
-        Phase::Acknowledged(_) => Told::Nothing,
-        Phase::Dialling(_, _) => Told::Nothing,
-        Phase::DialledOut(_, _) => Told::Nothing,
-        Phase::Answered(_, _) => Told::Nothing,
-        Phase::Hold(_, told) => told,
-        Phase::Taken => Told::Nothing,
-        Phase::Called(_) => Told::Nothing,
-        Phase::CalledAgain(_) => Told::Nothing,
-        Phase::Ringing(_) => Told::Nothing,
+        Phase::Free => Lasted::Nothing,
+        Phase::Offered(_) => Lasted::Nothing,
+        Phase::RingBack(_) => Lasted::Nothing,
+        Phase::RingAgain(_) => Lasted::Nothing,
+        Phase::Acknowledged(_) => Lasted::Nothing,
+        Phase::Dialling(_, _) => Lasted::Nothing,
+        Phase::DialledOut(_, _) => Lasted::Nothing,
+        Phase::Answered(_, _) => Lasted::Nothing,
+        Phase::Hold(_, lasted) => lasted,
+        Phase::Taken => Lasted::Nothing,
+        Phase::Called(_) => Lasted::Nothing,
+        Phase::CalledAgain(_) => Lasted::Nothing,
+        Phase::Ringing(_) => Lasted::Nothing,
     }
 }
 

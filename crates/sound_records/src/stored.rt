@@ -14,11 +14,11 @@ use sequence::Number;
 use sequence::parts::duration_ok;
 use sequence::parts::is_ship;
 use slots::Slot;
+use slots::lasted_in;
 use slots::mast::Mast;
 use slots::mast::is_ours;
 use slots::stores;
-use slots::told_in;
-use units::Told;
+use units::Lasted;
 
 // What may stand at a place of a number with so many digits.
 fn most_at(place: u8, count: u8) -> u8
@@ -72,12 +72,12 @@ pub(crate) fn request_stored(request: Request, mast: Mast) -> bool
     number_stored(number)
 }
 
-fn told_keeps(told: Told) -> bool
-    ensures { λ r. ⌜ r ≡ durationKeeps told ⌝ }
+fn lasted_keeps(lasted: Lasted) -> bool
+    ensures { λ r. ⌜ r ≡ durationKeeps lasted ⌝ }
 {
-    match told {
-        Told::Nothing => true,
-        Told::Lasting(duration) => duration_ok(duration),
+    match lasted {
+        Lasted::Nothing => true,
+        Lasted::Lasting(duration) => duration_ok(duration),
     }
 }
 
@@ -90,7 +90,7 @@ pub(crate) fn slot_stored(slot: Slot, mast: Mast) -> bool
     if !stores(phase) {
         return true;
     }
-    if !told_keeps(told_in(phase)) {
+    if !lasted_keeps(lasted_in(phase)) {
         return false;
     }
     request_stored(request, mast)

@@ -21,7 +21,7 @@ use Rattle.slots.specs.declared.Phase.{Phase}
 use Rattle.slots.specs.declared.Slot.{Slot}
 use Rattle.slots.specs.declared.Waiting.{Waiting}
 use Rattle.slots.specs.Views.{slotView, waitingView, channelOf, noSlot, noWaiting}
-use Rattle.slots.specs.Phases.{phaseView, owned, toldIn}
+use Rattle.slots.specs.Phases.{phaseView, owned, lastedIn}
 use Rattle.slots.proofs.PhaseLaws.{owner-view, keeps-view, owned-stored}
 use Rattle.soundness.specs.Soundly.{numberOf, shipsOf, shipAt}
 
@@ -148,8 +148,8 @@ module _ (c : Config) where
     where
       go : (b : Bool) → owned p ≡ b → all here (cond b (r .who ∷ l) l) ≡ true
       go true e =
-          let keeps : (durationKeeps (toldIn p) && requestKeeps c r) ≡ true = rw (owned-stored p e) at (sym (keeps-view c p r) ∙ k) in
-          rw (request-here r (and-true (durationKeeps (toldIn p)) _ keeps .1), h)
+          let keeps : (durationKeeps (lastedIn p) && requestKeeps c r) ≡ true = rw (owned-stored p e) at (sym (keeps-view c p r) ∙ k) in
+          rw (request-here r (and-true (durationKeeps (lastedIn p)) _ keeps .1), h)
       go false e = h
 
   owners-here : (ss : List Slot) (l : List Party) → all (slotKeeps c) (map slotView ss) ≡ true → all here l ≡ true → all here (owners (map slotView ss) l) ≡ true

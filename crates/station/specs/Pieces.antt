@@ -31,8 +31,8 @@ use Rattle.slots.specs.Views.{signalView, handView, dueView}
 use Rattle.actions.specs.Sent.{sentBlock}
 use Rattle.blocks.specs.Laid.{Laid, laidFrom}
 use Rattle.gate.specs.declared.Look.{Look}
-use Rattle.hearing.specs.declared.Kind.{Kind}
-use Rattle.hearing.specs.declared.Kind.the-variants.{CallRequest, DataRequest, Bq, WorkingCall, EndOfCall, Declined, Nothing}
+use Rattle.hearing.specs.declared.HeardKind.{HeardKind}
+use Rattle.hearing.specs.declared.HeardKind.the-variants.{CallRequest, DataRequest, Bq, WorkingCall, EndOfCall, Declined, Nothing}
 use Rattle.outcomes.specs.declared.Outcome.{Outcome}
 use Rattle.outcomes.specs.declared.Outcome.the-variants.{Ignored, Passes, Drops}
 use Rattle.outcomes.specs.Does.{outOf, wholeOf}
@@ -135,7 +135,7 @@ byDue Never p = Passes
 byDue (In t w) p = byWait w p
 
 -- heard on a working channel, from the slot's own ship or from another
-abbrev pub byKind : Kind → Bool → Phase → Outcome
+abbrev pub byKind : HeardKind → Bool → Phase → Outcome
 byKind CallRequest own p = Ignored
 byKind DataRequest own p = Ignored
 byKind (Bq i) own p = Ignored

@@ -23,8 +23,8 @@ use crate::Station;
 use crate::Stepped;
 use gate::Verdict;
 use hearing::Heard;
-use hearing::Kind;
-use hearing::told_by;
+use hearing::HeardKind;
+use hearing::heard_in;
 use outcomes::Outcome;
 use outcomes::parts::goes_on;
 use reading::read;
@@ -210,8 +210,8 @@ impl Station {
         let kind = heard.kind;
         let request = heard.request;
         match kind {
-            Kind::CallRequest => self.asked(time, request),
-            Kind::DataRequest => {
+            HeardKind::CallRequest => self.asked(time, request),
+            HeardKind::DataRequest => {
                 let called = self.is_being_called(request);
                 let outcome = deciding::data_asked(called);
                 Choice {
@@ -219,17 +219,17 @@ impl Station {
                     outcome: outcome,
                 }
             }
-            Kind::Bq(slot) => self.agreed(time, slot, request),
-            Kind::WorkingCall => Choice {
+            HeardKind::Bq(slot) => self.agreed(time, slot, request),
+            HeardKind::WorkingCall => Choice {
                 slot: SlotNumber(0),
                 outcome: Outcome::Ignored,
             },
-            Kind::EndOfCall => Choice {
+            HeardKind::EndOfCall => Choice {
                 slot: SlotNumber(0),
                 outcome: Outcome::Ignored,
             },
-            Kind::Declined => self.declined(time, request),
-            Kind::Nothing => Choice {
+            HeardKind::Declined => self.declined(time, request),
+            HeardKind::Nothing => Choice {
                 slot: SlotNumber(0),
                 outcome: Outcome::Ignored,
             },
@@ -289,7 +289,7 @@ impl Station {
             Verdict::Refused(n) => self.refused(n, first),
             Verdict::Accepted => {
                 let slots = self.slots;
-                let heard = told_by(self.mast, slots, self.count, meaning);
+                let heard = heard_in(self.mast, slots, self.count, meaning);
                 let choice = self.choice(time, heard);
                 let request = heard.request;
                 self.enact_whole(time, choice, request, room)

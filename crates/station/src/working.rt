@@ -6,8 +6,8 @@ ghost use Rattle.station.specs.Pieces.{byKind};
 use crate::Station;
 use crate::Stepped;
 use gate::Verdict;
-use hearing::Kind;
-use hearing::told_by;
+use hearing::HeardKind;
+use hearing::heard_in;
 use outcomes::Outcome;
 use reading::read;
 use requests::sameness::is_by;
@@ -15,17 +15,17 @@ use slots::Phase;
 use units::SlotNumber;
 use units::Tenths;
 
-fn by_kind(kind: Kind, own: bool, phase: Phase) -> Outcome
+fn by_kind(kind: HeardKind, own: bool, phase: Phase) -> Outcome
     ensures { λ r. ⌜ r ≡ byKind kind own phase ⌝ }
 {
     match kind {
-        Kind::CallRequest => Outcome::Ignored,
-        Kind::DataRequest => Outcome::Ignored,
-        Kind::Bq(_) => Outcome::Ignored,
-        Kind::WorkingCall => deciding::working_call(own, phase),
-        Kind::EndOfCall => deciding::ship_end(own, phase),
-        Kind::Declined => Outcome::Ignored,
-        Kind::Nothing => Outcome::Ignored,
+        HeardKind::CallRequest => Outcome::Ignored,
+        HeardKind::DataRequest => Outcome::Ignored,
+        HeardKind::Bq(_) => Outcome::Ignored,
+        HeardKind::WorkingCall => deciding::working_call(own, phase),
+        HeardKind::EndOfCall => deciding::ship_end(own, phase),
+        HeardKind::Declined => Outcome::Ignored,
+        HeardKind::Nothing => Outcome::Ignored,
     }
 }
 
@@ -54,7 +54,7 @@ impl Station {
             Verdict::Refused(n) => self.refused(n, first),
             Verdict::Accepted => {
                 let slots = self.slots;
-                let heard = told_by(self.mast, slots, self.count, meaning);
+                let heard = heard_in(self.mast, slots, self.count, meaning);
                 let request = heard.request;
                 let the_slot = self.slot_at(slot);
                 let kept = the_slot.request;

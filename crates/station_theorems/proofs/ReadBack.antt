@@ -8,8 +8,8 @@ use lib.Dec.{eqb}
 use lib.ListN.{length, take, drop}
 use lib.Seq.{take-at, drop-at}
 use Rattle.units.specs.declared.Channel.{Channel as ChannelNumber}
-use Rattle.units.specs.declared.Told.{Told}
-use Rattle.units.specs.declared.Told.the-variants.{Nothing, Lasting}
+use Rattle.units.specs.declared.Lasted.{Lasted}
+use Rattle.units.specs.declared.Lasted.the-variants.{Nothing, Lasting}
 use Rattle.sequence.specs.declared.Meaning.{Meaning}
 use Rattle.sequence.specs.declared.Reading.{Reading}
 use Rattle.sequence.specs.Layout.{valid, layout}
@@ -20,14 +20,14 @@ use Rattle.sequence_theorems.proofs.RoundTrip.{reads-back}
 use Rattle.rules.specs.Rules.Places.{Each}
 use Rattle.rules.specs.Rules.Words.{Party, Mode, simplex, duplex, modeNumber, Request, Config, carrierOn, carrierOff, acknowledge, callShip, unable, dial, releaseLine, ringingOn, ringingOff, busyTone}
 use Rattle.rules.specs.Rules.Actions.{Charge, Ender, theShip, theCoast, Action, does, over, charge, chargeNumbers}
-use Rattle.rules.specs.Rules.Bytes.{padded, numberOf, answerTo, ableSaid, unableSaid, toldField, endSymbol, overSaid, block, channelAt, kindNumber, slotNumber, payloadOf, blockOf, blocks, fours}
+use Rattle.rules.specs.Rules.Bytes.{padded, numberOf, answerTo, ableSaid, unableSaid, lastedField, endSymbol, overSaid, block, channelAt, kindNumber, slotNumber, payloadOf, blockOf, blocks, fours}
 use Rattle.rules.specs.Rules.Printed.{shown}
 use Rattle.rules.specs.Statement.{chargesOf, FourBytes}
 use Rattle.rules.proofs.Payloads.{block-length, Slim}
 use Rattle.requests.proofs.ArrayLaws.{padded-front}
 use Rattle.actions.specs.Sent.{speaks}
 use Rattle.actions.proofs.Speaking.{Speaks}
-use Rattle.station_theorems.specs.Rooms.{modeIn, requestIn, answerIn, enderIn, toldIn, overIn, fourAt, chargeIn, payloadIn, actionAs, actionIn, actionsIn, shownIn}
+use Rattle.station_theorems.specs.Rooms.{modeIn, requestIn, answerIn, enderIn, lastedIn, overIn, fourAt, chargeIn, payloadIn, actionAs, actionIn, actionsIn, shownIn}
 use Rattle.station_theorems.specs.Statement.{laidOut}
 
 -- ── a sequence that was sent ─────────────────────────────────────────────────
@@ -63,13 +63,13 @@ ender-back : (e : Ender) → enderIn (endSymbol e) ≡ e
 ender-back theShip = refl
 ender-back theCoast = refl
 
-told-back : (n : Told) → toldIn (toldField n) ≡ n
-told-back Nothing = refl
-told-back (Lasting d) = refl
+lasted-back : (n : Lasted) → lastedIn (lastedField n) ≡ n
+lasted-back Nothing = refl
+lasted-back (Lasting d) = refl
 
-over-back : (i : ℕ) (e : Ender) (x : Party) (l : List ℕ) (n : Told) → valid (overSaid e x l n) ≡ true → overIn i (overSaid e x l n) ≡ over i e x l n
+over-back : (i : ℕ) (e : Ender) (x : Party) (l : List ℕ) (n : Lasted) → valid (overSaid e x l n) ≡ true → overIn i (overSaid e x l n) ≡ over i e x l n
 unfolding overIn overSaid answerTo
-over-back i e x l n v = rw (ender-back e, told-back n, digits-back (overSaid e x l n) l v refl)
+over-back i e x l n v = rw (ender-back e, lasted-back n, digits-back (overSaid e x l n) l v refl)
 
 -- ── a charge ─────────────────────────────────────────────────────────────────
 

@@ -4,8 +4,8 @@ use mathlib.Core.Bool.{cond}
 use mathlib.Core.List.{List, [], _∷_, _++_}
 use lib.Dec.{eqb}
 use lib.ListN.{getD, take, drop}
-use Rattle.units.specs.declared.Told.{Told}
-use Rattle.units.specs.declared.Told.the-variants.{Nothing, Lasting}
+use Rattle.units.specs.declared.Lasted.{Lasted}
+use Rattle.units.specs.declared.Lasted.the-variants.{Nothing, Lasting}
 use Rattle.sequence.specs.declared.Field.{Field}
 use Rattle.sequence.specs.declared.Field.the-variants.{Blank, Channel, Duration}
 use Rattle.sequence.specs.declared.Meaning.{Meaning}
@@ -41,13 +41,13 @@ answerIn slot m =
 abbrev pub enderIn : ℕ → Ender
 enderIn end = cond (eqb end endBq) theShip theCoast
 
-abbrev pub toldIn : Field → Told
-toldIn Blank = Nothing
-toldIn (Channel n) = Nothing
-toldIn (Duration d) = Lasting d
+abbrev pub lastedIn : Field → Lasted
+lastedIn Blank = Nothing
+lastedIn (Channel n) = Nothing
+lastedIn (Duration d) = Lasting d
 
 unfoldable pub overIn : ℕ → Meaning → Action
-overIn slot m = over slot (enderIn (m .end)) (partyIn m) (digitsIn (m .number)) (toldIn (m .field))
+overIn slot m = over slot (enderIn (m .end)) (partyIn m) (digitsIn (m .number)) (lastedIn (m .field))
 
 -- ── a block, and the blocks of a room ────────────────────────────────────────
 

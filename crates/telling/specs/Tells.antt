@@ -6,7 +6,7 @@ use Rattle.rules.specs.Rules.Words.{carrierOn, carrierOff, acknowledge, callShi
 use Rattle.rules.specs.Rules.Actions.{Action, Ender, does, over, theShip}
 use Rattle.rules.specs.Rules.Requests.{bill, endActs}
 use Rattle.rules.specs.Rules.Calls.{dropActs}
-use Rattle.units.specs.declared.Told.{Told}
+use Rattle.units.specs.declared.Lasted.{Lasted}
 use Rattle.requests.specs.Views.{requestOf}
 use Rattle.actions.specs.declared.Ender.the-variants.{Ship, Coast}
 use Rattle.actions.specs.Sent.{enderOf, sentOn}
@@ -104,13 +104,13 @@ sayOf waiting (O.DropsCall rung tone) = freeSay waiting
 abbrev pub billActs : D.Scene → Talk → List Action
 billActs sc k = bill (sc .slot) (sc .own .who) (sinceOf k) (sc .clock)
 
-abbrev pub offActs : D.Scene → Ender → Told → List Action
+abbrev pub offActs : D.Scene → Ender → Lasted → List Action
 offActs sc e n = over (sc .slot) e (sc .own .who) (sc .own .number) n ∷ does (carrierOff (sc .slot)) ∷ []
 
 abbrev pub endedActs : D.Scene → Ender → Talk → List Action
 endedActs sc e k = endActs (sc .slot) e (sc .own) (sinceOf k) (sc .clock)
 
-abbrev pub againActs : D.Scene → Told → List Action
+abbrev pub againActs : D.Scene → Lasted → List Action
 againActs sc n = does (carrierOn (sc .slot)) ∷ offActs sc theShip n
 
 -- "ringing off if it rings"; "the tone unless the caller hung up"

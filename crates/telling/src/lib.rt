@@ -23,12 +23,12 @@ use actions::sequences::unable_to;
 use blocks::lay;
 use outcomes::Outcome;
 use outcomes::Talk;
-use outcomes::parts::told_of;
+use outcomes::parts::lasted_of;
 use requests::Request;
 use units::Channel;
+use units::Lasted;
 use units::SlotNumber;
 use units::Tenths;
-use units::Told;
 
 // All that is asked of a station to carry an outcome out.
 pub struct Scene {
@@ -47,7 +47,7 @@ enum Close {
     CarrierOff,
     Ends(Ender, Talk),
     DropsCall(bool, bool),
-    Again(Told),
+    Again(Lasted),
 }
 
 enum Word {
@@ -75,7 +75,7 @@ fn close_of(outcome: Outcome) -> Close
         Outcome::Clears => Close::CarrierOff,
         Outcome::CoastEnds(talk) => Close::Ends(Ender::Coast, talk),
         Outcome::ShipEnds(talk) => Close::Ends(Ender::Ship, talk),
-        Outcome::SaysAgain(told) => Close::Again(told),
+        Outcome::SaysAgain(lasted) => Close::Again(lasted),
         Outcome::Redials(talk) => Close::Ends(Ender::Coast, talk),
         Outcome::DropsCall(rings, tone) => Close::DropsCall(rings, tone),
         _ => Close::Leaves,
@@ -131,11 +131,11 @@ impl Scene {
     }
 
     // "send 105/126 .. and the duration, carrier off"
-    fn sign_off(self, by: Ender, told: Told, block: u8, room: &mut [u8]) -> u8
-        ensures { λ r. ⌜ r ≡ telling self (offActs (sceneView self) (enderOf by) told) block (now (room .entry)) .next ⌝ }
-        ensures { λ _. ⌜ now (room .exit) ≡ telling self (offActs (sceneView self) (enderOf by) told) block (now (room .entry)) .room ⌝ }
+    fn sign_off(self, by: Ender, lasted: Lasted, block: u8, room: &mut [u8]) -> u8
+        ensures { λ r. ⌜ r ≡ telling self (offActs (sceneView self) (enderOf by) lasted) block (now (room .entry)) .next ⌝ }
+        ensures { λ _. ⌜ now (room .exit) ≡ telling self (offActs (sceneView self) (enderOf by) lasted) block (now (room .entry)) .room ⌝ }
     {
-        let said = lay(over(self.slot, by, self.own, told), block, room);
+        let said = lay(over(self.slot, by, self.own, lasted), block, room);
         lay(carrier_off(self.slot), said, room)
     }
 
@@ -144,19 +144,19 @@ impl Scene {
         ensures { λ r. ⌜ r ≡ telling self (endedActs (sceneView self) (enderOf by) talk) block (now (room .entry)) .next ⌝ }
         ensures { λ _. ⌜ now (room .exit) ≡ telling self (endedActs (sceneView self) (enderOf by) talk) block (now (room .entry)) .room ⌝ }
     {
-        let told = told_of(talk, self.clock);
+        let lasted = lasted_of(talk, self.clock);
         let billed = self.bill(talk, block, room);
         let released = lay(release_line(self.slot), billed, room);
-        self.sign_off(by, told, released, room)
+        self.sign_off(by, lasted, released, room)
     }
 
     // "in the hold: carrier on, the same answer sent, carrier off"
-    fn again(self, told: Told, block: u8, room: &mut [u8]) -> u8
-        ensures { λ r. ⌜ r ≡ telling self (againActs (sceneView self) told) block (now (room .entry)) .next ⌝ }
-        ensures { λ _. ⌜ now (room .exit) ≡ telling self (againActs (sceneView self) told) block (now (room .entry)) .room ⌝ }
+    fn again(self, lasted: Lasted, block: u8, room: &mut [u8]) -> u8
+        ensures { λ r. ⌜ r ≡ telling self (againActs (sceneView self) lasted) block (now (room .entry)) .next ⌝ }
+        ensures { λ _. ⌜ now (room .exit) ≡ telling self (againActs (sceneView self) lasted) block (now (room .entry)) .room ⌝ }
     {
         let on = lay(carrier_on(self.slot), block, room);
-        self.sign_off(Ender::Ship, told, on, room)
+        self.sign_off(Ender::Ship, lasted, on, room)
     }
 
     // "ringing off if it rings"
@@ -201,7 +201,7 @@ impl Scene {
             Close::CarrierOff => lay(carrier_off(self.slot), block, room),
             Close::Ends(by, talk) => self.end(by, talk, block, room),
             Close::DropsCall(rings, tone) => self.drop_call(rings, tone, block, room),
-            Close::Again(told) => self.again(told, block, room),
+            Close::Again(lasted) => self.again(lasted, block, room),
         }
     }
 

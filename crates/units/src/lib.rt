@@ -29,7 +29,7 @@ pub struct Duration {
 }
 
 // What an end of call can tell of charged seconds.
-pub enum Told {
+pub enum Lasted {
     Nothing,
     Lasting(Duration),
 }
@@ -52,7 +52,7 @@ impl Seconds {
     }
 
     // Hours, minutes and seconds; from 100 hours on there is no place for them.
-    pub fn duration(self) -> Told
+    pub fn duration(self) -> Lasted
         ensures { λ r. ⌜ r ≡ durationOf self ⌝ }
     {
         let s = self.0;
@@ -60,12 +60,12 @@ impl Seconds {
             let hours = (s / 3600) as u8;
             let minutes = (s / 60 % 60) as u8;
             let seconds = (s % 60) as u8;
-            return Told::Lasting(Duration {
+            return Lasted::Lasting(Duration {
                 hours: hours,
                 minutes: minutes,
                 seconds: seconds,
             });
         }
-        Told::Nothing
+        Lasted::Nothing
     }
 }

@@ -3,7 +3,7 @@ use Prim.Native.Nat.{ℕ}
 use mathlib.Core.List.{List, [], _∷_}
 use Rattle.units.specs.declared.Tenths.{Tenths}
 use Rattle.units.specs.declared.Seconds.{Seconds}
-use Rattle.units.specs.declared.Told.{Told}
+use Rattle.units.specs.declared.Lasted.{Lasted}
 use Rattle.rules.specs.Rules.Words.{Party, Deed}
 
 -- tenths and charged seconds are records of their own
@@ -27,5 +27,5 @@ pub data Ender : Type 0 where
 
 pub data Action : Type 0 where
   does : Deed → Action
-  over : ℕ → Ender → Party → List ℕ → Told → Action  -- 105/126 on the working channel: slot, who ended, the ship, its number, the duration
+  over : ℕ → Ender → Party → List ℕ → Lasted → Action  -- 105/126 on the working channel: slot, who ended, the ship, its number, the duration
   charge : Charge → Action

@@ -3,8 +3,8 @@ use mathlib.Core.List.{List, [], _∷_, _++_}
 use Prim.Native.Nat.{ℕ, zero, suc, _/_, _%_}
 use lib.ListN.{length, getD}
 use Rattle.units.specs.declared.Channel.{Channel as ChannelNumber}
-use Rattle.units.specs.declared.Told.{Told}
-use Rattle.units.specs.declared.Told.the-variants.{Nothing, Lasting}
+use Rattle.units.specs.declared.Lasted.{Lasted}
+use Rattle.units.specs.declared.Lasted.the-variants.{Nothing, Lasting}
 use Rattle.sequence.specs.declared.Field.{Field}
 use Rattle.sequence.specs.declared.Field.the-variants.{Blank, Channel, Duration}
 use Rattle.sequence.specs.declared.Number.{Number}
@@ -40,9 +40,9 @@ ableSaid channel end r = answerTo (r .who) (modeNumber (r .mode)) (r .second) (C
 unfoldable pub unableSaid : ℕ → Party → List ℕ → Meaning
 unableSaid second x digits = answerTo x firstUnable second Blank digits endBq
 
-abbrev pub toldField : Told → Field
-toldField Nothing = Blank
-toldField (Lasting d) = Duration d
+abbrev pub lastedField : Lasted → Field
+lastedField Nothing = Blank
+lastedField (Lasting d) = Duration d
 
 -- "with BQ" at the ship's end, "with 127" at the coast's
 abbrev pub endSymbol : Ender → ℕ
@@ -50,8 +50,8 @@ endSymbol theShip = endBq
 endSymbol theCoast = endLast
 
 -- "send 105/126 .. and the duration"; "the number sent is the stored request's"
-unfoldable pub overSaid : Ender → Party → List ℕ → Told → Meaning
-overSaid e x digits n = answerTo x firstOver untold (toldField n) digits (endSymbol e)
+unfoldable pub overSaid : Ender → Party → List ℕ → Lasted → Meaning
+overSaid e x digits n = answerTo x firstOver untold (lastedField n) digits (endSymbol e)
 
 -- ── the bytes ────────────────────────────────────────────────────────────────
 

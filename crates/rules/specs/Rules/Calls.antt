@@ -4,7 +4,7 @@ use mathlib.Core.List.{List, [], _∷_, _++_}
 use mathlib.Core.Bool.{Bool, true, false, cond, not}
 use mathlib.Core.Option.{Option, none, some}
 use Prim.Native.Nat.{ℕ}
-use Rattle.units.specs.declared.Told.{Told}
+use Rattle.units.specs.declared.Lasted.{Lasted}
 use Rattle.rules.specs.Rules.Places.{dropAt, lowest}
 use Rattle.rules.specs.Rules.Words.{Party, is, Mode, Request, Config}
 use Rattle.rules.specs.Rules.Words.{Signal, lineDialledOut, lineLifted, lineHung, carrierHeard, carrierLost}
@@ -204,7 +204,7 @@ shipEnd i r b st =
     }
 
 -- "in the hold: carrier on, the same answer sent, carrier off; the wait unchanged"
-unfoldable pub sayAgain : ℕ → Request → Told → Station → Out
+unfoldable pub sayAgain : ℕ → Request → Lasted → Station → Out
 sayAgain i r n st =
     record {
       answer = 0;

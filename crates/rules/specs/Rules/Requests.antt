@@ -7,8 +7,8 @@ use Prim.Native.Nat.{ℕ, _-_}
 use lib.Dec.{eqb, ltb}
 use lib.ListN.{length}
 use Rattle.units.specs.Units.{wholeSeconds, durationOf}
-use Rattle.units.specs.declared.Told.{Told}
-use Rattle.units.specs.declared.Told.the-variants.{Nothing}
+use Rattle.units.specs.declared.Lasted.{Lasted}
+use Rattle.units.specs.declared.Lasted.the-variants.{Nothing}
 use Rattle.rules.specs.Rules.Places.{modAt, lowest}
 use Rattle.rules.specs.Rules.Words.{Party, is, Mode, simplex, duplex, Request}
 use Rattle.rules.specs.Rules.Words.{Deed, carrierOn, carrierOff, acknowledge, callShip, unable, releaseLine}
@@ -66,7 +66,7 @@ bill i x none t = []
 bill i x (some b) t = charge (chargeOf i (x .ship) b t (wholeSeconds (record { 0 = t - b }) .0)) ∷ []
 
 -- "Duration: whole seconds, rounded down; unanswered, or 100 hours and over: 126s"
-abbrev pub lasted : Option ℕ → ℕ → Told
+abbrev pub lasted : Option ℕ → ℕ → Lasted
 lasted none t = Nothing
 lasted (some b) t = durationOf (wholeSeconds (record { 0 = t - b }))
 

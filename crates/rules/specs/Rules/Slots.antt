@@ -1,7 +1,7 @@
 -- A slot by the request that it keeps: as the tables and the view of the arrays write it.
 use mathlib.Core.Option.{Option}
 use Prim.Native.Nat.{ℕ}
-use Rattle.units.specs.declared.Told.{Told}
+use Rattle.units.specs.declared.Lasted.{Lasted}
 use Rattle.rules.specs.Rules.Words.{Request}
 use Rattle.rules.specs.Rules.Station.{Kind, Stage, dealing, Slot, pending as pendingOf, busy as busyOf, held as heldOf}
 
@@ -11,5 +11,5 @@ pending k r d = pendingOf k (dealing r) d
 abbrev pub busy : Request → Stage → Option ℕ → Slot
 busy r g c = busyOf (dealing r) g c
 
-abbrev pub held : Request → Told → ℕ → Slot
+abbrev pub held : Request → Lasted → ℕ → Slot
 held r n d = heldOf (dealing r) n d

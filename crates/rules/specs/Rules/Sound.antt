@@ -6,8 +6,8 @@ use Prim.Native.Nat.{ℕ}
 use lib.Dec.{eqb, leb}
 use lib.ListN.{length}
 use Rattle.units.specs.declared.Channel.{Channel}
-use Rattle.units.specs.declared.Told.{Told}
-use Rattle.units.specs.declared.Told.the-variants.{Nothing, Lasting}
+use Rattle.units.specs.declared.Lasted.{Lasted}
+use Rattle.units.specs.declared.Lasted.the-variants.{Nothing, Lasting}
 use Rattle.sequence.specs.Figures.{leastSecond, lastSecond, mostDigits}
 use Rattle.sequence.specs.Identity.{isShip, isCoast}
 use Rattle.sequence.specs.Symbols.{within, allAtMost}
@@ -49,7 +49,7 @@ requestKeeps c r = isShip (r .who .ship)
     && numberKeeps (r .number)))
 
 -- "hold durations": none, or "hours 0 to 99, minutes and seconds 0 to 59"
-unfoldable pub durationKeeps : Told → Bool
+unfoldable pub durationKeeps : Lasted → Bool
 durationKeeps Nothing = true
 durationKeeps (Lasting d) = durationOk d
 

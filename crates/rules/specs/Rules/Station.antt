@@ -4,7 +4,7 @@ use mathlib.Core.Option.{Option, none, some}
 use mathlib.Core.Bool.{Bool, true, false}
 use Prim.Native.Nat.{ℕ, suc, _+_}
 use lib.ListN.{length, getD, replicate}
-use Rattle.units.specs.declared.Told.{Told}
+use Rattle.units.specs.declared.Lasted.{Lasted}
 use Rattle.rules.specs.Rules.Places.{modAt}
 use Rattle.rules.specs.Rules.Words.{Party, Mode, simplex, duplex, Request, Config}
 use Rattle.rules.specs.Rules.Waits.{loss, main, Due, running, earliest, ifDue, queueTable}
@@ -68,7 +68,7 @@ pub data Slot : Type 0 where
   taken : Slot  -- by the operator
   pending : Kind → Dealing → ℕ → Slot  -- with its due time
   busy : Dealing → Stage → Option ℕ → Slot  -- with the due time of the carrier wait: none where the carrier is present
-  held : Dealing → Told → ℕ → Slot  -- the hold after a ship's end of call: the duration told, the due time
+  held : Dealing → Lasted → ℕ → Slot  -- the hold after a ship's end of call: the duration told, the due time
 
 -- before its line is dialled or answered, or after: a hold and a taken slot are nobody's
 abbrev pub bySlot : {A : Type 0} → A → (Kind → Dealing → A) → (Dealing → Stage → Option ℕ → A) → Slot → A

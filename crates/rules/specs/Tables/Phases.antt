@@ -2,7 +2,7 @@
 use mathlib.Core.List.{List, [], _∷_, map}
 use mathlib.Core.Option.{none, some}
 use Prim.Native.Nat.{ℕ}
-use Rattle.units.specs.declared.Told.the-variants.{Nothing}
+use Rattle.units.specs.declared.Lasted.the-variants.{Nothing}
 use Rattle.sequence.specs.declared.Field.the-variants.{Blank, Channel}
 use Rattle.rules.specs.Rules.Words.{simplex, duplex, Request, heard, diallingEnded, offHook, onHook, carrierUp, carrierDown}
 use Rattle.rules.specs.Rules.Words.{takes, givesBack, What, tick, onChannel70, onSlot, Event}

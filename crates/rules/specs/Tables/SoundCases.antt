@@ -3,8 +3,8 @@ use mathlib.Core.List.{List, [], _∷_}
 use mathlib.Core.Option.{Option, none, some}
 use Prim.Native.Nat.{ℕ}
 use lib.ListN.{replicate}
-use Rattle.units.specs.declared.Told.{Told}
-use Rattle.units.specs.declared.Told.the-variants.{Nothing, Lasting}
+use Rattle.units.specs.declared.Lasted.{Lasted}
+use Rattle.units.specs.declared.Lasted.the-variants.{Nothing, Lasting}
 use Rattle.rules.specs.Rules.Words.{Mode, simplex, duplex, Request, Config}
 use Rattle.rules.specs.Rules.Station.{Kind, offered, firstRing, secondRing, acknowledged, firstCall, secondCall, ringing}
 use Rattle.rules.specs.Rules.Station.{dialling, dialledOut, answered}
@@ -23,7 +23,7 @@ asking x s m second digits = record { who = record { ship = x; station = s }; mo
 abbrev pub from : ℕ → Mode → Request
 from x m = asking x 2001234 m 126 usual
 
-abbrev pub lasting : ℕ → ℕ → ℕ → Told
+abbrev pub lasting : ℕ → ℕ → ℕ → Lasted
 lasting h m s = Lasting (record { hours = h; minutes = m; seconds = s })
 
 -- each kind of a slot before its line is dialled

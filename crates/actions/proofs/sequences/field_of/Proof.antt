@@ -12,7 +12,7 @@ returns : tie.Need-returns
 returns c = search needs
 
 returns-2 : tie.Need-returns-2
-returns-2 c = rw (c .before .told .given .1)
+returns-2 c = rw (c .before .lasted .given .1)
 
 pub field-of-spec : {M : Type 1} → statement M
 field-of-spec = tie.close (tie.spec enum-told enum-known-told returns returns-2)

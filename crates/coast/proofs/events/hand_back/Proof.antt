@@ -1,6 +1,6 @@
 use native.Mathlib.Omega.{arith}
 use borrow.Author.Tests.{le-leb, lt-leb}
-use Rattle.coast.specs.Events.{told, kept}
+use Rattle.coast.specs.Events.{packed, kept}
 use borrow.Author.Needs.{needs}
 use Rattle.coast.proofs.events.hand_back.Statement.{statement}
 use Rattle.coast.proofs.events.hand_back.Tie as tie
@@ -9,11 +9,11 @@ add-number-2 : tie.Need-add-number-2
 add-number-2 c = omega (arith, c .due-number .ensures .1)
 
 returns : tie.Need-returns
-unfolding told kept
+unfolding packed kept
 returns c = (rw (c .before .before .before .before .before .due-number .ensures .0), rw (le-leb _ _ (c .before .before .before .before .if1 .taken)) (c .before .before .lay-station .ensures))
 
 returns-2 : tie.Need-returns-2
-unfolding told kept
+unfolding packed kept
 returns-2 c = (rw (c .before .due-number .ensures .0), rw (lt-leb _ _ (c .if1 .left)))
 
 pub hand-back-spec : {M : Type 1} → statement M

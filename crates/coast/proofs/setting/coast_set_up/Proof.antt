@@ -5,7 +5,7 @@ use Rattle.station.specs.declared.SetUp.{SetUp}
 use Rattle.station.specs.Step.{given, setUpOf, setUpBy}
 use Rattle.station.proofs.SetLaws.{too-long, set-up-refused, set-up-numbers}
 use Rattle.lent_layout.proofs.Computed.{sized-computed}
-use Rattle.coast.specs.Events.{told, kept, setUpReturned, stationSetUp}
+use Rattle.coast.specs.Events.{packed, kept, setUpReturned, stationSetUp}
 use Rattle.coast.proofs.SetUpLaws.{nowhere, made, made-back}
 use borrow.Author.Needs.{needs}
 use Rattle.coast.proofs.setting.coast_set_up.Statement.{statement}
@@ -33,7 +33,7 @@ returns-3 c =
     let u : b .set-up .result ≡ setUpOf (given (a .identity) (a .channels .now)) = unfold setUpBy in b .set-up .ensures ∙ rw (b .before .channels-in .ensures) (set-up-numbers (a .identity) (a .channels .now) _ refl) in
     let e = c .before .before .hand-back .ensures in
     let m = made-back (given (a .identity) (a .channels .now)) (a .station .now) in
-    (rw right (e .0 ∙ ap (λ (x : SetUp). told (made x)) u ∙ m .0), e .1 ∙ ap (λ (x : SetUp). kept (a .station .now) (made x)) u ∙ m .1)
+    (rw right (e .0 ∙ ap (λ (x : SetUp). packed (made x)) u ∙ m .0), e .1 ∙ ap (λ (x : SetUp). kept (a .station .now) (made x)) u ∙ m .1)
 
 pub coast-set-up-spec : {M : Type 1} → statement M
 coast-set-up-spec = tie.close (tie.spec returns returns-2 (λ c κs. search needs) (λ c. search needs) (λ c κs. search needs) (λ c κs. search needs) (λ c. search needs) returns-3)

@@ -1,7 +1,7 @@
 use mathlib.Core.Path.{ap, _∙_}
 use native.Mathlib.Omega.{arith}
 use lib.ListN.{length-take}
-use Rattle.coast.specs.Events.{told, kept, returned, stationAfter, roomLeft}
+use Rattle.coast.specs.Events.{packed, kept, returned, stationAfter, roomLeft}
 use Rattle.coast.proofs.DigitLaws.{sliced, called-with}
 use borrow.Author.Needs.{needs}
 use Rattle.coast.proofs.shore_calls.coast_call_from_ashore.Statement.{statement}
@@ -25,7 +25,7 @@ returns c =
     let q = called-with _ _ (came .station-from .ensures) (a .time) (a .ship) (a .mode) (a .room .now) digits _ (sliced _ _ digits (looked .looked-at .ensures) (numbers .numbers-in .ensures)) in
     let stepped = called .call-from-ashore .ensures .0 ∙ q .0 in
     let back = c .before .before .hand-back .ensures in
-    (back .0 ∙ ap told stepped, (back .1 ∙ ap (kept (a .station .now)) stepped, called .call-from-ashore .ensures .1 ∙ q .1))
+    (back .0 ∙ ap packed stepped, (back .1 ∙ ap (kept (a .station .now)) stepped, called .call-from-ashore .ensures .1 ∙ q .1))
 
 pub coast-call-from-ashore-spec : {M : Type 1} → statement M
 coast-call-from-ashore-spec =

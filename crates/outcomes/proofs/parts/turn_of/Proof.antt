@@ -16,7 +16,7 @@ returns-3 : tie.Need-returns-3
 returns-3 c = rw (time-is _ _ (c .due-after2 .ensures), c .before .enum-told2 .given .1)
 
 returns-4 : tie.Need-returns-4
-returns-4 c = rw (time-is _ _ (c .due-after3 .ensures), c .before .told-of .ensures, c .before .before .before .outcome2 .given .1)
+returns-4 c = rw (time-is _ _ (c .due-after3 .ensures), c .before .lasted-of .ensures, c .before .before .before .outcome2 .given .1)
 
 returns-5 : tie.Need-returns-5
 returns-5 c = rw (time-is _ _ (c .due-after4 .ensures), c .before .enum-told3 .given .1)

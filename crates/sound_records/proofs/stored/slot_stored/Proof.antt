@@ -17,14 +17,14 @@ returns c = let x = c .before .before .before .args in
 returns-2 : tie.Need-returns-2
 unfolding slotExact
 returns-2 c = let x = c .before .before .before .before .before .before .args in
-    let told = ap durationKeeps (sym (c .before .before .told-in .ensures)) ∙ sym (c .before .told-keeps .ensures) ∙ not-true _ (c .if2 .taken) in
-    rw (keeps-view (named (x .mast)) (x .slot .phase) (requestOf (x .slot .request)), sym (c .before .before .before .before .stores .ensures) ∙ not-false _ (c .before .before .before .if1 .left), told)
+    let lasted = ap durationKeeps (sym (c .before .before .lasted-in .ensures)) ∙ sym (c .before .lasted-keeps .ensures) ∙ not-true _ (c .if2 .taken) in
+    rw (keeps-view (named (x .mast)) (x .slot .phase) (requestOf (x .slot .request)), sym (c .before .before .before .before .stores .ensures) ∙ not-false _ (c .before .before .before .if1 .left), lasted)
 
 returns-3 : tie.Need-returns-3
 unfolding slotExact
 returns-3 c = let x = c .before .before .before .before .before .before .before .args in
-    let told = ap durationKeeps (sym (c .before .before .before .told-in .ensures)) ∙ sym (c .before .before .told-keeps .ensures) ∙ not-false _ (c .before .if2 .left) in
-    rw (keeps-view (named (x .mast)) (x .slot .phase) (requestOf (x .slot .request)), sym (c .before .before .before .before .before .stores .ensures) ∙ not-false _ (c .before .before .before .before .if1 .left), told, ← c .request-stored .ensures)
+    let lasted = ap durationKeeps (sym (c .before .before .before .lasted-in .ensures)) ∙ sym (c .before .before .lasted-keeps .ensures) ∙ not-false _ (c .before .if2 .left) in
+    rw (keeps-view (named (x .mast)) (x .slot .phase) (requestOf (x .slot .request)), sym (c .before .before .before .before .before .stores .ensures) ∙ not-false _ (c .before .before .before .before .if1 .left), lasted, ← c .request-stored .ensures)
 
 pub slot-stored-spec : {M : Type 1} → statement M
 slot-stored-spec =

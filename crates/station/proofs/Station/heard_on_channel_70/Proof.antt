@@ -15,13 +15,13 @@ use borrow.Author.Needs.{needs}
 use Rattle.station.proofs.Station.heard_on_channel_70.Statement.{statement}
 use Rattle.station.proofs.Station.heard_on_channel_70.Tie as tie
 
-abbrev start : tie.After-told-by → tie.Start
+abbrev start : tie.After-heard-in → tie.Start
 start b = b .before .before .before .before .before .before .before .before .before .before .before
 
 abbrev event : tie.Start → Event
 event z = eventAt (z .args .time .0) (onChannel70 (z .args .symbols .now)) (z .args .room .now)
 
-accepted : (b : tie.After-told-by) → none ≡ refusal (start b .args .self) (event (start b))
+accepted : (b : tie.After-heard-in) → none ≡ refusal (start b .args .self) (event (start b))
 accepted b =
     let x = start b .args in
     let sees = b .before .before .before .before .before .before .looked .ensures in
@@ -29,18 +29,18 @@ accepted b =
     ∙ one-more-now _ _ sees (length (x .room .now)) (x .time .0) _ _
     ∙ asked-now _ _ sees (length (x .room .now)) (x .time .0) (onChannel70 (x .symbols .now)) refl
 
-abbrev told : tie.After-enact-whole-arg → tie.After-told-by
+abbrev told : tie.After-enact-whole-arg → tie.After-heard-in
 told c = c .before .before .before
 
 decided : (c : tie.After-enact-whole-arg)
-    → wholeAt (start (told c) .args .self) (start (told c) .args .time) (c .before .before .choice .result .slot) (requestOf (told c .told-by .result .request)) (c .before .before .choice .result .outcome)
+    → wholeAt (start (told c) .args .self) (start (told c) .args .time) (c .before .before .choice .result .slot) (requestOf (told c .heard-in .result .request)) (c .before .before .choice .result .outcome)
     ≡ act (configOf (start (told c) .args .self)) (modelOf (start (told c) .args .self)) (event (start (told c)))
 unfolding actAt
 decided c =
     let b = told c in
     let x = start b .args in
     c .before .before .choice .ensures
-    ∙ ap (heardOn70 (setClock (x .time .0) (modelOf (x .self)))) (heard-is (x .self) (x .symbols .now) _ (b .before .before .before .before .before .before .before .before .read .ensures) (b .told-by .result) (b .told-by .ensures .1))
+    ∙ ap (heardOn70 (setClock (x .time .0) (modelOf (x .self)))) (heard-is (x .self) (x .symbols .now) _ (b .before .before .before .before .before .before .before .before .read .ensures) (b .heard-in .result) (b .heard-in .ensures .1))
 
 choice-requires : tie.Need-choice-requires
 choice-requires c κs = passed (start c .args .self) (event (start c)) (accepted c) .time

@@ -17,8 +17,8 @@ use Rattle.slots.specs.declared.Slot.{Slot}
 use Rattle.slots.specs.Phases.{phaseView}
 use Rattle.slots.specs.Views.{slotView}
 use Rattle.hearing.specs.declared.Heard.{Heard}
-use Rattle.hearing.specs.declared.Kind.{Kind}
-use Rattle.hearing.specs.declared.Kind.the-variants.{CallRequest, DataRequest, Bq, WorkingCall, EndOfCall, Declined, Nothing}
+use Rattle.hearing.specs.declared.HeardKind.{HeardKind}
+use Rattle.hearing.specs.declared.HeardKind.the-variants.{CallRequest, DataRequest, Bq, WorkingCall, EndOfCall, Declined, Nothing}
 use Rattle.hearing.specs.Said.{heardAs, heardOf}
 use Rattle.outcomes.specs.declared.Outcome.{Outcome}
 use Rattle.outcomes.specs.Does.{outOf}
@@ -37,7 +37,7 @@ use Rattle.station.proofs.Station.heard_on_slot.Tie as tie
 
 -- ── by the kind of what was heard ────────────────────────────────────────────
 
-kind-is : (r q : Request) (i : ℕ) (st : R.Station) (k : Kind) (own : Bool) → is (q .who) (r .who) ≡ own → (p : Phase) → outOf i r q (byKind k own p) st ≡ heardOn i st (phaseView p r) (heardAs k q)
+kind-is : (r q : Request) (i : ℕ) (st : R.Station) (k : HeardKind) (own : Bool) → is (q .who) (r .who) ≡ own → (p : Phase) → outOf i r q (byKind k own p) st ≡ heardOn i st (phaseView p r) (heardAs k q)
 unfolding outOf heardOn
 kind-is r q i st CallRequest own e p = refl
 kind-is r q i st DataRequest own e p = refl
@@ -75,11 +75,11 @@ accepted b =
     ∙ one-more-on-slot _ _ sees (length (x .room .now)) (x .time .0) (x .slot .0) _ _
     ∙ asked-on-slot _ _ sees (length (x .room .now)) (x .time .0) (x .slot .0) (heard (x .symbols .now))
 
-decided : (b : tie.After-enact-arg) → outAt (start b .args .self) (start b .args .time) (start b .args .slot) (requestOf (b .before .before .before .before .before .before .told-by .result .request)) (b .before .by-kind .result) ≡ act (configOf (start b .args .self)) (modelOf (start b .args .self)) (event (start b))
+decided : (b : tie.After-enact-arg) → outAt (start b .args .self) (start b .args .time) (start b .args .slot) (requestOf (b .before .before .before .before .before .before .heard-in .result .request)) (b .before .by-kind .result) ≡ act (configOf (start b .args .self)) (modelOf (start b .args .self)) (event (start b))
 unfolding requestOf
 decided b =
     let x = start b .args in
-    let told = b .before .before .before .before .before .before .told-by in
+    let told = b .before .before .before .before .before .before .heard-in in
     acts (x .self) (x .time) (length (x .room .now)) (x .slot) _ (b .before .before .before .before .slot-at .ensures) _ (x .symbols .now) (told .result)
     (heard-is (x .self) (x .symbols .now) _ (b .before .before .before .before .before .before .before .before .before .before .before .before .before .before .read .ensures) (told .result) (told .ensures .1)) _ (b .before .before .is-by .ensures) (b .before .by-kind .ensures)
 

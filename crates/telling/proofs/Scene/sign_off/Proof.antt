@@ -13,7 +13,7 @@ returns : tie.Need-returns
 unfolding sceneView sentOn sentPayload requestOf
 returns c = let a = c .before .before .before .before .before .before .before .before .before .before .before .args in
     let q = requestOf (a .self .own) in
-    tells-more (a .self) (a .block) (now (a .room)) (over (a .self .slot .0) (enderOf (a .by)) (q .who) (q .number) (a .told)) _ _ _ _ _ _ (c .before .before .before .before .before .before .before .before .before .over .ensures .1) (c .before .before .before .before .before .before .before .lay .ensures)
+    tells-more (a .self) (a .block) (now (a .room)) (over (a .self .slot .0) (enderOf (a .by)) (q .who) (q .number) (a .lasted)) _ _ _ _ _ _ (c .before .before .before .before .before .before .before .before .before .over .ensures .1) (c .before .before .before .before .before .before .before .lay .ensures)
     (tells-one (a .self) _ _ (does (carrierOff (a .self .slot .0))) _ _ _ (c .before .before .before .before .carrier-off .ensures .1) (c .before .before .lay2 .ensures))
 
 pub sign-off-spec : {M : Type 1} → statement M

@@ -1,7 +1,7 @@
 use Rattle.rules.specs.Rules.Heard.{addressed}
 use borrow.Author.Needs.{needs}
-use Rattle.hearing.proofs.told_by.Statement.{statement}
-use Rattle.hearing.proofs.told_by.Tie as tie
+use Rattle.hearing.proofs.heard_in.Statement.{statement}
+use Rattle.hearing.proofs.heard_in.Tie as tie
 
 returns : tie.Need-returns
 unfolding addressed
@@ -11,8 +11,8 @@ returns-2 : tie.Need-returns-2
 unfolding addressed
 returns-2 c = (c .before .before .asked-in .ensures, rw (← c .before .is-ours .ensures, c .if1 .left))
 
-pub told-by-spec : {M : Type 1} → statement M
-told-by-spec =
+pub heard-in-spec : {M : Type 1} → statement M
+heard-in-spec =
     tie.close
     (tie.spec
     (λ c κs. search needs)
