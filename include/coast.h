@@ -190,7 +190,7 @@ uint64_t coast_set_up(uint32_t identity, const uint8_t *channels, size_t count, 
 uint64_t coast_next_due(const uint8_t *station, size_t size);
 
 /* The station's clock: coast_time of what is returned. It is the time of the last event that was accepted or, where that was a
- * tick which fired a wait, the time at which that wait fell due. Answers 0, or 29; with 29 coast_time means nothing.
+ * tick which fired a wait, the time at which that wait fell due. Answers 0; refused, 29, coast_time means nothing.
  *
  * From its clock a station goes on when its host has stopped and comes back. All that the library knows stands in the lent bytes:
  * handed in again, they answer as if nothing had happened. A host that keeps them saves, after each event that is answered 0 or 1
@@ -207,7 +207,7 @@ uint64_t coast_clock(const uint8_t *station, size_t size);
 /* The events, each at a time. Each answers 0 (done) or 1 (ignored), leaves the next station in place of the one that came in,
  * and its actions at the front of the room; bytes behind the last action stay. Or it refuses with the first that fits of the
  * answers told below, in the order told; then the count is 0. coast_waits and coast_due tell the next due time of the station
- * as it then stands, after a refusal too; only with 29 they mean nothing. */
+ * as it then stands, after a refusal too; only where the station itself is refused, 29, they mean nothing. */
 
 /* The time has come: the earliest wait that is due fires, one a call, at its own due time; with none due the clock moves on.
  * A host sets its timer for coast_due while coast_waits is 1, and when it rings hands in a tick; after each that is answered 0
@@ -256,8 +256,9 @@ uint64_t coast_on_hook(uint8_t *station, size_t size, uint32_t time, uint32_t sl
  * that goes, and one that comes before it rings. Such a carrier is no answer later either, even if it stays: one must come while
  * it rings. Off-hook and the end of dialling are ignored after the answer too: the caller's handset is off already, and nothing
  * was dialled.
- * Refused, no slot is taken and no action given. After 32 and 33 the host hands the call in once more, as told with the answers.
- * After 15, 17, 19, 38 and 37 it turns the caller away, with 38 and 37 by a busy tone of its own.
+ * Refused, no slot is taken and no action given. Where the time was refused, 32 or 33, the host hands the call in once more, as
+ * told with the answers. Refused 15, 17, 19, 38 or 37, the caller is turned away: by a busy tone of the host's own where the ship
+ * is engaged, 38, or no slot is free, 37.
  * Answers 0; or 29, 30, 31, 32, 33, 15 where that is no ship, 17 where it is another mode, 19, 38, 37. */
 uint64_t coast_call_from_ashore(uint8_t *station, size_t size, uint32_t time, uint32_t ship, uint32_t mode, const uint8_t *digits,
     size_t count, uint8_t *room, size_t room_size);

@@ -28,7 +28,7 @@ void put_caller(struct event *event, uint32_t ship) {
     put_digits(event, one_in(8) ? MOST_DIGITS : 1u + chance(MOST_DIGITS));
 }
 
-/* None, one too many or more, or one that is none. */
+/* None, one too many or more, or an invalid one. */
 static void spoil_digits(struct event *event) {
     static const uint8_t none[] = {10, 16, 99, 128, 255};
     switch (chance(4)) {

@@ -18,7 +18,7 @@ static uint32_t get_four(const uint8_t *bytes) {
     return number;
 }
 
-/* ---- from bytes: false where a mark is none that the layout names ---- */
+/* ---- from bytes: false where a mark is invalid ---- */
 
 static bool get_request(const uint8_t *bytes, struct meaning *request) {
     request->self = get_four(bytes + SHIP_AT);

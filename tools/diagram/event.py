@@ -21,7 +21,7 @@ STEPS = {
     'tell': ('telling', RIGHT, 8, FULL, 'its actions are laid into the room', ['telling', 'actsOf']),
     'turn_of, queue_change': ('outcomes', RIGHT, 7, FULL, 'what becomes of the slot, and of the queue', ['turnOf', 'queueChange']),
     'refused': ('station', RIGHT, 6, HALF, 'the station as it was', ['dueImage']),
-    'hand_back': ('coast', RIGHT, 2, FULL, 'one number: answer, count, next due time', ['told', 'kept']),
+    'hand_back': ('coast', RIGHT, 2, FULL, 'one number: answer, count, next due time', ['packed', 'kept']),
     'lay_station': ('lent_layout', RIGHT, 1, FULL, 'the next station to bytes, if accepted', ['stationLaid']),
 }
 CALLS = {  # what each calls

@@ -10,17 +10,17 @@ from words import EVENTS, PHASES, QUEUE, lasting, listed, word
 WIDTH, HEIGHT = 1000, 1496
 PLACES = {  # left, top, width, height
     'taken': (20, 30, 110, 60), 'free': (250, 30, 230, 60), 'freed': (602, 30, 220, 60), 'offered': (250, 180, 230, 350),
-    'firstRing': (602, 195, 220, 60), 'secondRing': (602, 335, 220, 60), 'acknowledged': (602, 470, 220, 70),
+    'firstRingBack': (602, 195, 220, 60), 'secondRingBack': (602, 335, 220, 60), 'acknowledged': (602, 470, 220, 70),
     'firstCall': (612, 835, 190, 50), 'secondCall': (612, 945, 190, 50), 'ringing': (612, 1062, 190, 50),
     'dialling': (250, 660, 230, 80), 'dialledOut': (250, 830, 230, 60), 'answered': (250, 1015, 230, 90), 'held': (250, 1285, 230, 80),
 }
 GROUPS = {  # phases in one frame, and where it stands; a frame around another comes first
-    'ring-back': (['firstRing', 'secondRing'], (592, 180, 240, 230)),
+    'ring-back': (['firstRingBack', 'secondRingBack'], (592, 180, 240, 230)),
     'ashore': (['firstCall', 'secondCall', 'ringing'], (592, 812, 230, 316)), 'called': (['firstCall', 'secondCall'], (602, 823, 210, 184)),
     'call': (['dialling', 'dialledOut', 'answered'], (240, 640, 335, 585)),
 }
 FREED = {  # on which side the slot is freed, and how high that arrow runs, or how far to the right
-    'taken': ('down', 75), 'offered': ('left', 355), 'secondRing': ('right', 365), 'acknowledged': ('right', 505),
+    'taken': ('down', 75), 'offered': ('left', 355), 'secondRingBack': ('right', 365), 'acknowledged': ('right', 505),
     'ashore': ('right', 890), 'secondCall': ('right', 970), 'ringing': ('right', 1087),
     'dialling': ('left', 700), 'dialledOut': ('left', 860), 'call': ('left', 1165), 'held': ('left', 1325),
 }

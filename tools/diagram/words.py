@@ -2,7 +2,7 @@
 from reading import NotUnderstood
 
 PHASES = {
-    'free': 'free', 'taken': 'taken', 'offered': 'offered', 'firstRing': 'ring-back', 'secondRing': 'ring-back repeated',
+    'free': 'free', 'taken': 'taken', 'offered': 'offered', 'firstRingBack': 'ring-back', 'secondRingBack': 'ring-back repeated',
     'acknowledged': 'acknowledged', 'firstCall': 'called', 'secondCall': 'called again', 'ringing': 'ringing',
     'dialling': 'dialling', 'dialledOut': 'dialled out', 'answered': 'answered', 'held': 'hold',
 }

@@ -40,7 +40,7 @@ fn ticked_in(station: Station, time: Tenths, length: usize) -> u8 {
     CHANGED
 }
 
-// The answer at the station's own clock, when nothing happens: 29 where it is not sound.
+// The answer at the station's own clock, when nothing happens: refused, 29, where it is not sound.
 pub(crate) fn judged(station: Station) -> u8 {
     let clock = station.clock;
     ticked_in(station, clock, 320)

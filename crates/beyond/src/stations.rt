@@ -153,12 +153,12 @@ pub(crate) fn offered(due: Tenths) -> Station {
     in_phase(Phase::Offered(due))
 }
 
-pub(crate) fn rung(due: Tenths) -> Station {
+pub(crate) fn rung_back(due: Tenths) -> Station {
     in_phase(Phase::RingBack(due))
 }
 
-pub(crate) fn rung_again(due: Tenths) -> Station {
-    in_phase(Phase::RingAgain(due))
+pub(crate) fn rung_back_again(due: Tenths) -> Station {
+    in_phase(Phase::RingBackAgain(due))
 }
 
 pub(crate) fn agreed(due: Tenths) -> Station {

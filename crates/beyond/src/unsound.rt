@@ -15,8 +15,8 @@ use crate::stations::number_of;
 use crate::stations::offered;
 use crate::stations::on_channel;
 use crate::stations::ringing;
-use crate::stations::rung;
-use crate::stations::rung_again;
+use crate::stations::rung_back;
+use crate::stations::rung_back_again;
 use crate::stations::silent;
 use crate::stations::storing;
 use crate::stations::talking;
@@ -117,10 +117,10 @@ fn try_waits() {
         b"29 a simplex ship's loss due 452 later",
         silent(Tenths(1452)),
     );
-    unsound(b"29 a ring-back due 52 later", rung(Tenths(1052)));
+    unsound(b"29 a ring-back due 52 later", rung_back(Tenths(1052)));
     unsound(
         b"29 a second ring-back due 52 later",
-        rung_again(Tenths(1052)),
+        rung_back_again(Tenths(1052)),
     );
     unsound(
         b"29 an acknowledged slot due 162 later",

@@ -40,7 +40,7 @@ roomLeft b room e = roomAfter (stationFrom b) room e
 
 -- ── set-up, the next due time and the clock ────────────────────────────────────────────
 
--- 23 where the lent bytes have another size, tested first; then 36
+-- refused, 23, where the lent bytes have another size, which is tested first; then 36
 abbrev pub setUpLeaves : SetUp → List ℕ → List ℕ
 setUpLeaves u b = cond (eqb (u .answer) 0) (stationLaid (u .station) b) b
 
@@ -50,7 +50,7 @@ setUpReturned c b = cond (sized b) (setUpOf c .answer) 23
 unfoldable pub stationSetUp : Config → List ℕ → List ℕ
 stationSetUp c b = setUpLeaves (setUpOf c) b
 
--- 29 where the station is not sound
+-- refused, 29, where the station is not sound
 unfoldable pub dueReturned : Station → ℕ
 dueReturned s = cond (recordsKeep s && sound (configOf s) (modelOf s)) (dueNumber (dueImage (nextDue (modelOf s)))) 29
 

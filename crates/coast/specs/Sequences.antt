@@ -11,14 +11,15 @@ use Rattle.sequence.specs.Reading.{readingOf}
 use Rattle.sequence.specs.Writing.{writtenOf, roomAfter}
 use Rattle.lent_layout.specs.Meanings.{meaningFrom, meaningLaid, meaningSize}
 
--- 22 where the room for the meaning is short, tested first
+-- refused, 22, where the room for the meaning is short, which is tested first
 unfoldable pub readAnswer : List ℕ → ℕ → ℕ
 readAnswer s size = cond (leb meaningSize size) (answerNumber (readingOf s .answer)) 22
 
 unfoldable pub meaningAfter : List ℕ → List ℕ → List ℕ
 meaningAfter s room = cond (eqb (readAnswer s (length room)) 0) (meaningLaid (readingOf s .meaning) room) room
 
--- 21 where the room is short, tested first; then 22 where the meaning is; then the writer's answer and 256 times its count
+-- refused, 21, where the room is short, which is tested first; then 22, where the meaning is; then the writer's answer and 256
+-- times its count
 unfoldable pub answerAndCount : Written → ℕ
 answerAndCount w = answerNumber (w .answer) + 256 * w .length
 

@@ -4,7 +4,7 @@ use mathlib.Core.Bool.{Bool, true, false, cond}
 use lib.Dec.{ltb}
 use Rattle.units.specs.declared.Tenths.{Tenths}
 use Rattle.units.specs.declared.Lasted.{Lasted}
-use Rattle.rules.specs.Rules.Station.{Kind, offered, firstRing, secondRing, acknowledged, firstCall, secondCall, ringing}
+use Rattle.rules.specs.Rules.Station.{Kind, offered, firstRingBack, secondRingBack, acknowledged, firstCall, secondCall, ringing}
 use Rattle.rules.specs.Rules.Station.{kindWait, replyWait, carrierWait}
 use Rattle.rules.specs.Rules.Sound.{queueRoom}
 use Rattle.requests.specs.declared.Mode.{Mode}
@@ -13,7 +13,7 @@ use Rattle.requests.specs.Views.{modeOf}
 use Rattle.slots.specs.declared.Carrier.{Carrier}
 use Rattle.slots.specs.declared.Carrier.the-variants.{Present, Lost}
 use Rattle.slots.specs.declared.Phase.{Phase}
-use Rattle.slots.specs.declared.Phase.the-variants.{Free, Offered, RingBack, RingAgain, Acknowledged}
+use Rattle.slots.specs.declared.Phase.the-variants.{Free, Offered, RingBack, RingBackAgain, Acknowledged}
 use Rattle.slots.specs.declared.Phase.the-variants.{Dialling, DialledOut, Answered, Hold, Taken, Called, CalledAgain, Ringing}
 use Rattle.slots.specs.declared.Signal.{Signal}
 use Rattle.slots.specs.declared.Signal.the-variants.{LineDialledOut, LineLifted, LineHung, CarrierHeard, CarrierLost}
@@ -22,7 +22,7 @@ use Rattle.slots.specs.declared.Hand.the-variants.{Takes, GivesBack}
 use Rattle.outcomes.specs.declared.Talk.{Talk}
 use Rattle.outcomes.specs.declared.Talk.the-variants.{Unanswered, Since}
 use Rattle.outcomes.specs.declared.Outcome.{Outcome}
-use Rattle.outcomes.specs.declared.Outcome.the-variants.{Ignored, Turns, Dials, RingsAgain, Frees, Clears, CoastEnds}
+use Rattle.outcomes.specs.declared.Outcome.the-variants.{Ignored, Turns, Dials, RingsBackAgain, Frees, Clears, CoastEnds}
 use Rattle.outcomes.specs.declared.Outcome.the-variants.{ShipEnds, SaysAgain, Repeats, Renews, Redials, Offers, Joins, Unable}
 use Rattle.outcomes.specs.declared.Outcome.the-variants.{CallsAgain, StartsRinging, Transmits, DropsCall}
 use Rattle.outcomes.specs.Does.{waitFrom}
@@ -32,8 +32,8 @@ abbrev pub on : Outcome → Outcome → (Kind → Outcome) → (Tenths → Carri
     → (Tenths → Carrier → Outcome) → (Lasted → Outcome) → Phase → Outcome
 on a b k d o c h Free = a
 on a b k d o c h (Offered t) = k offered
-on a b k d o c h (RingBack t) = k firstRing
-on a b k d o c h (RingAgain t) = k secondRing
+on a b k d o c h (RingBack t) = k firstRingBack
+on a b k d o c h (RingBackAgain t) = k secondRingBack
 on a b k d o c h (Acknowledged t) = k acknowledged
 on a b k d o c h (Dialling t l) = d t l
 on a b k d o c h (DialledOut t l) = o t l
@@ -63,8 +63,8 @@ offHookBy t = onCall (λ d l. Turns (Answered t l)) (λ d l. Turns (Answered t l
 -- 02, no. 2: "The first carrier up while it rings is the ship's transmission"
 abbrev pub upKindBy : Kind → Outcome
 upKindBy offered = Ignored
-upKindBy firstRing = Ignored
-upKindBy secondRing = Ignored
+upKindBy firstRingBack = Ignored
+upKindBy secondRingBack = Ignored
 upKindBy acknowledged = Ignored
 upKindBy firstCall = Ignored
 upKindBy secondCall = Ignored
@@ -93,8 +93,8 @@ coastEndBy = onCall (λ d l. CoastEnds Unanswered) (λ d l. CoastEnds Unanswered
 -- on-hook; 02, no. 2: "The caller's on-hook before that drops the call too"
 abbrev pub hungKindBy : Kind → Outcome
 hungKindBy offered = Ignored
-hungKindBy firstRing = Ignored
-hungKindBy secondRing = Ignored
+hungKindBy firstRingBack = Ignored
+hungKindBy secondRingBack = Ignored
 hungKindBy acknowledged = Ignored
 hungKindBy firstCall = DropsCall false false
 hungKindBy secondCall = DropsCall false false
@@ -119,8 +119,8 @@ ifOwn own o = cond own o Ignored
 -- "on an offered or acknowledged slot"
 abbrev pub workingKindBy : Kind → Outcome
 workingKindBy offered = Dials
-workingKindBy firstRing = Ignored
-workingKindBy secondRing = Ignored
+workingKindBy firstRingBack = Ignored
+workingKindBy secondRingBack = Ignored
 workingKindBy acknowledged = Dials
 workingKindBy firstCall = Ignored
 workingKindBy secondCall = Ignored
@@ -139,8 +139,8 @@ shipEndBy own p =
 -- "acknowledged, wait 160"; 02, no. 2: "The ship's first BQ .. starts the ringing"
 abbrev pub bqKindBy : Tenths → Kind → Outcome
 bqKindBy t offered = Ignored
-bqKindBy t firstRing = Turns (Acknowledged (waitFrom t (kindWait acknowledged)))
-bqKindBy t secondRing = Turns (Acknowledged (waitFrom t (kindWait acknowledged)))
+bqKindBy t firstRingBack = Turns (Acknowledged (waitFrom t (kindWait acknowledged)))
+bqKindBy t secondRingBack = Turns (Acknowledged (waitFrom t (kindWait acknowledged)))
 bqKindBy t acknowledged = Ignored
 bqKindBy t firstCall = StartsRinging
 bqKindBy t secondCall = StartsRinging
@@ -152,8 +152,8 @@ bqBy own t p = ifOwn own (on Ignored Ignored (bqKindBy t) (λ d l. Ignored) (λ 
 -- 02, no. 2: "its BQ with 104 before its transmission, ringing or not, drops the call"
 abbrev pub declinedKindBy : Kind → Outcome
 declinedKindBy offered = Ignored
-declinedKindBy firstRing = Ignored
-declinedKindBy secondRing = Ignored
+declinedKindBy firstRingBack = Ignored
+declinedKindBy secondRingBack = Ignored
 declinedKindBy acknowledged = Ignored
 declinedKindBy firstCall = DropsCall false true
 declinedKindBy secondCall = DropsCall false true
@@ -178,8 +178,8 @@ byHand GivesBack p = giveBackBy p
 
 abbrev pub dueKindBy : Kind → Outcome
 dueKindBy offered = Clears
-dueKindBy firstRing = RingsAgain
-dueKindBy secondRing = Clears
+dueKindBy firstRingBack = RingsBackAgain
+dueKindBy secondRingBack = Clears
 dueKindBy acknowledged = Clears
 dueKindBy firstCall = CallsAgain
 dueKindBy secondCall = DropsCall false true
@@ -197,8 +197,8 @@ dataBy called = cond called Ignored (Unable 109)
 -- b. "offered a slot by an identical request .. If it differs, or the slot is in ring-back or acknowledged"
 abbrev pub ruleBBy : Bool → Kind → Outcome
 ruleBBy same offered = cond same Repeats Renews
-ruleBBy same firstRing = Renews
-ruleBBy same secondRing = Renews
+ruleBBy same firstRingBack = Renews
+ruleBBy same secondRingBack = Renews
 ruleBBy same acknowledged = Renews
 ruleBBy same firstCall = Ignored
 ruleBBy same secondCall = Ignored

@@ -160,7 +160,7 @@ pub fn bq(own: bool, time: Tenths, phase: Phase) -> Outcome
 {
     if own {
         return match phase {
-            Phase::RingBack(_) | Phase::RingAgain(_) => {
+            Phase::RingBack(_) | Phase::RingBackAgain(_) => {
                 let due = due_after(time, OFFER_WAIT);
                 Outcome::Turns(Phase::Acknowledged(due))
             }
@@ -226,8 +226,8 @@ pub fn main_due(phase: Phase) -> Outcome
     ensures { λ r. ⌜ r ≡ mainDueBy phase ⌝ }
 {
     match phase {
-        Phase::Offered(_) | Phase::RingAgain(_) | Phase::Acknowledged(_) => Outcome::Clears,
-        Phase::RingBack(_) => Outcome::RingsAgain,
+        Phase::Offered(_) | Phase::RingBackAgain(_) | Phase::Acknowledged(_) => Outcome::Clears,
+        Phase::RingBack(_) => Outcome::RingsBackAgain,
         Phase::Called(_) => Outcome::CallsAgain,
         Phase::CalledAgain(_) => Outcome::DropsCall(false, true),
         Phase::Ringing(_) => Outcome::DropsCall(true, true),
@@ -260,7 +260,7 @@ pub fn asked_again(mode: Mode, same: bool, phase: Phase) -> Outcome
         } else {
             Outcome::Renews
         },
-        Phase::RingBack(_) | Phase::RingAgain(_) | Phase::Acknowledged(_) => Outcome::Renews,
+        Phase::RingBack(_) | Phase::RingBackAgain(_) | Phase::Acknowledged(_) => Outcome::Renews,
         Phase::Dialling(_, carrier) => rule_c(mode, Talk::Unanswered, carrier),
         Phase::DialledOut(_, carrier) => rule_c(mode, Talk::Unanswered, carrier),
         Phase::Answered(since, carrier) => rule_c(mode, Talk::Since(since), carrier),

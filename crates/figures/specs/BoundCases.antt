@@ -20,8 +20,8 @@ use Rattle.rules.specs.Tables.Runs.{declines, caller, shoreCalls, shoreAsks, wo
 use Rattle.rules.specs.Tables.Runs.{paid, says, saysOn, dialsOut, picksUp, hangs, regains, loses, reserves, restores, ticksIn, stationOf}
 use Rattle.rules.specs.Tables.Cases.{Row}
 use Rattle.rules.specs.Tables.Scripts.{gives, waits, waitingShips, charges, ackEight26, ackSeven26, ackSeven26Again}
-use Rattle.rules.specs.Tables.Scripts.{ackSeven26Simplex, ackSeven27, overSeven, overSevenByCoast, ringEight26}
-use Rattle.rules.specs.Tables.Scripts.{ringNine26, ringSeven26, unable102Nine, unable103Eight, unable103Seven}
+use Rattle.rules.specs.Tables.Scripts.{ackSeven26Simplex, ackSeven27, overSeven, overSevenByCoast, ringBackEight26}
+use Rattle.rules.specs.Tables.Scripts.{ringBackNine26, ringBackSeven26, unable102Nine, unable103Eight, unable103Seven}
 use Rattle.rules.specs.Tables.Scripts.{callSeven26, callSeven26Simplex, callSeven27}
 use Rattle.rules.specs.Tables.Phases.{waitingWith, phases}
 use Rattle.rules.specs.Tables.SoundCases.{kinds, asking, from, lasting, holding, asked, with, queued, setUp}
@@ -148,12 +148,12 @@ abbrev pub unable103NineOf42 : List ℕ
 unable103NineOf42 = 123 ∷ 20 ∷ 0 ∷ 0 ∷ 0 ∷ 90 ∷ 100 ∷ 0 ∷ 20 ∷ 1 ∷ 23 ∷ 40 ∷ 104 ∷ 103 ∷ 126 ∷ 126 ∷ 126 ∷ 106 ∷ 42 ∷ 122 ∷ 48 ∷ []
 
 -- ring-back, channel 26, nine, number 42
-abbrev pub ringNine26Of42 : List ℕ
-ringNine26Of42 = 123 ∷ 20 ∷ 0 ∷ 0 ∷ 0 ∷ 90 ∷ 100 ∷ 0 ∷ 20 ∷ 1 ∷ 23 ∷ 40 ∷ 101 ∷ 126 ∷ 90 ∷ 0 ∷ 26 ∷ 106 ∷ 42 ∷ 117 ∷ 21 ∷ []
+abbrev pub ringBackNine26Of42 : List ℕ
+ringBackNine26Of42 = 123 ∷ 20 ∷ 0 ∷ 0 ∷ 0 ∷ 90 ∷ 100 ∷ 0 ∷ 20 ∷ 1 ∷ 23 ∷ 40 ∷ 101 ∷ 126 ∷ 90 ∷ 0 ∷ 26 ∷ 106 ∷ 42 ∷ 117 ∷ 21 ∷ []
 
 -- ring-back, channel 26, seven, in simplex, second telecommand 109
-abbrev pub ringSeven26SimplexAs109 : List ℕ
-ringSeven26SimplexAs109 = 123 ∷ 20 ∷ 0 ∷ 0 ∷ 0 ∷ 70 ∷ 100 ∷ 0 ∷ 20 ∷ 1 ∷ 23 ∷ 40 ∷ 100 ∷ 109 ∷ 90 ∷ 0 ∷ 26 ∷ 105 ∷ 5 ∷ 55 ∷ 12 ∷ 34 ∷
+abbrev pub ringBackSeven26SimplexAs109 : List ℕ
+ringBackSeven26SimplexAs109 = 123 ∷ 20 ∷ 0 ∷ 0 ∷ 0 ∷ 70 ∷ 100 ∷ 0 ∷ 20 ∷ 1 ∷ 23 ∷ 40 ∷ 100 ∷ 109 ∷ 90 ∷ 0 ∷ 26 ∷ 105 ∷ 5 ∷ 55 ∷ 12 ∷ 34 ∷
     117 ∷ 46 ∷ []
 
 -- acknowledgement, channel 26, seven, in simplex, second telecommand 100
@@ -198,8 +198,8 @@ waitOther = 123 ∷ 20 ∷ 0 ∷ 0 ∷ 0 ∷ 80 ∷ 100 ∷ 0 ∷ 79 ∷ 99 ∷ 
     48 ∷ []
 
 -- its ring-back, channel 60, eight
-abbrev pub ringOther : List ℕ
-ringOther = 123 ∷ 20 ∷ 0 ∷ 0 ∷ 0 ∷ 80 ∷ 100 ∷ 0 ∷ 79 ∷ 99 ∷ 99 ∷ 90 ∷ 101 ∷ 126 ∷ 90 ∷ 0 ∷ 60 ∷ 105 ∷ 5 ∷ 55 ∷ 12 ∷ 34 ∷ 117 ∷ 51 ∷ []
+abbrev pub ringBackOther : List ℕ
+ringBackOther = 123 ∷ 20 ∷ 0 ∷ 0 ∷ 0 ∷ 80 ∷ 100 ∷ 0 ∷ 79 ∷ 99 ∷ 99 ∷ 90 ∷ 101 ∷ 126 ∷ 90 ∷ 0 ∷ 60 ∷ 105 ∷ 5 ∷ 55 ∷ 12 ∷ 34 ∷ 117 ∷ 51 ∷ []
 
 -- end of call to seven, BQ, 0 0 4, the caller's number
 abbrev pub overSevenCaller4 : List ℕ
@@ -611,7 +611,7 @@ places = record {
       (0 ∷ 135 ∷ 1 ∷ 9101 ∷ []) ∷ (3 ∷ 255 ∷ unable103Eight) ∷
       (0 ∷ 9101 ∷ 0 ∷ 9111 ∷ []) ∷
       (0 ∷ 9111 ∷ 0 ∷ 9121 ∷ []) ∷
-      (0 ∷ 9120 ∷ 2 ∷ 9171 ∷ []) ∷ (1 ∷ 0 ∷ []) ∷ (3 ∷ 0 ∷ ringNine26Of42) ∷ [];
+      (0 ∷ 9120 ∷ 2 ∷ 9171 ∷ []) ∷ (1 ∷ 0 ∷ []) ∷ (3 ∷ 0 ∷ ringBackNine26Of42) ∷ [];
 }
 
 -- of three waiting ships the oldest is rung back, then the next
@@ -628,11 +628,11 @@ oldestFirst = record {
       (0 ∷ 100 ∷ 1 ∷ 9101 ∷ []) ∷ (3 ∷ 255 ∷ unable103Seven) ∷
       (0 ∷ 110 ∷ 1 ∷ 9101 ∷ []) ∷ (3 ∷ 255 ∷ unable103Eight) ∷
       (0 ∷ 120 ∷ 1 ∷ 9101 ∷ []) ∷ (3 ∷ 255 ∷ unable103Nine) ∷
-      (0 ∷ 200 ∷ 2 ∷ 251 ∷ []) ∷ (1 ∷ 0 ∷ []) ∷ (3 ∷ 0 ∷ ringSeven26) ∷
-      (0 ∷ 251 ∷ 1 ∷ 302 ∷ []) ∷ (3 ∷ 0 ∷ ringSeven26) ∷
-      (0 ∷ 302 ∷ 3 ∷ 353 ∷ []) ∷ (2 ∷ 0 ∷ []) ∷ (1 ∷ 0 ∷ []) ∷ (3 ∷ 0 ∷ ringEight26) ∷
-      (0 ∷ 353 ∷ 1 ∷ 404 ∷ []) ∷ (3 ∷ 0 ∷ ringEight26) ∷
-      (0 ∷ 404 ∷ 3 ∷ 455 ∷ []) ∷ (2 ∷ 0 ∷ []) ∷ (1 ∷ 0 ∷ []) ∷ (3 ∷ 0 ∷ ringNine26) ∷ [];
+      (0 ∷ 200 ∷ 2 ∷ 251 ∷ []) ∷ (1 ∷ 0 ∷ []) ∷ (3 ∷ 0 ∷ ringBackSeven26) ∷
+      (0 ∷ 251 ∷ 1 ∷ 302 ∷ []) ∷ (3 ∷ 0 ∷ ringBackSeven26) ∷
+      (0 ∷ 302 ∷ 3 ∷ 353 ∷ []) ∷ (2 ∷ 0 ∷ []) ∷ (1 ∷ 0 ∷ []) ∷ (3 ∷ 0 ∷ ringBackEight26) ∷
+      (0 ∷ 353 ∷ 1 ∷ 404 ∷ []) ∷ (3 ∷ 0 ∷ ringBackEight26) ∷
+      (0 ∷ 404 ∷ 3 ∷ 455 ∷ []) ∷ (2 ∷ 0 ∷ []) ∷ (1 ∷ 0 ∷ []) ∷ (3 ∷ 0 ∷ ringBackNine26) ∷ [];
 }
 
 -- the second telecommand of a request is repeated, by the acknowledgement and by the ring-back
@@ -646,7 +646,7 @@ secondKept = record {
   expected =
       (0 ∷ 50 ∷ 0 ∷ []) ∷
       (0 ∷ 100 ∷ 1 ∷ 9101 ∷ []) ∷ (3 ∷ 255 ∷ unable103Seven) ∷
-      (0 ∷ 200 ∷ 2 ∷ 251 ∷ []) ∷ (1 ∷ 0 ∷ []) ∷ (3 ∷ 0 ∷ ringSeven26SimplexAs109) ∷
+      (0 ∷ 200 ∷ 2 ∷ 251 ∷ []) ∷ (1 ∷ 0 ∷ []) ∷ (3 ∷ 0 ∷ ringBackSeven26SimplexAs109) ∷
       (0 ∷ 210 ∷ 1 ∷ 371 ∷ []) ∷ (3 ∷ 0 ∷ ackSeven26SimplexAs100) ∷ [];
 }
 
@@ -665,7 +665,7 @@ otherStation = record {
       (1 ∷ 110 ∷ 0 ∷ 261 ∷ []) ∷
       (0 ∷ 120 ∷ 0 ∷ 261 ∷ []) ∷
       (0 ∷ 130 ∷ 1 ∷ 261 ∷ []) ∷ (3 ∷ 255 ∷ waitOther) ∷
-      (0 ∷ 261 ∷ 3 ∷ 312 ∷ []) ∷ (2 ∷ 0 ∷ []) ∷ (1 ∷ 0 ∷ []) ∷ (3 ∷ 0 ∷ ringOther) ∷ [];
+      (0 ∷ 261 ∷ 3 ∷ 312 ∷ []) ∷ (2 ∷ 0 ∷ []) ∷ (1 ∷ 0 ∷ []) ∷ (3 ∷ 0 ∷ ringBackOther) ∷ [];
 }
 
 -- and a call from ashore goes out in its name; a BQ and a 104 to another station are ignored
@@ -824,7 +824,7 @@ holdAsked = record {
 
 -- ── which sequence is of which kind ─────────────────────────────────────────────
 
--- a request that names a channel is none
+-- with a channel named, it is no request
 abbrev pub requestWithChannel : Row
 requestWithChannel = record {
   computed = gives 1 (says 100 (sends seven 101 117 (Channel (channel 26)) usual) ∷ []);
@@ -872,8 +872,8 @@ bqUnnamed = record {
 }
 
 -- after the second sending: acknowledged
-abbrev pub bqInSecondRing : Row
-bqInSecondRing = record {
+abbrev pub bqInSecondRingBack : Row
+bqInSecondRingBack = record {
   computed = gives 1 (calls 100 seven duplex ∷ calls 110 eight duplex ∷ ticks 261 ∷ ticks 312 ∷ accepts 320 26 eight ∷ []);
   expected = (0 ∷ 320 ∷ 0 ∷ 481 ∷ []) ∷ [];
 }
@@ -1014,7 +1014,7 @@ slotBeforeQueue = record {
   computed = gives 2 (reserves 10 1 ∷ calls 100 seven duplex ∷ works 110 0 seven ∷ picksUp 120 0 ∷ calls 150 eight duplex ∷
       loses 9099 0 ∷ ticks 9999 ∷ []);
   expected = (0 ∷ 9150 ∷ 6 ∷ 9201 ∷ []) ∷ charges 0 seven 120 9150 903 ∷ (6 ∷ 0 ∷ []) ∷ (4 ∷ 0 ∷ overSevenByCoast903) ∷ (2 ∷ 0 ∷ []) ∷
-      (1 ∷ 0 ∷ []) ∷ (3 ∷ 0 ∷ ringEight26) ∷ [];
+      (1 ∷ 0 ∷ []) ∷ (3 ∷ 0 ∷ ringBackEight26) ∷ [];
 }
 
 -- of two offers with one due time the lower slot goes first
@@ -1263,7 +1263,7 @@ boundCases =
     otherStation ∷ secondDiffers ∷ secondLower ∷ secondSame ∷ simplexRepeated ∷ simplexThenDuplex ∷ numberLonger ∷
     numberShorter ∷ firstDigitHigher ∷ lastDigitLower ∷ ringBackTwiceAsked ∷ sameShip ∷ ruleCDialled ∷ ruleCDialledPresent ∷
     ruleCDialledDuplex ∷ ruleCDialledOut ∷ ruleCDialledOutPresent ∷ holdAsked ∷ requestWithChannel ∷ bqSimplex ∷ bqData ∷
-    bqAsRq ∷ bqAs127 ∷ bqUnnamed ∷ bqInSecondRing ∷ bqOnSlot ∷ blankBqOnSlot ∷ workingSimplex ∷ workingData ∷ endAs127 ∷
+    bqAsRq ∷ bqAs127 ∷ bqUnnamed ∷ bqInSecondRingBack ∷ bqOnSlot ∷ blankBqOnSlot ∷ workingSimplex ∷ workingData ∷ endAs127 ∷
     endAsBq ∷ addressedBelow ∷ replyBeforeLoss ∷ dialledOutBeforeLoss ∷ oneTenthEarlier ∷ slotBeforeQueue ∷ lowestFirst ∷
     thirdDueFirst ∷ firstDueFirst ∷ oneTenthApart ∷ queueOf31 ∷ queueOf32 ∷ refused33Heard ∷ accepted33 ∷
     refused34DialsOut ∷ refused34PicksUp ∷ refused34Regains ∷ refused34Loses ∷ refused34Takes ∷ refused34Restores ∷
@@ -1273,7 +1273,7 @@ boundCases =
 
 abbrev pub boundSounds : List Judged
 boundSounds =
-    -- the second channel of two is none for working
+    -- the second channel of two is invalid
     refused36 (setUp 2001234 (26 ∷ 16 ∷ []))
     -- the second and the third of three are one
     ∷ refused36 (setUp 2001234 (26 ∷ 27 ∷ 27 ∷ []))

@@ -15,7 +15,7 @@ use Rattle.rules.specs.ListAlone.Book.{Note, Said, silent, toldBQ, toldRQ, sett
 use Rattle.rules.specs.ListAlone.Book.{Call, quiet, called, dialled, talking, Column, Place, Book, blankBook, alike}
 use Rattle.rules.specs.ListAlone.Reading.{turn, numbered, counted, countedByCalls}
 use Rattle.rules.specs.ListAlone.LineWords.{Line, idle, outward, inward, since, Word, worded, unused}
-use Rattle.rules.specs.ListAlone.LineWords.{wordHeard, wordsDone, wordAfter, wordOf, ringingsDone, ringingAfter, ringSwitches, change}
+use Rattle.rules.specs.ListAlone.LineWords.{wordHeard, wordsDone, wordAfter, wordOf, ringingsDone, ringingAfter, ringingSwitches, change}
 use Rattle.rules.specs.ListAlone.LineWords.{release, releases}
 use Rattle.rules.specs.ListAlone.BeingCalled.{isFor, columnsAfter}
 use Rattle.rules.specs.Statement.{deedsOf, chargesOf, charged, runOf, stationAfter, listOf, stopsOf, tenthsIn, unchargedTenths, eventsOf}
@@ -870,9 +870,9 @@ ringingShown = record {
 -- the 8s and 9s on slot 1: of each deed with an 8 after it, of all, in their order; and what is to be given
 abbrev pub switchesShown : Row
 switchesShown = record {
-  computed = map (λ d. map bit (ringSwitches 1 (d ∷ []))) (everyDeed 1) ++
-      map (λ d. map bit (ringSwitches 1 (d ∷ ringingOn 1 ∷ []))) (everyDeed 1) ++
-      map bit (ringSwitches 1 (everyDeed 0 ++ everyDeed 2)) ∷ map bit (ringSwitches 1 (everyDeed 1 ++ everyDeed 1)) ∷
+  computed = map (λ d. map bit (ringingSwitches 1 (d ∷ []))) (everyDeed 1) ++
+      map (λ d. map bit (ringingSwitches 1 (d ∷ ringingOn 1 ∷ []))) (everyDeed 1) ++
+      map bit (ringingSwitches 1 (everyDeed 0 ++ everyDeed 2)) ∷ map bit (ringingSwitches 1 (everyDeed 1 ++ everyDeed 1)) ∷
       map bit (change false false) ∷ map bit (change false true) ∷ map bit (change true false) ∷ map bit (change true true) ∷ [];
   expected = replicate 7 [] ++ (1 ∷ []) ∷ (0 ∷ []) ∷ [] ∷ replicate 7 (1 ∷ []) ++ (1 ∷ 1 ∷ []) ∷ (0 ∷ 1 ∷ []) ∷ (1 ∷ []) ∷
       [] ∷ (1 ∷ 0 ∷ 1 ∷ 0 ∷ []) ∷ [] ∷ (1 ∷ []) ∷ (0 ∷ []) ∷ [] ∷ [];

@@ -51,7 +51,7 @@ impl Verdict {
 }
 
 impl Look {
-    // Of every event: 29 to 32.
+    // The refusals of every event: 29 to 32.
     pub fn judge(self, size: usize, time: Tenths) -> Verdict
         ensures { λ r. ⌜ verdictOf r ≡ firstRefusal (askedAlways self size (time .0)) none ⌝ }
     {
@@ -65,7 +65,7 @@ impl Look {
             .and_then(clock <= tenths, 32)
     }
 
-    // Of every event but a tick: 33 besides.
+    // Those of every event but a tick: 33 besides.
     pub fn judge_now(self, size: usize, time: Tenths) -> Verdict
         ensures { λ r. ⌜ verdictOf r ≡ firstRefusal (askedNow self size (time .0)) none ⌝ }
     {
@@ -74,7 +74,7 @@ impl Look {
         self.judge(size, time).and_then(!late, 33)
     }
 
-    // Of an event on a slot: 34 besides.
+    // Those of an event on a slot: 34 besides.
     pub fn judge_slot(self, size: usize, time: Tenths, slot: SlotNumber) -> Verdict
         ensures { λ r. ⌜ verdictOf r ≡ firstRefusal (askedOnSlot self size (time .0) (slot .0)) none ⌝ }
     {

@@ -10,8 +10,8 @@ use Rattle.sequence.proofs.Tests.{Either, yes!, no!, which}
 use Rattle.rules.specs.Rules.Places.{Each}
 use Rattle.rules.specs.Rules.Words.{Config, Event}
 use Rattle.rules.specs.Rules.Sound.{configKeeps}
-use Rattle.rules.specs.Statement.{notes, WordsAgree, EveryEntry, RingsBy}
-use Rattle.rules.specs.ListAlone.Repeated.{Answers, RingsSame, DialsNamed, DeedByDeed}
+use Rattle.rules.specs.Statement.{notes, WordsAgree, EveryEntry, RingingBy}
+use Rattle.rules.specs.ListAlone.Repeated.{Answers, SendsSame, DialsNamed, DeedByDeed}
 use Rattle.rules.specs.ListAlone.LineWords.{InTurn}
 use Rattle.rules.specs.ListAlone.BeingCalled.{OffersOthers, AsksInVain}
 use Rattle.rules.specs.Rules.Verdict.{setUpVerdict, Entry}
@@ -28,16 +28,16 @@ use Rattle.station_theorems.specs.Rooms.{actionsIn}
 use Rattle.station_theorems.specs.Steps.{Step, stepOf, Allowed, SetUpAs, Trace}
 use Rattle.station_theorems.specs.Steps as Rack
 use Rattle.station_theorems.specs.Statement as Said
-use Rattle.station_theorems.specs.Statement.{OfEveryTrace, Obeys, RackObeys, RackLiterally, RackAnswersRepeat, RackSecondRingRepeats, RackDialsAsked, NoneIdle, RackNoChannelIdle, isSound, RackAlwaysSound}
-use Rattle.station_theorems.specs.Statement.{RackRingsAsTold, RackRingsInTurn, RackCalledNotOffered, RackCalledAskInVain, RackDroppedReleased, RackCalledIgnored}
+use Rattle.station_theorems.specs.Statement.{OfEveryTrace, Obeys, RackObeys, RackLiterally, RackAnswersRepeat, RackSecondSendingRepeats, RackDialsAsked, NoneIdle, RackNoChannelIdle, isSound, RackAlwaysSound}
+use Rattle.station_theorems.specs.Statement.{RackRingingAsTold, RackRingingInTurn, RackCalledNotOffered, RackCalledAskInVain, RackDroppedReleased, RackCalledIgnored}
 use Rattle.station_theorems.proofs.Steps.{step-allowed, rack-dropped-released, rack-called-ignored}
 use Rattle.station_theorems.proofs.Scripted.{beginning}
-use Rattle.station_theorems.proofs.Theorems.{rack-obeys, rack-literally, rack-answers-repeat, rack-second-ring-repeats, rack-dials-asked, rack-no-channel-idle, rack-always-sound}
-use Rattle.station_theorems.proofs.Theorems.{rack-rings-as-told, rack-rings-in-turn, rack-called-not-offered, rack-called-ask-in-vain}
+use Rattle.station_theorems.proofs.Theorems.{rack-obeys, rack-literally, rack-answers-repeat, rack-second-sending-repeats, rack-dials-asked, rack-no-channel-idle, rack-always-sound}
+use Rattle.station_theorems.proofs.Theorems.{rack-ringing-as-told, rack-ringing-in-turn, rack-called-not-offered, rack-called-ask-in-vain}
 use Rattle.host_theorems.specs.Calls as Host
 use Rattle.host_theorems.specs.Calls.{Call, Entered, HandsOn, lastOf, SetUpIn, HostRun}
-use Rattle.host_theorems.specs.Statement.{answerIn, entriesIn, OfEveryHost, HostObeys, HostLiterally, HostAnswersRepeat, HostSecondRingRepeats, HostDialsAsked, HostNoChannelIdle, HostAlwaysSound, HostTellsItsClock}
-use Rattle.host_theorems.specs.Statement.{HostRingsAsTold, HostRingsInTurn, HostCalledNotOffered, HostCalledAskInVain, HostDroppedReleased, HostCalledIgnored}
+use Rattle.host_theorems.specs.Statement.{answerIn, entriesIn, OfEveryHost, HostObeys, HostLiterally, HostAnswersRepeat, HostSecondSendingRepeats, HostDialsAsked, HostNoChannelIdle, HostAlwaysSound, HostTellsItsClock}
+use Rattle.host_theorems.specs.Statement.{HostRingingAsTold, HostRingingInTurn, HostCalledNotOffered, HostCalledAskInVain, HostDroppedReleased, HostCalledIgnored}
 use Rattle.host_theorems.proofs.Calls.{called, answer-is, count-is}
 
 -- ── a list of calls as a list of steps ───────────────────────────────────────
@@ -140,21 +140,21 @@ pub host-answers-repeat : HostAnswersRepeat
 unfolding HostAnswersRepeat RackAnswersRepeat
 host-answers-repeat = carried (λ c es s. EveryEntry Answers c (notes es)) rack-answers-repeat
 
-pub host-second-ring-repeats : HostSecondRingRepeats
-unfolding HostSecondRingRepeats RackSecondRingRepeats
-host-second-ring-repeats = carried (λ c es s. EveryEntry (DeedByDeed RingsSame) c (notes es)) rack-second-ring-repeats
+pub host-second-sending-repeats : HostSecondSendingRepeats
+unfolding HostSecondSendingRepeats RackSecondSendingRepeats
+host-second-sending-repeats = carried (λ c es s. EveryEntry (DeedByDeed SendsSame) c (notes es)) rack-second-sending-repeats
 
 pub host-dials-asked : HostDialsAsked
 unfolding HostDialsAsked RackDialsAsked
 host-dials-asked = carried (λ c es s. EveryEntry (DeedByDeed DialsNamed) c (notes es)) rack-dials-asked
 
-pub host-rings-as-told : HostRingsAsTold
-unfolding HostRingsAsTold RackRingsAsTold
-host-rings-as-told = carried (λ c es s. RingsBy (notes es) (modelOf s)) rack-rings-as-told
+pub host-ringing-as-told : HostRingingAsTold
+unfolding HostRingingAsTold RackRingingAsTold
+host-ringing-as-told = carried (λ c es s. RingingBy (notes es) (modelOf s)) rack-ringing-as-told
 
-pub host-rings-in-turn : HostRingsInTurn
-unfolding HostRingsInTurn RackRingsInTurn
-host-rings-in-turn = carried (λ c es s. EveryEntry InTurn c (notes es)) rack-rings-in-turn
+pub host-ringing-in-turn : HostRingingInTurn
+unfolding HostRingingInTurn RackRingingInTurn
+host-ringing-in-turn = carried (λ c es s. EveryEntry InTurn c (notes es)) rack-ringing-in-turn
 
 pub host-called-not-offered : HostCalledNotOffered
 unfolding HostCalledNotOffered RackCalledNotOffered

@@ -10,8 +10,8 @@ use Rattle.rules.specs.Rules.Places.{Each}
 use Rattle.rules.specs.Rules.Words.{Config}
 use Rattle.rules.specs.Rules.Requests.{Out}
 use Rattle.rules.specs.Rules.Verdict.{Entry}
-use Rattle.rules.specs.Statement.{notes, WordsAgree, EveryEntry, RingsBy, ReleasedWhenDropped, IgnoredWhenCalled}
-use Rattle.rules.specs.ListAlone.Repeated.{Answers, RingsSame, DialsNamed, DeedByDeed}
+use Rattle.rules.specs.Statement.{notes, WordsAgree, EveryEntry, RingingBy, ReleasedWhenDropped, IgnoredWhenCalled}
+use Rattle.rules.specs.ListAlone.Repeated.{Answers, SendsSame, DialsNamed, DeedByDeed}
 use Rattle.rules.specs.ListAlone.LineWords.{InTurn}
 use Rattle.rules.specs.ListAlone.BeingCalled.{OffersOthers, AsksInVain}
 use Rattle.station.specs.declared.Station.{Station}
@@ -56,18 +56,18 @@ HostLiterally = OfEveryHost (λ c es s. WordsAgree c (notes es))
 unfoldable pub HostAnswersRepeat : Type 0
 HostAnswersRepeat = OfEveryHost (λ c es s. EveryEntry Answers c (notes es))
 
-unfoldable pub HostSecondRingRepeats : Type 0
-HostSecondRingRepeats = OfEveryHost (λ c es s. EveryEntry (DeedByDeed RingsSame) c (notes es))
+unfoldable pub HostSecondSendingRepeats : Type 0
+HostSecondSendingRepeats = OfEveryHost (λ c es s. EveryEntry (DeedByDeed SendsSame) c (notes es))
 
 unfoldable pub HostDialsAsked : Type 0
 HostDialsAsked = OfEveryHost (λ c es s. EveryEntry (DeedByDeed DialsNamed) c (notes es))
 
 -- 02, no. 2: a slot rings exactly if the last 8 or 9 given on it is 8; one 8 where it begins to ring, one 9 where it ends
-unfoldable pub HostRingsAsTold : Type 0
-HostRingsAsTold = OfEveryHost (λ c es s. RingsBy (notes es) (modelOf s))
+unfoldable pub HostRingingAsTold : Type 0
+HostRingingAsTold = OfEveryHost (λ c es s. RingingBy (notes es) (modelOf s))
 
-unfoldable pub HostRingsInTurn : Type 0
-HostRingsInTurn = OfEveryHost (λ c es s. EveryEntry InTurn c (notes es))
+unfoldable pub HostRingingInTurn : Type 0
+HostRingingInTurn = OfEveryHost (λ c es s. EveryEntry InTurn c (notes es))
 
 -- a ship that is being called is not offered a slot, and no deed is given where it asks
 unfoldable pub HostCalledNotOffered : Type 0

@@ -12,7 +12,7 @@ use Rattle.slots.specs.declared.QueuePlace.{QueuePlace}
 use Rattle.slots.proofs.PhaseLaws.{Where, where-held}
 use Rattle.outcomes.specs.declared.Talk.{Talk}
 use Rattle.outcomes.specs.declared.Outcome.{Outcome}
-use Rattle.outcomes.specs.declared.Outcome.the-variants.{Ignored, Passes, Turns, Dials, RingsAgain, Frees, Clears, CoastEnds, ShipEnds, SaysAgain, Repeats, Renews, Redials, Offers, Joins, Replaces, Unable, Drops, Calls, CallsAgain, StartsRinging, Transmits, DropsCall}
+use Rattle.outcomes.specs.declared.Outcome.the-variants.{Ignored, Passes, Turns, Dials, RingsBackAgain, Frees, Clears, CoastEnds, ShipEnds, SaysAgain, Repeats, Renews, Redials, Offers, Joins, Replaces, Unable, Drops, Calls, CallsAgain, StartsRinging, Transmits, DropsCall}
 use Rattle.outcomes.proofs.Outcome as outcome
 
 -- every outcome by its number
@@ -22,7 +22,7 @@ EachOutcome ks a f =
     × Where (hasKey ks 1) (a ≡ f Passes)
     × ((x : Phase) → Where (hasKey ks 2) (a ≡ f (Turns x)))
     × Where (hasKey ks 3) (a ≡ f Dials)
-    × Where (hasKey ks 4) (a ≡ f RingsAgain)
+    × Where (hasKey ks 4) (a ≡ f RingsBackAgain)
     × Where (hasKey ks 5) (a ≡ f Frees)
     × Where (hasKey ks 6) (a ≡ f Clears)
     × ((x : Talk) → Where (hasKey ks 7) (a ≡ f (CoastEnds x)))
@@ -47,7 +47,7 @@ outcome-arm ks a f e Ignored h = where-held ks 0 h (e .0)
 outcome-arm ks a f e Passes h = where-held ks 1 h (e .1)
 outcome-arm ks a f e (Turns x) h = where-held ks 2 h (e .2 x)
 outcome-arm ks a f e Dials h = where-held ks 3 h (e .3)
-outcome-arm ks a f e RingsAgain h = where-held ks 4 h (e .4)
+outcome-arm ks a f e RingsBackAgain h = where-held ks 4 h (e .4)
 outcome-arm ks a f e Frees h = where-held ks 5 h (e .5)
 outcome-arm ks a f e Clears h = where-held ks 6 h (e .6)
 outcome-arm ks a f e (CoastEnds x) h = where-held ks 7 h (e .7 x)

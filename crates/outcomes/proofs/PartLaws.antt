@@ -11,10 +11,10 @@ use Rattle.rules.specs.Rules.Station.{kindWait, diallingWait, holdWait, queueWa
 use Rattle.rules.specs.Rules.Sound.{limit}
 use Rattle.rules.specs.Rules.Requests.{also, rungBack, freedFor, freed, endActs, coastEnd, repeated, afresh, ruleD, offer, ruleF}
 use Rattle.rules.specs.Rules.Ashore.{calledFrom}
-use Rattle.rules.specs.Rules.Calls.{dialNow, startsRinging, dropActs, transmitted, shipEnd, sayAgain, offerDue, ringAgain, callAgain, fire}
+use Rattle.rules.specs.Rules.Calls.{dialNow, startsRinging, dropActs, transmitted, shipEnd, sayAgain, offerDue, rungBackAgain, callAgain, fire}
 use Rattle.outcomes.specs.declared.Talk.{Talk}
 use Rattle.outcomes.specs.declared.Outcome.{Outcome}
-use Rattle.outcomes.specs.declared.Outcome.the-variants.{Ignored, Passes, Turns, Dials, RingsAgain, Frees, Clears, CoastEnds, ShipEnds, SaysAgain, Repeats, Renews, Redials, Offers, Joins, Replaces, Unable, Drops, Calls, CallsAgain, StartsRinging, Transmits, DropsCall}
+use Rattle.outcomes.specs.declared.Outcome.the-variants.{Ignored, Passes, Turns, Dials, RingsBackAgain, Frees, Clears, CoastEnds, ShipEnds, SaysAgain, Repeats, Renews, Redials, Offers, Joins, Replaces, Unable, Drops, Calls, CallsAgain, StartsRinging, Transmits, DropsCall}
 use Rattle.outcomes.specs.Does.{sinceOf, outOf, sceneOf, actsOf, turned, requeued, applied}
 use Rattle.outcomes.proofs.WaitLaws.{wait-fits}
 
@@ -23,7 +23,7 @@ module _ (i : ℕ) (own asked : Request) (st : R.Station) (h : st .clock ≤ lim
   frees-applied : (q : List R.Waiting) → st .queue ≡ q → freed i st ≡ applied (sceneOf i own asked st) Frees st
   unfolding freed freedFor rungBack applied sceneOf actsOf turned requeued
   frees-applied [] e = rw e refl
-  frees-applied (w ∷ q) e = rw (e, wait-fits (st .clock) (kindWait R.firstRing) h (omega arith)) refl
+  frees-applied (w ∷ q) e = rw (e, wait-fits (st .clock) (kindWait R.firstRingBack) h (omega arith)) refl
 
   -- with actions before it
   also-frees : (a : List Action) → also a (freed i st) ≡ also a (applied (sceneOf i own asked st) Frees st)
@@ -46,12 +46,12 @@ module _ (i : ℕ) (own asked : Request) (st : R.Station) (h : st .clock ≤ lim
   drops-call-applied rung tone = also-frees (dropActs i rung tone)
 
   pub outcome-applied : (o : Outcome) → outOf i own asked o st ≡ applied (sceneOf i own asked st) o st
-  unfolding outOf applied sceneOf actsOf turned requeued dialNow ringAgain shipEnd sayAgain repeated afresh offer ruleD ruleF fire calledFrom callAgain startsRinging transmitted
+  unfolding outOf applied sceneOf actsOf turned requeued dialNow rungBackAgain shipEnd sayAgain repeated afresh offer ruleD ruleF fire calledFrom callAgain startsRinging transmitted
   outcome-applied Ignored = refl
   outcome-applied Passes = refl
   outcome-applied (Turns p) = refl
   outcome-applied Dials = rw (wait-fits (st .clock) diallingWait h (omega arith)) refl
-  outcome-applied RingsAgain = rw (wait-fits (st .clock) (kindWait R.secondRing) h (omega arith)) refl
+  outcome-applied RingsBackAgain = rw (wait-fits (st .clock) (kindWait R.secondRingBack) h (omega arith)) refl
   outcome-applied Frees = frees-applied (st .queue) refl
   outcome-applied Clears = clears-applied
   outcome-applied (CoastEnds k) = ends-applied k

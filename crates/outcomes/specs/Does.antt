@@ -10,15 +10,16 @@ use Rattle.rules.specs.Rules.Places.{modAt, dropAt}
 use Rattle.rules.specs.Rules.Words.{Request, carrierOn, carrierOff, acknowledge, callShip, unable, dial, ringingOn, ringingOff}
 use Rattle.rules.specs.Rules.Actions.{Action, does, over, theShip, theCoast}
 use Rattle.rules.specs.Rules.Station as R
-use Rattle.rules.specs.Rules.Station.{dealing, offered, firstRing, secondRing, firstCall, secondCall, ringing, setSlot, setQueue}
+use Rattle.rules.specs.Rules.Station.{dealing, offered, firstRingBack, secondRingBack, firstCall, secondCall, ringing, setSlot, setQueue}
 use Rattle.rules.specs.Rules.Station.{dueAfter, kindWait, diallingWait, holdWait, queueWait}
 use Rattle.rules.specs.Rules.Requests.{Out, done, ignored, saying, also, freed, lasted, endActs, coastEnd}
 use Rattle.rules.specs.Rules.Requests.{placeOf, repeated, afresh, ruleD, offer, ruleF, dToG}
 use Rattle.rules.specs.Rules.Ashore.{calledFrom}
-use Rattle.rules.specs.Rules.Calls.{dialNow, startsRinging, dropActs, transmitted, shipEnd, sayAgain, offerDue, ringAgain, callAgain, fire}
+use Rattle.rules.specs.Rules.Calls.{dialNow, startsRinging, dropActs, transmitted, shipEnd, sayAgain, offerDue, rungBackAgain}
+use Rattle.rules.specs.Rules.Calls.{callAgain, fire}
 use Rattle.rules.specs.Rules.Waits.{ofQueue}
 use Rattle.slots.specs.declared.Carrier.the-variants.{Present}
-use Rattle.slots.specs.declared.Phase.the-variants.{Free, Offered, RingBack, RingAgain, Dialling, Answered, Hold}
+use Rattle.slots.specs.declared.Phase.the-variants.{Free, Offered, RingBack, RingBackAgain, Dialling, Answered, Hold}
 use Rattle.slots.specs.declared.Phase.the-variants.{Called, CalledAgain, Ringing}
 use Rattle.requests.specs.declared.Request.{Request as Stored}
 use Rattle.slots.specs.declared.Waiting.{Waiting}
@@ -28,7 +29,7 @@ use Rattle.slots.specs.Images.{blankWaiting}
 use Rattle.outcomes.specs.declared.Talk.{Talk}
 use Rattle.outcomes.specs.declared.Talk.the-variants.{Unanswered, Since}
 use Rattle.outcomes.specs.declared.Outcome.{Outcome}
-use Rattle.outcomes.specs.declared.Outcome.the-variants.{Ignored, Passes, Turns, Dials, RingsAgain, Frees, Clears}
+use Rattle.outcomes.specs.declared.Outcome.the-variants.{Ignored, Passes, Turns, Dials, RingsBackAgain, Frees, Clears}
 use Rattle.outcomes.specs.declared.Outcome.the-variants.{CoastEnds, ShipEnds, SaysAgain, Repeats, Renews, Redials}
 use Rattle.outcomes.specs.declared.Outcome.the-variants.{Offers, Joins, Replaces, Unable, Drops}
 use Rattle.outcomes.specs.declared.Outcome.the-variants.{Calls, CallsAgain, StartsRinging, Transmits, DropsCall}
@@ -51,7 +52,7 @@ outOf i own asked Ignored st = ignored st
 outOf i own asked Passes st = done st
 outOf i own asked (Turns p) st = done (setSlot i (phaseView p own) st)
 outOf i own asked Dials st = dialNow i (dealing own) st
-outOf i own asked RingsAgain st = ringAgain i (dealing own) st
+outOf i own asked RingsBackAgain st = rungBackAgain i (dealing own) st
 outOf i own asked Frees st = freed i st
 outOf i own asked Clears st = offerDue i st
 outOf i own asked (CoastEnds k) st = coastEnd i own (sinceOf k) st
@@ -77,7 +78,7 @@ goesOn Ignored = false
 goesOn Passes = false
 goesOn (Turns p) = false
 goesOn Dials = false
-goesOn RingsAgain = false
+goesOn RingsBackAgain = false
 goesOn Frees = false
 goesOn Clears = false
 goesOn (CoastEnds k) = false
@@ -136,7 +137,7 @@ answerOf Ignored = 1
 answerOf Passes = 0
 answerOf (Turns p) = 0
 answerOf Dials = 0
-answerOf RingsAgain = 0
+answerOf RingsBackAgain = 0
 answerOf Frees = 0
 answerOf Clears = 0
 answerOf (CoastEnds k) = 0
@@ -157,12 +158,12 @@ answerOf Transmits = 0
 answerOf (DropsCall rung tone) = 0
 
 -- a slot is freed: the oldest of so many is rung back
-abbrev pub ringActs : ℕ → Request → ℕ → List Action
-ringActs i oldest zero = []
-ringActs i oldest (suc n) = does (carrierOn i) ∷ does (callShip i oldest) ∷ []
+abbrev pub ringBackActs : ℕ → Request → ℕ → List Action
+ringBackActs i oldest zero = []
+ringBackActs i oldest (suc n) = does (carrierOn i) ∷ does (callShip i oldest) ∷ []
 
 abbrev pub freeActs : Scene → List Action
-freeActs sc = ringActs (sc .slot) (sc .oldest) (sc .waiting)
+freeActs sc = ringBackActs (sc .slot) (sc .oldest) (sc .waiting)
 
 abbrev pub unableActs : ℕ → Scene → List Action
 unableActs n sc = does (unable n (sc .asked .who) (sc .asked .number)) ∷ []
@@ -173,7 +174,7 @@ actsOf sc Ignored = []
 actsOf sc Passes = []
 actsOf sc (Turns p) = []
 actsOf sc Dials = does (dial (sc .slot) (sc .own .number)) ∷ []
-actsOf sc RingsAgain = does (callShip (sc .slot) (sc .own)) ∷ []
+actsOf sc RingsBackAgain = does (callShip (sc .slot) (sc .own)) ∷ []
 actsOf sc Frees = freeActs sc
 actsOf sc Clears = does (carrierOff (sc .slot)) ∷ freeActs sc
 actsOf sc (CoastEnds k) = endActs (sc .slot) theCoast (sc .own) (sinceOf k) (sc .clock) ++ freeActs sc
@@ -207,7 +208,7 @@ lastedOf k t = lasted (sinceOf k) (t .0)
 
 abbrev pub freeTurn : Tenths → ℕ → Turn
 freeTurn t zero = Own Free
-freeTurn t (suc n) = Oldest (RingBack (waitFrom t (kindWait firstRing)))
+freeTurn t (suc n) = Oldest (RingBack (waitFrom t (kindWait firstRingBack)))
 
 -- what becomes of the slot at the time t, where so many wait
 abbrev pub turnOf : Tenths → ℕ → Outcome → Turn
@@ -215,7 +216,7 @@ turnOf t waiting Ignored = Stays
 turnOf t waiting Passes = Stays
 turnOf t waiting (Turns p) = Own p
 turnOf t waiting Dials = Own (Dialling (waitFrom t diallingWait) Present)
-turnOf t waiting RingsAgain = Own (RingAgain (waitFrom t (kindWait secondRing)))
+turnOf t waiting RingsBackAgain = Own (RingBackAgain (waitFrom t (kindWait secondRingBack)))
 turnOf t waiting Frees = freeTurn t waiting
 turnOf t waiting Clears = freeTurn t waiting
 turnOf t waiting (CoastEnds k) = freeTurn t waiting
@@ -245,7 +246,7 @@ queueChange t waiting Ignored = Same
 queueChange t waiting Passes = Same
 queueChange t waiting (Turns p) = Same
 queueChange t waiting Dials = Same
-queueChange t waiting RingsAgain = Same
+queueChange t waiting RingsBackAgain = Same
 queueChange t waiting Frees = freeChange waiting
 queueChange t waiting Clears = freeChange waiting
 queueChange t waiting (CoastEnds k) = freeChange waiting

@@ -18,7 +18,7 @@ pub enum Outcome {
     Passes, // a tick with nothing due
     Turns(Phase), // another phase, and nothing said
     Dials, // working call
-    RingsAgain, // the first ring-back due
+    RingsBackAgain, // the first ring-back due
     Frees, // the hold due, the operator gives back: the oldest is rung back
     Clears, // carrier off, and freed
     CoastEnds(Talk), // charge if answered, release, end of call, carrier off, freed

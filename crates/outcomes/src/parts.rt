@@ -16,7 +16,7 @@ use slots::HOLD_WAIT;
 use slots::OFFER_WAIT;
 use slots::Phase;
 use slots::QueuePlace;
-use slots::RING_WAIT;
+use slots::RING_BACK_WAIT;
 use slots::RINGING_WAIT;
 use slots::Waiting;
 use units::Lasted;
@@ -59,7 +59,7 @@ fn free_turn(time: Tenths, waiting: u8) -> Turn
     if waiting == 0 {
         return Turn::Own(Phase::Free);
     }
-    let due = due_after(time, RING_WAIT);
+    let due = due_after(time, RING_BACK_WAIT);
     Turn::Oldest(Phase::RingBack(due))
 }
 
@@ -73,9 +73,9 @@ pub fn turn_of(outcome: Outcome, time: Tenths, waiting: u8) -> Turn
             let due = due_after(time, DIALLING_WAIT);
             Turn::Own(Phase::Dialling(due, Carrier::Present))
         }
-        Outcome::RingsAgain => {
-            let due = due_after(time, RING_WAIT);
-            Turn::Own(Phase::RingAgain(due))
+        Outcome::RingsBackAgain => {
+            let due = due_after(time, RING_BACK_WAIT);
+            Turn::Own(Phase::RingBackAgain(due))
         }
         Outcome::ShipEnds(talk) => {
             let lasted = lasted_of(talk, time);

@@ -9,7 +9,7 @@ use Rattle.units.specs.Units.{greatest}
 use Rattle.slots.specs.declared.Carrier.{Carrier}
 use Rattle.slots.specs.declared.Carrier.the-variants.{Present, Lost}
 use Rattle.slots.specs.declared.Phase.{Phase}
-use Rattle.slots.specs.declared.Phase.the-variants.{Free, Offered, RingBack, RingAgain, Acknowledged}
+use Rattle.slots.specs.declared.Phase.the-variants.{Free, Offered, RingBack, RingBackAgain, Acknowledged}
 use Rattle.slots.specs.declared.Phase.the-variants.{Dialling, Answered, Hold, Taken, DialledOut, Called, CalledAgain, Ringing}
 use Rattle.slots.specs.Images.{tenths}
 use Rattle.phase_fields.specs.declared.CarrierFields.{CarrierFields}
@@ -32,7 +32,7 @@ abbrev pub phaseFields : Phase → PhaseFields
 phaseFields Free = fieldsOf 0 0 Present Nothing
 phaseFields (Offered t) = fieldsOf 1 (t .0) Present Nothing
 phaseFields (RingBack t) = fieldsOf 2 (t .0) Present Nothing
-phaseFields (RingAgain t) = fieldsOf 3 (t .0) Present Nothing
+phaseFields (RingBackAgain t) = fieldsOf 3 (t .0) Present Nothing
 phaseFields (Acknowledged t) = fieldsOf 4 (t .0) Present Nothing
 phaseFields (Dialling t c) = fieldsOf 5 (t .0) c Nothing
 phaseFields (Answered t c) = fieldsOf 6 (t .0) c Nothing
@@ -43,7 +43,7 @@ phaseFields (Called t) = fieldsOf 10 (t .0) Present Nothing
 phaseFields (CalledAgain t) = fieldsOf 11 (t .0) Present Nothing
 phaseFields (Ringing t) = fieldsOf 12 (t .0) Present Nothing
 
--- marks that are none give a time and a duration that no station may have: 29
+-- an invalid mark gives a time and a duration that no station may have, so that it is refused, 29
 unfoldable pub carrierFrom : CarrierFields → Carrier
 carrierFrom f = cond (eqb (f .mark) 0) Present (cond (eqb (f .mark) 1) (Lost (tenths (f .due))) (Lost (tenths greatest)))
 
@@ -65,7 +65,7 @@ phaseFrom f =
     cond (eqb (f .kind) 0) Free
     (cond (eqb (f .kind) 1) (Offered (tenths (f .time)))
     (cond (eqb (f .kind) 2) (RingBack (tenths (f .time)))
-    (cond (eqb (f .kind) 3) (RingAgain (tenths (f .time)))
+    (cond (eqb (f .kind) 3) (RingBackAgain (tenths (f .time)))
     (cond (eqb (f .kind) 4) (Acknowledged (tenths (f .time)))
     (cond (eqb (f .kind) 5) (Dialling (tenths (f .time)) (carrierFrom (f .carrier)))
     (cond (eqb (f .kind) 6) (Answered (tenths (f .time)) (carrierFrom (f .carrier)))

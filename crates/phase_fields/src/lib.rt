@@ -86,7 +86,7 @@ pub fn phase_fields(phase: Phase) -> PhaseFields
         Phase::Free => plain(0, Tenths(0)),
         Phase::Offered(due) => plain(1, due),
         Phase::RingBack(due) => plain(2, due),
-        Phase::RingAgain(due) => plain(3, due),
+        Phase::RingBackAgain(due) => plain(3, due),
         Phase::Acknowledged(due) => plain(4, due),
         Phase::Dialling(due, carrier) => fields_of(5, due, carrier, Lasted::Nothing),
         Phase::Answered(start, carrier) => fields_of(6, start, carrier, Lasted::Nothing),
@@ -163,7 +163,7 @@ pub fn phase_from(fields: PhaseFields) -> Phase
         return Phase::RingBack(Tenths(fields.time));
     }
     if kind == 3 {
-        return Phase::RingAgain(Tenths(fields.time));
+        return Phase::RingBackAgain(Tenths(fields.time));
     }
     if kind == 4 {
         return Phase::Acknowledged(Tenths(fields.time));

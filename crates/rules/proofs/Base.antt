@@ -10,7 +10,7 @@ use borrow.Author.Tests.{eq-eqb, eqb-true, leb-true, le-leb}
 use Rattle.units.specs.declared.Lasted.{Lasted}
 use Rattle.rules.specs.Rules.Words.{Party, is, Mode, simplex, duplex, Request, Ashore, Deed, Config}
 use Rattle.rules.specs.Rules.Actions.{Action, does, over, charge}
-use Rattle.rules.specs.Rules.Station.{bySlot, shipOf, Kind, offered, firstRing, secondRing, acknowledged, firstCall, secondCall, ringing, Slot, free, taken, pending, busy, held, Waiting, Station, theSlot, setSlot, carrierWait, lossDue, stageDue, mainDue, slotTable, table, fires, answeredAt, answeredIn, Dealing, Stage, dialling, dialledOut, answered, fresh, dueAfter, kindWait, diallingWait, replyWait, holdWait, isFree, offerOf, ringOf, rungAgain, agreedAt, calledOf, calledAgain, ringingAt, isCalled}
+use Rattle.rules.specs.Rules.Station.{bySlot, shipOf, Kind, offered, firstRingBack, secondRingBack, acknowledged, firstCall, secondCall, ringing, Slot, free, taken, pending, busy, held, Waiting, Station, theSlot, setSlot, carrierWait, lossDue, stageDue, mainDue, slotTable, table, fires, answeredAt, answeredIn, Dealing, Stage, dialling, dialledOut, answered, fresh, dueAfter, kindWait, diallingWait, replyWait, holdWait, isFree, offerOf, ringBackOf, ringBackAgainOf, agreedAt, calledOf, calledAgain, ringingAt, isCalled}
 use Rattle.rules.specs.Rules.Requests.{sameMode, sameNumber, same}
 use Rattle.rules.specs.ListAlone.Book.{silence, alikeMode, alikeDigits, alike, Said, silent, toldBQ, toldRQ, settled, Call, quiet, called, dialled, talking, Column, Place, Book, atColumn, column, columnTable, falls}
 use Rattle.rules.specs.ListAlone.Reading.{read, reads}
@@ -30,10 +30,10 @@ by-slot P a b f g h (pending k r d) = f k r d
 by-slot P a b f g h (busy r s c) = g r s c
 by-slot P a b f g h (held r n d) = h r n d
 
-pub by-kind : (P : Kind → Type 0) → P offered → P firstRing → P secondRing → P acknowledged → P firstCall → P secondCall → P ringing → (k : Kind) → P k
+pub by-kind : (P : Kind → Type 0) → P offered → P firstRingBack → P secondRingBack → P acknowledged → P firstCall → P secondCall → P ringing → (k : Kind) → P k
 by-kind P a b c d e f g offered = a
-by-kind P a b c d e f g firstRing = b
-by-kind P a b c d e f g secondRing = c
+by-kind P a b c d e f g firstRingBack = b
+by-kind P a b c d e f g secondRingBack = c
 by-kind P a b c d e f g acknowledged = d
 by-kind P a b c d e f g firstCall = e
 by-kind P a b c d e f g secondCall = f
@@ -48,8 +48,8 @@ by-stage P f g h (answered b) = h b
 
 abbrev pub saidOf : Kind → Request → Said
 saidOf offered r = toldBQ r
-saidOf firstRing r = toldRQ r
-saidOf secondRing r = toldRQ r
+saidOf firstRingBack r = toldRQ r
+saidOf secondRingBack r = toldRQ r
 saidOf acknowledged r = settled r
 saidOf firstCall r = silent
 saidOf secondCall r = silent
@@ -58,8 +58,8 @@ saidOf ringing r = silent
 -- the line that a caller ashore has taken
 abbrev pub lineOf : Kind → Request → Call
 lineOf offered r = quiet
-lineOf firstRing r = quiet
-lineOf secondRing r = quiet
+lineOf firstRingBack r = quiet
+lineOf secondRingBack r = quiet
 lineOf acknowledged r = quiet
 lineOf firstCall r = called r false
 lineOf secondCall r = called r false
@@ -91,20 +91,20 @@ pub calling : (s : Slot) → Calling s (view s .call)
 calling = by-slot (λ s. Calling s (view s .call)) (no-call _ refl) (no-call _ refl) a-caller a-call (λ r n d. no-call _ refl)
 
 -- the call of a slot that is rung back once, and whose it is
-abbrev firstRung : Kind → Dealing → Option Dealing
-firstRung offered r = none
-firstRung firstRing r = some r
-firstRung secondRing r = none
-firstRung acknowledged r = none
-firstRung firstCall r = none
-firstRung secondCall r = none
-firstRung ringing r = none
+abbrev firstRungBack : Kind → Dealing → Option Dealing
+firstRungBack offered r = none
+firstRungBack firstRingBack r = some r
+firstRungBack secondRingBack r = none
+firstRungBack acknowledged r = none
+firstRungBack firstCall r = none
+firstRungBack secondCall r = none
+firstRungBack ringing r = none
 
 abbrev pub rungOnce : Slot → Option Dealing
-rungOnce s = bySlot none firstRung (λ r g c. none) s
+rungOnce s = bySlot none firstRungBack (λ r g c. none) s
 
 pub rung-owns : (s : Slot) (o : Dealing) → rungOnce s ≡ some o → shipOf s ≡ some (o .request .who)
-rung-owns s o = by-slot (λ p. rungOnce p ≡ some o → shipOf p ≡ some (o .request .who)) (λ h. cc) (λ h. cc) (λ k r d. by-kind (λ x. firstRung x r ≡ some o → some (r .request .who) ≡ some (o .request .who)) (λ h. cc) (λ h. cc) (λ h. cc) (λ h. cc) (λ h. cc) (λ h. cc) (λ h. cc) k) (λ r g c h. cc) (λ r n d h. cc) s
+rung-owns s o = by-slot (λ p. rungOnce p ≡ some o → shipOf p ≡ some (o .request .who)) (λ h. cc) (λ h. cc) (λ k r d. by-kind (λ x. firstRungBack x r ≡ some o → some (r .request .who) ≡ some (o .request .who)) (λ h. cc) (λ h. cc) (λ h. cc) (λ h. cc) (λ h. cc) (λ h. cc) (λ h. cc) k) (λ r g c h. cc) (λ r n d h. cc) s
 
 abbrev pub place : Waiting → Place
 place w = record { who = w .request .who; due = w .due }
@@ -340,11 +340,11 @@ new-wait c w = rw (le-leb c (c + (w + 1)) (omega arith), le-leb (c + (w + 1)) (c
 pub offer-fits : (r : Request) (st : Station) → slotFits (st .clock) (offerOf r st) ≡ true
 offer-fits r st = new-wait (st .clock) (kindWait offered)
 
-pub ring-fits : (r : Request) (st : Station) → slotFits (st .clock) (ringOf r st) ≡ true
-ring-fits r st = new-wait (st .clock) (kindWait firstRing)
+pub ring-fits : (r : Request) (st : Station) → slotFits (st .clock) (ringBackOf r st) ≡ true
+ring-fits r st = new-wait (st .clock) (kindWait firstRingBack)
 
-pub again-fits : (r : Dealing) (t : ℕ) → slotFits t (rungAgain r t) ≡ true
-again-fits r t = new-wait t (kindWait secondRing)
+pub again-fits : (r : Dealing) (t : ℕ) → slotFits t (ringBackAgainOf r t) ≡ true
+again-fits r t = new-wait t (kindWait secondRingBack)
 
 pub agreed-fits : (r : Dealing) (t : ℕ) → slotFits t (agreedAt r t) ≡ true
 agreed-fits r t = new-wait t (kindWait acknowledged)

@@ -8,7 +8,7 @@ use native.Mathlib.Omega.{arith}
 use borrow.Author.Tests.{not-true}
 use Rattle.rules.specs.Rules.Places.{modAt, lowest, elem, distinct}
 use Rattle.rules.specs.Rules.Words.{Party, is, Request}
-use Rattle.rules.specs.Rules.Station.{Slot, shipOf, Waiting, Station, theSlot, setSlot, setQueue, ringOf}
+use Rattle.rules.specs.Rules.Station.{Slot, shipOf, Waiting, Station, theSlot, setSlot, setQueue, ringBackOf}
 use Rattle.rules.specs.Rules.Sound.{listed, owners}
 use Rattle.rules.specs.Rules.Requests.{rungBack, freedFor, freed, coastEnd, isOf, owns, waitsFor}
 use Rattle.rules.proofs.PlaceLaws.{or-false, and-true, shift-none}
@@ -117,7 +117,7 @@ freedFor-gone i x st w h [] e = none-left _ (countS x (st .slots)) (countQ x (st
   where
     none-left : (n s k : ℕ) → n + 1 ≤ s + 0 → s + k ≤ 1 → n ≡ 0
     none-left n s k a b = omega arith
-freedFor-gone i x st w h (v ∷ q) e = none-left _ (countS x (st .slots)) (bit (is x (v .request .who))) (countQ x q) (given-away i x st h (ringOf (v .request) st)) (rw e at (w x))
+freedFor-gone i x st w h (v ∷ q) e = none-left _ (countS x (st .slots)) (bit (is x (v .request .who))) (countQ x q) (given-away i x st h (ringBackOf (v .request) st)) (rw e at (w x))
   where
     none-left : (n s b k : ℕ) → n + 1 ≤ s + b → s + (b + k) ≤ 1 → n ≡ 0
     none-left n s b k u v = omega arith

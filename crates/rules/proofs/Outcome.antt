@@ -9,9 +9,9 @@ use Rattle.rules.specs.Rules.Places.{Each}
 use Rattle.rules.specs.Rules.Words.{Party, is, Request, Config, lineDialledOut, lineLifted, lineHung, carrierHeard, carrierLost, handTakes, handGives, Happened, heard, signal, operator, offHook, Deed, carrierOn, carrierOff, acknowledge, callShip, unable, dial, releaseLine, ringingOn, ringingOff, busyTone, Mode, isAnswering, isTransmitting, carrierUp}
 use Rattle.rules.specs.Rules.Heard.{Heard, callRequest, dataRequest, bq, workingCall, endOfCall, declined, nothing, meaning}
 use Rattle.rules.specs.Rules.Actions.{Action, does, over, Ender, theShip, theCoast}
-use Rattle.rules.specs.Rules.Station.{Kind, firstRing, firstCall, secondCall, ringing, isCalled, rings, rungAgain, agreedAt, calledAgain, ringingAt, Stage, answeredAt, dialling, dialledOut, answered, Dealing, Slot, free, taken, pending, busy, held, Station, setSlot, dueAfter, diallingWait, replyWait, holdWait, carrierWait}
+use Rattle.rules.specs.Rules.Station.{Kind, firstRingBack, firstCall, secondCall, ringing, isCalled, rings, ringBackAgainOf, agreedAt, calledAgain, ringingAt, Stage, answeredAt, dialling, dialledOut, answered, Dealing, Slot, free, taken, pending, busy, held, Station, setSlot, dueAfter, diallingWait, replyWait, holdWait, carrierWait}
 use Rattle.rules.specs.Rules.Requests.{Out, ignored, also, freed, lasted, endActs, coastEnd}
-use Rattle.rules.specs.Rules.Calls.{dialNow, workingKind, workingOn, agreed, startsRinging, bqKind, bqFor, dialledOutStage, dialledOutOn, offHookStage, offHookOn, startLoss, downOn, transmitted, upKind, upOn, dropActs, dropped, declinedKind, declinedOn, hungKind, hungOn, callAgain, shipEnd, sayAgain, shipEndOn, endOn, takeOn, giveOn, offerDue, ringAgain, pendingDue, replyDue, mainOn, heardOn, happenedOn}
+use Rattle.rules.specs.Rules.Calls.{dialNow, workingKind, workingOn, agreed, startsRinging, bqKind, bqFor, dialledOutStage, dialledOutOn, offHookStage, offHookOn, startLoss, downOn, transmitted, upKind, upOn, dropActs, dropped, declinedKind, declinedOn, hungKind, hungOn, callAgain, shipEnd, sayAgain, shipEndOn, endOn, takeOn, giveOn, offerDue, rungBackAgain, pendingDue, replyDue, mainOn, heardOn, happenedOn}
 use Rattle.rules.specs.ListAlone.Book.{Stop, Column, Place}
 use Rattle.rules.specs.ListAlone.Reading.{close, withWait, withGone, dialOut, pickUp, comeUp, lose, signOff, hearSaid, hearColumn, settle, tell, summon, dialUp, letGo, hush, leave, stopOf, callOf, stopsSaid, stopsOn}
 use Rattle.rules.specs.ListAlone.Repeated.{Dials}
@@ -38,7 +38,7 @@ pub data Move (i t : ℕ) : Slot → Next → List Action → Type 0 where
   to-agree : (k : Kind) (r : Dealing) (d : ℕ) → isCalled k ≡ false
       → Move i t (pending k r d) (becomes (agreedAt r t)) []
   to-ring : (r : Dealing) (d : ℕ)
-      → Move i t (pending firstRing r d) (becomes (rungAgain r t)) (does (callShip i (r .request)) ∷ [])
+      → Move i t (pending firstRingBack r d) (becomes (ringBackAgainOf r t)) (does (callShip i (r .request)) ∷ [])
   to-drop : (k : Kind) (r : Dealing) (d : ℕ) → isCalled k ≡ false → Move i t (pending k r d) frees (does (carrierOff i) ∷ [])
   -- called from ashore
   to-call : (r : Dealing) (d : ℕ)
@@ -149,7 +149,7 @@ drop-about i ps true true = (refl, (refl, (refl, (refl, tt))))
 pub move-about : (ps : List Place) (i t : ℕ) (p : Slot) (n : Next) (acts : List Action) → Move i t p n acts → Apart ps p → Each (About i ps) (deedsOf acts)
 move-about ps i t _ _ _ (to-dial k r d z) h = (refl, tt)
 move-about ps i t _ _ _ (to-agree k r d z) h = tt
-move-about ps i t _ _ _ (to-ring r d) h = ((refl, h firstRing r d refl), tt)
+move-about ps i t _ _ _ (to-ring r d) h = ((refl, h firstRingBack r d refl), tt)
 move-about ps i t _ _ _ (to-drop k r d z) h = (refl, tt)
 move-about ps i t _ _ _ (to-call r d) h = ((refl, h firstCall r d refl), tt)
 move-about ps i t _ _ _ (to-rings k r d z) h = (refl, tt)
@@ -328,7 +328,7 @@ module _ (i : ℕ) (st : Station) where
 
   -- ── the slot's other wait falls due ──
   pub main-outcome : (p : Slot) → Outcome i st (withWait none) (λ w. w) [] p (mainOn i st p)
-  unfolding mainOn pendingDue offerDue ringAgain callAgain dropped replyDue coastEnd
+  unfolding mainOn pendingDue offerDue rungBackAgain callAgain dropped replyDue coastEnd
   main-outcome free = passed refl refl refl
   main-outcome taken = passed refl refl refl
   main-outcome (pending k r d) = by-kind (λ z. Outcome i st (withWait none) (λ w. w) [] (pending z r d) (pendingDue i z r st)) (moved (to-drop _ r d refl) refl refl refl) (moved (to-ring r d) refl refl refl) (moved (to-drop _ r d refl) refl refl refl) (moved (to-drop _ r d refl) refl refl refl) (moved (to-call r d) refl refl refl) (moved (to-let-go _ r d true) refl refl refl) (moved (to-let-go _ r d true) refl refl refl) k

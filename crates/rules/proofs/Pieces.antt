@@ -10,7 +10,7 @@ use native.Mathlib.Omega.{arith}
 use Rattle.rules.specs.Rules.Places.{modAt, shift, lowest}
 use Rattle.rules.specs.Rules.Words.{Party, is, Request, Ashore}
 use Rattle.rules.specs.Rules.Actions.{theCoast, Action}
-use Rattle.rules.specs.Rules.Station.{Stage, answered, answeredAt, Slot, Waiting, Station, theSlot, setSlot, setQueue, dueAfter, queueWait, isFree, ringOf, offerOf}
+use Rattle.rules.specs.Rules.Station.{Stage, answered, answeredAt, Slot, Waiting, Station, theSlot, setSlot, setQueue, dueAfter, queueWait, isFree, ringBackOf, offerOf}
 use Rattle.rules.specs.Rules.Requests.{Out, done, also, rungBack, freedFor, freed, endActs, coastEnd, waitsFor, afresh, ruleD, offer, ruleF, ruleG, eToG, newcomer}
 use Rattle.rules.specs.ListAlone.Book.{Stop, Column, Place, Book, blank, atColumn}
 use Rattle.rules.specs.ListAlone.Reading.{tell, summon, letGo, hush, leave, join, reads, stopOf}
@@ -69,7 +69,7 @@ freedFor-good : (i : ℕ) (st : Station) (p : Slot) → theSlot st i ≡ p → (
 unfolding freedFor rungBack reads seen setSlot setQueue
 freedFor-good i st p e [] eq f h = record { reading = moves i st p e f _ h; charging = refl }
 freedFor-good i st p e (w ∷ q) eq f h = record {
-  reading = book-is refl (lines² i st p e f (summon (st .clock) (w .request)) (ringOf (w .request) st) (ap (summon (st .clock) (w .request)) h)) (rw eq (leave-first (w .request .who) (place w) (map place q) refl));
+  reading = book-is refl (lines² i st p e f (summon (st .clock) (w .request)) (ringBackOf (w .request) st) (ap (summon (st .clock) (w .request)) h)) (rw eq (leave-first (w .request .who) (place w) (map place q) refl));
   charging = refl;
 }
 

@@ -10,7 +10,7 @@ use lib.Dec.{eqb}
 use Rattle.rules.specs.Rules.Places.{modAt, Each}
 use Rattle.rules.specs.Rules.Words.{Request, Ashore, Deed, carrierOn, carrierOff, acknowledge, callShip, unable, dial, releaseLine, ringingOn, ringingOff, busyTone}
 use Rattle.rules.specs.Rules.Actions.{theCoast, Action}
-use Rattle.rules.specs.Rules.Station.{Slot, Waiting, Station, theSlot, setSlot, setQueue, ringOf}
+use Rattle.rules.specs.Rules.Station.{Slot, Waiting, Station, theSlot, setSlot, setQueue, ringBackOf}
 use Rattle.rules.specs.Rules.Requests.{Out, ignored, also, rungBack, freedFor, freed, endActs, coastEnd}
 use Rattle.rules.specs.ListAlone.Book.{Stop, Column}
 use Rattle.rules.specs.ListAlone.LineWords.{Word, worded, unused, idle, outward, lineCalled}
@@ -117,7 +117,7 @@ module _ (i : ℕ) (st : Station) where
   freedFor-told : (ws : List Word) → ws ≡ words (setSlot i (leaves (theSlot st i) frees) st) → (q : List Waiting) → Spoken ws (freedFor i st q)
   unfolding freedFor rungBack spoken setSlot setQueue
   freedFor-told ws h [] = record { telling = h }
-  freedFor-told ws h (w ∷ q) = record { telling = sym (modAt-none i ws) ∙ h ∙ same-word (leaves (theSlot st i) frees) (ringOf (w .request) st) i (st .slots) refl }
+  freedFor-told ws h (w ∷ q) = record { telling = sym (modAt-none i ws) ∙ h ∙ same-word (leaves (theSlot st i) frees) (ringBackOf (w .request) st) i (st .slots) refl }
 
   freed-told : (ws : List Word) → ws ≡ words (setSlot i (leaves (theSlot st i) frees) st) → Spoken ws (freed i st)
   unfolding freed

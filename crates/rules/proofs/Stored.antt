@@ -15,7 +15,7 @@ use Rattle.sequence.specs.Field.{durationOk}
 use Rattle.rules.specs.Rules.Places.{modAt, dropAt, all}
 use Rattle.rules.specs.Rules.Words.{Request, Config}
 use Rattle.rules.specs.Rules.Actions.{Action}
-use Rattle.rules.specs.Rules.Station.{Slot, Waiting, Station, theSlot, setSlot, setClock, setQueue, answeredAt, ringOf, offerOf, calledOf}
+use Rattle.rules.specs.Rules.Station.{Slot, Waiting, Station, theSlot, setSlot, setClock, setQueue, answeredAt, ringBackOf, offerOf, calledOf}
 use Rattle.rules.specs.Rules.Sound.{requestKeeps, durationKeeps, slotKeeps, waitingKeeps}
 use Rattle.rules.specs.Rules.Requests.{rungBack, freedFor, freed, lasted, ruleD, ruleF}
 use Rattle.rules.proofs.PlaceLaws.{and-true, modAt-length, all-set, all-end, all-dropped}
@@ -84,7 +84,7 @@ module _ (cfg : Config) where
   freedFor-stored i st s [] e = set-stored i _ st refl s
   freedFor-stored i st s (w ∷ q) e =
       let k = and-true (waitingKeeps cfg w) (all (waitingKeeps cfg) q) (rw e at (s .queue-keeps)) in
-      set-stored i (ringOf (w .request) st) (setQueue q st) (k .0) (queue-stored q st (k .1) s)
+      set-stored i (ringBackOf (w .request) st) (setQueue q st) (k .0) (queue-stored q st (k .1) s)
 
   freed-stored : (i : ℕ) (st : Station) → Stored cfg st → Stored cfg (freed i st .next)
   unfolding freed

@@ -11,7 +11,7 @@ use borrow.Author.Tests.{leb-true, ltb-true}
 use Rattle.rules.specs.Rules.Places.{modAt, dropAt, all}
 use Rattle.rules.specs.Rules.Words.{Party, is, Request, Config}
 use Rattle.rules.specs.Rules.Actions.{Action}
-use Rattle.rules.specs.Rules.Station.{Dealing, Kind, Slot, pending, Waiting, Station, theSlot, setSlot, setQueue, dueAfter, queueWait, ringOf, offerOf, calledOf}
+use Rattle.rules.specs.Rules.Station.{Dealing, Kind, Slot, pending, Waiting, Station, theSlot, setSlot, setQueue, dueAfter, queueWait, ringBackOf, offerOf, calledOf}
 use Rattle.rules.specs.Rules.Sound.{queueRoom, slotFits, placeFits}
 use Rattle.rules.specs.Rules.Requests.{rungBack, freedFor, freed, owns, waitsFor, placeOf, ruleD, ruleF}
 use Rattle.rules.proofs.PlaceLaws.{and-true, lowest-is, all-set, all-end, all-dropped, dropped-length}
@@ -75,8 +75,8 @@ freedFor-whole : (i : ℕ) (st : Station) → Whole st → (q : List Waiting) �
 unfolding freedFor rungBack setSlot setQueue
 freedFor-whole i st w [] e = turn-whole i st (theSlot st i) refl w _ refl (λ x. omega arith)
 freedFor-whole i st w (v ∷ q) e = record {
-  once = λ x. less (countS x (modAt (λ y. ringOf (v .request) st) i (st .slots))) (bit (owns x (theSlot st i))) (countS x (st .slots)) (bit (is x (v .request .who))) (countQ x q) (count-set x i (ringOf (v .request) st) st) (rw e at (w .once x));
-  fit = all-set (slotFits (st .clock)) i (ringOf (v .request) st) (st .slots) (w .fit) (ring-fits (v .request) st);
+  once = λ x. less (countS x (modAt (λ y. ringBackOf (v .request) st) i (st .slots))) (bit (owns x (theSlot st i))) (countS x (st .slots)) (bit (is x (v .request .who))) (countQ x q) (count-set x i (ringBackOf (v .request) st) st) (rw e at (w .once x));
+  fit = all-set (slotFits (st .clock)) i (ringBackOf (v .request) st) (st .slots) (w .fit) (ring-fits (v .request) st);
   placed = and-true (placeFits (st .clock) v) (all (placeFits (st .clock)) q) (rw e at (w .placed)) .1;
   room = shorter (length q) (rw e at (w .room));
 }

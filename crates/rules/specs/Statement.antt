@@ -11,7 +11,7 @@ use Rattle.rules.specs.Rules.Places.{lowest, Each}
 use Rattle.rules.specs.Rules.Words.{Party, Config, Event, Deed}
 use Rattle.rules.specs.Rules.Heard.{Heard, callRequest, dataRequest, bq, workingCall, endOfCall, declined, nothing}
 use Rattle.rules.specs.Rules.Actions.{Charge, Action, does, over, charge}
-use Rattle.rules.specs.Rules.Station.{Kind, firstRing, isCalled, answered, Dealing, Slot, free, taken, pending, busy, held}
+use Rattle.rules.specs.Rules.Station.{Kind, firstRingBack, isCalled, answered, Dealing, Slot, free, taken, pending, busy, held}
 use Rattle.rules.specs.Rules.Station.{ringsIn, Waiting, Station, theSlot, setClock, fresh, answeredIn, isFree}
 use Rattle.rules.specs.Rules.Sound.{sound}
 use Rattle.rules.specs.Rules.Requests.{Out, ignored}
@@ -21,7 +21,7 @@ use Rattle.rules.specs.Rules.Bytes.{payloadOf}
 use Rattle.rules.specs.ListAlone.Book.{Book, Note, Stop, column, blankBook}
 use Rattle.rules.specs.ListAlone.Reading.{Numbered, numbered, stops, counted, countedByCalls, heardAt, readAll}
 use Rattle.rules.specs.ListAlone.LineWords.{unused, wordAfter, wordOf, ringingAfter, InTurn, releases}
-use Rattle.rules.specs.ListAlone.Repeated.{Answers, RingsSame, DialsNamed, DeedByDeed}
+use Rattle.rules.specs.ListAlone.Repeated.{Answers, SendsSame, DialsNamed, DeedByDeed}
 use Rattle.rules.specs.ListAlone.BeingCalled.{OffersOthers, AsksInVain}
 
 -- ── the list, and the charges in it ──────────────────────────────────────────
@@ -169,8 +169,8 @@ AnswersRepeat = OfEveryEntry Answers
 
 -- a ring-back or a call from ashore comes just behind its slot's carrier, nothing having been said of that slot, or repeats the one that
 -- channel 70 said last; a call from ashore begins in its caller's own entry, on a slot with no call, and is repeated while it does not ring
-unfoldable pub SecondRingRepeats : Type 0
-SecondRingRepeats = OfEveryEntry (DeedByDeed RingsSame)
+unfoldable pub SecondSendingRepeats : Type 0
+SecondSendingRepeats = OfEveryEntry (DeedByDeed SendsSame)
 
 -- a number that is dialled is that of the request which channel 70 last named for that slot
 unfoldable pub DialsAsked : Type 0
@@ -179,15 +179,15 @@ DialsAsked = OfEveryEntry (DeedByDeed DialsNamed)
 -- 02, no. 2: calls from ashore. When one begins and why it is dropped, the next six leave to the rules; when it rings, `Literally` says.
 
 -- a slot rings exactly if the last 8 or 9 given on it is 8
-abbrev pub RingsBy : List Note → Station → Type 0
-RingsBy l st = (i : ℕ) → ringingAfter i l false ≡ ringsIn (theSlot st i)
+abbrev pub RingingBy : List Note → Station → Type 0
+RingingBy l st = (i : ℕ) → ringingAfter i l false ≡ ringsIn (theSlot st i)
 
-unfoldable pub RingsAsTold : Type 0
-RingsAsTold = OfEveryRun (λ c es. RingsBy (listOf c es) (stationAfter c es))
+unfoldable pub RingingAsTold : Type 0
+RingingAsTold = OfEveryRun (λ c es. RingingBy (listOf c es) (stationAfter c es))
 
 -- one 8 is given where it begins to ring, one 9 where it ends, and no other
-unfoldable pub RingsInTurn : Type 0
-RingsInTurn = OfEveryEntry InTurn
+unfoldable pub RingingInTurn : Type 0
+RingingInTurn = OfEveryEntry InTurn
 
 -- a ship that is being called is not offered a slot, nor put off or refused, nor called or rung back on a second slot
 unfoldable pub CalledNotOffered : Type 0
@@ -229,7 +229,7 @@ GoesOn r t (held o n d) = ⊥
 abbrev pub IsFreed : Slot → Type 0
 IsFreed free = Unit {0}
 IsFreed taken = ⊥
-IsFreed (pending k o d) = k ≡ firstRing
+IsFreed (pending k o d) = k ≡ firstRingBack
 IsFreed (busy o g c) = ⊥
 IsFreed (held o n d) = ⊥
 

@@ -8,12 +8,12 @@ use Rattle.rules.specs.Rules.Places.{modAt, dropAt, Each}
 use Rattle.rules.specs.Rules.Words.{Party, Request, Config, Ashore, Deed}
 use Rattle.rules.specs.Rules.Heard.{Heard, callRequest}
 use Rattle.rules.specs.Rules.Actions.{Ender, theShip, theCoast, Action}
-use Rattle.rules.specs.Rules.Station.{Dealing, dealing, Slot, Waiting, Station, theSlot, setSlot, setClock, setQueue, answeredAt, ringOf, rings}
+use Rattle.rules.specs.Rules.Station.{Dealing, dealing, Slot, Waiting, Station, theSlot, setSlot, setClock, setQueue, answeredAt, ringBackOf, rings}
 use Rattle.rules.specs.Rules.Requests.{Out, also, rungBack, freedFor, freed, endActs, coastEnd, done}
 use Rattle.rules.specs.Rules.Calls.{dropActs}
 use Rattle.rules.specs.ListAlone.Book.{Said, silent, Call, quiet, called, dialled, talking, Stop, Column, Book, atColumn, column}
 use Rattle.rules.specs.ListAlone.Reading.{letGo, hush, read, reads}
-use Rattle.rules.specs.ListAlone.Repeated.{putsOff, toldToWait, CallsAsked, Sends, Repeats, switchedOn, RingsSame, DialsNamed, EachRead}
+use Rattle.rules.specs.ListAlone.Repeated.{putsOff, toldToWait, CallsAsked, Sends, Repeats, switchedOn, SendsSame, DialsNamed, EachRead}
 use Rattle.rules.specs.ListAlone.LineWords.{Word}
 use Rattle.rules.specs.Statement.{deedsOf}
 use Rattle.rules.proofs.PlaceLaws.{each-set, each-dropped}
@@ -37,7 +37,7 @@ pub record Known (a : Party → Heard) (st : Station) : Type 0 where
 
 -- a deed that repeats what was asked, and fits what channel 70 last said of its slot; q is asked ashore in the same entry
 abbrev pub Fits : Config → Heard → (Party → Heard) → Option Ashore → Option ℕ → Book → Deed → Type 0
-Fits cfg h a q on b d = Repeats cfg h a q b d × (RingsSame q on b d × DialsNamed q on b d)
+Fits cfg h a q on b d = Repeats cfg h a q b d × (SendsSame q on b d × DialsNamed q on b d)
 
 -- deeds that fit, and tell nobody to wait
 pub record Mild (cfg : Config) (h : Heard) (a : Party → Heard) (b : Book) (ds : List Deed) : Type 0 where
@@ -144,7 +144,7 @@ module _ (cfg : Config) (h : Heard) (a : Party → Heard) where
       let p : Each (Asked a) (w ∷ q) = rw e at (k .waiting) in
       record {
         mild = record { fits = λ t on. ((tt, (tt, tt)), ((rung-asked cfg _ _ (column b i .call) (z .1) (p .0), (rung-behind i _ _ (column b i .call) (z .0) (z .1), tt)), tt)); untold = λ x. refl };
-        known = set-known a i (ringOf (w .request) st) (setQueue q st) (λ r h. let y : dealing (w .request) ≡ r = cc in rw (← y) (p .0)) (queue-known a q st (p .1) k);
+        known = set-known a i (ringBackOf (w .request) st) (setQueue q st) (λ r h. let y : dealing (w .request) ≡ r = cc in rw (← y) (p .0)) (queue-known a q st (p .1) k);
       }
 
   freed-calm : (b : Book) (i : ℕ) (st : Station) → Silent (column b i) → Known a st → Calm cfg h a b (freed i st)

@@ -1,4 +1,4 @@
--- `AnswersRepeat`, `SecondRingRepeats` and `DialsAsked`: a call request, any event, and then the run.
+-- `AnswersRepeat`, `SecondSendingRepeats` and `DialsAsked`: a call request, any event, and then the run.
 use mathlib.Core.Path.{_≡_, refl, sym, ap, subst, _∙_}
 use mathlib.Core.List.{List, [], _∷_, _++_, map}
 use mathlib.Core.Bool.{Bool, true, false, cond, _||_}
@@ -19,7 +19,7 @@ use Rattle.rules.specs.Rules.Verdict.{verdict, play}
 use Rattle.rules.specs.ListAlone.Book.{Note, Stop, Book, blank, column, blankBook}
 use Rattle.rules.specs.ListAlone.Reading.{read, reads, turn, readAll, heardAt}
 use Rattle.rules.specs.ListAlone.Repeated.{heardIn, askedIn, toldToWait, AsksFor, lastAsked, switchedOn, EachRead}
-use Rattle.rules.specs.Statement.{deedsOf, notes, EveryEntry, AnswersRepeat, SecondRingRepeats, DialsAsked}
+use Rattle.rules.specs.Statement.{deedsOf, notes, EveryEntry, AnswersRepeat, SecondSendingRepeats, DialsAsked}
 use Rattle.rules.specs.ListAlone.LineWords.{Word}
 use Rattle.rules.proofs.PlaceLaws.{shift-some, each-append}
 use Rattle.rules.proofs.KindLaws.{modes-kept}
@@ -238,9 +238,9 @@ answers-repeat cfg set es before n after e =
     each-read (λ q on b d p. p .0) (askedIn n) _ none _ (n .deeds) (all-answered cfg es before n after e .fits _ none)
 
 -- and the second sending repeats the first
-pub second-ring-repeats : SecondRingRepeats
-unfolding SecondRingRepeats
-second-ring-repeats cfg set es before n after e =
+pub second-sending-repeats : SecondSendingRepeats
+unfolding SecondSendingRepeats
+second-sending-repeats cfg set es before n after e =
     each-read (λ q on b d p. p .1 .0) (askedIn n) _ none _ (n .deeds) (all-answered cfg es before n after e .fits _ none)
 
 -- and the number dialled is the one asked for

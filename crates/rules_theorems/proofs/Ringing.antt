@@ -1,4 +1,4 @@
--- `RingsAsTold` and `RingsInTurn`: 8 and 9 alternate on every slot, and it rings by the last of them.
+-- `RingingAsTold` and `RingingInTurn`: 8 and 9 alternate on every slot, and it rings by the last of them.
 use mathlib.Core.Path.{_≡_, refl, sym, ap, _∙_}
 use mathlib.Core.List.{List, [], _∷_, _++_}
 use mathlib.Core.Bool.{Bool, true, false}
@@ -12,8 +12,8 @@ use Rattle.rules.specs.Rules.Actions.{theShip, theCoast, Action}
 use Rattle.rules.specs.Rules.Station.{Kind, isCalled, rings, isCalledIn, ringsIn, answeredAt, Slot, Station, theSlot, fresh}
 use Rattle.rules.specs.Rules.Calls.{dropActs, act}
 use Rattle.rules.specs.ListAlone.Repeated.{Dials}
-use Rattle.rules.specs.ListAlone.LineWords.{ringingDone, ringingsDone, ringingAfter, ringSwitch, ringSwitches, change}
-use Rattle.rules.specs.Statement.{deedsOf, IsFreed, RingsAsTold, RingsInTurn}
+use Rattle.rules.specs.ListAlone.LineWords.{ringingDone, ringingsDone, ringingAfter, ringingSwitch, ringingSwitches, change}
+use Rattle.rules.specs.Statement.{deedsOf, IsFreed, RingingAsTold, RingingInTurn}
 use Rattle.rules.proofs.Base.{by-slot, by-kind, saidOf, slot-each, fresh-each}
 use Rattle.rules.proofs.Outcome.{becomes, frees, Move, to-dial, to-agree, to-ring, to-drop, to-call, to-rings, to-answer, to-let-go, to-stage, to-lose, to-regain, to-hold, to-end, to-run-out, to-take, to-give}
 use Rattle.rules_theorems.proofs.Course.{Unrung, end-unrung, Course, spared, calls, turned, let-go, act-course}
@@ -37,7 +37,7 @@ freed-unrung = by-slot (λ s. IsFreed s → ringsIn s ≡ false) (λ h. refl) (�
 
 -- slot i rings before them by b and after them by c
 record Swung (i : ℕ) (ds : List Deed) (b c : Bool) : Type 0 where
-  given : ringSwitches i ds ≡ change b c
+  given : ringingSwitches i ds ≡ change b c
   tells : ringingsDone i ds b ≡ c
 
 no-change : (b : Bool) → [] ≡ change b b
@@ -45,7 +45,7 @@ no-change true = refl
 no-change false = refl
 
 module _ (i : ℕ) where
-  one-unrung : (d : Deed) → Unrung i d → (l : List Bool) (b : Bool) → (ringSwitch i d l ≡ l) × (ringingDone i d b ≡ b)
+  one-unrung : (d : Deed) → Unrung i d → (l : List Bool) (b : Bool) → (ringingSwitch i d l ≡ l) × (ringingDone i d b ≡ b)
   one-unrung (carrierOn j) u l b = (refl, refl)
   one-unrung (carrierOff j) u l b = (refl, refl)
   one-unrung (acknowledge j r) u l b = (refl, refl)
@@ -57,10 +57,10 @@ module _ (i : ℕ) where
   one-unrung (ringingOff j) u l b = (rw (ne-eqb i j u) refl, rw (ne-eqb i j u) refl)
   one-unrung (busyTone j) u l b = (refl, refl)
 
-  all-unrung : (ds : List Deed) → Each (Unrung i) ds → (b : Bool) → (ringSwitches i ds ≡ []) × (ringingsDone i ds b ≡ b)
+  all-unrung : (ds : List Deed) → Each (Unrung i) ds → (b : Bool) → (ringingSwitches i ds ≡ []) × (ringingsDone i ds b ≡ b)
   all-unrung [] u b = (refl, refl)
   all-unrung (d ∷ ds) u b =
-      let x = one-unrung d (u .0) (ringSwitches i ds) b in
+      let x = one-unrung d (u .0) (ringingSwitches i ds) b in
       let y = all-unrung ds (u .1) b in
       (x .0 ∙ y .0, rw (x .1) (y .1))
 
@@ -71,9 +71,9 @@ module _ (i : ℕ) where
   swung-then : (a ds : List Deed) → Each (Unrung i) ds → (b c : Bool) → Swung i a b c → Swung i (a ++ ds) b c
   swung-then a ds u b c s = record { given = tolled a ∙ s .given; tells = rung a b ∙ s .tells }
     where
-      tolled : (a : List Deed) → ringSwitches i (a ++ ds) ≡ ringSwitches i a
+      tolled : (a : List Deed) → ringingSwitches i (a ++ ds) ≡ ringingSwitches i a
       tolled [] = all-unrung ds u b .0
-      tolled (d ∷ a) = ap (ringSwitch i d) (tolled a)
+      tolled (d ∷ a) = ap (ringingSwitch i d) (tolled a)
 
       rung : (a : List Deed) (b : Bool) → ringingsDone i (a ++ ds) b ≡ ringingsDone i a b
       rung [] b = all-unrung ds u b .1
@@ -141,11 +141,11 @@ module _ (i : ℕ) where
   fresh-rings cfg = slot-each (fresh cfg) (λ s. false ≡ ringsIn s) refl i (fresh-each cfg (λ s. false ≡ ringsIn s) refl)
 
 -- the last of 8 and 9 tells whether it rings
-pub rings-as-told : RingsAsTold
-unfolding RingsAsTold keeps-ringing
-rings-as-told cfg set es i = run-final (keeps-ringing i) cfg (IsRinging i) (ringing-on i cfg) es false (fresh cfg) (fresh-rings i cfg)
+pub ringing-as-told : RingingAsTold
+unfolding RingingAsTold keeps-ringing
+ringing-as-told cfg set es i = run-final (keeps-ringing i) cfg (IsRinging i) (ringing-on i cfg) es false (fresh cfg) (fresh-rings i cfg)
 
 -- and they alternate
-pub rings-in-turn : RingsInTurn
-unfolding RingsInTurn keeps-ringing
-rings-in-turn cfg set es before n after e i = run-entries (keeps-ringing i) cfg (IsRinging i) (ringing-on i cfg) (λ b m. ringSwitches i (m .deeds) ≡ change b (ringingsDone i (m .deeds) b)) (λ b st x v f. rw f (let s = event-swung i cfg st x in rw (s .tells) (s .given))) es false (fresh cfg) (fresh-rings i cfg) before n after e
+pub ringing-in-turn : RingingInTurn
+unfolding RingingInTurn keeps-ringing
+ringing-in-turn cfg set es before n after e i = run-entries (keeps-ringing i) cfg (IsRinging i) (ringing-on i cfg) (λ b m. ringingSwitches i (m .deeds) ≡ change b (ringingsDone i (m .deeds) b)) (λ b st x v f. rw f (let s = event-swung i cfg st x in rw (s .tells) (s .given))) es false (fresh cfg) (fresh-rings i cfg) before n after e

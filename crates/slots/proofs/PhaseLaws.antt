@@ -13,7 +13,7 @@ use Rattle.rules.specs.Rules.Words as W
 use Rattle.rules.specs.Rules.Words.{is, Party, Config}
 use Rattle.rules.specs.Rules.Places.{isSome}
 use Rattle.rules.specs.Rules.Station as R
-use Rattle.rules.specs.Rules.Station.{dealing, free, taken, pending, busy, held, offered, firstRing, secondRing, acknowledged, firstCall, secondCall, ringing, dialling, dialledOut, answered, shipOf, keptFor, isCalledIn, answeredIn, lossDue, mainDue}
+use Rattle.rules.specs.Rules.Station.{dealing, free, taken, pending, busy, held, offered, firstRingBack, secondRingBack, acknowledged, firstCall, secondCall, ringing, dialling, dialledOut, answered, shipOf, keptFor, isCalledIn, answeredIn, lossDue, mainDue}
 use Rattle.rules.specs.Rules.Requests.{isOf, owns}
 use Rattle.rules.specs.Rules.Ashore.{keepsFor}
 use Rattle.rules.proofs.PlaceLaws.{and-true}
@@ -22,7 +22,7 @@ use Rattle.requests.specs.Images.{requestImage, blankRequest}
 use Rattle.slots.specs.declared.Carrier.{Carrier}
 use Rattle.slots.specs.declared.Carrier.the-variants.{Present, Lost}
 use Rattle.slots.specs.declared.Phase.{Phase}
-use Rattle.slots.specs.declared.Phase.the-variants.{Free, Offered, RingBack, RingAgain, Acknowledged, Dialling, Answered, Hold, Taken, DialledOut, Called, CalledAgain, Ringing}
+use Rattle.slots.specs.declared.Phase.the-variants.{Free, Offered, RingBack, RingBackAgain, Acknowledged, Dialling, Answered, Hold, Taken, DialledOut, Called, CalledAgain, Ringing}
 use Rattle.slots.specs.Phases.{carrierOf, phaseView, carrierImage, phaseImage, keptIn, stored, owned, calledIn, answeredSince, lastedIn, spanOf, dueIn, spanFits, carrierIn}
 use Rattle.slots.specs.Images.{imageOr, storedImage, Short, ShortSlot}
 use Rattle.slots.proofs.Phase as phase
@@ -32,7 +32,7 @@ pub by-phase : (P : Phase → Type 0)
     → P Free
     → ((t : Tenths) → P (Offered t))
     → ((t : Tenths) → P (RingBack t))
-    → ((t : Tenths) → P (RingAgain t))
+    → ((t : Tenths) → P (RingBackAgain t))
     → ((t : Tenths) → P (Acknowledged t))
     → ((t : Tenths) (c : Carrier) → P (Dialling t c))
     → ((t : Tenths) (c : Carrier) → P (Answered t c))
@@ -46,7 +46,7 @@ pub by-phase : (P : Phase → Type 0)
 by-phase P a b c d e x y z w v f g h Free = a
 by-phase P a b c d e x y z w v f g h (Offered t) = b t
 by-phase P a b c d e x y z w v f g h (RingBack t) = c t
-by-phase P a b c d e x y z w v f g h (RingAgain t) = d t
+by-phase P a b c d e x y z w v f g h (RingBackAgain t) = d t
 by-phase P a b c d e x y z w v f g h (Acknowledged t) = e t
 by-phase P a b c d e x y z w v f g h (Dialling t l) = x t l
 by-phase P a b c d e x y z w v f g h (Answered t l) = y t l
@@ -77,7 +77,7 @@ EachPhase ks a f =
     Where (hasKey ks 0) (a ≡ f Free)
     × ((t : Tenths) → Where (hasKey ks 1) (a ≡ f (Offered t)))
     × ((t : Tenths) → Where (hasKey ks 2) (a ≡ f (RingBack t)))
-    × ((t : Tenths) → Where (hasKey ks 3) (a ≡ f (RingAgain t)))
+    × ((t : Tenths) → Where (hasKey ks 3) (a ≡ f (RingBackAgain t)))
     × ((t : Tenths) → Where (hasKey ks 4) (a ≡ f (Acknowledged t)))
     × ((t : Tenths) (c : Carrier) → Where (hasKey ks 5) (a ≡ f (Dialling t c)))
     × ((t : Tenths) (c : Carrier) → Where (hasKey ks 6) (a ≡ f (Answered t c)))
@@ -92,7 +92,7 @@ pub phase-arm : {A : Type 0} (ks : List ℕ) (a : A) (f : Phase → A) → EachP
 phase-arm ks a f e Free h = where-held ks 0 h (e .0)
 phase-arm ks a f e (Offered t) h = where-held ks 1 h (e .1 t)
 phase-arm ks a f e (RingBack t) h = where-held ks 2 h (e .2 t)
-phase-arm ks a f e (RingAgain t) h = where-held ks 3 h (e .3 t)
+phase-arm ks a f e (RingBackAgain t) h = where-held ks 3 h (e .3 t)
 phase-arm ks a f e (Acknowledged t) h = where-held ks 4 h (e .4 t)
 phase-arm ks a f e (Dialling t c) h = where-held ks 5 h (e .5 t c)
 phase-arm ks a f e (Answered t c) h = where-held ks 6 h (e .6 t c)
@@ -125,8 +125,8 @@ pub phase-there : (s : R.Slot) (q : W.Request) → Keeps q (keptIn s) → phaseV
 phase-there free q h = refl
 phase-there taken q h = refl
 phase-there (pending offered r t) q h = ap (λ x. pending offered (dealing x) t) h
-phase-there (pending firstRing r t) q h = ap (λ x. pending firstRing (dealing x) t) h
-phase-there (pending secondRing r t) q h = ap (λ x. pending secondRing (dealing x) t) h
+phase-there (pending firstRingBack r t) q h = ap (λ x. pending firstRingBack (dealing x) t) h
+phase-there (pending secondRingBack r t) q h = ap (λ x. pending secondRingBack (dealing x) t) h
 phase-there (pending acknowledged r t) q h = ap (λ x. pending acknowledged (dealing x) t) h
 phase-there (pending firstCall r t) q h = ap (λ x. pending firstCall (dealing x) t) h
 phase-there (pending secondCall r t) q h = ap (λ x. pending secondCall (dealing x) t) h
@@ -152,8 +152,8 @@ pub stored-kept : (s : R.Slot) → stored (phaseImage s) ≡ isSome (keptIn s)
 stored-kept free = refl
 stored-kept taken = refl
 stored-kept (pending offered r t) = refl
-stored-kept (pending firstRing r t) = refl
-stored-kept (pending secondRing r t) = refl
+stored-kept (pending firstRingBack r t) = refl
+stored-kept (pending secondRingBack r t) = refl
 stored-kept (pending acknowledged r t) = refl
 stored-kept (pending firstCall r t) = refl
 stored-kept (pending secondCall r t) = refl

@@ -7,7 +7,7 @@ use Rattle.units.specs.declared.Lasted.{Lasted}
 use Rattle.units.specs.declared.Lasted.the-variants.{Nothing}
 use Rattle.rules.specs.Rules.Words as W
 use Rattle.rules.specs.Rules.Station as R
-use Rattle.rules.specs.Rules.Station.{dealing, free, taken, pending, busy, held, offered, firstRing, secondRing, acknowledged}
+use Rattle.rules.specs.Rules.Station.{dealing, free, taken, pending, busy, held, offered, firstRingBack, secondRingBack, acknowledged}
 use Rattle.rules.specs.Rules.Station.{firstCall, secondCall, ringing}
 use Rattle.rules.specs.Rules.Station.{dialling, dialledOut, answered, kindWait, diallingWait, replyWait, holdWait}
 use Rattle.rules.specs.Rules.Sound.{fits}
@@ -16,7 +16,7 @@ use Rattle.slots.specs.declared.Carrier.the-variants.{Present, Lost}
 use Rattle.slots.specs.declared.Span.{Span}
 use Rattle.slots.specs.declared.Span.the-variants.{Untimed, Until, Since}
 use Rattle.slots.specs.declared.Phase.{Phase}
-use Rattle.slots.specs.declared.Phase.the-variants.{Free, Offered, RingBack, RingAgain, Acknowledged}
+use Rattle.slots.specs.declared.Phase.the-variants.{Free, Offered, RingBack, RingBackAgain, Acknowledged}
 use Rattle.slots.specs.declared.Phase.the-variants.{Dialling, DialledOut, Answered, Hold, Taken, Called, CalledAgain, Ringing}
 
 -- ── what it stands for, beside the request that its slot stores ──────────────
@@ -28,8 +28,8 @@ carrierOf (Lost t) = some (t .0)
 abbrev pub phaseView : Phase → W.Request → R.Slot
 phaseView Free r = free
 phaseView (Offered t) r = pending offered (dealing r) (t .0)
-phaseView (RingBack t) r = pending firstRing (dealing r) (t .0)
-phaseView (RingAgain t) r = pending secondRing (dealing r) (t .0)
+phaseView (RingBack t) r = pending firstRingBack (dealing r) (t .0)
+phaseView (RingBackAgain t) r = pending secondRingBack (dealing r) (t .0)
 phaseView (Acknowledged t) r = pending acknowledged (dealing r) (t .0)
 phaseView (Dialling t c) r = busy (dealing r) (dialling (t .0)) (carrierOf c)
 phaseView (DialledOut t c) r = busy (dealing r) (dialledOut (t .0)) (carrierOf c)
@@ -48,8 +48,8 @@ carrierImage (some t) = Lost (record { 0 = t })
 
 abbrev pub pendingImage : R.Kind → ℕ → Phase
 pendingImage offered t = Offered (record { 0 = t })
-pendingImage firstRing t = RingBack (record { 0 = t })
-pendingImage secondRing t = RingAgain (record { 0 = t })
+pendingImage firstRingBack t = RingBack (record { 0 = t })
+pendingImage secondRingBack t = RingBackAgain (record { 0 = t })
 pendingImage acknowledged t = Acknowledged (record { 0 = t })
 pendingImage firstCall t = Called (record { 0 = t })
 pendingImage secondCall t = CalledAgain (record { 0 = t })
@@ -82,7 +82,7 @@ abbrev pub stored : Phase → Bool
 stored Free = false
 stored (Offered t) = true
 stored (RingBack t) = true
-stored (RingAgain t) = true
+stored (RingBackAgain t) = true
 stored (Acknowledged t) = true
 stored (Dialling t c) = true
 stored (DialledOut t c) = true
@@ -98,7 +98,7 @@ abbrev pub owned : Phase → Bool
 owned Free = false
 owned (Offered t) = true
 owned (RingBack t) = true
-owned (RingAgain t) = true
+owned (RingBackAgain t) = true
 owned (Acknowledged t) = true
 owned (Dialling t c) = true
 owned (DialledOut t c) = true
@@ -114,7 +114,7 @@ abbrev pub calledIn : Phase → Bool
 calledIn Free = false
 calledIn (Offered t) = false
 calledIn (RingBack t) = false
-calledIn (RingAgain t) = false
+calledIn (RingBackAgain t) = false
 calledIn (Acknowledged t) = false
 calledIn (Dialling t c) = false
 calledIn (DialledOut t c) = false
@@ -130,7 +130,7 @@ abbrev pub answeredSince : Phase → Option ℕ
 answeredSince Free = none
 answeredSince (Offered t) = none
 answeredSince (RingBack t) = none
-answeredSince (RingAgain t) = none
+answeredSince (RingBackAgain t) = none
 answeredSince (Acknowledged t) = none
 answeredSince (Dialling t c) = none
 answeredSince (DialledOut t c) = none
@@ -146,7 +146,7 @@ abbrev pub lastedIn : Phase → Lasted
 lastedIn Free = Nothing
 lastedIn (Offered t) = Nothing
 lastedIn (RingBack t) = Nothing
-lastedIn (RingAgain t) = Nothing
+lastedIn (RingBackAgain t) = Nothing
 lastedIn (Acknowledged t) = Nothing
 lastedIn (Dialling t c) = Nothing
 lastedIn (DialledOut t c) = Nothing
@@ -161,8 +161,8 @@ lastedIn (Ringing t) = Nothing
 abbrev pub spanOf : Phase → Span
 spanOf Free = Untimed
 spanOf (Offered t) = Until t (record { 0 = kindWait offered })
-spanOf (RingBack t) = Until t (record { 0 = kindWait firstRing })
-spanOf (RingAgain t) = Until t (record { 0 = kindWait secondRing })
+spanOf (RingBack t) = Until t (record { 0 = kindWait firstRingBack })
+spanOf (RingBackAgain t) = Until t (record { 0 = kindWait secondRingBack })
 spanOf (Acknowledged t) = Until t (record { 0 = kindWait acknowledged })
 spanOf (Dialling t c) = Until t (record { 0 = diallingWait })
 spanOf (DialledOut t c) = Until t (record { 0 = replyWait })
@@ -189,7 +189,7 @@ abbrev pub carrierIn : Phase → Carrier
 carrierIn Free = Present
 carrierIn (Offered t) = Present
 carrierIn (RingBack t) = Present
-carrierIn (RingAgain t) = Present
+carrierIn (RingBackAgain t) = Present
 carrierIn (Acknowledged t) = Present
 carrierIn (Dialling t c) = c
 carrierIn (DialledOut t c) = c

@@ -26,7 +26,7 @@ pub const MOST_WAITING: u8 = QUEUE_ROOM as u8;
 pub const OFFER_WAIT: Tenths = Tenths(160);
 
 // "wait 50, send once more, wait 50"
-pub const RING_WAIT: Tenths = Tenths(50);
+pub const RING_BACK_WAIT: Tenths = Tenths(50);
 
 // Document 02, no. 1: "the wait is 600 for dialling itself"
 pub const DIALLING_WAIT: Tenths = Tenths(600);
@@ -54,7 +54,7 @@ pub enum Phase {
     Free,
     Offered(Tenths),
     RingBack(Tenths),
-    RingAgain(Tenths),
+    RingBackAgain(Tenths),
     Acknowledged(Tenths),
     Dialling(Tenths, Carrier),
     Answered(Tenths, Carrier),
@@ -147,7 +147,7 @@ pub fn stores(phase: Phase) -> bool
         Phase::Free => false,
         Phase::Offered(_) => true,
         Phase::RingBack(_) => true,
-        Phase::RingAgain(_) => true,
+        Phase::RingBackAgain(_) => true,
         Phase::Acknowledged(_) => true,
         Phase::Dialling(_, _) => true,
         Phase::DialledOut(_, _) => true,
@@ -168,7 +168,7 @@ pub fn has_ship(phase: Phase) -> bool
         Phase::Free => false,
         Phase::Offered(_) => true,
         Phase::RingBack(_) => true,
-        Phase::RingAgain(_) => true,
+        Phase::RingBackAgain(_) => true,
         Phase::Acknowledged(_) => true,
         Phase::Dialling(_, _) => true,
         Phase::DialledOut(_, _) => true,
@@ -189,7 +189,7 @@ pub fn is_called(phase: Phase) -> bool
         Phase::Free => false,
         Phase::Offered(_) => false,
         Phase::RingBack(_) => false,
-        Phase::RingAgain(_) => false,
+        Phase::RingBackAgain(_) => false,
         Phase::Acknowledged(_) => false,
         Phase::Dialling(_, _) => false,
         Phase::DialledOut(_, _) => false,
@@ -210,7 +210,7 @@ pub fn is_free(slot: Slot) -> bool
         Phase::Free => true,
         Phase::Offered(_) => false,
         Phase::RingBack(_) => false,
-        Phase::RingAgain(_) => false,
+        Phase::RingBackAgain(_) => false,
         Phase::Acknowledged(_) => false,
         Phase::Dialling(_, _) => false,
         Phase::DialledOut(_, _) => false,
@@ -231,7 +231,7 @@ pub fn is_taken(slot: Slot) -> bool
         Phase::Free => false,
         Phase::Offered(_) => false,
         Phase::RingBack(_) => false,
-        Phase::RingAgain(_) => false,
+        Phase::RingBackAgain(_) => false,
         Phase::Acknowledged(_) => false,
         Phase::Dialling(_, _) => false,
         Phase::DialledOut(_, _) => false,
@@ -252,7 +252,7 @@ pub fn lasted_in(phase: Phase) -> Lasted
         Phase::Free => Lasted::Nothing,
         Phase::Offered(_) => Lasted::Nothing,
         Phase::RingBack(_) => Lasted::Nothing,
-        Phase::RingAgain(_) => Lasted::Nothing,
+        Phase::RingBackAgain(_) => Lasted::Nothing,
         Phase::Acknowledged(_) => Lasted::Nothing,
         Phase::Dialling(_, _) => Lasted::Nothing,
         Phase::DialledOut(_, _) => Lasted::Nothing,
@@ -271,8 +271,8 @@ pub fn span_of(phase: Phase) -> Span
     match phase {
         Phase::Free => Span::Untimed,
         Phase::Offered(due) => Span::Until(due, OFFER_WAIT),
-        Phase::RingBack(due) => Span::Until(due, RING_WAIT),
-        Phase::RingAgain(due) => Span::Until(due, RING_WAIT),
+        Phase::RingBack(due) => Span::Until(due, RING_BACK_WAIT),
+        Phase::RingBackAgain(due) => Span::Until(due, RING_BACK_WAIT),
         Phase::Acknowledged(due) => Span::Until(due, OFFER_WAIT),
         Phase::Dialling(due, _) => Span::Until(due, DIALLING_WAIT),
         Phase::DialledOut(due, _) => Span::Until(due, REPLY_WAIT),
@@ -293,7 +293,7 @@ pub fn carrier_in(phase: Phase) -> Carrier
         Phase::Free => Carrier::Present,
         Phase::Offered(_) => Carrier::Present,
         Phase::RingBack(_) => Carrier::Present,
-        Phase::RingAgain(_) => Carrier::Present,
+        Phase::RingBackAgain(_) => Carrier::Present,
         Phase::Acknowledged(_) => Carrier::Present,
         Phase::Dialling(_, carrier) => carrier,
         Phase::DialledOut(_, carrier) => carrier,

@@ -25,7 +25,7 @@ use Rattle.station.specs.Model.{modelOf, configOf}
 use Rattle.station.specs.Step.{recordsKeep, refusal}
 use Rattle.station.specs.Pieces.{Sees, plainView, closedTo}
 
--- 29 is one test of two parts
+-- soundness, 29, is one test of two parts
 both-parts : {A : Type 0} (a b : Bool) (x y : A) → cond (a && b) x y ≡ cond a (cond b x y) y
 both-parts true b x y = refl
 both-parts false b x y = refl

@@ -20,7 +20,7 @@ use Rattle.actions.specs.Sent.{sentBlock}
 use Rattle.blocks.specs.Laid.{Laid}
 use Rattle.blocks.proofs.LaidLaws.{laid-append}
 use Rattle.outcomes.specs.declared.Outcome.{Outcome}
-use Rattle.outcomes.specs.declared.Outcome.the-variants.{Ignored, Passes, Turns, Dials, RingsAgain, Frees, Clears, CoastEnds, ShipEnds, SaysAgain, Repeats, Renews, Redials, Offers, Joins, Replaces, Unable, Drops, Calls, CallsAgain, StartsRinging, Transmits, DropsCall}
+use Rattle.outcomes.specs.declared.Outcome.the-variants.{Ignored, Passes, Turns, Dials, RingsBackAgain, Frees, Clears, CoastEnds, ShipEnds, SaysAgain, Repeats, Renews, Redials, Offers, Joins, Replaces, Unable, Drops, Calls, CallsAgain, StartsRinging, Transmits, DropsCall}
 use Rattle.outcomes.specs.Does.{goesOn, outOf, withoutSlot, behind, wholeOf}
 use Rattle.station.specs.declared.Station.{Station}
 use Rattle.station.specs.declared.Stepped.{Stepped}
@@ -67,7 +67,7 @@ on-frees i own q st Ignored = refl
 on-frees i own q st Passes = refl
 on-frees i own q st (Turns p) = refl
 on-frees i own q st Dials = refl
-on-frees i own q st RingsAgain = refl
+on-frees i own q st RingsBackAgain = refl
 on-frees i own q st Frees = refl
 on-frees i own q st Clears = refl
 on-frees i own q st (CoastEnds k) = refl

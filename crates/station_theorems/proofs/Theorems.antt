@@ -15,17 +15,17 @@ use Rattle.rules.specs.Rules.Calls.{act}
 use Rattle.rules.specs.ListAlone.Book.{Note}
 use Rattle.rules.specs.Rules.Bytes.{blocks}
 use Rattle.rules.specs.Rules.Verdict.{setUpVerdict, final}
-use Rattle.rules.specs.Statement.{notes, OfEveryList, ChargesAreStops, TenthsAgree, AlwaysSound, Literally, WordsAgree, EveryEntry, AnswersRepeat, SecondRingRepeats, DialsAsked, NoChannelIdle, stationAfter}
-use Rattle.rules.specs.Statement.{RingsAsTold, RingsInTurn, CalledNotOffered, CalledAskInVain}
-use Rattle.rules.specs.ListAlone.Repeated.{Answers, RingsSame, DialsNamed, DeedByDeed}
+use Rattle.rules.specs.Statement.{notes, OfEveryList, ChargesAreStops, TenthsAgree, AlwaysSound, Literally, WordsAgree, EveryEntry, AnswersRepeat, SecondSendingRepeats, DialsAsked, NoChannelIdle, stationAfter}
+use Rattle.rules.specs.Statement.{RingingAsTold, RingingInTurn, CalledNotOffered, CalledAskInVain}
+use Rattle.rules.specs.ListAlone.Repeated.{Answers, SendsSame, DialsNamed, DeedByDeed}
 use Rattle.rules.specs.ListAlone.LineWords.{InTurn}
 use Rattle.rules.specs.ListAlone.BeingCalled.{OffersOthers, AsksInVain}
 use Rattle.rules.proofs.Run.{charges-are-stops}
 use Rattle.rules.proofs.Tenths.{tenths-agree}
 use Rattle.rules.proofs.Kept.{always-sound}
 use Rattle.rules_theorems.proofs.Literal.{literally}
-use Rattle.rules_theorems.proofs.Repeats.{answers-repeat, second-ring-repeats, dials-asked}
-use Rattle.rules_theorems.proofs.Ringing.{rings-as-told, rings-in-turn}
+use Rattle.rules_theorems.proofs.Repeats.{answers-repeat, second-sending-repeats, dials-asked}
+use Rattle.rules_theorems.proofs.Ringing.{ringing-as-told, ringing-in-turn}
 use Rattle.rules_theorems.proofs.Offered.{called-not-offered, called-ask-in-vain}
 use Rattle.rules_theorems.proofs.Idle.{no-channel-idle}
 use Rattle.requests.specs.Views.{viewed}
@@ -35,8 +35,8 @@ use Rattle.station.specs.declared.Station.{Station}
 use Rattle.station.specs.Model.{modelOf, imageOf}
 use Rattle.station.proofs.ImageLaws.{model-back, config-back, run-fits}
 use Rattle.station_theorems.specs.Steps.{Step, Trace, lastOf, eventsIn}
-use Rattle.station_theorems.specs.Statement.{BlocksTell, OfEveryTrace, RackObeys, RackStands, RackShows, RackLiterally, RackAnswersRepeat, RackSecondRingRepeats, RackDialsAsked, NoneIdle, RackNoChannelIdle, RackAlwaysSound}
-use Rattle.station_theorems.specs.Statement.{RackRingsAsTold, RackRingsInTurn, RackCalledNotOffered, RackCalledAskInVain}
+use Rattle.station_theorems.specs.Statement.{BlocksTell, OfEveryTrace, RackObeys, RackStands, RackShows, RackLiterally, RackAnswersRepeat, RackSecondSendingRepeats, RackDialsAsked, NoneIdle, RackNoChannelIdle, RackAlwaysSound}
+use Rattle.station_theorems.specs.Statement.{RackRingingAsTold, RackRingingInTurn, RackCalledNotOffered, RackCalledAskInVain}
 use Rattle.station_theorems.proofs.Laid.{records-keep, uncharged-is, none-free}
 use Rattle.station_theorems.proofs.Steps as S
 use Rattle.station_theorems.proofs.Traces.{started, IsRun, is-run}
@@ -91,21 +91,21 @@ pub rack-answers-repeat : RackAnswersRepeat
 unfolding RackAnswersRepeat AnswersRepeat
 rack-answers-repeat = carried (EveryEntry Answers) answers-repeat
 
-pub rack-second-ring-repeats : RackSecondRingRepeats
-unfolding RackSecondRingRepeats SecondRingRepeats
-rack-second-ring-repeats = carried (EveryEntry (DeedByDeed RingsSame)) second-ring-repeats
+pub rack-second-sending-repeats : RackSecondSendingRepeats
+unfolding RackSecondSendingRepeats SecondSendingRepeats
+rack-second-sending-repeats = carried (EveryEntry (DeedByDeed SendsSame)) second-sending-repeats
 
 pub rack-dials-asked : RackDialsAsked
 unfolding RackDialsAsked DialsAsked
 rack-dials-asked = carried (EveryEntry (DeedByDeed DialsNamed)) dials-asked
 
-pub rack-rings-as-told : RackRingsAsTold
-unfolding RackRingsAsTold RingsAsTold
-rack-rings-as-told c xs t = rw (runs c xs t .entries, model-is c xs t) (rings-as-told c (set-up c xs t) (eventsIn xs))
+pub rack-ringing-as-told : RackRingingAsTold
+unfolding RackRingingAsTold RingingAsTold
+rack-ringing-as-told c xs t = rw (runs c xs t .entries, model-is c xs t) (ringing-as-told c (set-up c xs t) (eventsIn xs))
 
-pub rack-rings-in-turn : RackRingsInTurn
-unfolding RackRingsInTurn RingsInTurn
-rack-rings-in-turn = carried (EveryEntry InTurn) rings-in-turn
+pub rack-ringing-in-turn : RackRingingInTurn
+unfolding RackRingingInTurn RingingInTurn
+rack-ringing-in-turn = carried (EveryEntry InTurn) ringing-in-turn
 
 pub rack-called-not-offered : RackCalledNotOffered
 unfolding RackCalledNotOffered CalledNotOffered

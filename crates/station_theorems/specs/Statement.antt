@@ -18,9 +18,9 @@ use Rattle.rules.specs.Rules.Bytes.{block, blocks, blockSize}
 use Rattle.rules.specs.ListAlone.Book.{blankBook}
 use Rattle.rules.specs.ListAlone.Reading.{stops, counted}
 use Rattle.rules.specs.Rules.Printed.{printed}
-use Rattle.rules.specs.Statement.{notes, charged, owedFor, unchargedFrom, tenthsIn, stationAfter, WordsAgree, EveryEntry, RingsBy}
+use Rattle.rules.specs.Statement.{notes, charged, owedFor, unchargedFrom, tenthsIn, stationAfter, WordsAgree, EveryEntry, RingingBy}
 use Rattle.rules.specs.Statement.{ReleasedWhenDropped, IgnoredWhenCalled}
-use Rattle.rules.specs.ListAlone.Repeated.{Answers, RingsSame, DialsNamed, DeedByDeed}
+use Rattle.rules.specs.ListAlone.Repeated.{Answers, SendsSame, DialsNamed, DeedByDeed}
 use Rattle.rules.specs.ListAlone.LineWords.{InTurn}
 use Rattle.rules.specs.ListAlone.BeingCalled.{OffersOthers, AsksInVain}
 use Rattle.slots.specs.declared.Slot.{Slot}
@@ -93,18 +93,18 @@ RackLiterally = OfEveryTrace (λ c es s. WordsAgree c (notes es))
 unfoldable pub RackAnswersRepeat : Type 0
 RackAnswersRepeat = OfEveryTrace (λ c es s. EveryEntry Answers c (notes es))
 
-unfoldable pub RackSecondRingRepeats : Type 0
-RackSecondRingRepeats = OfEveryTrace (λ c es s. EveryEntry (DeedByDeed RingsSame) c (notes es))
+unfoldable pub RackSecondSendingRepeats : Type 0
+RackSecondSendingRepeats = OfEveryTrace (λ c es s. EveryEntry (DeedByDeed SendsSame) c (notes es))
 
 unfoldable pub RackDialsAsked : Type 0
 RackDialsAsked = OfEveryTrace (λ c es s. EveryEntry (DeedByDeed DialsNamed) c (notes es))
 
 -- 02, no. 2: a slot rings exactly if the last 8 or 9 given on it is 8; one 8 where it begins to ring, one 9 where it ends
-unfoldable pub RackRingsAsTold : Type 0
-RackRingsAsTold = OfEveryTrace (λ c es s. RingsBy (notes es) (modelOf s))
+unfoldable pub RackRingingAsTold : Type 0
+RackRingingAsTold = OfEveryTrace (λ c es s. RingingBy (notes es) (modelOf s))
 
-unfoldable pub RackRingsInTurn : Type 0
-RackRingsInTurn = OfEveryTrace (λ c es s. EveryEntry InTurn c (notes es))
+unfoldable pub RackRingingInTurn : Type 0
+RackRingingInTurn = OfEveryTrace (λ c es s. EveryEntry InTurn c (notes es))
 
 -- a ship that is being called is not offered a slot, and no deed is given where it asks
 unfoldable pub RackCalledNotOffered : Type 0

@@ -19,9 +19,9 @@ use Rattle.blocks.proofs.LaidLaws.{laid-append}
 use Rattle.outcomes.specs.declared.Talk.{Talk}
 use Rattle.outcomes.specs.declared.Talk.the-variants.{Unanswered, Since}
 use Rattle.outcomes.specs.declared.Outcome.{Outcome}
-use Rattle.outcomes.specs.declared.Outcome.the-variants.{Ignored, Passes, Turns, Dials, RingsAgain, Frees, Clears, CoastEnds, ShipEnds, SaysAgain, Repeats, Renews, Redials, Offers, Joins, Replaces, Unable, Drops, Calls, CallsAgain, StartsRinging, Transmits, DropsCall}
+use Rattle.outcomes.specs.declared.Outcome.the-variants.{Ignored, Passes, Turns, Dials, RingsBackAgain, Frees, Clears, CoastEnds, ShipEnds, SaysAgain, Repeats, Renews, Redials, Offers, Joins, Replaces, Unable, Drops, Calls, CallsAgain, StartsRinging, Transmits, DropsCall}
 use Rattle.outcomes.specs.Does as D
-use Rattle.outcomes.specs.Does.{sinceOf, ringActs, actsOf}
+use Rattle.outcomes.specs.Does.{sinceOf, ringBackActs, actsOf}
 use Rattle.telling.specs.declared.Scene.{Scene}
 use Rattle.telling.specs.declared.Say.the-variants.{Lifted}
 use Rattle.telling.specs.declared.Word.the-variants.{CallsOldest}
@@ -65,7 +65,7 @@ pub free-some : (n : ℕ) → 0 < n → Lifted CallsOldest ≡ freeSay n
 free-some zero h = absurd (not-suc-le-zero h)
 free-some (suc n) h = refl
 
-free-parts : (sc : D.Scene) (n : ℕ) → sayActs sc (freeSay n) ≡ ringActs (sc .slot) (sc .oldest) n
+free-parts : (sc : D.Scene) (n : ℕ) → sayActs sc (freeSay n) ≡ ringBackActs (sc .slot) (sc .oldest) n
 free-parts sc zero = refl
 free-parts sc (suc n) = refl
 
@@ -75,7 +75,7 @@ parts sc Ignored = refl
 parts sc Passes = refl
 parts sc (Turns p) = refl
 parts sc Dials = refl
-parts sc RingsAgain = refl
+parts sc RingsBackAgain = refl
 parts sc Frees = free-parts sc (sc .waiting)
 parts sc Clears = ap (λ l. does (carrierOff (sc .slot)) ∷ l) (free-parts sc (sc .waiting))
 parts sc (CoastEnds k) = ap (λ l. endActs (sc .slot) theCoast (sc .own) (sinceOf k) (sc .clock) ++ l) (free-parts sc (sc .waiting))
@@ -103,7 +103,7 @@ module _ (c : Config) where
   end-on i e r Unanswered t = refl
   end-on i e r (Since b) t = refl
 
-  ring-on : (i : ℕ) (r : Request) (n : ℕ) → map (sentOn (channelAt c i)) (ringActs i r n) ≡ map (sentBlock c) (ringActs i r n)
+  ring-on : (i : ℕ) (r : Request) (n : ℕ) → map (sentOn (channelAt c i)) (ringBackActs i r n) ≡ map (sentBlock c) (ringBackActs i r n)
   unfolding sentBlock sentOn sentPayload
   ring-on i r zero = refl
   ring-on i r (suc n) = refl
@@ -126,15 +126,15 @@ module _ (c : Config) where
   told-on sc Passes = refl
   told-on sc (Turns p) = refl
   told-on sc Dials = refl
-  told-on sc RingsAgain = refl
+  told-on sc RingsBackAgain = refl
   told-on sc Frees = ring-on (sc .slot) (sc .oldest) (sc .waiting)
   told-on sc Clears = ap (λ l. sentOn (channelAt c (sc .slot)) (does (carrierOff (sc .slot))) ∷ l) (ring-on (sc .slot) (sc .oldest) (sc .waiting))
-  told-on sc (CoastEnds k) = both-on (channelAt c (sc .slot)) (endActs (sc .slot) theCoast (sc .own) (sinceOf k) (sc .clock)) (ringActs (sc .slot) (sc .oldest) (sc .waiting)) (end-on (sc .slot) theCoast (sc .own) k (sc .clock)) (ring-on (sc .slot) (sc .oldest) (sc .waiting))
+  told-on sc (CoastEnds k) = both-on (channelAt c (sc .slot)) (endActs (sc .slot) theCoast (sc .own) (sinceOf k) (sc .clock)) (ringBackActs (sc .slot) (sc .oldest) (sc .waiting)) (end-on (sc .slot) theCoast (sc .own) k (sc .clock)) (ring-on (sc .slot) (sc .oldest) (sc .waiting))
   told-on sc (ShipEnds k) = end-on (sc .slot) theShip (sc .own) k (sc .clock)
   told-on sc (SaysAgain n) = refl
   told-on sc Repeats = refl
   told-on sc Renews = refl
-  told-on sc (Redials k) = both-on (channelAt c (sc .slot)) (endActs (sc .slot) theCoast (sc .own) (sinceOf k) (sc .clock)) (ringActs (sc .slot) (sc .oldest) (sc .waiting)) (end-on (sc .slot) theCoast (sc .own) k (sc .clock)) (ring-on (sc .slot) (sc .oldest) (sc .waiting))
+  told-on sc (Redials k) = both-on (channelAt c (sc .slot)) (endActs (sc .slot) theCoast (sc .own) (sinceOf k) (sc .clock)) (ringBackActs (sc .slot) (sc .oldest) (sc .waiting)) (end-on (sc .slot) theCoast (sc .own) k (sc .clock)) (ring-on (sc .slot) (sc .oldest) (sc .waiting))
   told-on sc Offers = refl
   told-on sc Joins = refl
   told-on sc (Replaces k) = refl
@@ -144,7 +144,7 @@ module _ (c : Config) where
   told-on sc CallsAgain = refl
   told-on sc StartsRinging = refl
   told-on sc Transmits = refl
-  told-on sc (DropsCall rung tone) = both-on (channelAt c (sc .slot)) (dropActs (sc .slot) rung tone) (ringActs (sc .slot) (sc .oldest) (sc .waiting)) (drop-on (sc .slot) rung tone) (ring-on (sc .slot) (sc .oldest) (sc .waiting))
+  told-on sc (DropsCall rung tone) = both-on (channelAt c (sc .slot)) (dropActs (sc .slot) rung tone) (ringBackActs (sc .slot) (sc .oldest) (sc .waiting)) (drop-on (sc .slot) rung tone) (ring-on (sc .slot) (sc .oldest) (sc .waiting))
 
   -- what a scene tells on the channel of its slot is what the rules send
   pub telling-sent : (s : Scene) → s .channel ≡ channelAt c (s .slot .0) → (o : Outcome) (k : ℕ) (room : List ℕ)

@@ -97,7 +97,7 @@ fn say_of(outcome: Outcome, waiting: u8) -> Say
 {
     match outcome {
         Outcome::Dials => Say::Plain(Word::Dials),
-        Outcome::RingsAgain | Outcome::CallsAgain => Say::Plain(Word::CallsOwn),
+        Outcome::RingsBackAgain | Outcome::CallsAgain => Say::Plain(Word::CallsOwn),
         Outcome::Calls => Say::Lifted(Word::CallsAsked),
         Outcome::StartsRinging => Say::Plain(Word::RingingOn),
         Outcome::Transmits => Say::Plain(Word::RingingOff),

@@ -93,7 +93,7 @@ first-written : (room : List ℕ) → longest ≤ length room → getD (roomAfte
 unfolding roomAfter layout body front
 first-written room h = rw (write-done (length room) h) refl
 
--- symbols, and behind them bytes that are none
+-- symbols, and behind them invalid bytes
 no-symbols : (size : ℕ) → symbolsIn (replicate size 255) ≡ 0
 no-symbols zero = refl
 no-symbols (suc size) = refl

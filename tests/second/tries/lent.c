@@ -292,7 +292,7 @@ static void answered_from_ashore(void) {
     want("the caller's on-hook", happens("H 950 0"), told(0, 4, 0));
 }
 
-/* Each phase from 10 on, by what a due time may be; 13 is none. */
+/* Each phase from 10 on, by what a due time may be; 13 is invalid. */
 static void phases_from_ashore(void) {
     static const struct { uint8_t phase, low, high; } latest[] = {{10, 51, 0}, {11, 51, 0}, {12, 89, 2}}; /* 601 */
     for (size_t i = 0; i < 3u; i++) {

@@ -37,8 +37,8 @@ silence duplex = 5
 abbrev pub offerTime : ℕ
 offerTime = 16
 
-abbrev pub ringTime : ℕ
-ringTime = 5
+abbrev pub ringBackTime : ℕ
+ringBackTime = 5
 
 -- 02, no. 2: "one repeat after 5 s, dropped after another 5 s"
 abbrev pub callTime : ℕ

@@ -111,21 +111,21 @@ ringingAfter i [] b = b
 ringingAfter i (n ∷ ns) b = ringingAfter i ns (ringingsDone i (n .deeds) b)
 
 -- the 8s and 9s on slot i, in order: true for an 8
-abbrev pub ringSwitch : ℕ → Deed → List Bool → List Bool
-ringSwitch i (carrierOn j) l = l
-ringSwitch i (carrierOff j) l = l
-ringSwitch i (acknowledge j r) l = l
-ringSwitch i (callShip j r) l = l
-ringSwitch i (unable n x digits) l = l
-ringSwitch i (dial j digits) l = l
-ringSwitch i (releaseLine j) l = l
-ringSwitch i (ringingOn j) l = cond (eqb i j) (true ∷ l) l
-ringSwitch i (ringingOff j) l = cond (eqb i j) (false ∷ l) l
-ringSwitch i (busyTone j) l = l
+abbrev pub ringingSwitch : ℕ → Deed → List Bool → List Bool
+ringingSwitch i (carrierOn j) l = l
+ringingSwitch i (carrierOff j) l = l
+ringingSwitch i (acknowledge j r) l = l
+ringingSwitch i (callShip j r) l = l
+ringingSwitch i (unable n x digits) l = l
+ringingSwitch i (dial j digits) l = l
+ringingSwitch i (releaseLine j) l = l
+ringingSwitch i (ringingOn j) l = cond (eqb i j) (true ∷ l) l
+ringingSwitch i (ringingOff j) l = cond (eqb i j) (false ∷ l) l
+ringingSwitch i (busyTone j) l = l
 
-abbrev pub ringSwitches : ℕ → List Deed → List Bool
-ringSwitches i [] = []
-ringSwitches i (d ∷ ds) = ringSwitch i d (ringSwitches i ds)
+abbrev pub ringingSwitches : ℕ → List Deed → List Bool
+ringingSwitches i [] = []
+ringingSwitches i (d ∷ ds) = ringingSwitch i d (ringingSwitches i ds)
 
 -- what is to be given where it rang by a and rings by b
 abbrev pub change : Bool → Bool → List Bool
@@ -137,7 +137,7 @@ change true true = []
 -- of an entry, with the entries before it
 abbrev pub InTurn : Config → List Note → Note → Type 0
 InTurn c before n = (i : ℕ)
-    → ringSwitches i (n .deeds) ≡ change (ringingAfter i before false) (ringingsDone i (n .deeds) (ringingAfter i before false))
+    → ringingSwitches i (n .deeds) ≡ change (ringingAfter i before false) (ringingsDone i (n .deeds) (ringingAfter i before false))
 
 -- how often the line of slot i is released
 abbrev pub release : ℕ → Deed → ℕ

@@ -14,7 +14,7 @@ use Rattle.rules.specs.Rules.Words.{Deed, carrierOn, carrierOff, acknowl
 use Rattle.rules.specs.Rules.Words.{ringingOn, ringingOff, busyTone}
 use Rattle.rules.specs.Rules.Waits.{ofQueue, loss, main, Due}
 use Rattle.rules.specs.Rules.Heard.{Heard, callRequest, dataRequest, bq, workingCall, endOfCall, declined, nothing, meaning}
-use Rattle.rules.specs.ListAlone.Book.{Note, Stop, after, silence, offerTime, ringTime, callTime, ringingTime, diallingTime}
+use Rattle.rules.specs.ListAlone.Book.{Note, Stop, after, silence, offerTime, ringBackTime, callTime, ringingTime, diallingTime}
 use Rattle.rules.specs.ListAlone.Book.{replyTime, holdTime}
 use Rattle.rules.specs.ListAlone.Book.{queueTime, Said, silent, toldBQ, toldRQ, settled, Call, quiet, called, dialled, talking}
 use Rattle.rules.specs.ListAlone.Book.{Column, Place, Book, atColumn, atPlaces, column, falls}
@@ -281,8 +281,8 @@ tellSaid t r (settled o) l = told t r l
 abbrev pub tell : ℕ → Request → Column → Column
 tell t r l = tellSaid t r (l .said) l
 
-abbrev pub rungUp : ℕ → Request → Column → Column
-rungUp t r l = record { said = toldRQ r; wait = some (after t ringTime); call = l .call; gone = l .gone }
+abbrev pub ringsBack : ℕ → Request → Column → Column
+ringsBack t r l = record { said = toldRQ r; wait = some (after t ringBackTime); call = l .call; gone = l .gone }
 
 abbrev pub leave : Party → List Place → List Place
 leave x [] = []
@@ -300,10 +300,10 @@ callUp t r l = record { said = silent; wait = some (after t callTime); call = ta
 
 -- a call to a ship in an entry that nobody ashore has asked for: the second sending of a call from ashore, or a ring-back
 abbrev pub summonCall : ℕ → Request → Call → Column → Column
-summonCall t r quiet l = rungUp t r l
+summonCall t r quiet l = ringsBack t r l
 summonCall t r (called o rings) l = callUp t r l
-summonCall t r (dialled x m ended) l = rungUp t r l
-summonCall t r (talking x m b) l = rungUp t r l
+summonCall t r (dialled x m ended) l = ringsBack t r l
+summonCall t r (talking x m b) l = ringsBack t r l
 
 abbrev pub summon : ℕ → Request → Column → Column
 summon t r l = summonCall t r (l .call) l

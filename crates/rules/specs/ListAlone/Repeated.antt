@@ -98,20 +98,20 @@ switchedOn (ringingOff i) = none
 switchedOn (busyTone i) = none
 
 -- a first ring-back of slot i comes just behind its carrier, a second is the first once more
-abbrev pub Rings : ℕ → Request → Option ℕ → Said → Type 0
-Rings i r on silent = on ≡ some i
-Rings i r on (toldBQ o) = ⊥
-Rings i r on (toldRQ o) = o ≡ r
-Rings i r on (settled o) = ⊥
+abbrev pub RingsBack : ℕ → Request → Option ℕ → Said → Type 0
+RingsBack i r on silent = on ≡ some i
+RingsBack i r on (toldBQ o) = ⊥
+RingsBack i r on (toldRQ o) = o ≡ r
+RingsBack i r on (settled o) = ⊥
 
 -- in the entry of a caller ashore a call to a ship comes just behind its slot's carrier, nothing said of that slot and no call on it; in
 -- any other it is the second sending of a call from ashore, the first once more, while it does not ring; or a ring-back, with none dialled
 abbrev pub Sends : Option Ashore → ℕ → Request → Option ℕ → Said → Call → Type 0
 Sends (some a) i r on s k = (s ≡ silent) × ((k ≡ quiet) × (on ≡ some i))
-Sends none i r on s quiet = Rings i r on s
+Sends none i r on s quiet = RingsBack i r on s
 Sends none i r on s (called o rings) = (o ≡ r) × (rings ≡ false)
 Sends none i r on s (dialled x m ended) = ⊥
-Sends none i r on s (talking x m b) = Rings i r on s
+Sends none i r on s (talking x m b) = RingsBack i r on s
 
 -- the digits are those of the request acknowledged, or rung back and agreed to
 abbrev pub Dials : List ℕ → Said → Type 0
@@ -121,17 +121,17 @@ Dials digits (toldRQ r) = ⊥
 Dials digits (settled r) = r .number ≡ digits
 
 -- where q is asked ashore in the entry, b is the book just before the deed, and on the slot whose carrier the deed before it switched on
-abbrev pub RingsSame : Option Ashore → Option ℕ → Book → Deed → Type 0
-RingsSame q on b (carrierOn i) = Unit {0}
-RingsSame q on b (carrierOff i) = Unit {0}
-RingsSame q on b (acknowledge i r) = Unit {0}
-RingsSame q on b (callShip i r) = Sends q i r on (column b i .said) (column b i .call)
-RingsSame q on b (unable n x digits) = Unit {0}
-RingsSame q on b (dial i digits) = Unit {0}
-RingsSame q on b (releaseLine i) = Unit {0}
-RingsSame q on b (ringingOn i) = Unit {0}
-RingsSame q on b (ringingOff i) = Unit {0}
-RingsSame q on b (busyTone i) = Unit {0}
+abbrev pub SendsSame : Option Ashore → Option ℕ → Book → Deed → Type 0
+SendsSame q on b (carrierOn i) = Unit {0}
+SendsSame q on b (carrierOff i) = Unit {0}
+SendsSame q on b (acknowledge i r) = Unit {0}
+SendsSame q on b (callShip i r) = Sends q i r on (column b i .said) (column b i .call)
+SendsSame q on b (unable n x digits) = Unit {0}
+SendsSame q on b (dial i digits) = Unit {0}
+SendsSame q on b (releaseLine i) = Unit {0}
+SendsSame q on b (ringingOn i) = Unit {0}
+SendsSame q on b (ringingOff i) = Unit {0}
+SendsSame q on b (busyTone i) = Unit {0}
 
 abbrev pub DialsNamed : Option Ashore → Option ℕ → Book → Deed → Type 0
 DialsNamed q on b (carrierOn i) = Unit {0}

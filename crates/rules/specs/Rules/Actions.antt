@@ -27,5 +27,5 @@ pub data Ender : Type 0 where
 
 pub data Action : Type 0 where
   does : Deed → Action
-  over : ℕ → Ender → Party → List ℕ → Lasted → Action  -- 105/126 on the working channel: slot, who ended, the ship, its number, the duration
+  over : ℕ → Ender → Party → List ℕ → Lasted → Action  -- 105/126 on the working channel: slot, who ended, the ship, its number, duration
   charge : Charge → Action

@@ -15,11 +15,11 @@ use Rattle.rules.specs.Rules.Waits.{Wait, ofQueue, loss, main, Due}
 use Rattle.rules.specs.Rules.Heard.{Heard, callRequest, dataRequest, bq, workingCall, endOfCall, declined, nothing, kindOf}
 use Rattle.rules.specs.Rules.Heard.{addressed, meaning}
 use Rattle.rules.specs.Rules.Actions.{Action, does, over, theShip}
-use Rattle.rules.specs.Rules.Station.{isFree, isTaken, Kind, offered, firstRing, secondRing, acknowledged, firstCall}
+use Rattle.rules.specs.Rules.Station.{isFree, isTaken, Kind, offered, firstRingBack, secondRingBack, acknowledged, firstCall}
 use Rattle.rules.specs.Rules.Station.{secondCall, ringing, rings, Stage, dialling, dialledOut, answered, answeredAt, Dealing}
 use Rattle.rules.specs.Rules.Station.{Slot, free, taken, pending, busy, held, Station, theSlot, fresh, setSlot, setClock, setQueue}
-use Rattle.rules.specs.Rules.Station.{dueAfter, rungAgain, calledAgain, ringingAt, agreedAt, carrierWait, diallingWait, replyWait}
-use Rattle.rules.specs.Rules.Station.{holdWait, table, fires, nextDue}
+use Rattle.rules.specs.Rules.Station.{dueAfter, ringBackAgainOf, calledAgain, ringingAt, agreedAt, carrierWait}
+use Rattle.rules.specs.Rules.Station.{diallingWait, replyWait, holdWait, table, fires, nextDue}
 use Rattle.rules.specs.Rules.Requests.{Out, done, ignored, also, rungBack, freedFor, freed, lasted, endActs, coastEnd}
 use Rattle.rules.specs.Rules.Requests.{Standing, nowhere, holds, waits, standing, beingCalled, ruleA, repeated, afresh, same, ruleB}
 use Rattle.rules.specs.Rules.Requests.{ruleD, offer, ruleF, ruleG, eToG, newcomer, dToG, redial, ruleC, bOrC, requested}
@@ -40,8 +40,8 @@ dialNow i r st =
 -- "on an offered or acknowledged slot"
 unfoldable pub workingKind : ℕ → Kind → Dealing → Station → Out
 workingKind i offered r st = dialNow i r st
-workingKind i firstRing r st = ignored st
-workingKind i secondRing r st = ignored st
+workingKind i firstRingBack r st = ignored st
+workingKind i secondRingBack r st = ignored st
 workingKind i acknowledged r st = dialNow i r st
 workingKind i firstCall r st = ignored st
 workingKind i secondCall r st = ignored st
@@ -72,8 +72,8 @@ startsRinging i r st =
 
 unfoldable pub bqKind : ℕ → Kind → Dealing → Station → Out
 bqKind i offered r st = ignored st
-bqKind i firstRing r st = agreed i r st
-bqKind i secondRing r st = agreed i r st
+bqKind i firstRingBack r st = agreed i r st
+bqKind i secondRingBack r st = agreed i r st
 bqKind i acknowledged r st = ignored st
 bqKind i firstCall r st = startsRinging i r st
 bqKind i secondCall r st = startsRinging i r st
@@ -102,8 +102,8 @@ dropped i k tone st = also (dropActs i (rings k) tone) (freed i st)
 -- "its BQ with 104 before its transmission, ringing or not, drops the call"
 unfoldable pub declinedKind : ℕ → Kind → Station → Out
 declinedKind i offered st = ignored st
-declinedKind i firstRing st = ignored st
-declinedKind i secondRing st = ignored st
+declinedKind i firstRingBack st = ignored st
+declinedKind i secondRingBack st = ignored st
 declinedKind i acknowledged st = ignored st
 declinedKind i firstCall st = dropped i firstCall true st
 declinedKind i secondCall st = dropped i secondCall true st
@@ -177,8 +177,8 @@ transmitted i r st =
 
 unfoldable pub upKind : ℕ → Kind → Dealing → Station → Out
 upKind i offered r st = ignored st
-upKind i firstRing r st = ignored st
-upKind i secondRing r st = ignored st
+upKind i firstRingBack r st = ignored st
+upKind i secondRingBack r st = ignored st
 upKind i acknowledged r st = ignored st
 upKind i firstCall r st = ignored st
 upKind i secondCall r st = ignored st
@@ -232,8 +232,8 @@ endOn i st (held r n d) = ignored st
 -- 02, no. 2: "The caller's on-hook before that drops the call too"
 unfoldable pub hungKind : ℕ → Kind → Station → Out
 hungKind i offered st = ignored st
-hungKind i firstRing st = ignored st
-hungKind i secondRing st = ignored st
+hungKind i firstRingBack st = ignored st
+hungKind i secondRingBack st = ignored st
 hungKind i acknowledged st = ignored st
 hungKind i firstCall st = dropped i firstCall false st
 hungKind i secondCall st = dropped i secondCall false st
@@ -276,11 +276,11 @@ unfoldable pub offerDue : ℕ → Station → Out
 offerDue i st = also (does (carrierOff i) ∷ []) (freed i st)
 
 -- "send once more, wait 50"
-unfoldable pub ringAgain : ℕ → Dealing → Station → Out
-ringAgain i r st =
+unfoldable pub rungBackAgain : ℕ → Dealing → Station → Out
+rungBackAgain i r st =
     record {
       answer = 0;
-      next = setSlot i (rungAgain r (st .clock)) st;
+      next = setSlot i (ringBackAgainOf r (st .clock)) st;
       acts = does (callShip i (r .request)) ∷ [];
     }
 
@@ -297,8 +297,8 @@ callAgain i r st =
 -- 02, no. 2: "dropped after another 5 s", "a wait of one minute, which drops the call when due"
 unfoldable pub pendingDue : ℕ → Kind → Dealing → Station → Out
 pendingDue i offered r st = offerDue i st
-pendingDue i firstRing r st = ringAgain i r st
-pendingDue i secondRing r st = offerDue i st
+pendingDue i firstRingBack r st = rungBackAgain i r st
+pendingDue i secondRingBack r st = offerDue i st
 pendingDue i acknowledged r st = offerDue i st
 pendingDue i firstCall r st = callAgain i r st
 pendingDue i secondCall r st = dropped i secondCall true st
@@ -383,5 +383,5 @@ unfolding is kindOf addressed meaning fresh setSlot setClock setQueue table fire
     beingCalled ruleA repeated afresh same ruleB ruleD offer ruleF ruleG eToG newcomer dToG redial ruleC bOrC requested dialNow
     workingKind workingOn agreed startsRinging bqKind bqFor dropped declinedKind declinedOn declinedAt dialledOutStage dialledOutOn
     offHookStage offHookOn downOn transmitted upKind upOn shipEnd sayAgain shipEndOn endOn hungKind hungOn ashoreRequest engaged
-    calledFrom takeOn giveOn offerDue ringAgain callAgain pendingDue replyDue mainOn fire ticked heardOn70 heardOn happenedOn actAt
+    calledFrom takeOn giveOn offerDue rungBackAgain callAgain pendingDue replyDue mainOn fire ticked heardOn70 heardOn happenedOn actAt
 rulesOpen = tt

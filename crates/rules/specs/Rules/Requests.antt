@@ -14,7 +14,7 @@ use Rattle.rules.specs.Rules.Words.{Party, is, Mode, simplex, duplex, Re
 use Rattle.rules.specs.Rules.Words.{Deed, carrierOn, carrierOff, acknowledge, callShip, unable, releaseLine}
 use Rattle.rules.specs.Rules.Actions.{Action, does, over, charge, Ender, theCoast, chargeOf}
 use Rattle.rules.specs.Rules.Station.{Kind, isOffer, isCalled, answeredAt, Slot, bySlot, shipOf, isCalledIn, isFree, Waiting}
-use Rattle.rules.specs.Rules.Station.{Station, theSlot, setSlot, emptied, setQueue, dueAfter, offerOf, ringOf, queueWait}
+use Rattle.rules.specs.Rules.Station.{Station, theSlot, setSlot, emptied, setQueue, dueAfter, offerOf, ringBackOf, queueWait}
 use Rattle.rules.specs.Rules.Sound.{queueRoom}
 
 -- what an accepted event gives: its answer, the next station, the actions in order
@@ -46,7 +46,7 @@ unfoldable pub rungBack : ℕ → Station → Waiting → List Waiting → Out
 rungBack i st w q =
     record {
       answer = 0;
-      next = setSlot i (ringOf (w .request) st) (setQueue q st);
+      next = setSlot i (ringBackOf (w .request) st) (setQueue q st);
       acts = does (carrierOn i) ∷ does (callShip i (w .request)) ∷ [];
     }
 

@@ -14,13 +14,13 @@ use Rattle.rules.specs.Rules.Waits.{loss, main, Due, running, earliest, 
 -- a slot before its line is dialled: offered; in ring-back, sent once or twice; acknowledged;
 -- or called from ashore, sent once or twice, and ringing
 pub data Kind : Type 0 where
-  offered firstRing secondRing acknowledged : Kind
+  offered firstRingBack secondRingBack acknowledged : Kind
   firstCall secondCall ringing : Kind
 
 abbrev pub isOffer : Kind → Bool
 isOffer offered = true
-isOffer firstRing = false
-isOffer secondRing = false
+isOffer firstRingBack = false
+isOffer secondRingBack = false
 isOffer acknowledged = false
 isOffer firstCall = false
 isOffer secondCall = false
@@ -29,8 +29,8 @@ isOffer ringing = false
 -- 02, no. 2: the ship is being called
 abbrev pub isCalled : Kind → Bool
 isCalled offered = false
-isCalled firstRing = false
-isCalled secondRing = false
+isCalled firstRingBack = false
+isCalled secondRingBack = false
 isCalled acknowledged = false
 isCalled firstCall = true
 isCalled secondCall = true
@@ -38,8 +38,8 @@ isCalled ringing = true
 
 abbrev pub rings : Kind → Bool
 rings offered = false
-rings firstRing = false
-rings secondRing = false
+rings firstRingBack = false
+rings secondRingBack = false
 rings acknowledged = false
 rings firstCall = false
 rings secondCall = false
@@ -155,8 +155,8 @@ dueAfter s p = s + (p + 1)
 -- rules b and e; ring-back; 02, no. 2: "one repeat after 5 s, dropped after another 5 s", "a wait of one minute"
 abbrev pub kindWait : Kind → ℕ
 kindWait offered = 160
-kindWait firstRing = 50
-kindWait secondRing = 50
+kindWait firstRingBack = 50
+kindWait secondRingBack = 50
 kindWait acknowledged = 160
 kindWait firstCall = 50
 kindWait secondCall = 50
@@ -166,11 +166,11 @@ kindWait ringing = 600
 abbrev pub offerOf : Request → Station → Slot
 offerOf r st = pending offered (dealing r) (dueAfter (st .clock) (kindWait offered))
 
-abbrev pub ringOf : Request → Station → Slot
-ringOf r st = pending firstRing (dealing r) (dueAfter (st .clock) (kindWait firstRing))
+abbrev pub ringBackOf : Request → Station → Slot
+ringBackOf r st = pending firstRingBack (dealing r) (dueAfter (st .clock) (kindWait firstRingBack))
 
-abbrev pub rungAgain : Dealing → ℕ → Slot
-rungAgain r t = pending secondRing r (dueAfter t (kindWait secondRing))
+abbrev pub ringBackAgainOf : Dealing → ℕ → Slot
+ringBackAgainOf r t = pending secondRingBack r (dueAfter t (kindWait secondRingBack))
 
 abbrev pub agreedAt : Dealing → ℕ → Slot
 agreedAt r t = pending acknowledged r (dueAfter t (kindWait acknowledged))

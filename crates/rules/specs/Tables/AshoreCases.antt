@@ -8,7 +8,7 @@ use Rattle.rules.specs.Tables.Runs.{reserves, restores}
 use Rattle.rules.specs.Tables.Cases.{Row}
 use Rattle.rules.specs.Tables.Scripts.{gives, charges, callSeven26, callSeven26Simplex, callSeven26Of7, callSeven26Longest}
 use Rattle.rules.specs.Tables.Scripts.{callSeven27, callEight26, overSevenCaller411, overSevenCallerByCoast411}
-use Rattle.rules.specs.Tables.Scripts.{overSevenCallerByCoast15, ackSeven26Simplex, ringEight26, unable109Seven, unable109Eight}
+use Rattle.rules.specs.Tables.Scripts.{overSevenCallerByCoast15, ackSeven26Simplex, ringBackEight26, unable109Seven, unable109Eight}
 
 -- a call from ashore at 100; it rings from 130 on; it is answered at 300
 abbrev pub called : List Event → List Event
@@ -426,20 +426,20 @@ dataShoreAnswered = record {
 abbrev pub droppedRingsBack : Row
 droppedRingsBack = record {
   computed = gives 1 (called (calls 110 eight duplex ∷ ticks 151 ∷ ticks 202 ∷ []));
-  expected = (0 ∷ 202 ∷ 5 ∷ 253 ∷ []) ∷ (2 ∷ 0 ∷ []) ∷ (10 ∷ 0 ∷ []) ∷ (6 ∷ 0 ∷ []) ∷ (1 ∷ 0 ∷ []) ∷ (3 ∷ 0 ∷ ringEight26) ∷ [];
+  expected = (0 ∷ 202 ∷ 5 ∷ 253 ∷ []) ∷ (2 ∷ 0 ∷ []) ∷ (10 ∷ 0 ∷ []) ∷ (6 ∷ 0 ∷ []) ∷ (1 ∷ 0 ∷ []) ∷ (3 ∷ 0 ∷ ringBackEight26) ∷ [];
 }
 
 abbrev pub unableRingsBack : Row
 unableRingsBack = record {
   computed = gives 1 (ringing (calls 140 eight duplex ∷ declines 150 seven ∷ []));
   expected = (0 ∷ 150 ∷ 6 ∷ 201 ∷ [])
-      ∷ (9 ∷ 0 ∷ []) ∷ (2 ∷ 0 ∷ []) ∷ (10 ∷ 0 ∷ []) ∷ (6 ∷ 0 ∷ []) ∷ (1 ∷ 0 ∷ []) ∷ (3 ∷ 0 ∷ ringEight26) ∷ [];
+      ∷ (9 ∷ 0 ∷ []) ∷ (2 ∷ 0 ∷ []) ∷ (10 ∷ 0 ∷ []) ∷ (6 ∷ 0 ∷ []) ∷ (1 ∷ 0 ∷ []) ∷ (3 ∷ 0 ∷ ringBackEight26) ∷ [];
 }
 
 abbrev pub hungRingsBack : Row
 hungRingsBack = record {
   computed = gives 1 (called (calls 110 eight duplex ∷ hangs 120 0 ∷ []));
-  expected = (0 ∷ 120 ∷ 4 ∷ 171 ∷ []) ∷ (2 ∷ 0 ∷ []) ∷ (6 ∷ 0 ∷ []) ∷ (1 ∷ 0 ∷ []) ∷ (3 ∷ 0 ∷ ringEight26) ∷ [];
+  expected = (0 ∷ 120 ∷ 4 ∷ 171 ∷ []) ∷ (2 ∷ 0 ∷ []) ∷ (6 ∷ 0 ∷ []) ∷ (1 ∷ 0 ∷ []) ∷ (3 ∷ 0 ∷ ringBackEight26) ∷ [];
 }
 
 -- ── once answered, a call like any other ──────────────────────────────────────

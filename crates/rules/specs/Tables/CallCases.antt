@@ -9,8 +9,8 @@ use Rattle.rules.specs.Tables.Runs.{saysOn, dialsOut, picksUp, hangs, re
 use Rattle.rules.specs.Tables.Cases.{Row}
 use Rattle.rules.specs.Tables.Phases.{waitingWith}
 use Rattle.rules.specs.Tables.Scripts.{gives, ninety, fieldTold, charges, waits, overSevenByCoast15}
-use Rattle.rules.specs.Tables.Scripts.{ringEight26, unable103Seven, unable103Eight, overSeven411, overSeven}
-use Rattle.rules.specs.Tables.Scripts.{overSevenByCoast411, overSevenByCoast, overSevenByCoast0, ringSeven26}
+use Rattle.rules.specs.Tables.Scripts.{ringBackEight26, unable103Seven, unable103Eight, overSeven411, overSeven}
+use Rattle.rules.specs.Tables.Scripts.{overSevenByCoast411, overSevenByCoast, overSevenByCoast0, ringBackSeven26}
 
 -- ── off-hook and carrier ──────────────────────────────────────────────────────
 
@@ -212,7 +212,7 @@ holdNotGiven = record {
 abbrev pub holdThenFreed : Row
 holdThenFreed = record {
   computed = gives 1 (calls 100 seven duplex ∷ works 200 0 seven ∷ ends 300 0 seven ∷ calls 310 eight duplex ∷ ticks 341 ∷ []);
-  expected = (0 ∷ 341 ∷ 2 ∷ 392 ∷ []) ∷ (1 ∷ 0 ∷ []) ∷ (3 ∷ 0 ∷ ringEight26) ∷ [];
+  expected = (0 ∷ 341 ∷ 2 ∷ 392 ∷ []) ∷ (1 ∷ 0 ∷ []) ∷ (3 ∷ 0 ∷ ringBackEight26) ∷ [];
 }
 
 -- ── coast's end ───────────────────────────────────────────────────────────────
@@ -272,7 +272,7 @@ operatorReserves = record {
 abbrev pub operatorRestores : Row
 operatorRestores = record {
   computed = gives 1 (reserves 50 0 ∷ calls 100 seven duplex ∷ restores 200 0 ∷ []);
-  expected = (0 ∷ 200 ∷ 2 ∷ 251 ∷ []) ∷ (1 ∷ 0 ∷ []) ∷ (3 ∷ 0 ∷ ringSeven26) ∷ [];
+  expected = (0 ∷ 200 ∷ 2 ∷ 251 ∷ []) ∷ (1 ∷ 0 ∷ []) ∷ (3 ∷ 0 ∷ ringBackSeven26) ∷ [];
 }
 
 -- ── ticks ─────────────────────────────────────────────────────────────────────

@@ -6,7 +6,7 @@ use Rattle.units.specs.declared.Lasted.the-variants.{Nothing}
 use Rattle.sequence.specs.declared.Field.the-variants.{Blank, Channel}
 use Rattle.rules.specs.Rules.Words.{simplex, duplex, Request, heard, diallingEnded, offHook, onHook, carrierUp, carrierDown}
 use Rattle.rules.specs.Rules.Words.{takes, givesBack, What, tick, onChannel70, onSlot, Event}
-use Rattle.rules.specs.Rules.Station.{offered, firstRing, secondRing, acknowledged, firstCall, secondCall, ringing}
+use Rattle.rules.specs.Rules.Station.{offered, firstRingBack, secondRingBack, acknowledged, firstCall, secondCall, ringing}
 use Rattle.rules.specs.Rules.Station.{dialling, dialledOut, answered}
 use Rattle.rules.specs.Rules.Station.{Slot, free, taken, Waiting, Station}
 use Rattle.rules.specs.Rules.Slots.{pending, busy, held}
@@ -129,7 +129,7 @@ phases =
     }
     -- in ring-back
     ∷ record {
-      slot = pending firstRing asked 1020;
+      slot = pending firstRingBack asked 1020;
       gives = (0 ∷ 3 ∷ []) ∷ (1 ∷ []) ∷ (1 ∷ [])
           ∷ (1 ∷ []) ∷ (1 ∷ []) ∷ (1 ∷ []) ∷ (1 ∷ []) ∷ (1 ∷ [])
           ∷ (35 ∷ []) ∷ (35 ∷ [])
@@ -139,7 +139,7 @@ phases =
     }
     -- in ring-back, sent again
     ∷ record {
-      slot = pending secondRing asked 1020;
+      slot = pending secondRingBack asked 1020;
       gives = (0 ∷ 2 ∷ []) ∷ (1 ∷ []) ∷ (1 ∷ [])
           ∷ (1 ∷ []) ∷ (1 ∷ []) ∷ (1 ∷ []) ∷ (1 ∷ []) ∷ (1 ∷ [])
           ∷ (35 ∷ []) ∷ (35 ∷ [])

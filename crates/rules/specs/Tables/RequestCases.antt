@@ -8,8 +8,8 @@ use Rattle.rules.specs.Tables.Cases.{Row}
 use Rattle.rules.specs.Tables.Phases.{waitingWith}
 use Rattle.rules.specs.Tables.Scripts.{gives, elsewhere, waitingShips, charges, unable109Seven, ackSeven26}
 use Rattle.rules.specs.Tables.Scripts.{ackSeven26Again, ackSeven26Simplex, ackEight26, overSevenByCoast15}
-use Rattle.rules.specs.Tables.Scripts.{overSevenByCoast55, ringEight26, unable103Seven, ringSeven26, ringSeven26Again}
-use Rattle.rules.specs.Tables.Scripts.{ringSeven26Simplex, ackSeven27, unable103Eight, unable102Nine, ringNine26}
+use Rattle.rules.specs.Tables.Scripts.{overSevenByCoast55, ringBackEight26, unable103Seven, ringBackSeven26, ringBackSeven26Again}
+use Rattle.rules.specs.Tables.Scripts.{ringBackSeven26Simplex, ackSeven27, unable103Eight, unable102Nine, ringBackNine26}
 
 -- ── what is ignored ───────────────────────────────────────────────────────────
 
@@ -110,7 +110,7 @@ ruleCRingsBack = record {
       ∷ picksUp 300 0 ∷ loses 400 0 ∷ calls 450 seven simplex ∷ []);
   expected = (0 ∷ 450 ∷ 7 ∷ 501 ∷ [])
       ∷ (charges 0 seven 300 450 15) ∷ (6 ∷ 0 ∷ []) ∷ (4 ∷ 0 ∷ overSevenByCoast15) ∷ (2 ∷ 0 ∷ [])
-      ∷ (1 ∷ 0 ∷ []) ∷ (3 ∷ 0 ∷ ringEight26) ∷ (3 ∷ 255 ∷ unable103Seven) ∷ [];
+      ∷ (1 ∷ 0 ∷ []) ∷ (3 ∷ 0 ∷ ringBackEight26) ∷ (3 ∷ 255 ∷ unable103Seven) ∷ [];
 }
 
 -- d. a waiting ship asks again: its place and due time stay
@@ -124,14 +124,14 @@ ruleDShown = record {
 abbrev pub ruleDReplaced : Row
 ruleDReplaced = record {
   computed = gives 1 (reserves 50 0 ∷ calls 100 seven duplex ∷ callsFor (4 ∷ 2 ∷ []) 200 seven duplex ∷ restores 300 0 ∷ []);
-  expected = (0 ∷ 300 ∷ 2 ∷ 351 ∷ []) ∷ (1 ∷ 0 ∷ []) ∷ (3 ∷ 0 ∷ ringSeven26Again) ∷ [];
+  expected = (0 ∷ 300 ∷ 2 ∷ 351 ∷ []) ∷ (1 ∷ 0 ∷ []) ∷ (3 ∷ 0 ∷ ringBackSeven26Again) ∷ [];
 }
 
 -- d. in its new mode
 abbrev pub ruleDOtherMode : Row
 ruleDOtherMode = record {
   computed = gives 1 (asksAnew duplex simplex []);
-  expected = (0 ∷ 300 ∷ 2 ∷ 351 ∷ []) ∷ (1 ∷ 0 ∷ []) ∷ (3 ∷ 0 ∷ ringSeven26Simplex) ∷ [];
+  expected = (0 ∷ 300 ∷ 2 ∷ 351 ∷ []) ∷ (1 ∷ 0 ∷ []) ∷ (3 ∷ 0 ∷ ringBackSeven26Simplex) ∷ [];
 }
 
 -- d. which then holds for its call: 45 s without carrier, charged to the due time
@@ -151,7 +151,7 @@ ruleDSimplexLost = record {
 abbrev pub ruleDOtherModeBack : Row
 ruleDOtherModeBack = record {
   computed = gives 1 (asksAnew simplex duplex []);
-  expected = (0 ∷ 300 ∷ 2 ∷ 351 ∷ []) ∷ (1 ∷ 0 ∷ []) ∷ (3 ∷ 0 ∷ ringSeven26) ∷ [];
+  expected = (0 ∷ 300 ∷ 2 ∷ 351 ∷ []) ∷ (1 ∷ 0 ∷ []) ∷ (3 ∷ 0 ∷ ringBackSeven26) ∷ [];
 }
 
 abbrev pub ruleDDuplexFades : Row
@@ -237,21 +237,21 @@ offerFallsDue = record {
 abbrev pub ringBackOldest : Row
 ringBackOldest = record {
   computed = gives 1 (calls 100 seven duplex ∷ calls 110 eight duplex ∷ calls 120 nine duplex ∷ ticks 261 ∷ []);
-  expected = (0 ∷ 261 ∷ 3 ∷ 312 ∷ []) ∷ (2 ∷ 0 ∷ []) ∷ (1 ∷ 0 ∷ []) ∷ (3 ∷ 0 ∷ ringEight26) ∷ [];
+  expected = (0 ∷ 261 ∷ 3 ∷ 312 ∷ []) ∷ (2 ∷ 0 ∷ []) ∷ (1 ∷ 0 ∷ []) ∷ (3 ∷ 0 ∷ ringBackEight26) ∷ [];
 }
 
 -- 5 s later it is sent once more
 abbrev pub ringBackAgain : Row
 ringBackAgain = record {
   computed = gives 1 (calls 100 seven duplex ∷ calls 110 eight duplex ∷ ticks 261 ∷ ticks 312 ∷ []);
-  expected = (0 ∷ 312 ∷ 1 ∷ 363 ∷ []) ∷ (3 ∷ 0 ∷ ringEight26) ∷ [];
+  expected = (0 ∷ 312 ∷ 1 ∷ 363 ∷ []) ∷ (3 ∷ 0 ∷ ringBackEight26) ∷ [];
 }
 
 -- then dropped: carrier off, and the next ship is taken
 abbrev pub ringBackDropped : Row
 ringBackDropped = record {
   computed = gives 1 (calls 100 seven duplex ∷ calls 110 eight duplex ∷ calls 120 nine duplex ∷ ticks 261 ∷ ticks 312 ∷ ticks 363 ∷ []);
-  expected = (0 ∷ 363 ∷ 3 ∷ 414 ∷ []) ∷ (2 ∷ 0 ∷ []) ∷ (1 ∷ 0 ∷ []) ∷ (3 ∷ 0 ∷ ringNine26) ∷ [];
+  expected = (0 ∷ 363 ∷ 3 ∷ 414 ∷ []) ∷ (2 ∷ 0 ∷ []) ∷ (1 ∷ 0 ∷ []) ∷ (3 ∷ 0 ∷ ringBackNine26) ∷ [];
 }
 
 -- the ship's BQ that names the channel: acknowledged, 160

@@ -349,8 +349,8 @@ queueing = record {
 }
 
 -- the ring-back
-abbrev pub ringing : Run
-ringing = record {
+abbrev pub ringingBack : Run
+ringingBack = record {
   slots = 2;
   events = calls 100 seven duplex ∷ calls 101 eight duplex ∷ works 110 0 seven ∷ works 111 1 eight ∷ picksUp 120 0
       ∷ picksUp 121 1 ∷ calls 130 nine duplex ∷ hangs 300 0 ∷ loses 305 1 ∷ ticks 400 ∷ ticks 400 ∷ [];
@@ -397,4 +397,4 @@ abbrev pub runs : List Run
 runs =
     shipEnded ∷ hungUp ∷ silent ∷ redialled ∷ slowExchange ∷ shoreAnswered ∷ shoreDropped ∷ shoreUnable ∷ shoreTwo ∷ shoreHung
     ∷ late ∷ anewSimplex ∷ anewDuplex ∷ together ∷ hurried ∷ unanswered ∷ repeated ∷ renumbered ∷ holding ∷ replying
-    ∷ dialledReplying ∷ queueing ∷ ringing ∷ calling ∷ callingAgain ∷ ringingUp ∷ hundredHours ∷ []
+    ∷ dialledReplying ∷ queueing ∷ ringingBack ∷ calling ∷ callingAgain ∷ ringingUp ∷ hundredHours ∷ []

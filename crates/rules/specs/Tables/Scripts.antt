@@ -92,8 +92,8 @@ overSevenByCoast55 =
     123 ∷ 20 ∷ 0 ∷ 0 ∷ 0 ∷ 70 ∷ 100 ∷ 0 ∷ 20 ∷ 1 ∷ 23 ∷ 40 ∷ 105 ∷ 126 ∷ 0 ∷ 0 ∷ 55 ∷ 105 ∷ 5 ∷ 55 ∷ 12 ∷ 34 ∷ 127 ∷ 77 ∷ []
 
 -- ring-back, channel 26, eight
-abbrev pub ringEight26 : List ℕ
-ringEight26 = 123 ∷ 20 ∷ 0 ∷ 0 ∷ 0 ∷ 80 ∷ 100 ∷ 0 ∷ 20 ∷ 1 ∷ 23 ∷ 40 ∷ 101 ∷ 126 ∷ 90 ∷ 0 ∷ 26 ∷ 105 ∷ 5 ∷ 55 ∷ 12 ∷ 34 ∷ 117 ∷ 42 ∷ []
+abbrev pub ringBackEight26 : List ℕ
+ringBackEight26 = 123 ∷ 20 ∷ 0 ∷ 0 ∷ 0 ∷ 80 ∷ 100 ∷ 0 ∷ 20 ∷ 1 ∷ 23 ∷ 40 ∷ 101 ∷ 126 ∷ 90 ∷ 0 ∷ 26 ∷ 105 ∷ 5 ∷ 55 ∷ 12 ∷ 34 ∷ 117 ∷ 42 ∷ []
 
 -- 104/103 to seven
 abbrev pub unable103Seven : List ℕ
@@ -101,12 +101,12 @@ unable103Seven =
     123 ∷ 20 ∷ 0 ∷ 0 ∷ 0 ∷ 70 ∷ 100 ∷ 0 ∷ 20 ∷ 1 ∷ 23 ∷ 40 ∷ 104 ∷ 103 ∷ 126 ∷ 126 ∷ 126 ∷ 105 ∷ 5 ∷ 55 ∷ 12 ∷ 34 ∷ 122 ∷ 25 ∷ []
 
 -- ring-back, channel 26, seven, with the number 42
-abbrev pub ringSeven26Again : List ℕ
-ringSeven26Again = 123 ∷ 20 ∷ 0 ∷ 0 ∷ 0 ∷ 70 ∷ 100 ∷ 0 ∷ 20 ∷ 1 ∷ 23 ∷ 40 ∷ 101 ∷ 126 ∷ 90 ∷ 0 ∷ 26 ∷ 106 ∷ 42 ∷ 117 ∷ 9 ∷ []
+abbrev pub ringBackSeven26Again : List ℕ
+ringBackSeven26Again = 123 ∷ 20 ∷ 0 ∷ 0 ∷ 0 ∷ 70 ∷ 100 ∷ 0 ∷ 20 ∷ 1 ∷ 23 ∷ 40 ∷ 101 ∷ 126 ∷ 90 ∷ 0 ∷ 26 ∷ 106 ∷ 42 ∷ 117 ∷ 9 ∷ []
 
 -- ring-back, channel 26, seven, in simplex
-abbrev pub ringSeven26Simplex : List ℕ
-ringSeven26Simplex =
+abbrev pub ringBackSeven26Simplex : List ℕ
+ringBackSeven26Simplex =
     123 ∷ 20 ∷ 0 ∷ 0 ∷ 0 ∷ 70 ∷ 100 ∷ 0 ∷ 20 ∷ 1 ∷ 23 ∷ 40 ∷ 100 ∷ 126 ∷ 90 ∷ 0 ∷ 26 ∷ 105 ∷ 5 ∷ 55 ∷ 12 ∷ 34 ∷ 117 ∷ 61 ∷ []
 
 -- acknowledgement, channel 27, seven
@@ -123,8 +123,8 @@ abbrev pub unable102Nine : List ℕ
 unable102Nine = 123 ∷ 20 ∷ 0 ∷ 0 ∷ 0 ∷ 90 ∷ 100 ∷ 0 ∷ 20 ∷ 1 ∷ 23 ∷ 40 ∷ 104 ∷ 102 ∷ 126 ∷ 126 ∷ 126 ∷ 105 ∷ 5 ∷ 55 ∷ 12 ∷ 34 ∷ 122 ∷ 4 ∷ []
 
 -- ring-back, channel 26, nine
-abbrev pub ringNine26 : List ℕ
-ringNine26 = 123 ∷ 20 ∷ 0 ∷ 0 ∷ 0 ∷ 90 ∷ 100 ∷ 0 ∷ 20 ∷ 1 ∷ 23 ∷ 40 ∷ 101 ∷ 126 ∷ 90 ∷ 0 ∷ 26 ∷ 105 ∷ 5 ∷ 55 ∷ 12 ∷ 34 ∷ 117 ∷ 32 ∷ []
+abbrev pub ringBackNine26 : List ℕ
+ringBackNine26 = 123 ∷ 20 ∷ 0 ∷ 0 ∷ 0 ∷ 90 ∷ 100 ∷ 0 ∷ 20 ∷ 1 ∷ 23 ∷ 40 ∷ 101 ∷ 126 ∷ 90 ∷ 0 ∷ 26 ∷ 105 ∷ 5 ∷ 55 ∷ 12 ∷ 34 ∷ 117 ∷ 32 ∷ []
 
 -- end of call to seven, BQ, 0 6 51
 abbrev pub overSeven411 : List ℕ
@@ -149,8 +149,8 @@ abbrev pub overSevenByCoast0 : List ℕ
 overSevenByCoast0 = 123 ∷ 20 ∷ 0 ∷ 0 ∷ 0 ∷ 70 ∷ 100 ∷ 0 ∷ 20 ∷ 1 ∷ 23 ∷ 40 ∷ 105 ∷ 126 ∷ 0 ∷ 0 ∷ 0 ∷ 105 ∷ 5 ∷ 55 ∷ 12 ∷ 34 ∷ 127 ∷ 122 ∷ []
 
 -- ring-back, channel 26, seven
-abbrev pub ringSeven26 : List ℕ
-ringSeven26 = 123 ∷ 20 ∷ 0 ∷ 0 ∷ 0 ∷ 70 ∷ 100 ∷ 0 ∷ 20 ∷ 1 ∷ 23 ∷ 40 ∷ 101 ∷ 126 ∷ 90 ∷ 0 ∷ 26 ∷ 105 ∷ 5 ∷ 55 ∷ 12 ∷ 34 ∷ 117 ∷ 60 ∷ []
+abbrev pub ringBackSeven26 : List ℕ
+ringBackSeven26 = 123 ∷ 20 ∷ 0 ∷ 0 ∷ 0 ∷ 70 ∷ 100 ∷ 0 ∷ 20 ∷ 1 ∷ 23 ∷ 40 ∷ 101 ∷ 126 ∷ 90 ∷ 0 ∷ 26 ∷ 105 ∷ 5 ∷ 55 ∷ 12 ∷ 34 ∷ 117 ∷ 60 ∷ []
 
 -- ── the sequences sent, of a call from ashore (02, no. 2) ────────────────────
 

@@ -6,7 +6,7 @@ use lib.ListN.{replicate}
 use Rattle.units.specs.declared.Lasted.{Lasted}
 use Rattle.units.specs.declared.Lasted.the-variants.{Nothing, Lasting}
 use Rattle.rules.specs.Rules.Words.{Mode, simplex, duplex, Request, Config}
-use Rattle.rules.specs.Rules.Station.{Kind, offered, firstRing, secondRing, acknowledged, firstCall, secondCall, ringing}
+use Rattle.rules.specs.Rules.Station.{Kind, offered, firstRingBack, secondRingBack, acknowledged, firstCall, secondCall, ringing}
 use Rattle.rules.specs.Rules.Station.{dialling, dialledOut, answered}
 use Rattle.rules.specs.Rules.Station.{Slot, free, Waiting, Station}
 use Rattle.rules.specs.Rules.Slots.{pending, busy, held}
@@ -28,7 +28,7 @@ lasting h m s = Lasting (record { hours = h; minutes = m; seconds = s })
 
 -- each kind of a slot before its line is dialled
 abbrev pub kinds : List Kind
-kinds = offered ∷ firstRing ∷ secondRing ∷ acknowledged ∷ firstCall ∷ secondCall ∷ ringing ∷ []
+kinds = offered ∷ firstRingBack ∷ secondRingBack ∷ acknowledged ∷ firstCall ∷ secondCall ∷ ringing ∷ []
 
 -- at the clock 1000, on two channels
 abbrev pub holding : List Slot → List Waiting → Station
@@ -152,7 +152,7 @@ countCases =
     ∷ unsound (asked (station 2) (holding (pending offered (from seven duplex) 1161 ∷ free ∷ []) (waits seven 2000 ∷ [])))
     -- a ship has two slots
     ∷ unsound (asked (station 2)
-    (holding (pending firstRing (from seven duplex) 1051 ∷ busy (from seven duplex) (answered 900) none ∷ []) []))
+    (holding (pending firstRingBack (from seven duplex) 1051 ∷ busy (from seven duplex) (answered 900) none ∷ []) []))
     -- one of them dialled out
     ∷ unsound (asked (station 2)
     (holding (busy (from seven duplex) (dialledOut 1601) none ∷ pending offered (from seven duplex) 1161 ∷ []) []))
@@ -190,21 +190,21 @@ timeCases =
     -- one tenth further
     ∷ unsound (with (pending offered (from seven duplex) 1162))
     -- a ring-back, from the clock
-    ∷ sounds (with (pending firstRing (from seven duplex) 1000))
+    ∷ sounds (with (pending firstRingBack (from seven duplex) 1000))
     -- before it
-    ∷ unsound (with (pending firstRing (from seven duplex) 999))
+    ∷ unsound (with (pending firstRingBack (from seven duplex) 999))
     -- to the clock plus its wait and 1
-    ∷ sounds (with (pending firstRing (from seven duplex) 1051))
+    ∷ sounds (with (pending firstRingBack (from seven duplex) 1051))
     -- one tenth further
-    ∷ unsound (with (pending firstRing (from seven duplex) 1052))
+    ∷ unsound (with (pending firstRingBack (from seven duplex) 1052))
     -- a ring-back sent again, from the clock
-    ∷ sounds (with (pending secondRing (from seven duplex) 1000))
+    ∷ sounds (with (pending secondRingBack (from seven duplex) 1000))
     -- before it
-    ∷ unsound (with (pending secondRing (from seven duplex) 999))
+    ∷ unsound (with (pending secondRingBack (from seven duplex) 999))
     -- to the clock plus its wait and 1
-    ∷ sounds (with (pending secondRing (from seven duplex) 1051))
+    ∷ sounds (with (pending secondRingBack (from seven duplex) 1051))
     -- one tenth further
-    ∷ unsound (with (pending secondRing (from seven duplex) 1052))
+    ∷ unsound (with (pending secondRingBack (from seven duplex) 1052))
     -- an acknowledged slot, from the clock
     ∷ sounds (with (pending acknowledged (from seven duplex) 1000))
     -- before it
