@@ -4,13 +4,13 @@ ghost use lib.Dec.{eqb};
 ghost use Rattle.rules.specs.Rules.Places.{elem, distinct};
 
 // Looks at every number, also past the first that is the same: so the compiler compares several at once.
-fn is_among(x: u32, s: &[u32]) -> bool
-    ensures { λ r. ⌜ r ≡ elem eqb x (now (s .entry)) ⌝ }
+fn is_among(number: u32, numbers: &[u32]) -> bool
+    ensures { λ r. ⌜ r ≡ elem eqb number (now (numbers .entry)) ⌝ }
 {
     let mut found = false;
     let mut k = 0;
-    while k < s.len() {
-        if s[k] == x {
+    while k < numbers.len() {
+        if numbers[k] == number {
             found = true;
         }
         k += 1;
@@ -18,14 +18,14 @@ fn is_among(x: u32, s: &[u32]) -> bool
     found
 }
 
-pub fn all_apart(s: &[u32]) -> bool
-    ensures { λ r. ⌜ r ≡ distinct eqb (now (s .entry)) ⌝ }
+pub fn all_apart(numbers: &[u32]) -> bool
+    ensures { λ r. ⌜ r ≡ distinct eqb (now (numbers .entry)) ⌝ }
 {
-    let n = s.len();
+    let count = numbers.len();
     let mut i = 0;
-    while i < n {
+    while i < count {
         let next = i + 1;
-        if is_among(s[i], &s[next..]) {
+        if is_among(numbers[i], &numbers[next..]) {
             return false;
         }
         i = next;

@@ -31,17 +31,17 @@ pub(crate) fn number_of(parity: u8, pairs: &[u8]) -> Number
     requires { ⌜ (1 ≤ length (now pairs)) × (length (now pairs) ≤ 8) ⌝ }
     ensures { λ r. ⌜ r ≡ numberOf parity (now (pairs .entry)) ⌝ }
 {
-    let n = pairs.len();
+    let pair_count = pairs.len();
     if parity == ODD_COUNT {
         let digits = sixteen_digits(pairs, 1);
         return Number {
-            count: (2 * n - 1) as u8,
+            count: (2 * pair_count - 1) as u8,
             digits: digits,
         };
     }
     let digits = sixteen_digits(pairs, 0);
     Number {
-        count: (2 * n) as u8,
+        count: (2 * pair_count) as u8,
         digits: digits,
     }
 }

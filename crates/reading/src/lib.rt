@@ -29,59 +29,59 @@ use sequence::Reading;
 use sequence::symbols::all_at_most;
 use sequence::symbols::at;
 
-fn answer_to(s: &[u8]) -> Answer
-    ensures { λ r. ⌜ r ≡ answerOf (now (s .entry)) ⌝ }
+fn answer_to(symbols: &[u8]) -> Answer
+    ensures { λ r. ⌜ r ≡ answerOf (now (symbols .entry)) ⌝ }
 {
-    if !length_in(s) {
+    if !length_in(symbols) {
         return Answer::BadLength;
     }
-    if !all_at_most(s, LAST_SYMBOL) {
+    if !all_at_most(symbols, LAST_SYMBOL) {
         return Answer::BadSymbol;
     }
-    if !check_in(s) {
+    if !check_in(symbols) {
         return Answer::BadCheck;
     }
-    if !format_in(s) {
+    if !format_in(symbols) {
         return Answer::BadFormat;
     }
-    if !identities_in(s) {
+    if !identities_in(symbols) {
         return Answer::BadIdentities;
     }
-    if !category_in(s) {
+    if !category_in(symbols) {
         return Answer::BadCategory;
     }
-    if !telecommands_in(s) {
+    if !telecommands_in(symbols) {
         return Answer::BadTelecommands;
     }
-    if !field_in(s) {
+    if !field_in(symbols) {
         return Answer::BadField;
     }
-    if !number_in(s) {
+    if !number_in(symbols) {
         return Answer::BadNumber;
     }
-    if !end_in(s) {
+    if !end_in(symbols) {
         return Answer::BadEnd;
     }
     Answer::Done
 }
 
 // What symbols that pass every test mean.
-fn meaning_of(s: &[u8]) -> Meaning
-    requires { ⌜ isDone (answerOf (now s)) ≡ true ⌝ }
-    ensures { λ r. ⌜ r ≡ meaningOf (now (s .entry)) ⌝ }
+fn meaning_of(symbols: &[u8]) -> Meaning
+    requires { ⌜ isDone (answerOf (now symbols)) ≡ true ⌝ }
+    ensures { λ r. ⌜ r ≡ meaningOf (now (symbols .entry)) ⌝ }
 {
-    let last = s.len() - 2;
-    let first = at(s, 12);
-    let field = field_of(first, at(s, 14), at(s, 15), at(s, 16));
-    let number = number_of(at(s, 17), &s[18..last]);
+    let last = symbols.len() - 2;
+    let first = at(symbols, 12);
+    let field = field_of(first, at(symbols, 14), at(symbols, 15), at(symbols, 16));
+    let number = number_of(at(symbols, 17), &symbols[18..last]);
     Meaning {
-        address: identity_at(s, 1),
-        sender: identity_at(s, 7),
+        address: identity_at(symbols, 1),
+        sender: identity_at(symbols, 7),
         first: first,
-        second: at(s, 13),
+        second: at(symbols, 13),
         field: field,
         number: number,
-        end: at(s, last),
+        end: at(symbols, last),
     }
 }
 
@@ -105,12 +105,12 @@ pub fn blank_meaning() -> Meaning
 }
 
 // Reads one sequence: Done with its meaning, or the first refusal with the blank meaning.
-pub fn read(s: &[u8]) -> Reading
-    ensures { λ r. ⌜ r ≡ readingOf (now (s .entry)) ⌝ }
+pub fn read(symbols: &[u8]) -> Reading
+    ensures { λ r. ⌜ r ≡ readingOf (now (symbols .entry)) ⌝ }
 {
-    let answer = answer_to(s);
+    let answer = answer_to(symbols);
     if answer.is_done() {
-        let meaning = meaning_of(s);
+        let meaning = meaning_of(symbols);
         return Reading {
             answer: answer,
             meaning: meaning,

@@ -29,29 +29,29 @@ use sequence::symbols::exclusive_or;
 use units::Channel;
 use units::Duration;
 
-pub(crate) fn length_in(s: &[u8]) -> bool
-    ensures { λ r. ⌜ r ≡ lengthIn (now (s .entry)) ⌝ }
+pub(crate) fn length_in(symbols: &[u8]) -> bool
+    ensures { λ r. ⌜ r ≡ lengthIn (now (symbols .entry)) ⌝ }
 {
-    let n = s.len();
-    SHORTEST <= n && n <= LONGEST
+    let count = symbols.len();
+    SHORTEST <= count && count <= LONGEST
 }
 
 // The last symbol is the exclusive-or of those before it.
-pub(crate) fn check_in(s: &[u8]) -> bool
-    ensures { λ r. ⌜ r ≡ checkIn (now (s .entry)) ⌝ }
+pub(crate) fn check_in(symbols: &[u8]) -> bool
+    ensures { λ r. ⌜ r ≡ checkIn (now (symbols .entry)) ⌝ }
 {
-    let n = s.len();
-    if n == 0 {
+    let count = symbols.len();
+    if count == 0 {
         return false;
     }
-    let last = s[n - 1];
-    exclusive_or(&s[..n - 1]) == last
+    let last = symbols[count - 1];
+    exclusive_or(&symbols[..count - 1]) == last
 }
 
-pub(crate) fn format_in(s: &[u8]) -> bool
-    ensures { λ r. ⌜ r ≡ formatIn (now (s .entry)) ⌝ }
+pub(crate) fn format_in(symbols: &[u8]) -> bool
+    ensures { λ r. ⌜ r ≡ formatIn (now (symbols .entry)) ⌝ }
 {
-    at(s, 0) == FORMAT
+    at(symbols, 0) == FORMAT
 }
 
 // The five symbols of an identity.
@@ -63,62 +63,62 @@ struct Five {
     e: u8,
 }
 
-fn five_at(s: &[u8], i: usize) -> Five
-    requires { ⌜ i ≤ 64 ⌝ }
-    ensures { λ r. ⌜ r ≡ fiveAt (now (s .entry)) i ⌝ }
+fn five_at(symbols: &[u8], place: usize) -> Five
+    requires { ⌜ place ≤ 64 ⌝ }
+    ensures { λ r. ⌜ r ≡ fiveAt (now (symbols .entry)) place ⌝ }
 {
     Five {
-        a: at(s, i),
-        b: at(s, i + 1),
-        c: at(s, i + 2),
-        d: at(s, i + 3),
-        e: at(s, i + 4),
+        a: at(symbols, place),
+        b: at(symbols, place + 1),
+        c: at(symbols, place + 2),
+        d: at(symbols, place + 3),
+        e: at(symbols, place + 4),
     }
 }
 
-fn identity_pairs(f: Five) -> bool
-    ensures { λ r. ⌜ r ≡ identityPairs (f .a) (f .b) (f .c) (f .d) (f .e) ⌝ }
+fn identity_pairs(five: Five) -> bool
+    ensures { λ r. ⌜ r ≡ identityPairs (five .a) (five .b) (five .c) (five .d) (five .e) ⌝ }
 {
-    if LAST_PAIR < f.a {
+    if LAST_PAIR < five.a {
         return false;
     }
-    if LAST_PAIR < f.b {
+    if LAST_PAIR < five.b {
         return false;
     }
-    if LAST_PAIR < f.c {
+    if LAST_PAIR < five.c {
         return false;
     }
-    if LAST_PAIR < f.d {
+    if LAST_PAIR < five.d {
         return false;
     }
-    if LAST_PAIR < f.e {
+    if LAST_PAIR < five.e {
         return false;
     }
-    f.e % 10 == 0
+    five.e % 10 == 0
 }
 
-fn identity_of(f: Five) -> u32
-    ensures { λ r. ⌜ r ≡ identityOf (f .a) (f .b) (f .c) (f .d) (f .e) ⌝ }
+fn identity_of(five: Five) -> u32
+    ensures { λ r. ⌜ r ≡ identityOf (five .a) (five .b) (five .c) (five .d) (five .e) ⌝ }
 {
-    (f.a as u32) * 10000000
-        + (f.b as u32) * 100000
-        + (f.c as u32) * 1000
-        + (f.d as u32) * 10
-        + (f.e as u32) / 10
+    (five.a as u32) * 10000000
+        + (five.b as u32) * 100000
+        + (five.c as u32) * 1000
+        + (five.d as u32) * 10
+        + (five.e as u32) / 10
 }
 
-pub(crate) fn identity_at(s: &[u8], i: usize) -> u32
-    requires { ⌜ i ≤ 64 ⌝ }
-    ensures { λ r. ⌜ r ≡ identityAt (now (s .entry)) i ⌝ }
+pub(crate) fn identity_at(symbols: &[u8], place: usize) -> u32
+    requires { ⌜ place ≤ 64 ⌝ }
+    ensures { λ r. ⌜ r ≡ identityAt (now (symbols .entry)) place ⌝ }
 {
-    identity_of(five_at(s, i))
+    identity_of(five_at(symbols, place))
 }
 
-pub(crate) fn identities_in(s: &[u8]) -> bool
-    ensures { λ r. ⌜ r ≡ identitiesIn (now (s .entry)) ⌝ }
+pub(crate) fn identities_in(symbols: &[u8]) -> bool
+    ensures { λ r. ⌜ r ≡ identitiesIn (now (symbols .entry)) ⌝ }
 {
-    let address = five_at(s, 1);
-    let sender = five_at(s, 7);
+    let address = five_at(symbols, 1);
+    let sender = five_at(symbols, 7);
     if identity_pairs(address) {
         if identity_pairs(sender) {
             return identities_ok(identity_of(address), identity_of(sender));
@@ -128,16 +128,16 @@ pub(crate) fn identities_in(s: &[u8]) -> bool
     false
 }
 
-pub(crate) fn category_in(s: &[u8]) -> bool
-    ensures { λ r. ⌜ r ≡ categoryIn (now (s .entry)) ⌝ }
+pub(crate) fn category_in(symbols: &[u8]) -> bool
+    ensures { λ r. ⌜ r ≡ categoryIn (now (symbols .entry)) ⌝ }
 {
-    at(s, 6) == CATEGORY
+    at(symbols, 6) == CATEGORY
 }
 
-pub(crate) fn telecommands_in(s: &[u8]) -> bool
-    ensures { λ r. ⌜ r ≡ telecommandsIn (now (s .entry)) ⌝ }
+pub(crate) fn telecommands_in(symbols: &[u8]) -> bool
+    ensures { λ r. ⌜ r ≡ telecommandsIn (now (symbols .entry)) ⌝ }
 {
-    telecommands_ok(at(s, 12), at(s, 13))
+    telecommands_ok(at(symbols, 12), at(symbols, 13))
 }
 
 fn blank_symbols(x: u8, y: u8, z: u8) -> bool
@@ -198,10 +198,15 @@ pub(crate) fn field_of(first: u8, x: u8, y: u8, z: u8) -> Field
     })
 }
 
-pub(crate) fn field_in(s: &[u8]) -> bool
-    ensures { λ r. ⌜ r ≡ fieldIn (now (s .entry)) ⌝ }
+pub(crate) fn field_in(symbols: &[u8]) -> bool
+    ensures { λ r. ⌜ r ≡ fieldIn (now (symbols .entry)) ⌝ }
 {
-    field_symbols(at(s, 12), at(s, 14), at(s, 15), at(s, 16))
+    field_symbols(
+        at(symbols, 12),
+        at(symbols, 14),
+        at(symbols, 15),
+        at(symbols, 16),
+    )
 }
 
 // 105 behind which the first digit is 0, or 106.
@@ -223,18 +228,18 @@ fn pairs_ok(parity: u8, pairs: &[u8]) -> bool
     false
 }
 
-pub(crate) fn number_in(s: &[u8]) -> bool
-    requires { ⌜ 20 ≤ length (now s) ⌝ }
-    ensures { λ r. ⌜ r ≡ numberIn (now (s .entry)) ⌝ }
+pub(crate) fn number_in(symbols: &[u8]) -> bool
+    requires { ⌜ 20 ≤ length (now symbols) ⌝ }
+    ensures { λ r. ⌜ r ≡ numberIn (now (symbols .entry)) ⌝ }
 {
-    let last = s.len() - 2;
-    pairs_ok(at(s, 17), &s[18..last])
+    let last = symbols.len() - 2;
+    pairs_ok(at(symbols, 17), &symbols[18..last])
 }
 
-pub(crate) fn end_in(s: &[u8]) -> bool
-    requires { ⌜ 20 ≤ length (now s) ⌝ }
-    ensures { λ r. ⌜ r ≡ endIn (now (s .entry)) ⌝ }
+pub(crate) fn end_in(symbols: &[u8]) -> bool
+    requires { ⌜ 20 ≤ length (now symbols) ⌝ }
+    ensures { λ r. ⌜ r ≡ endIn (now (symbols .entry)) ⌝ }
 {
-    let last = s.len() - 2;
-    end_ok(at(s, last))
+    let last = symbols.len() - 2;
+    end_ok(at(symbols, last))
 }

@@ -31,47 +31,47 @@ use sequence::parts::number_ok;
 use sequence::parts::telecommands_ok;
 use sequence::symbols::exclusive_or;
 
-fn answer_to_meaning(m: Meaning) -> Answer
-    ensures { λ r. ⌜ r ≡ firstRefusal (meaningRefusals m) Done ⌝ }
+fn answer_to_meaning(meaning: Meaning) -> Answer
+    ensures { λ r. ⌜ r ≡ firstRefusal (meaningRefusals meaning) Done ⌝ }
 {
-    if !identities_ok(m.address, m.sender) {
+    if !identities_ok(meaning.address, meaning.sender) {
         return Answer::BadIdentities;
     }
-    if !telecommands_ok(m.first, m.second) {
+    if !telecommands_ok(meaning.first, meaning.second) {
         return Answer::BadTelecommands;
     }
-    let field = m.field;
-    if !field_ok(m.first, field) {
+    let field = meaning.field;
+    if !field_ok(meaning.first, field) {
         return Answer::BadField;
     }
-    let number = m.number;
+    let number = meaning.number;
     if !number_ok(number) {
         return Answer::BadNumber;
     }
-    if !end_ok(m.end) {
+    if !end_ok(meaning.end) {
         return Answer::BadEnd;
     }
     Answer::Done
 }
 
-fn answer_to(m: Meaning, room: usize) -> Answer
-    ensures { λ r. ⌜ r ≡ writingAnswer m room ⌝ }
+fn answer_to(meaning: Meaning, room: usize) -> Answer
+    ensures { λ r. ⌜ r ≡ writingAnswer meaning room ⌝ }
 {
     if room < LONGEST {
         return Answer::ShortRoom;
     }
-    answer_to_meaning(m)
+    answer_to_meaning(meaning)
 }
 
 // The eighteen symbols before the digit pairs.
-fn front_of(m: Meaning) -> [u8; 18]
-    requires { ⌜ valid m ≡ true ⌝ }
-    ensures { λ r. ⌜ r ≡ front m ⌝ }
+fn front_of(meaning: Meaning) -> [u8; 18]
+    requires { ⌜ valid meaning ≡ true ⌝ }
+    ensures { λ r. ⌜ r ≡ front meaning ⌝ }
 {
-    let address = m.address;
-    let sender = m.sender;
-    let field = m.field;
-    let number = m.number;
+    let address = meaning.address;
+    let sender = meaning.sender;
+    let field = meaning.field;
+    let number = meaning.number;
     [
         FORMAT,
         (address / 10000000) as u8,
@@ -85,8 +85,8 @@ fn front_of(m: Meaning) -> [u8; 18]
         (sender / 1000 % 100) as u8,
         (sender / 10 % 100) as u8,
         (sender % 10 * 10) as u8,
-        m.first,
-        m.second,
+        meaning.first,
+        meaning.second,
         field_first(field),
         field_second(field),
         field_third(field),
@@ -94,11 +94,11 @@ fn front_of(m: Meaning) -> [u8; 18]
     ]
 }
 
-fn lay_front(m: Meaning, room: &mut [u8])
-    requires { ⌜ (valid m ≡ true) × (longest ≤ length (now room)) ⌝ }
-    ensures { λ _. ⌜ now (room .exit) ≡ front m ++ drop 18 (now (room .entry)) ⌝ }
+fn lay_front(meaning: Meaning, room: &mut [u8])
+    requires { ⌜ (valid meaning ≡ true) × (longest ≤ length (now room)) ⌝ }
+    ensures { λ _. ⌜ now (room .exit) ≡ front meaning ++ drop 18 (now (room .entry)) ⌝ }
 {
-    let symbols = front_of(m);
+    let symbols = front_of(meaning);
     let mut i = 0;
     while i < 18 {
         room[i] = symbols[i];
@@ -107,39 +107,39 @@ fn lay_front(m: Meaning, room: &mut [u8])
 }
 
 // Lays all but the check symbol at the front of the room, and returns its length.
-fn lay_body(m: Meaning, room: &mut [u8]) -> usize
-    requires { ⌜ (valid m ≡ true) × (longest ≤ length (now room)) ⌝ }
-    ensures { λ r. ⌜ r ≡ length (body m) ⌝ }
-    ensures { λ _. ⌜ now (room .exit) ≡ body m ++ drop (length (body m)) (now (room .entry)) ⌝ }
+fn lay_body(meaning: Meaning, room: &mut [u8]) -> usize
+    requires { ⌜ (valid meaning ≡ true) × (longest ≤ length (now room)) ⌝ }
+    ensures { λ r. ⌜ r ≡ length (body meaning) ⌝ }
+    ensures { λ _. ⌜ now (room .exit) ≡ body meaning ++ drop (length (body meaning)) (now (room .entry)) ⌝ }
 {
-    let number = m.number;
+    let number = meaning.number;
     let end = 18 + (number.count as usize + 1) / 2;
-    lay_front(m, room);
+    lay_front(meaning, room);
     lay_pairs(number, room);
-    room[end] = m.end;
+    room[end] = meaning.end;
     end + 1
 }
 
 // Lays the sequence of a valid meaning at the front of the room, and returns its length.
-fn lay(m: Meaning, room: &mut [u8]) -> usize
-    requires { ⌜ (valid m ≡ true) × (longest ≤ length (now room)) ⌝ }
-    ensures { λ r. ⌜ r ≡ length (layout m) ⌝ }
-    ensures { λ _. ⌜ now (room .exit) ≡ layout m ++ drop (length (layout m)) (now (room .entry)) ⌝ }
+fn lay(meaning: Meaning, room: &mut [u8]) -> usize
+    requires { ⌜ (valid meaning ≡ true) × (longest ≤ length (now room)) ⌝ }
+    ensures { λ r. ⌜ r ≡ length (layout meaning) ⌝ }
+    ensures { λ _. ⌜ now (room .exit) ≡ layout meaning ++ drop (length (layout meaning)) (now (room .entry)) ⌝ }
 {
-    let n = lay_body(m, room);
-    let check = exclusive_or(&room[..n]);
-    room[n] = check;
-    n + 1
+    let body = lay_body(meaning, room);
+    let check = exclusive_or(&room[..body]);
+    room[body] = check;
+    body + 1
 }
 
 // Writes one sequence: Done with its length, or the first refusal with nothing written.
-pub fn write(m: Meaning, room: &mut [u8]) -> Written
-    ensures { λ r. ⌜ r ≡ writtenOf m (length (now (room .entry))) ⌝ }
-    ensures { λ _. ⌜ now (room .exit) ≡ roomAfter m (now (room .entry)) ⌝ }
+pub fn write(meaning: Meaning, room: &mut [u8]) -> Written
+    ensures { λ r. ⌜ r ≡ writtenOf meaning (length (now (room .entry))) ⌝ }
+    ensures { λ _. ⌜ now (room .exit) ≡ roomAfter meaning (now (room .entry)) ⌝ }
 {
-    let answer = answer_to(m, room.len());
+    let answer = answer_to(meaning, room.len());
     if answer.is_done() {
-        let length = lay(m, room);
+        let length = lay(meaning, room);
         return Written {
             answer: answer,
             length: length,

@@ -26,7 +26,7 @@ behind : (s : List ℕ) (i : ℕ) (b : Bool) → b ≡ elem eqb (getD s i 0) (ta
 behind s i b e = let k : length (drop (i + 1) s) ≤ length s - (i + 1) = simp length-drop (omega arith) in sym (rw (take-all (length s - (i + 1)) (drop (i + 1) s) k) at e)
 
 returns : tie.Need-returns Inv-loop μ-loop
-returns c = let s = c .before .before .before .before .before .before .before .args .s .now in
+returns c = let s = c .before .before .before .before .before .before .before .args .numbers .now in
     let l = c .before .before .before .before .before .loop in
     sym (l .inv .2 ∙ apart-off s (l .i) (omega arith) (behind s (l .i) _ (c .before .is-among .ensures) ∙ c .if1 .taken))
 
@@ -34,12 +34,12 @@ loop-less : tie.Need-loop-less Inv-loop μ-loop
 loop-less c = omega arith
 
 loop-again : tie.Need-loop-again Inv-loop μ-loop
-loop-again c = let s = c .before .before .before .before .before .before .before .args .s .now in
+loop-again c = let s = c .before .before .before .before .before .before .before .args .numbers .now in
     let l = c .before .before .before .before .before .loop in
     (refl, omega arith, l .inv .2 ∙ apart-on s (l .i) (omega arith) (behind s (l .i) _ (c .before .is-among .ensures) ∙ c .if1 .left))
 
 returns-2 : tie.Need-returns-2 Inv-loop μ-loop
-returns-2 c = let s = c .before .before .before .args .s .now in
+returns-2 c = let s = c .before .before .before .args .numbers .now in
     let l = c .before .loop in
     sym (l .inv .2 ∙ ap (distinct eqb) (drop-of-length-le s {i = l .i} (omega arith)))
 

@@ -13,7 +13,7 @@ use Rattle.reading.proofs.answer_to.Statement.{statement}
 use Rattle.reading.proofs.answer_to.Tie as tie
 
 abbrev S1 : tie.Else1 → List ℕ
-S1 c = c .before .before .before .args .s .now
+S1 c = c .before .before .before .args .symbols .now
 
 at-1 : (c : tie.Else1) → answerOf (S1 c) ≡ firstRefusal (drop 1 (refusals (S1 c))) Done
 unfolding answerOf refusals
@@ -87,7 +87,7 @@ length-in-requires c κs = tt
 
 returns : tie.Need-returns
 unfolding answerOf refusals
-returns c = sym (stopped-row (lengthIn (c .before .before .before .args .s .now)) BadLength (drop 1 (refusals (c .before .before .before .args .s .now))) Done (failed (c .before .length-in .ensures) (c .if1 .taken)))
+returns c = sym (stopped-row (lengthIn (c .before .before .before .args .symbols .now)) BadLength (drop 1 (refusals (c .before .before .before .args .symbols .now))) Done (failed (c .before .length-in .ensures) (c .if1 .taken)))
 
 all-at-most-requires : tie.Need-all-at-most-requires
 all-at-most-requires c κs = tt

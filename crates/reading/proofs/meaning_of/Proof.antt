@@ -55,7 +55,7 @@ at-requires-7 c κs = search needs
 
 returns : tie.Need-returns
 unfolding meaningOf pairsIn
-returns c = let n = length (c .before .before .before .before .before .before .before .before .before .before .before .before .before .args .s .now) in
+returns c = let n = length (c .before .before .before .before .before .before .before .before .before .before .before .before .before .args .symbols .now) in
     let e : n - 2 - 18 ≡ n - 20 = omega arith in
     rw (c .at7 .ensures, c .before .at6 .ensures, c .before .before .identity-at2 .ensures, c .before .before .before .identity-at .ensures, c .before .before .before .before .number-of .ensures, c .before .before .before .before .before .before .at5 .ensures, c .before .before .before .before .before .before .before .field-of .ensures, c .before .before .before .before .before .before .before .before .at4 .ensures, c .before .before .before .before .before .before .before .before .before .at3 .ensures, c .before .before .before .before .before .before .before .before .before .before .at2 .ensures, c .before .before .before .before .before .before .before .before .before .before .before .at .ensures, e)
 

@@ -31,10 +31,10 @@ same-length c = search needs
 returns : tie.Need-returns
 returns c = let s = c .before .before .before .before .before .before .before in
     let k = fit _ (parts _ (s .pre .0) .number) .most in
-    let b = body-length (s .args .m) (s .pre .0) in
-    let l = layout-length (s .args .m) (s .pre .0) in
+    let b = body-length (s .args .meaning) (s .pre .0) in
+    let l = layout-length (s .args .meaning) (s .pre .0) in
     let e = c .before .before .before .before .lay-body .ensures in
-    (omega arith, check-laid (s .args .m) (s .args .room .now) _ _ _ (e .0) (omega arith) (e .1) (c .exclusive-or .ensures))
+    (omega arith, check-laid (s .args .meaning) (s .args .room .now) _ _ _ (e .0) (omega arith) (e .1) (c .exclusive-or .ensures))
 
 pub lay-spec : {M : Type 1} → statement M
 lay-spec =

@@ -35,8 +35,8 @@ same-length c = simp length-set (search needs)
 returns : tie.Need-returns
 returns c = let s = c .before .before .before .before .before .before .before .before .before .before .before in
     let k = fit _ (parts _ (s .pre .0) .number) .most in
-    let b = body-length (s .args .m) (s .pre .0) in
-    (omega arith, rw (c .before .before .lay-pairs .ensures) (body-laid (s .args .m) (s .args .room .now) _ _ (s .pre .0) (s .pre .1) refl (omega arith) (c .before .before .before .before .before .before .lay-front .ensures)))
+    let b = body-length (s .args .meaning) (s .pre .0) in
+    (omega arith, rw (c .before .before .lay-pairs .ensures) (body-laid (s .args .meaning) (s .args .room .now) _ _ (s .pre .0) (s .pre .1) refl (omega arith) (c .before .before .before .before .before .before .lay-front .ensures)))
 
 pub lay-body-spec : {M : Type 1} → statement M
 lay-body-spec =

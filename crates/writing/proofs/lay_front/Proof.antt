@@ -36,15 +36,15 @@ loop-less c = omega arith
 loop-again : tie.Need-loop-again Inv-loop μ-loop
 loop-again c = let s = c .before .before .before .before in
     let e = c .before .before .front-of .ensures in
-    let f = front-length (s .args .m) in
-    (rw (c .before .loop .inv .0, e) (front-turn (s .args .room .now) (front (s .args .m)) (c .before .loop .i) (omega arith) (omega arith)), omega arith, simp length-set (c .before .loop .inv .2))
+    let f = front-length (s .args .meaning) in
+    (rw (c .before .loop .inv .0, e) (front-turn (s .args .room .now) (front (s .args .meaning)) (c .before .loop .i) (omega arith) (omega arith)), omega arith, simp length-set (c .before .loop .inv .2))
 
 same-length : tie.Need-same-length Inv-loop μ-loop
 same-length c = c .before .loop .inv .2
 
 returns : tie.Need-returns Inv-loop μ-loop
 returns c = let e : c .before .loop .i ≡ 18 = omega arith in
-    rw (c .before .loop .inv .0, c .before .before .front-of .ensures, e) (paste-front (c .before .before .before .before .args .room .now) (front (c .before .before .before .before .args .m)) 18 (front-length (c .before .before .before .before .args .m)))
+    rw (c .before .loop .inv .0, c .before .before .front-of .ensures, e) (paste-front (c .before .before .before .before .args .room .now) (front (c .before .before .before .before .args .meaning)) 18 (front-length (c .before .before .before .before .args .meaning)))
 
 pub lay-front-spec : {M : Type 1} → statement M
 lay-front-spec =

@@ -27,7 +27,7 @@ exclusive-or-requires c κs = search needs
 
 returns-2 : tie.Need-returns-2
 unfolding checkIn
-returns-2 c = rw (le-leb 1 (length (c .before .before .before .before .before .args .s .now)) (omega arith), c .exclusive-or .ensures)
+returns-2 c = rw (le-leb 1 (length (c .before .before .before .before .before .args .symbols .now)) (omega arith), c .exclusive-or .ensures)
 
 pub check-in-spec : {M : Type 1} → statement M
 check-in-spec =

@@ -28,7 +28,7 @@ identities-ok-requires c κs = search needs
 
 returns : tie.Need-returns
 unfolding identitiesIn
-returns c = let l = c .before .before .before .before .before .before .before .before .before .before .args .s .now in
+returns c = let l = c .before .before .before .before .before .before .before .before .before .before .args .symbols .now in
     let a = c .before .before .before .before .before .before .before .before .five-at in
     let s = c .before .before .before .before .before .before .before .five-at2 in
     let p = c .before .before .before .before .before .before .identity-pairs .ensures ∙ pairs-at (a .result) l 1 (a .ensures) in
@@ -39,7 +39,7 @@ returns c = let l = c .before .before .before .before .before .before .before .b
 
 returns-2 : tie.Need-returns-2
 unfolding identitiesIn
-returns-2 c = let l = c .before .before .before .before .before .before .before .args .s .now in
+returns-2 c = let l = c .before .before .before .before .before .before .before .args .symbols .now in
     let a = c .before .before .before .before .before .five-at in
     let s = c .before .before .before .before .five-at2 in
     let p = c .before .before .before .identity-pairs .ensures ∙ pairs-at (a .result) l 1 (a .ensures) in
@@ -49,7 +49,7 @@ returns-2 c = let l = c .before .before .before .before .before .before .before 
 returns-3 : tie.Need-returns-3
 unfolding identitiesIn
 returns-3 c = let a = c .before .before .before .five-at in
-    let p = c .before .identity-pairs .ensures ∙ pairs-at (a .result) (c .before .before .before .before .before .args .s .now) 1 (a .ensures) in
+    let p = c .before .identity-pairs .ensures ∙ pairs-at (a .result) (c .before .before .before .before .before .args .symbols .now) 1 (a .ensures) in
     rw (← p, c .if1 .left)
 
 pub identities-in-spec : {M : Type 1} → statement M

@@ -27,7 +27,7 @@ pairs-ok-requires c κs = search needs
 
 returns : tie.Need-returns
 unfolding numberIn pairsIn
-returns c = let n = length (c .before .before .before .before .args .s .now) in
+returns c = let n = length (c .before .before .before .before .args .symbols .now) in
     let e : n - 2 - 18 ≡ n - 20 = omega arith in
     rw (c .pairs-ok .ensures, c .before .before .at .ensures, e)
 

@@ -16,8 +16,8 @@ abbrev μ-loop : tie.MeasureT-loop
 loop-holds : tie.Need-loop-holds Inv-loop μ-loop
 loop-holds c = (refl, omega arith)
 
-shared-slice-read-x : tie.Need-shared-slice-read-x Inv-loop μ-loop
-shared-slice-read-x c = omega arith
+shared-slice-read-check : tie.Need-shared-slice-read-check Inv-loop μ-loop
+shared-slice-read-check c = omega arith
 
 add-i : tie.Need-add-i Inv-loop μ-loop
 add-i c = omega arith
@@ -34,4 +34,4 @@ returns c = rw (drop-of-length-le _ (c .loop-test .left)) at (c .before .loop .i
 pub exclusive-or-spec : {M : Type 1} → statement M
 exclusive-or-spec =
     tie.close
-    (tie.spec Inv-loop μ-loop loop-holds shared-slice-read-x add-i loop-less loop-again returns)
+    (tie.spec Inv-loop μ-loop loop-holds shared-slice-read-check add-i loop-less loop-again returns)
