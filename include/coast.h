@@ -28,9 +28,9 @@ extern "C" {
 /* The library's version: MAJOR moves where a host has to be changed, MINOR where only something is added for it, PATCH where only
  * a fault is mended. It is no version of the lent layout: COAST_LAYOUT_VERSION is that. A new layout moves MINOR at least: a host
  * need not be changed, but the stations that it kept are refused. */
-#define COAST_VERSION "1.2.0"
+#define COAST_VERSION "1.3.0"
 #define COAST_VERSION_MAJOR 1
-#define COAST_VERSION_MINOR 2
+#define COAST_VERSION_MINOR 3
 #define COAST_VERSION_PATCH 0
 
 /* The deepest that any entry reaches into the stack, as measured. */
