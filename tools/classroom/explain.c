@@ -29,8 +29,8 @@ extern int fflush(void *);
 #define OUT_OF_TURN 41u
 
 struct numbers {
-    uint32_t all[NUMBERS_MOST];
     size_t count;
+    uint32_t all[NUMBERS_MOST];
 };
 
 struct slots {
