@@ -1,13 +1,12 @@
 """Where each line of a script stands along the picture. A longer time is wider, by its logarithm, and every label has its room; where the
 width of a page is used up, a new strip begins. Whole numbers alone, so that every machine draws the same."""
-LEFT, MARGIN = 110, 18               # the rows' names, and what is free before the first line
+LEFT, MARGIN = 118, 18               # the rows' names, and what is free before the first line
 NARROWEST, WIDEST = 760, 1060        # a strip
-LARGE, SMALL = 13, 12                # sizes of letters
+LARGE, SMALL = 9, 7                  # the width of a letter, bold and large or as usual: of no usual font a text is wider
 
 
-def width_of(text, size=SMALL):
-    """Enough for any usual font."""
-    return (len(text) * size * 57 + 99) // 100
+def width_of(text, letter=SMALL):
+    return len(text) * letter
 
 
 def log_of(tenths):

@@ -35,9 +35,9 @@ def bar(style, x, y, to_x, height, opens=(False, False)):
     return f'<rect class="{style}" x="{x}" y="{y}" width="{to_x - x}" height="{height}" rx="3"/>'
 
 
-def fitting(x, y, to_x, words, size=SMALL, style=''):
+def fitting(x, y, to_x, words, letter=SMALL, style=''):
     """The words in a bar, where they fit: of a bar that goes on from strip to strip, an end may be short."""
-    return [text(x + 6, y, words, style)] if words and x + 6 + width_of(words, size) <= to_x else []
+    return [text(x + 6, y, words, style)] if words and x + 6 + width_of(words, letter) <= to_x else []
 
 
 def wait_bar(x, y, to_x, opens, label, due=None, fires=False):

@@ -158,7 +158,7 @@ class Drawn:
             self.named(top, f'slot {slot}', f'channel {channel}')
         else:
             self.named(top, f'slot {slot}')
-            self.parts.append(text(64, top + 17, f'ch. {channel}'))
+            self.parts.append(text(72, top + 17, f'ch. {channel}'))
 
     def queue_rows(self):
         self.across('edge')
