@@ -36,6 +36,7 @@ IN_DARK = dict(DARK, grid='#29323d', edge='#48566a', bad='#ff8a80', asked='#1b2f
                hatch='#1d6b53')
 PAGE = f"""body{{margin:0 auto;padding:1em;max-width:100em;font:16px/1.4 Arial,Helvetica,sans-serif}}
 h1{{font-size:1.4em;margin:0}}
+.hidden{{position:absolute}}
 .wide{{overflow-x:auto}}
 .wide svg{{display:block;margin-bottom:1em}}
 .signs{{padding:0;display:flex;flex-wrap:wrap;gap:.4em 2em;list-style:none}}.signs svg{{vertical-align:middle;margin-right:6px}}

@@ -50,7 +50,7 @@ def page(played, title):
         '<!DOCTYPE html>', '<html lang="en">', '<head>', '<meta charset="utf-8"/>',
         '<meta name="viewport" content="width=device-width,initial-scale=1"/>', f'<title>{escape(title)}</title>',
         f'<style>{size}\n{PAGE}{STYLE}</style>', '</head>', '<body>', f'<h1>{escape(title)}</h1>',
-        f'<p>{escape(played.summary())}.</p>', f'<svg width="0" height="0" aria-hidden="true">{HATCH}</svg>',
+        f'<p>{escape(played.summary())}.</p>', f'<svg class="hidden" width="0" height="0" aria-hidden="true">{HATCH}</svg>',
         '<div class="wide" tabindex="0" role="region" aria-label="the picture">', *parts, '</div>', *signs(), *table(played),
         '</body>', '</html>', ''])
 
