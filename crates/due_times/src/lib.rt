@@ -45,16 +45,26 @@ pub fn due_after(start: Tenths, wait: Tenths) -> Tenths
     Tenths(GREATEST)
 }
 
+// The same wait, put together anew: handed on whole, it takes its unused bytes along, and an event takes longer.
+fn anew(due: Due) -> Due
+    ensures { λ r. ⌜ r ≡ due ⌝ }
+{
+    match due {
+        Due::Never => Due::Never,
+        Due::In(time, wait) => Due::In(time, wait),
+    }
+}
+
 // The wait that falls due at that time, or `first` where that falls due before it.
 pub fn sooner_of(time: Tenths, wait: Wait, first: Due) -> Due
     ensures { λ r. ⌜ dueView r ≡ sooner (record { what = waitView wait; at = time .0 }) (dueView first) ⌝ }
 {
     match first {
         Due::Never => Due::In(time, wait),
-        Due::In(moment, _) => if time.0 <= moment.0 {
+        Due::In(moment, earlier) => if time.0 <= moment.0 {
             Due::In(time, wait)
         } else {
-            first
+            Due::In(moment, earlier)
         },
     }
 }
@@ -64,7 +74,7 @@ fn sooner_when(when: When, wait: Wait, first: Due) -> Due
     ensures { λ r. ⌜ dueView r ≡ joinDue (waitView wait) (whenView when) (dueView first) ⌝ }
 {
     match when {
-        When::Never => first,
+        When::Never => anew(first),
         When::At(moment) => sooner_of(moment, wait, first),
     }
 }

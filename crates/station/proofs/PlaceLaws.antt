@@ -1,13 +1,17 @@
 -- What a slot's record stands for.
-use Prim.Native.Nat.{ℕ, zero, suc, _<_, _≤_, min}
+use Prim.Native.Nat.{ℕ, zero, suc, _%_, _<_, _≤_, min}
+use mathlib.Core.Bool.{Bool, true, false, cond}
 use mathlib.Core.List.{List, [], _∷_, map}
-use mathlib.Core.Path.{_≡_, refl, sym}
+use mathlib.Core.Path.{_≡_, refl, sym, _∙_}
 use native.Mathlib.Omega.{arith}
+use lib.Dec.{ltb}
 use lib.ListN.{length, getD, take}
+use borrow.Author.Tests.{ltb-true, ltb-false}
 use Rattle.rules.specs.Rules.Bytes.{channelAt}
 use Rattle.rules.specs.Rules.Station.{theSlot}
 use Rattle.requests.specs.Views.{viewed, itself}
 use Rattle.requests.proofs.ArrayLaws.{viewed-at, viewed-past, viewed-length}
+use Rattle.slots.specs.declared.Slot.{Slot}
 use Rattle.slots.specs.Images.{blankSlot, blankWaiting, slotImage}
 use Rattle.slots.specs.Views.{slotView, waitingView, channelOf, noSlot, noWaiting}
 use Rattle.station.specs.declared.Station.{Station}
@@ -41,6 +45,17 @@ module _ (s : Station) (wide : length (s .slots) ≡ 16) where
   pub slot-past : (i : ℕ) → min (s .count) 16 ≤ i → blankSlot ≡ slotOf s i
   unfolding slotOf
   slot-past i h = sym (viewed-past itself (s .count) (s .slots) i blankSlot (omega arith))
+
+  -- the record x at the place of the slot i, or the blank one
+  pub slot-is : (i : ℕ) (x y : Slot) → x ≡ getD (s .slots) (i % 16) noSlot → y ≡ cond (ltb i (min (s .count) 16)) x blankSlot → y ≡ slotOf s i
+  slot-is i x y at e = e ∙ go (ltb i (min (s .count) 16)) refl
+    where
+      go : (b : Bool) → ltb i (min (s .count) 16) ≡ b → cond b x blankSlot ≡ slotOf s i
+      go true t =
+          let h : i < min (s .count) 16 = ltb-true i (min (s .count) 16) t in
+          let k : i % 16 ≡ i = omega (arith, h) in
+          at ∙ rw k (slot-in i h)
+      go false t = slot-past i (ltb-false i (min (s .count) 16) t)
 
 module _ (s : Station) (long : length (s .queue) ≡ 32) where
   pub oldest-in : 0 < min (s .waiting) 32 → waitingView (getD (s .queue) 0 noWaiting) ≡ getD (modelOf s .queue) 0 (waitingView blankWaiting)

@@ -21,6 +21,7 @@ ghost use Rattle.station.specs.Pieces.{modelAt, chosenAt, handedBack, ro
 use crate::Choice;
 use crate::Station;
 use crate::Stepped;
+use crate::places::slot_there;
 use gate::Verdict;
 use hearing::Heard;
 use hearing::HeardKind;
@@ -36,6 +37,7 @@ use searches::place_of;
 use searches::standing;
 use slots::Found;
 use slots::Place;
+use slots::SLOTS;
 use slots::Standing;
 use slots::is_called;
 use units::SlotNumber;
@@ -94,7 +96,8 @@ impl Station {
     fn asked_again(self, time: Tenths, slot: SlotNumber, request: Request) -> Choice
         ensures { λ r. ⌜ chosenAt self time r request ≡ requested (modelAt self time) (requestOf request) (Q.holds (slot .0)) ⌝ }
     {
-        let the_slot = self.slot_at(slot);
+        let stored = self.slots[slot.0 as usize % SLOTS];
+        let the_slot = slot_there(stored, slot, self.count);
         let phase = the_slot.phase;
         let kept = the_slot.request;
         let same = same_request(request, kept);
@@ -149,7 +152,8 @@ impl Station {
             ≡ bqFor (slot .0) (requestOf request .who) (modelAt self time) (theSlot (modelOf self) (slot .0))
             ⌝ }
     {
-        let the_slot = self.slot_at(slot);
+        let stored = self.slots[slot.0 as usize % SLOTS];
+        let the_slot = slot_there(stored, slot, self.count);
         let phase = the_slot.phase;
         let kept = the_slot.request;
         let own = is_by(kept, request.ship, request.station);
@@ -167,7 +171,8 @@ impl Station {
         match self.stands(request) {
             Standing::Nowhere => false,
             Standing::Holds(slot) => {
-                let the_slot = self.slot_at(slot);
+                let stored = self.slots[slot.0 as usize % SLOTS];
+                let the_slot = slot_there(stored, slot, self.count);
                 let phase = the_slot.phase;
                 is_called(phase)
             }
@@ -187,7 +192,8 @@ impl Station {
                 outcome: Outcome::Ignored,
             },
             Standing::Holds(slot) => {
-                let the_slot = self.slot_at(slot);
+                let stored = self.slots[slot.0 as usize % SLOTS];
+                let the_slot = slot_there(stored, slot, self.count);
                 let phase = the_slot.phase;
                 let outcome = deciding::declined(phase);
                 Choice {

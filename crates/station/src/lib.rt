@@ -23,14 +23,14 @@ use slots::mast::Mast;
 use units::SlotNumber;
 use units::Tenths;
 
-// One slot for each of `count` channels, and `waiting` ships, oldest first.
+// One slot for each of `count` channels, and `waiting` ships, oldest first. As its fields stand here, the compiler copies a station less.
 pub struct Station {
     pub clock: Tenths,
     pub mast: Mast,
-    pub count: u8,
-    pub waiting: u8,
     pub slots: [Slot; SLOTS],
     pub queue: [Waiting; QUEUE_ROOM],
+    pub count: u8,
+    pub waiting: u8,
 }
 
 pub enum NextDue {
@@ -38,12 +38,12 @@ pub enum NextDue {
     At(Tenths),
 }
 
-// What an event hands back: the answer's number, the count of actions, the next due time, the next station.
+// What an event hands back: the next station, the next due time, the answer's number, the count of actions.
 pub struct Stepped {
+    pub station: Station,
+    pub due: NextDue,
     pub answer: u8,
     pub count: u8,
-    pub due: NextDue,
-    pub station: Station,
 }
 
 // What set-up hands back: the answer's number, and with 36 the blank station.

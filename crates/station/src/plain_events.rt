@@ -8,6 +8,7 @@ ghost use Rattle.station.specs.Pieces.{plainView, closedTo, byPlain};
 use crate::Plain;
 use crate::Station;
 use crate::Stepped;
+use crate::places::slot_there;
 use deciding::by_hand;
 use deciding::by_signal;
 use gate::Verdict;
@@ -15,6 +16,7 @@ use outcomes::Outcome;
 use requests::Mode;
 use slots::Hand;
 use slots::Phase;
+use slots::SLOTS;
 use slots::Slot;
 use slots::is_free;
 use slots::is_taken;
@@ -59,7 +61,8 @@ impl Station {
     {
         let look = self.looked();
         let first = look.due;
-        let the_slot = self.slot_at(slot);
+        let stored = self.slots[slot.0 as usize % SLOTS];
+        let the_slot = slot_there(stored, slot, self.count);
         let verdict = look.judge_slot(room.len(), time, slot)
             .and_then(may_happen(what, the_slot), 35);
         match verdict {

@@ -5,6 +5,7 @@ ghost use Rattle.station.specs.Step.{slotAt, steppedBy, roomAfter};
 ghost use Rattle.station.specs.Pieces.{byKind};
 use crate::Station;
 use crate::Stepped;
+use crate::places::slot_there;
 use gate::Verdict;
 use hearing::HeardKind;
 use hearing::heard_in;
@@ -12,6 +13,7 @@ use outcomes::Outcome;
 use reading::read;
 use requests::sameness::is_by;
 use slots::Phase;
+use slots::SLOTS;
 use units::SlotNumber;
 use units::Tenths;
 
@@ -56,7 +58,8 @@ impl Station {
                 let slots = self.slots;
                 let heard = heard_in(self.mast, slots, self.count, meaning);
                 let request = heard.request;
-                let the_slot = self.slot_at(slot);
+                let stored = self.slots[slot.0 as usize % SLOTS];
+                let the_slot = slot_there(stored, slot, self.count);
                 let kept = the_slot.request;
                 let phase = the_slot.phase;
                 let kind = heard.kind;

@@ -27,7 +27,8 @@ use Rattle.station.specs.declared.Station.{Station}
 use Rattle.station.specs.Model.{modelOf, configOf}
 use Rattle.station.specs.Step.{slotAt, refusal}
 use Rattle.station.specs.Pieces.{slotOf, ownOf, outAt, byKind}
-use Rattle.station.proofs.PlaceLaws.{slot-view}
+use Rattle.station.proofs.Longs.{slots-long}
+use Rattle.station.proofs.PlaceLaws.{slot-view, slot-is}
 use Rattle.station.proofs.GateLaws.{passed, asked-on-slot, one-more-on-slot}
 use Rattle.station.proofs.StepLaws.{refused-is, queue-fits, accepted-is, slot-acts}
 use Rattle.station.proofs.EventLaws.{heard-is}
@@ -62,31 +63,31 @@ acts s t n i x at o m h f own b e =
 -- ── the needs ────────────────────────────────────────────────────────────────
 
 abbrev start : tie.After-enact-arg → tie.Start
-start b = b .before .before .before .before .before .before .before .before .before .before .before .before .before .before .before .before .before
+start b = b .before .before .before .before .before .before .before .before .before .before .before .before .before .before .before .before .before .before .before .before
 
 abbrev event : tie.Start → Event
 event z = slotAt (z .args .time .0) (z .args .slot .0) (heard (z .args .symbols .now)) (z .args .room .now)
 
-accepted : (b : tie.After-enact-arg) → none ≡ refusal (start b .args .self) (event (start b))
+accepted : (b : tie.After-enact-arg) → none ≡ refusal (start b .args .t1) (event (start b))
 accepted b =
     let x = start b .args in
-    let sees = b .before .before .before .before .before .before .before .before .before .before .before .before .looked .ensures in
-    (rw (b .before .before .before .before .before .before .before .before .enum-told .given .1, b .before .before .before .before .before .before .before .before .before .before .before .judge-slot .ensures, b .before .before .before .before .before .before .before .before .before .before .before .before .before .before .read .ensures) at (b .before .before .before .before .before .before .before .before .before .before .and-read .ensures))
+    let sees = b .before .before .before .before .before .before .before .before .before .before .before .before .before .before .before .looked .ensures in
+    (rw (b .before .before .before .before .before .before .before .before .before .before .before .enum-told .given .1, b .before .before .before .before .before .before .before .before .before .before .before .before .before .before .judge-slot .ensures, b .before .before .before .before .before .before .before .before .before .before .before .before .before .before .before .before .before .read .ensures) at (b .before .before .before .before .before .before .before .before .before .before .before .before .before .and-read .ensures))
     ∙ one-more-on-slot _ _ sees (length (x .room .now)) (x .time .0) (x .slot .0) _ _
     ∙ asked-on-slot _ _ sees (length (x .room .now)) (x .time .0) (x .slot .0) (heard (x .symbols .now))
 
-decided : (b : tie.After-enact-arg) → outAt (start b .args .self) (start b .args .time) (start b .args .slot) (requestOf (b .before .before .before .before .before .before .heard-in .result .request)) (b .before .by-kind .result) ≡ act (configOf (start b .args .self)) (modelOf (start b .args .self)) (event (start b))
+decided : (b : tie.After-enact-arg) → outAt (start b .args .t1) (start b .args .time) (start b .args .slot) (requestOf (b .before .before .before .before .before .before .before .before .heard-in .result .request)) (b .before .by-kind .result) ≡ act (configOf (start b .args .t1)) (modelOf (start b .args .t1)) (event (start b))
 unfolding requestOf
 decided b =
     let x = start b .args in
-    let told = b .before .before .before .before .before .before .heard-in in
-    acts (x .self) (x .time) (length (x .room .now)) (x .slot) _ (b .before .before .before .before .slot-at .ensures) _ (x .symbols .now) (told .result)
-    (heard-is (x .self) (x .symbols .now) _ (b .before .before .before .before .before .before .before .before .before .before .before .before .before .before .read .ensures) (told .result) (told .ensures .1)) _ (b .before .before .is-by .ensures) (b .before .by-kind .ensures)
+    let told = b .before .before .before .before .before .before .before .before .heard-in in
+    acts (x .t1) (x .time) (length (x .room .now)) (x .slot) _ (slot-is (x .t1) (slots-long (x .t1) (start b .good .0)) (x .slot .0) _ _ refl (b .before .before .before .before .slot-there .ensures)) _ (x .symbols .now) (told .result)
+    (heard-is (x .t1) (x .symbols .now) _ (b .before .before .before .before .before .before .before .before .before .before .before .before .before .before .before .before .before .read .ensures) (told .result) (told .ensures .1)) _ (b .before .before .is-by .ensures) (b .before .by-kind .ensures)
 
 enact-requires : tie.Need-enact-requires
 enact-requires c κs =
     let x = start c .args in
-    (passed (x .self) (event (start c)) (accepted c) .time, queue-fits (x .self) (x .room .now) (event (start c)) refl (accepted c) _ (decided c))
+    (passed (x .t1) (event (start c)) (accepted c) .time, queue-fits (x .t1) (x .room .now) (event (start c)) refl (accepted c) _ (decided c))
 
 returns : tie.Need-returns
 returns c =
@@ -103,7 +104,7 @@ returns-2 c =
     let b = c .before .before .before in
     let x = start b .args in
     let e = c .before .before .enact .ensures in
-    let p = accepted-is (x .self) (x .room .now) (event (start b)) refl (accepted b) _ (decided b) in
+    let p = accepted-is (x .t1) (x .room .now) (event (start b)) refl (accepted b) _ (decided b) in
     (e .0 ∙ p .0, e .1 ∙ p .1)
 
 pub heard-on-slot-spec : {M : Type 1} → statement M
@@ -118,6 +119,9 @@ heard-on-slot-spec =
     (λ c κs. search needs)
     (λ c. search needs)
     (λ c κs. search needs)
+    (λ c. search needs)
+    (λ c. search needs)
+    (λ c. search needs)
     (λ c κs. search needs)
     (λ c κs. search needs)
     (λ c κs. search needs)

@@ -6,7 +6,8 @@ use Rattle.requests.specs.Views.{requestOf}
 use Rattle.slots.proofs.PhaseLaws.{called-view}
 use Rattle.station.specs.Model.{modelOf}
 use Rattle.station.specs.Pieces.{slotOf}
-use Rattle.station.proofs.PlaceLaws.{slot-view}
+use Rattle.station.proofs.Longs.{slots-long}
+use Rattle.station.proofs.PlaceLaws.{slot-view, slot-is}
 use borrow.Author.Needs.{needs}
 use Rattle.station.proofs.Station.is_being_called.Statement.{statement}
 use Rattle.station.proofs.Station.is_being_called.Tie as tie
@@ -20,14 +21,15 @@ returns c = λ t.
 returns-2 : tie.Need-returns-2
 unfolding beingCalled setClock
 returns-2 c = λ t.
-    let told = c .before .before .before in
-    let x = told .before .before .before .args in
+    let told = c .before .before .before .before .before in
+    let z = told .before .before .before in
+    let x = z .args in
     let i = told .slot .given .0 .0 .0 in
-    let y = slotOf (x .self) i in
-    let st : R.Station = setClock t (modelOf (x .self)) in
+    let y = slotOf (x .t1) i in
+    let st : R.Station = setClock t (modelOf (x .t1)) in
     let h = rw (told .slot .given .1) at (told .before .before .stands .ensures t) in
-    rw (c .is-called .ensures, c .before .slot-at .ensures)
-    (called-view (y .phase) (requestOf (y .request)) ∙ ap isCalledIn (slot-view (x .self) i) ∙ ap (calledAt st) h)
+    rw (c .is-called .ensures, slot-is (x .t1) (slots-long (x .t1) (z .good .0)) i _ _ refl (c .before .slot-there .ensures))
+    (called-view (y .phase) (requestOf (y .request)) ∙ ap isCalledIn (slot-view (x .t1) i) ∙ ap (calledAt st) h)
 
 returns-3 : tie.Need-returns-3
 unfolding beingCalled
@@ -40,6 +42,9 @@ is-being-called-spec =
     tie.close
     (tie.spec
     (λ c κs. search needs)
+    (λ c. search needs)
+    (λ c. search needs)
+    (λ c. search needs)
     (λ c. search needs)
     (λ c. search needs)
     (λ c κs. search needs)

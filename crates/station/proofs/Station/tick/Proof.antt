@@ -30,7 +30,8 @@ use Rattle.station.specs.declared.Station.{Station}
 use Rattle.station.specs.Model.{modelOf, configOf}
 use Rattle.station.specs.Step.{eventAt, refusal}
 use Rattle.station.specs.Pieces.{slotOf, ownOf, outAt, waitSlot, dueSlot, moment, byWait, byDue}
-use Rattle.station.proofs.PlaceLaws.{slot-view}
+use Rattle.station.proofs.Longs.{slots-long}
+use Rattle.station.proofs.PlaceLaws.{slot-view, slot-is}
 use Rattle.station.proofs.GateLaws.{passed, asked-always}
 use Rattle.station.proofs.StepLaws.{refused-is, queue-fits, accepted-is}
 use borrow.Author.Needs.{needs}
@@ -77,25 +78,25 @@ acts s t n first d f k u eu i ei x at q o e =
 -- ── the needs ────────────────────────────────────────────────────────────────
 
 abbrev start : tie.After-enact-arg → tie.Start
-start b = b .before .before .before .before .before .before .before .before .before .before .before .before
+start b = b .before .before .before .before .before .before .before .before .before .before .before .before .before .before
 
 abbrev event : tie.Start → Event
 event z = eventAt (z .args .time .0) tick (z .args .room .now)
 
-accepted : (b : tie.After-enact-arg) → none ≡ refusal (start b .args .self) (event (start b))
-accepted b = (rw (b .before .before .before .before .before .before .before .enum-told .given .1) at (b .before .before .before .before .before .before .before .before .before .judge .ensures)) ∙ asked-always _ _ (b .before .before .before .before .before .before .before .before .before .before .looked .ensures) _ _ tick refl
+accepted : (b : tie.After-enact-arg) → none ≡ refusal (start b .args .t1) (event (start b))
+accepted b = (rw (b .before .before .before .before .before .before .before .before .before .enum-told .given .1) at (b .before .before .before .before .before .before .before .before .before .before .before .judge .ensures)) ∙ asked-always _ _ (b .before .before .before .before .before .before .before .before .before .before .before .before .looked .ensures) _ _ tick refl
 
-decided : (b : tie.After-enact-arg) → outAt (start b .args .self) (b .before .before .before .before .before .moment .result) (b .before .before .before .before .due-slot .result) (requestOf (b .before .before .before .slot-at .result .request)) (b .before .by-due .result) ≡ act (configOf (start b .args .self)) (modelOf (start b .args .self)) (event (start b))
+decided : (b : tie.After-enact-arg) → outAt (start b .args .t1) (b .before .before .before .before .before .before .before .moment .result) (b .before .before .before .before .before .before .due-slot .result) (requestOf (b .before .before .before .slot-there .result .request)) (b .before .by-due .result) ≡ act (configOf (start b .args .t1)) (modelOf (start b .args .t1)) (event (start b))
 decided b =
     let x = start b .args in
-    acts (x .self) (x .time) (length (x .room .now)) (b .before .before .before .before .before .before .before .before .before .before .looked .result .due) (b .before .before .before .before .before .before .due-by .result) (b .before .before .before .before .before .before .before .before .before .before .looked .ensures .first) (b .before .before .before .before .before .before .due-by .ensures)
-    _ (b .before .before .before .before .before .moment .ensures) _ (b .before .before .before .before .due-slot .ensures) _ (b .before .before .before .slot-at .ensures) _ _ (b .before .by-due .ensures)
+    acts (x .t1) (x .time) (length (x .room .now)) (b .before .before .before .before .before .before .before .before .before .before .before .before .looked .result .due) (b .before .before .before .before .before .before .before .before .due-by .result) (b .before .before .before .before .before .before .before .before .before .before .before .before .looked .ensures .first) (b .before .before .before .before .before .before .before .before .due-by .ensures)
+    _ (b .before .before .before .before .before .before .before .moment .ensures) _ (b .before .before .before .before .before .before .due-slot .ensures) _ (slot-is (x .t1) (slots-long (x .t1) (start b .good .0)) _ _ _ refl (b .before .before .before .slot-there .ensures)) _ _ (b .before .by-due .ensures)
 
 enact-requires : tie.Need-enact-requires
 enact-requires c κs =
     let x = start c .args in (
-      rw (c .before .before .before .before .before .moment .ensures) (omega (arith, moment-due (c .before .before .before .before .before .before .due-by .result) (x .time) (dueView (c .before .before .before .before .before .before .before .before .before .before .looked .result .due)) (c .before .before .before .before .before .before .due-by .ensures), passed (x .self) (event (start c)) (accepted c) .time)),
-      queue-fits (x .self) (x .room .now) (event (start c)) refl (accepted c) _ (decided c),
+      rw (c .before .before .before .before .before .before .before .moment .ensures) (omega (arith, moment-due (c .before .before .before .before .before .before .before .before .due-by .result) (x .time) (dueView (c .before .before .before .before .before .before .before .before .before .before .before .before .looked .result .due)) (c .before .before .before .before .before .before .before .before .due-by .ensures), passed (x .t1) (event (start c)) (accepted c) .time)),
+      queue-fits (x .t1) (x .room .now) (event (start c)) refl (accepted c) _ (decided c),
     )
 
 returns : tie.Need-returns
@@ -108,7 +109,7 @@ returns-2 c =
     let b = c .before .before .before in
     let x = start b .args in
     let e = c .before .before .enact .ensures in
-    let p = accepted-is (x .self) (x .room .now) (event (start b)) refl (accepted b) _ (decided b) in
+    let p = accepted-is (x .t1) (x .room .now) (event (start b)) refl (accepted b) _ (decided b) in
     (e .0 ∙ p .0, e .1 ∙ p .1)
 
 pub tick-spec : {M : Type 1} → statement M
@@ -123,6 +124,9 @@ tick-spec =
     (λ c κs. search needs)
     (λ c κs. search needs)
     (λ c κs. search needs)
+    (λ c. search needs)
+    (λ c. search needs)
+    (λ c. search needs)
     (λ c κs. search needs)
     (λ c κs. search needs)
     enact-requires
