@@ -34,7 +34,7 @@ extern "C" {
 #define COAST_VERSION_PATCH 0
 
 /* The deepest that any entry reaches into the stack, as measured. */
-#define COAST_STACK_SIZE 14400
+#define COAST_STACK_SIZE 12800
 
 /* A sequence has 21 to 28 symbols, one a byte. */
 #define COAST_SHORTEST_SEQUENCE 21
