@@ -60,13 +60,13 @@ fn is_blank(field: Field) -> bool
 fn says(meaning: Meaning, end: u8, first: u8) -> bool
     ensures { λ r. ⌜ r ≡ says end first meaning ⌝ }
 {
-    let e = meaning.end;
-    let t = meaning.first;
+    let its_end = meaning.end;
+    let its_first = meaning.first;
     let field = meaning.field;
-    if e != end {
+    if its_end != end {
         return false;
     }
-    if t != first {
+    if its_first != first {
         return false;
     }
     is_blank(field)
@@ -76,15 +76,15 @@ fn says(meaning: Meaning, end: u8, first: u8) -> bool
 fn agrees(meaning: Meaning) -> bool
     ensures { λ r. ⌜ r ≡ agrees meaning ⌝ }
 {
-    let e = meaning.end;
-    let t = meaning.first;
-    if e != END_BQ {
+    let end = meaning.end;
+    let first = meaning.first;
+    if end != END_BQ {
         return false;
     }
-    if t == FIRST_SIMPLEX {
+    if first == FIRST_SIMPLEX {
         return true;
     }
-    t == FIRST_DUPLEX
+    first == FIRST_DUPLEX
 }
 
 // "Working call (127; 100 or 101; field 126s)"
@@ -127,25 +127,25 @@ fn named(slots: [Slot; SLOTS], count: u8, field: Field) -> Found
 {
     match field {
         Field::Blank => Found::Nothing,
-        Field::Channel(c) => slot_named(slots, count, c),
+        Field::Channel(channel) => slot_named(slots, count, channel),
         Field::Duration(_) => Found::Nothing,
     }
 }
 
 // A BQ that names the channel of a slot.
-fn bq_on(slot: Found) -> HeardKind
-    ensures { λ r. ⌜ ((x : W.Request) → heardAs r x ≡ bqOn (x .who) (foundView slot)) ⌝ }
+fn bq_on(found: Found) -> HeardKind
+    ensures { λ r. ⌜ ((x : W.Request) → heardAs r x ≡ bqOn (x .who) (foundView found)) ⌝ }
 {
-    match slot {
-        Found::At(k) => HeardKind::Bq(k),
+    match found {
+        Found::At(slot) => HeardKind::Bq(slot),
         Found::Nothing => HeardKind::Nothing,
     }
 }
 
 // Which of the documents' kinds it is, where its field names the slot.
-fn kind_of(meaning: Meaning, slot: Found) -> HeardKind
+fn kind_of(meaning: Meaning, found: Found) -> HeardKind
     ensures { λ r. ⌜
-        ((c : Config) → foundView slot ≡ slotNamed c (meaning .field) → heardAs r (requestOf (askedIn meaning)) ≡ kindOf c meaning)
+        ((c : Config) → foundView found ≡ slotNamed c (meaning .field) → heardAs r (requestOf (askedIn meaning)) ≡ kindOf c meaning)
         ⌝ }
 {
     if says(meaning, END_RQ, FIRST_SIMPLEX) {
@@ -164,7 +164,7 @@ fn kind_of(meaning: Meaning, slot: Found) -> HeardKind
         return HeardKind::EndOfCall;
     }
     if agrees(meaning) {
-        return bq_on(slot);
+        return bq_on(found);
     }
     if says(meaning, END_BQ, FIRST_UNABLE) {
         return HeardKind::Declined;

@@ -3,7 +3,7 @@ use Rattle.hearing.proofs.bq_on.Statement.{statement}
 use Rattle.hearing.proofs.bq_on.Tie as tie
 
 returns : tie.Need-returns
-returns c = λ x. rw (c .before .slot .given .1)
+returns c = λ x. rw (c .before .found .given .1)
 
 returns-2 : tie.Need-returns-2
 returns-2 c = λ x. rw (c .enum-told .given .1)
