@@ -9,66 +9,66 @@ use slots::Slot;
 use telling::Scene;
 
 // The slot as the outcome turns it, its channel kept.
-pub(crate) fn slot_turned(x: Slot, turn: Turn, scene: Scene) -> Slot
-    ensures { λ r. ⌜ r ≡ slotTurned scene x turn ⌝ }
+pub(crate) fn slot_turned(slot: Slot, turn: Turn, scene: Scene) -> Slot
+    ensures { λ r. ⌜ r ≡ slotTurned scene slot turn ⌝ }
 {
-    let c = x.channel;
+    let channel = slot.channel;
     let own = scene.own;
     let asked = scene.asked;
     let oldest = scene.oldest;
     match turn {
-        Turn::Stays => x,
-        Turn::Own(p) => Slot {
-            phase: p,
-            channel: c,
+        Turn::Stays => slot,
+        Turn::Own(phase) => Slot {
+            phase: phase,
+            channel: channel,
             request: own,
         },
-        Turn::Asked(p) => Slot {
-            phase: p,
-            channel: c,
+        Turn::Asked(phase) => Slot {
+            phase: phase,
+            channel: channel,
             request: asked,
         },
-        Turn::Oldest(p) => Slot {
-            phase: p,
-            channel: c,
+        Turn::Oldest(phase) => Slot {
+            phase: phase,
+            channel: channel,
             request: oldest,
         },
     }
 }
 
-// The place that is given up in a queue of n; its end where none is.
-pub(crate) fn leaving(change: QueueChange, n: u8) -> u8
-    ensures { λ r. ⌜ r ≡ leavingOf n change ⌝ }
+// The place that is given up where so many wait; the queue's end where none is.
+pub(crate) fn leaving(change: QueueChange, waiting: u8) -> u8
+    ensures { λ r. ⌜ r ≡ leavingOf waiting change ⌝ }
 {
     match change {
-        QueueChange::Same => n,
-        QueueChange::Leaves(k) => k.0,
-        QueueChange::Joins(_) => n,
-        QueueChange::Replaces(_) => n,
+        QueueChange::Same => waiting,
+        QueueChange::Leaves(place) => place.0,
+        QueueChange::Joins(_) => waiting,
+        QueueChange::Replaces(_) => waiting,
     }
 }
 
-// The place that is written in a queue of n; past the array where none is.
-pub(crate) fn entry_place(change: QueueChange, n: u8) -> u8
-    ensures { λ r. ⌜ r ≡ entryPlace n change ⌝ }
+// The place that is written where so many wait; past the array where none is.
+pub(crate) fn entry_place(change: QueueChange, waiting: u8) -> u8
+    ensures { λ r. ⌜ r ≡ entryPlace waiting change ⌝ }
 {
     match change {
         QueueChange::Same => MOST_WAITING,
         QueueChange::Leaves(_) => MOST_WAITING,
-        QueueChange::Joins(_) => n,
-        QueueChange::Replaces(k) => k.0,
+        QueueChange::Joins(_) => waiting,
+        QueueChange::Replaces(place) => place.0,
     }
 }
 
 // How many wait then.
-pub(crate) fn length_after(change: QueueChange, n: u8) -> u8
-    requires { ⌜ lengthAfter n change < 256 ⌝ }
-    ensures { λ r. ⌜ r ≡ lengthAfter n change ⌝ }
+pub(crate) fn length_after(change: QueueChange, waiting: u8) -> u8
+    requires { ⌜ lengthAfter waiting change < 256 ⌝ }
+    ensures { λ r. ⌜ r ≡ lengthAfter waiting change ⌝ }
 {
     match change {
-        QueueChange::Same => n,
-        QueueChange::Leaves(_) => n,
-        QueueChange::Joins(_) => n + 1,
-        QueueChange::Replaces(_) => n,
+        QueueChange::Same => waiting,
+        QueueChange::Leaves(_) => waiting,
+        QueueChange::Joins(_) => waiting + 1,
+        QueueChange::Replaces(_) => waiting,
     }
 }

@@ -21,19 +21,19 @@ use units::Channel;
 use units::Tenths;
 
 // "one slot each", in the list's order.
-fn listed(channels: [Channel; SLOTS], n: u8) -> [Slot; SLOTS]
-    requires { ⌜ n ≤ mostSlots ⌝ }
-    ensures { λ r. ⌜ r ≡ padded blankSlot mostSlots (viewed freeOn n channels) ⌝ }
+fn listed(channels: [Channel; SLOTS], count: u8) -> [Slot; SLOTS]
+    requires { ⌜ count ≤ mostSlots ⌝ }
+    ensures { λ r. ⌜ r ≡ padded blankSlot mostSlots (viewed freeOn count channels) ⌝ }
 {
     let blank = blank_slot();
-    let mut a = [blank; SLOTS];
+    let mut slots = [blank; SLOTS];
     let mut i: u8 = 0;
-    while i < n {
-        let s = free_on(channels[i as usize]);
-        a[i as usize] = s;
+    while i < count {
+        let slot = free_on(channels[i as usize]);
+        slots[i as usize] = slot;
         i += 1;
     }
-    a
+    slots
 }
 
 impl Station {
@@ -41,15 +41,15 @@ impl Station {
     pub fn blank() -> Station
         ensures { λ r. ⌜ r ≡ blankStation ⌝ }
     {
-        let s = blank_slot();
-        let w = blank_waiting();
+        let blank = blank_slot();
+        let nobody = blank_waiting();
         Station {
             clock: Tenths(0),
             mast: Mast { identity: 0 },
             count: 0,
             waiting: 0,
-            slots: [s; SLOTS],
-            queue: [w; QUEUE_ROOM],
+            slots: [blank; SLOTS],
+            queue: [nobody; QUEUE_ROOM],
         }
     }
 
@@ -58,33 +58,33 @@ impl Station {
         ensures { λ r. ⌜ r ≡ setUpOf (chosen identity channels count) ⌝ }
     {
         if MOST_SLOTS < count {
-            let s = Station::blank();
+            let station = Station::blank();
             return SetUp {
                 answer: 36,
-                station: s,
+                station: station,
             };
         }
-        let a = listed(channels, count);
+        let slots = listed(channels, count);
         let mast = Mast { identity: identity };
-        if !config_keeps(mast, a, count) {
-            let s = Station::blank();
+        if !config_keeps(mast, slots, count) {
+            let station = Station::blank();
             return SetUp {
                 answer: 36,
-                station: s,
+                station: station,
             };
         }
-        let w = blank_waiting();
-        let s = Station {
+        let nobody = blank_waiting();
+        let station = Station {
             clock: Tenths(0),
             mast: mast,
             count: count,
             waiting: 0,
-            slots: a,
-            queue: [w; QUEUE_ROOM],
+            slots: slots,
+            queue: [nobody; QUEUE_ROOM],
         };
         SetUp {
             answer: 0,
-            station: s,
+            station: station,
         }
     }
 }

@@ -11,10 +11,10 @@ use Rattle.station.proofs.setting.listed.Statement.{statement}
 use Rattle.station.proofs.setting.listed.Tie as tie
 
 abbrev Inv-loop : tie.InvT-loop
-Inv-loop n l a₀ i₀ a i = (n ≤ 16) × (length l ≡ 16) × (i ≤ n) × (length a ≡ 16) × (a ≡ padded blankSlot 16 (viewed freeOn i l))
+Inv-loop count channels slots₀ i₀ slots i = (count ≤ 16) × (length channels ≡ 16) × (i ≤ count) × (length slots ≡ 16) × (slots ≡ padded blankSlot 16 (viewed freeOn i channels))
 
 abbrev μ-loop : tie.MeasureT-loop
-μ-loop n l a₀ i₀ a i = n - i
+μ-loop count channels slots₀ i₀ slots i = count - i
 
 loop-holds : tie.Need-loop-holds Inv-loop μ-loop
 unfolding padded viewed
@@ -28,7 +28,7 @@ loop-again c = let l = c .before .before .before .loop in
     (l .inv .0, l .inv .1, omega arith, search needs, rw (l .inv .4, c .free-on .ensures) (laid-more freeOn blankSlot 16 _ _ (record { 0 = 0 }) (omega arith) (omega arith)))
 
 returns : tie.Need-returns Inv-loop μ-loop
-returns c = let e : c .before .loop .i ≡ c .before .before .before .args .n = omega arith in rw (c .before .loop .inv .4, e)
+returns c = let e : c .before .loop .i ≡ c .before .before .before .args .count = omega arith in rw (c .before .loop .inv .4, e)
 
 pub listed-spec : {M : Type 1} → statement M
 listed-spec =
