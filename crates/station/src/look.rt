@@ -48,55 +48,55 @@ impl Station {
     {
         let mast = self.mast;
         let clock = self.clock;
-        let n = least(self.count, MOST_SLOTS);
-        let m = least(self.waiting, MOST_WAITING);
+        let slots = least(self.count, MOST_SLOTS);
+        let waiting = least(self.waiting, MOST_WAITING);
         let mut sound = head_sound(mast, clock, self.count, self.waiting);
-        let mut due = Due::Never;
-        let mut i = n as u32;
+        let mut first = Due::Never;
+        let mut i = slots as u32;
         while 0 < i {
             i -= 1;
-            let s = self.slots[i as usize];
-            if !slot_sound(s, mast, clock) {
+            let slot = self.slots[i as usize];
+            if !slot_sound(slot, mast, clock) {
                 sound = false;
             }
-            let d = main_due(s, SlotNumber(i), due);
-            due = loss_due(s, SlotNumber(i), d);
+            let with_main = main_due(slot, SlotNumber(i), first);
+            first = loss_due(slot, SlotNumber(i), with_main);
         }
-        let mut k = m;
+        let mut k = waiting;
         while 0 < k {
             k -= 1;
-            let w = self.queue[k as usize];
-            if !waiting_sound(w, mast, clock) {
+            let entry = self.queue[k as usize];
+            if !waiting_sound(entry, mast, clock) {
                 sound = false;
             }
-            let t = w.due;
-            due = sooner_of(t, Wait::Entry(QueuePlace(k)), due);
+            let due = entry.due;
+            first = sooner_of(due, Wait::Entry(QueuePlace(k)), first);
         }
         let mut channels = [0u32; SLOTS];
         let mut ships = [0u32; SHIPS];
         let mut count: usize = 0;
         let mut j: u8 = 0;
-        while j < n {
-            let s = self.slots[j as usize];
-            let h = s.channel;
-            channels[j as usize] = h.0;
-            let p = s.phase;
-            if has_ship(p) {
-                let q = s.request;
-                ships[count] = q.ship;
+        while j < slots {
+            let slot = self.slots[j as usize];
+            let channel = slot.channel;
+            channels[j as usize] = channel.0;
+            let phase = slot.phase;
+            if has_ship(phase) {
+                let request = slot.request;
+                ships[count] = request.ship;
                 count += 1;
             }
             j += 1;
         }
         let mut l: u8 = 0;
-        while l < m {
-            let w = self.queue[l as usize];
-            let q = w.request;
-            ships[count] = q.ship;
+        while l < waiting {
+            let entry = self.queue[l as usize];
+            let request = entry.request;
+            ships[count] = request.ship;
             count += 1;
             l += 1;
         }
-        let end = n as usize;
+        let end = slots as usize;
         if !all_apart(&channels[..end]) {
             sound = false;
         }
@@ -106,8 +106,8 @@ impl Station {
         Look {
             sound: sound,
             clock: clock,
-            count: n,
-            due: due,
+            count: slots,
+            due: first,
         }
     }
 

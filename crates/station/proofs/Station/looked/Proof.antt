@@ -31,28 +31,28 @@ use Rattle.station.proofs.Station.looked.Statement.{statement}
 use Rattle.station.proofs.Station.looked.Tie as tie
 
 abbrev Inv-loop : tie.InvT-loop
-Inv-loop self mast clock n m sound₀ due₀ i₀ sound due i = (length (self .slots) ≡ 16) × (i ≤ 16) × (i ≤ self .count) × (dueView due ≡ earliest (slotTable i (left slotView (self .count) (self .slots) i))) × (sound ≡ (all (slotSound mast clock) (left itself (self .count) (self .slots) i) && sound₀))
+Inv-loop self mast clock slots waiting sound₀ first₀ i₀ sound first i = (length (self .slots) ≡ 16) × (i ≤ 16) × (i ≤ self .count) × (dueView first ≡ earliest (slotTable i (left slotView (self .count) (self .slots) i))) × (sound ≡ (all (slotSound mast clock) (left itself (self .count) (self .slots) i) && sound₀))
 
 abbrev μ-loop : tie.MeasureT-loop
-μ-loop self mast clock n m sound₀ due₀ i₀ sound due i = i
+μ-loop self mast clock slots waiting sound₀ first₀ i₀ sound first i = i
 
 abbrev Inv-loop2 : tie.InvT-loop2
-Inv-loop2 self mast clock n m sound₀ due₀ i k₀ sound due k = (length (self .queue) ≡ 32) × (k ≤ 32) × (k ≤ self .waiting) × (dueView due ≡ queueJoined k (map dueOf (left waitingView (self .waiting) (self .queue) k)) (dueView due₀)) × (sound ≡ (all (waitingSound mast clock) (left itself (self .waiting) (self .queue) k) && sound₀))
+Inv-loop2 self mast clock slots waiting sound₀ first₀ i k₀ sound first k = (length (self .queue) ≡ 32) × (k ≤ 32) × (k ≤ self .waiting) × (dueView first ≡ queueJoined k (map dueOf (left waitingView (self .waiting) (self .queue) k)) (dueView first₀)) × (sound ≡ (all (waitingSound mast clock) (left itself (self .waiting) (self .queue) k) && sound₀))
 
 abbrev μ-loop2 : tie.MeasureT-loop2
-μ-loop2 self mast clock n m sound₀ due₀ i k₀ sound due k = k
+μ-loop2 self mast clock slots waiting sound₀ first₀ i k₀ sound first k = k
 
 abbrev Inv-loop3 : tie.InvT-loop3
-Inv-loop3 self clock n m sound due i k channels₀ ships₀ count₀ j₀ channels ships count j = (length (self .slots) ≡ 16) × (n ≡ min (self .count) 16) × (j ≤ n) × (length channels ≡ 16) × (channels ≡ padded 0 16 (viewed numberOf j (self .slots))) × (count ≤ j) × Filled (shipsOf (viewed itself j (self .slots))) ships count
+Inv-loop3 self clock slots waiting sound first i k channels₀ ships₀ count₀ j₀ channels ships count j = (length (self .slots) ≡ 16) × (slots ≡ min (self .count) 16) × (j ≤ slots) × (length channels ≡ 16) × (channels ≡ padded 0 16 (viewed numberOf j (self .slots))) × (count ≤ j) × Filled (shipsOf (viewed itself j (self .slots))) ships count
 
 abbrev μ-loop3 : tie.MeasureT-loop3
-μ-loop3 self clock n m sound due i k channels₀ ships₀ count₀ j₀ channels ships count j = n - j
+μ-loop3 self clock slots waiting sound first i k channels₀ ships₀ count₀ j₀ channels ships count j = slots - j
 
 abbrev Inv-loop4 : tie.InvT-loop4
-Inv-loop4 self clock n m sound due i k channels ships₀ count₀ j l₀ ships count l = (length (self .queue) ≡ 32) × (m ≡ min (self .waiting) 32) × (l ≤ m) × (count ≤ 16 + l) × Filled (shipsOf (viewed itself j (self .slots)) ++ viewed shipAt l (self .queue)) ships count
+Inv-loop4 self clock slots waiting sound first i k channels ships₀ count₀ j l₀ ships count l = (length (self .queue) ≡ 32) × (waiting ≡ min (self .waiting) 32) × (l ≤ waiting) × (count ≤ 16 + l) × Filled (shipsOf (viewed itself j (self .slots)) ++ viewed shipAt l (self .queue)) ships count
 
 abbrev μ-loop4 : tie.MeasureT-loop4
-μ-loop4 self clock n m sound due i k channels ships₀ count₀ j l₀ ships count l = m - l
+μ-loop4 self clock slots waiting sound first i k channels ships₀ count₀ j l₀ ships count l = waiting - l
 
 -- what was seen on the way is what the gate asks of the station
 sees :
@@ -156,13 +156,13 @@ returns c = let x = c .before .before .before .before .before .before .before .b
     let first : f .i ≡ 0 = omega arith in
     let last : q .k ≡ 0 = omega arith in
     let apart = c .before .all-apart2 .ensures ∙ ap (distinct eqb) (ships-front (x .count) (h .j) (x .slots) (x .waiting) (l .l) (x .queue) (l .ships) (l .count) (omega arith) (omega arith) (omega arith) (l .inv .4)) in
-    sees x wide long (f .due) (q .due)
+    sees x wide long (f .first) (q .first)
     (c .before .before .before .before .before .before .before .before .before .before .before .before .before .before .before .before .least .ensures)
     (all-passed (slotSound (x .mast) (x .clock)) (x .count) (x .slots) (f .i) (c .before .before .before .before .before .before .before .before .before .before .before .before .before .before .head-sound .result) first (f .inv .4) ∙ ap (λ z. all (slotSound (x .mast) (x .clock)) (viewed itself (x .count) (x .slots)) && z) (c .before .before .before .before .before .before .before .before .before .before .before .before .before .before .head-sound .ensures))
     (all-passed (waitingSound (x .mast) (x .clock)) (x .waiting) (x .queue) (q .k) (f .sound) last (q .inv .4))
     (rw (sym apart ∙ not-true _ (c .if5 .taken)))
     ((rw first at (f .inv .3)) ∙ ap (λ z. earliest (slotTable 0 z)) (left-all slotView (x .count) (x .slots)))
-    ((rw last at (q .inv .3)) ∙ ap (λ z. queueJoined 0 (map dueOf z) (dueView (f .due))) (left-all waitingView (x .waiting) (x .queue)))
+    ((rw last at (q .inv .3)) ∙ ap (λ z. queueJoined 0 (map dueOf z) (dueView (f .first))) (left-all waitingView (x .waiting) (x .queue)))
 
 returns-2 : tie.Need-returns-2 Inv-loop μ-loop Inv-loop2 μ-loop2 Inv-loop3 μ-loop3 Inv-loop4 μ-loop4
 returns-2 c = let x = c .before .before .before .before .before .before .before .before .before .before .before .before .before .before .before .before .before .before .before .args .t1 in
@@ -177,13 +177,13 @@ returns-2 c = let x = c .before .before .before .before .before .before .before 
     let apart = c .before .all-apart2 .ensures ∙ ap (distinct eqb) (ships-front (x .count) (h .j) (x .slots) (x .waiting) (l .l) (x .queue) (l .ships) (l .count) (omega arith) (omega arith) (omega arith) (l .inv .4)) in
     let e : c .before .before .before .before .before .before .before .before .before .before .before .before .before .before .before .before .least .result ≡ h .j = omega arith in
     let numbers = c .before .before .before .before .all-apart .ensures ∙ ap (distinct eqb) (ap (λ j. take j (h .channels)) e ∙ channels-front (x .count) (h .j) (x .slots) (h .channels) (omega arith) (omega arith) (h .inv .4)) in
-    sees x wide long (f .due) (q .due)
+    sees x wide long (f .first) (q .first)
     (c .before .before .before .before .before .before .before .before .before .before .before .before .before .before .before .before .least .ensures)
     (all-passed (slotSound (x .mast) (x .clock)) (x .count) (x .slots) (f .i) (c .before .before .before .before .before .before .before .before .before .before .before .before .before .before .head-sound .result) first (f .inv .4) ∙ ap (λ z. all (slotSound (x .mast) (x .clock)) (viewed itself (x .count) (x .slots)) && z) (c .before .before .before .before .before .before .before .before .before .before .before .before .before .before .head-sound .ensures))
     (all-passed (waitingSound (x .mast) (x .clock)) (x .waiting) (x .queue) (q .k) (f .sound) last (q .inv .4))
     (rw (sym apart ∙ not-false _ (c .if5 .left)) (⊎-elim (λ w. rw (w .1, sym numbers ∙ not-true _ (w .0 .taken))) (λ w. rw (w .1, sym numbers ∙ not-false _ (w .0 .left))) (c .before .before .before .if4 .came)))
     ((rw first at (f .inv .3)) ∙ ap (λ z. earliest (slotTable 0 z)) (left-all slotView (x .count) (x .slots)))
-    ((rw last at (q .inv .3)) ∙ ap (λ z. queueJoined 0 (map dueOf z) (dueView (f .due))) (left-all waitingView (x .waiting) (x .queue)))
+    ((rw last at (q .inv .3)) ∙ ap (λ z. queueJoined 0 (map dueOf z) (dueView (f .first))) (left-all waitingView (x .waiting) (x .queue)))
 
 pub looked-spec : {M : Type 1} → statement M
 looked-spec =
