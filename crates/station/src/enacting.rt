@@ -40,98 +40,98 @@ use units::SlotNumber;
 use units::Tenths;
 
 impl Station {
-    // An outcome of the slot i, told from block number k on; in one piece, since each call that is handed a station copies it.
+    // An outcome of that slot, told from that block on; in one piece, since each call that is handed a station copies it.
     pub(crate) fn enact(
         mut self,
-        t: Tenths,
-        i: SlotNumber,
-        o: Outcome,
-        q: Request,
-        k: u8,
+        time: Tenths,
+        number: SlotNumber,
+        outcome: Outcome,
+        request: Request,
+        block: u8,
         room: &mut [u8],
     ) -> Stepped
-        requires { ⌜ t .0 ≤ limit ⌝ }
-        requires { ⌜ length (outAt self t i (requestOf q) o .next .queue) ≤ queueRoom ⌝ }
-        ensures { λ r. ⌜ r ≡ handedBack self (outAt self t i (requestOf q) o) k (now (room .entry)) ⌝ }
-        ensures { λ _. ⌜ now (room .exit) ≡ roomLaid self (outAt self t i (requestOf q) o) k (now (room .entry)) ⌝ }
+        requires { ⌜ time .0 ≤ limit ⌝ }
+        requires { ⌜ length (outAt self time number (requestOf request) outcome .next .queue) ≤ queueRoom ⌝ }
+        ensures { λ r. ⌜ r ≡ handedBack self (outAt self time number (requestOf request) outcome) block (now (room .entry)) ⌝ }
+        ensures { λ _. ⌜ now (room .exit) ≡ roomLaid self (outAt self time number (requestOf request) outcome) block (now (room .entry)) ⌝ }
     {
         let slots = least(self.count, MOST_SLOTS);
         let waiting = least(self.waiting, MOST_WAITING);
         let blank = blank_slot();
         let nobody = blank_waiting();
-        let mut x = blank;
-        if i.0 < slots as u32 {
-            x = self.slots[i.0 as usize];
+        let mut slot = blank;
+        if number.0 < slots as u32 {
+            slot = self.slots[number.0 as usize];
         }
-        let mut w = nobody;
+        let mut head = nobody;
         if 0 < waiting {
-            w = self.queue[0];
+            head = self.queue[0];
         }
-        let c = x.channel;
-        let own = x.request;
-        let oldest = w.request;
+        let channel = slot.channel;
+        let own = slot.request;
+        let oldest = head.request;
         let scene = Scene {
-            clock: t,
-            slot: i,
-            channel: c,
+            clock: time,
+            slot: number,
+            channel: channel,
             own: own,
-            asked: q,
+            asked: request,
             oldest: oldest,
             waiting: waiting,
         };
-        let told = scene.tell(o, k, room);
-        let change = queue_change(o, t, waiting);
-        let turn = turn_of(o, t, waiting);
-        if i.0 < slots as u32 {
-            self.slots[i.0 as usize] = slot_turned(x, turn, scene);
+        let told = scene.tell(outcome, block, room);
+        let change = queue_change(outcome, time, waiting);
+        let turn = turn_of(outcome, time, waiting);
+        if number.0 < slots as u32 {
+            self.slots[number.0 as usize] = slot_turned(slot, turn, scene);
         }
         // who waits behind the place that is given up moves up
-        let mut j = leaving(change, waiting);
-        while (j as usize) + 1 < waiting as usize {
-            let next = self.queue[j as usize + 1];
-            self.queue[j as usize] = next;
-            j += 1;
+        let mut gap = leaving(change, waiting);
+        while (gap as usize) + 1 < waiting as usize {
+            let next = self.queue[gap as usize + 1];
+            self.queue[gap as usize] = next;
+            gap += 1;
         }
-        let kept = least(j, waiting);
+        let kept = least(gap, waiting);
         let place = entry_place(change, kept);
         if place < MOST_WAITING {
             let before = self.queue[place as usize];
-            self.queue[place as usize] = entered(change, before, q);
+            self.queue[place as usize] = entered(change, before, request);
         }
         let after = length_after(change, kept);
-        self.clock = t;
+        self.clock = time;
         self.count = slots;
         self.waiting = after;
         // laid out anew from the last place to the first, so that of two waits due together the earlier stands
-        let mut d = Due::Never;
-        let mut n = MOST_SLOTS;
-        while slots < n {
-            n -= 1;
-            self.slots[n as usize] = blank;
+        let mut first = Due::Never;
+        let mut i = MOST_SLOTS;
+        while slots < i {
+            i -= 1;
+            self.slots[i as usize] = blank;
         }
-        while 0 < n {
-            n -= 1;
-            let s = self.slots[n as usize];
-            let m = main_due(s, SlotNumber(n as u32), d);
-            d = loss_due(s, SlotNumber(n as u32), m);
-            self.slots[n as usize] = tidy_slot(s);
+        while 0 < i {
+            i -= 1;
+            let stored = self.slots[i as usize];
+            let with_main = main_due(stored, SlotNumber(i as u32), first);
+            first = loss_due(stored, SlotNumber(i as u32), with_main);
+            self.slots[i as usize] = tidy_slot(stored);
         }
-        n = MOST_WAITING;
-        while after < n {
-            n -= 1;
-            self.queue[n as usize] = nobody;
+        i = MOST_WAITING;
+        while after < i {
+            i -= 1;
+            self.queue[i as usize] = nobody;
         }
-        while 0 < n {
-            n -= 1;
-            let e = self.queue[n as usize];
-            let u = e.due;
-            d = sooner_of(u, Wait::Entry(QueuePlace(n)), d);
-            self.queue[n as usize] = tidy_waiting(e);
+        while 0 < i {
+            i -= 1;
+            let entry = self.queue[i as usize];
+            let due = entry.due;
+            first = sooner_of(due, Wait::Entry(QueuePlace(i)), first);
+            self.queue[i as usize] = tidy_waiting(entry);
         }
         Stepped {
-            answer: answer_of(o),
+            answer: answer_of(outcome),
             count: told,
-            due: due_time(d),
+            due: due_time(first),
             station: self,
         }
     }
@@ -140,11 +140,11 @@ impl Station {
     pub(crate) fn refused(self, number: u8, first: Due) -> Stepped
         ensures { λ r. ⌜ r ≡ record { answer = number; count = 0; due = dueImage (dueAt (dueView first)); station = self } ⌝ }
     {
-        let d = due_time(first);
+        let due = due_time(first);
         Stepped {
             answer: number,
             count: 0,
-            due: d,
+            due: due,
             station: self,
         }
     }

@@ -43,48 +43,48 @@ use Rattle.station.proofs.Station.enact.Tie as tie
 
 -- the gap moves to the end of the queue
 abbrev Inv-loop : tie.InvT-loop
-Inv-loop t o q k room self₀ slots waiting blank nobody told change j₀ self j =
-    (self .mast ≡ self₀ .mast) × (self .slots ≡ self₀ .slots) × (length (self .queue) ≡ 32) × (waiting ≤ 32) × (j < 256)
-    × (dropAt j (viewed waitingView waiting (self .queue)) ≡ dropAt j₀ (viewed waitingView waiting (self₀ .queue)))
+Inv-loop time outcome request block room self₀ slots waiting blank nobody told change gap₀ self gap =
+    (self .mast ≡ self₀ .mast) × (self .slots ≡ self₀ .slots) × (length (self .queue) ≡ 32) × (waiting ≤ 32) × (gap < 256)
+    × (dropAt gap (viewed waitingView waiting (self .queue)) ≡ dropAt gap₀ (viewed waitingView waiting (self₀ .queue)))
 
 abbrev μ-loop : tie.MeasureT-loop
-μ-loop t o q k room self₀ slots waiting blank nobody told change j₀ self j = waiting - j
+μ-loop time outcome request block room self₀ slots waiting blank nobody told change gap₀ self gap = waiting - gap
 
--- the slots laid out anew from n on, first the unused ones
+-- the slots laid out anew from i on, first the unused ones
 abbrev Inv-loop2 : tie.InvT-loop2
-Inv-loop2 o k room self₀ slots waiting blank nobody told j kept place after d n₀ self n =
+Inv-loop2 outcome block room self₀ slots waiting blank nobody told gap kept place after first i₀ self i =
     (self .clock ≡ self₀ .clock) × (self .mast ≡ self₀ .mast) × (self .count ≡ self₀ .count) × (self .waiting ≡ self₀ .waiting) × (self .queue ≡ self₀ .queue)
-    × (slots ≤ n) × (n ≤ 16) × (self .slots ≡ doneFrom tidySlot blankSlot slots (self₀ .slots) n)
+    × (slots ≤ i) × (i ≤ 16) × (self .slots ≡ doneFrom tidySlot blankSlot slots (self₀ .slots) i)
 
 abbrev μ-loop2 : tie.MeasureT-loop2
-μ-loop2 o k room self₀ slots waiting blank nobody told j kept place after d n₀ self n = n
+μ-loop2 outcome block room self₀ slots waiting blank nobody told gap kept place after first i₀ self i = i
 
 abbrev Inv-loop3 : tie.InvT-loop3
-Inv-loop3 o k room self₀ slots waiting nobody told j kept place after d₀ n₀ self d n =
+Inv-loop3 outcome block room self₀ slots waiting nobody told gap kept place after first₀ i₀ self first i =
     (self .clock ≡ self₀ .clock) × (self .mast ≡ self₀ .mast) × (self .count ≡ self₀ .count) × (self .waiting ≡ self₀ .waiting) × (self .queue ≡ self₀ .queue)
-    × (n ≤ slots) × (slots ≤ 16) × (length (self₀ .slots) ≡ 16) × (self .slots ≡ doneFrom tidySlot blankSlot slots (self₀ .slots) n)
-    × (dueView d ≡ earliest (slotTable n (left slotView slots (self₀ .slots) n)))
+    × (i ≤ slots) × (slots ≤ 16) × (length (self₀ .slots) ≡ 16) × (self .slots ≡ doneFrom tidySlot blankSlot slots (self₀ .slots) i)
+    × (dueView first ≡ earliest (slotTable i (left slotView slots (self₀ .slots) i)))
 
 abbrev μ-loop3 : tie.MeasureT-loop3
-μ-loop3 o k room self₀ slots waiting nobody told j kept place after d₀ n₀ self d n = n
+μ-loop3 outcome block room self₀ slots waiting nobody told gap kept place after first₀ i₀ self first i = i
 
 -- and so the queue
 abbrev Inv-loop4 : tie.InvT-loop4
-Inv-loop4 o k room self₀ slots waiting nobody told j kept place after d n₀ self n =
+Inv-loop4 outcome block room self₀ slots waiting nobody told gap kept place after first i₀ self i =
     (self .clock ≡ self₀ .clock) × (self .mast ≡ self₀ .mast) × (self .count ≡ self₀ .count) × (self .waiting ≡ self₀ .waiting) × (self .slots ≡ self₀ .slots)
-    × (after ≤ n) × (n ≤ 32) × (self .queue ≡ doneFrom tidyWaiting blankWaiting after (self₀ .queue) n)
+    × (after ≤ i) × (i ≤ 32) × (self .queue ≡ doneFrom tidyWaiting blankWaiting after (self₀ .queue) i)
 
 abbrev μ-loop4 : tie.MeasureT-loop4
-μ-loop4 o k room self₀ slots waiting nobody told j kept place after d n₀ self n = n
+μ-loop4 outcome block room self₀ slots waiting nobody told gap kept place after first i₀ self i = i
 
 abbrev Inv-loop5 : tie.InvT-loop5
-Inv-loop5 o k room self₀ slots waiting told j kept place after d₀ n₀ self d n =
+Inv-loop5 outcome block room self₀ slots waiting told gap kept place after first₀ i₀ self first i =
     (self .clock ≡ self₀ .clock) × (self .mast ≡ self₀ .mast) × (self .count ≡ self₀ .count) × (self .waiting ≡ self₀ .waiting) × (self .slots ≡ self₀ .slots)
-    × (n ≤ after) × (after ≤ 32) × (length (self₀ .queue) ≡ 32) × (self .queue ≡ doneFrom tidyWaiting blankWaiting after (self₀ .queue) n)
-    × (dueView d ≡ queueJoined n (map dueOf (left waitingView after (self₀ .queue) n)) (dueView d₀))
+    × (i ≤ after) × (after ≤ 32) × (length (self₀ .queue) ≡ 32) × (self .queue ≡ doneFrom tidyWaiting blankWaiting after (self₀ .queue) i)
+    × (dueView first ≡ queueJoined i (map dueOf (left waitingView after (self₀ .queue) i)) (dueView first₀))
 
 abbrev μ-loop5 : tie.MeasureT-loop5
-μ-loop5 o k room self₀ slots waiting told j kept place after d₀ n₀ self d n = n
+μ-loop5 outcome block room self₀ slots waiting told gap kept place after first₀ i₀ self first i = i
 
 -- ── the places of the code, from the last back ──
 
@@ -147,14 +147,14 @@ slots-is c = c .before .before .before .before .before .before .least .ensures
 waiting-is : (c : Read) → waiting c ≡ min (own c .waiting) 32
 waiting-is c = c .before .before .before .before .before .least2 .ensures
 
-slot-is : (c : Read) → c .before .if1 .x ≡ slotOf (own c) (start c .args .i .0)
+slot-is : (c : Read) → c .before .if1 .slot ≡ slotOf (own c) (start c .args .number .0)
 slot-is c =
     ⊎-elim
-    (λ v. v .3 ∙ slot-in (own c) (wide c) (start c .args .i .0) (rw (slots-is c) at (v .0 .taken)))
-    (λ v. v .1 ∙ c .before .before .before .before .blank-slot .ensures ∙ slot-past (own c) (wide c) (start c .args .i .0) (rw (slots-is c) at (v .0 .left)))
+    (λ v. v .3 ∙ slot-in (own c) (wide c) (start c .args .number .0) (rw (slots-is c) at (v .0 .taken)))
+    (λ v. v .1 ∙ c .before .before .before .before .blank-slot .ensures ∙ slot-past (own c) (wide c) (start c .args .number .0) (rw (slots-is c) at (v .0 .left)))
     (c .before .if1 .came)
 
-oldest-is : (c : Read) → waitingView (c .if2 .w) ≡ getD (modelOf (own c) .queue) 0 (waitingView blankWaiting)
+oldest-is : (c : Read) → waitingView (c .if2 .head) ≡ getD (modelOf (own c) .queue) 0 (waitingView blankWaiting)
 oldest-is c =
     ⊎-elim
     (λ v. ap waitingView (v .2) ∙ oldest-in (own c) (long c) (rw (waiting-is c) at (v .0 .taken)))
@@ -164,21 +164,21 @@ oldest-is c =
 abbrev scene : Read → Scene
 scene c =
     record {
-      clock = start c .args .t;
-      slot = start c .args .i;
-      channel = c .before .if1 .x .channel;
-      own = c .before .if1 .x .request;
-      asked = start c .args .q;
-      oldest = c .if2 .w .request;
+      clock = start c .args .time;
+      slot = start c .args .number;
+      channel = c .before .if1 .slot .channel;
+      own = c .before .if1 .slot .request;
+      asked = start c .args .request;
+      oldest = c .if2 .head .request;
       waiting = waiting c;
     }
 
-shown : (c : Read) → Shows (own c) (start c .args .t) (start c .args .i) (requestOf (start c .args .q)) (scene c)
-shown c = shows (own c) (start c .args .t) (start c .args .i) (start c .args .q) (c .before .if1 .x) (c .if2 .w) (waiting c) (slot-is c) (oldest-is c) (waiting-is c ∙ queue-length (own c) (long c))
+shown : (c : Read) → Shows (own c) (start c .args .time) (start c .args .number) (requestOf (start c .args .request)) (scene c)
+shown c = shows (own c) (start c .args .time) (start c .args .number) (start c .args .request) (c .before .if1 .slot) (c .if2 .head) (waiting c) (slot-is c) (oldest-is c) (waiting-is c ∙ queue-length (own c) (long c))
 
 -- the model at the event's time
 abbrev before′ : Read → R.Station
-before′ c = setClock (start c .args .t .0) (modelOf (own c))
+before′ c = setClock (start c .args .time .0) (modelOf (own c))
 
 -- ── the slot ──
 
@@ -199,8 +199,8 @@ slots-seen c =
     let n : slots r ≡ min (s .count) (length (s .slots)) = omega (arith, slots-is r, wide r) in
     ap (λ z. viewed slotView z (s .slots)) n ∙ viewed-min slotView (s .count) (s .slots) ∙ sym (requeued-slots (sceneView (scene r)) (change c) (before′ r))
 
-slot-there : (c : Turned) → start (read c) .args .i .0 < slots (read c) → c .before .before .before .before .before .before .before .before .before .before .before .before .if1 .x ≡ getD (own (read c) .slots) (start (read c) .args .i .0) noSlot
-slot-there c h = let r = read c in slot-is r ∙ sym (slot-in (own r) (wide r) (start r .args .i .0) (omega (arith, slots-is r)))
+slot-there : (c : Turned) → start (read c) .args .number .0 < slots (read c) → c .before .before .before .before .before .before .before .before .before .before .before .before .if1 .slot ≡ getD (own (read c) .slots) (start (read c) .args .number .0) noSlot
+slot-there c h = let r = read c in slot-is r ∙ sym (slot-in (own r) (wide r) (start r .args .number .0) (omega (arith, slots-is r)))
 
 turned-mast : (c : Turned) → c .if3 .self .mast ≡ own (read c) .mast
 turned-mast c = ⊎-elim (λ v. ap (λ (z : Station). z .mast) (v .3)) (λ v. ap (λ (z : Station). z .mast) (v .1)) (c .if3 .came)
@@ -217,7 +217,7 @@ turned-slots c =
     ⊎-elim
     (λ v.
     ap (λ (z : Station). viewed slotView (slots r) (z .slots)) (v .3)
-    ∙ ap (λ z. viewed slotView (slots r) (set (own r .slots) (start r .args .i .0) z)) (v .1 .ensures ∙ ap (λ z. slotTurned (scene r) z (turn c)) (slot-there c (v .0 .taken)))
+    ∙ ap (λ z. viewed slotView (slots r) (set (own r .slots) (start r .args .number .0) z)) (v .1 .ensures ∙ ap (λ z. slotTurned (scene r) z (turn c)) (slot-there c (v .0 .taken)))
     ∙ slots-written (scene r) (slots r) (own r .slots) (during c) (slots-seen c) (turn c))
     (λ v. ap (λ (z : Station). viewed slotView (slots r) (z .slots)) (v .1) ∙ slots-kept (scene r) (slots r) (own r .slots) (during c) (slots-seen c) (v .0 .left) (turn c))
     (c .if3 .came)
@@ -228,7 +228,7 @@ turned-channels c =
     ⊎-elim
     (λ v.
     ap (λ (z : Station). viewed channelOf (slots r) (z .slots)) (v .3)
-    ∙ ap (λ z. viewed channelOf (slots r) (set (own r .slots) (start r .args .i .0) z)) (v .1 .ensures ∙ ap (λ z. slotTurned (scene r) z (turn c)) (slot-there c (v .0 .taken)))
+    ∙ ap (λ z. viewed channelOf (slots r) (set (own r .slots) (start r .args .number .0) z)) (v .1 .ensures ∙ ap (λ z. slotTurned (scene r) z (turn c)) (slot-there c (v .0 .taken)))
     ∙ channels-written (scene r) (slots r) (own r .slots) (during c) (slots-seen c) (turn c))
     (λ v. ap (λ (z : Station). viewed channelOf (slots r) (z .slots)) (v .1))
     (c .if3 .came)
@@ -250,7 +250,7 @@ queue-left c =
     let l = closed c .before .loop in
     let m : waiting r ≡ min (s .waiting) (length (s .queue)) = omega (arith, waiting-is r, long r) in
     ap (λ z. viewed waitingView z (l .self .queue)) (c .before .before .least3 .ensures)
-    ∙ gap-last waitingView (waiting r) (l .self .queue) (l .j) (closed c .loop-test .left)
+    ∙ gap-last waitingView (waiting r) (l .self .queue) (l .gap) (closed c .loop-test .left)
     ∙ l .inv .5
     ∙ ap (λ z. dropAt z (viewed waitingView (waiting r) (t .if3 .self .queue))) (closed c .before .before .leaving .ensures)
     ∙ ap (λ z. dropAt (leavingOf (waiting r) (change t)) (viewed waitingView (waiting r) z)) (turned-queue t)
@@ -265,7 +265,7 @@ fits c =
     let x = z .args in
     let l = closed c .before .loop in
     let k : kept c ≤ 32 = omega (arith, c .before .before .least3 .ensures, l .inv .3) in
-    let e = queue-is (own r) (x .t) (x .i) (requestOf (x .q)) (scene r) (x .o) (z .pre .0) (shown r) in
+    let e = queue-is (own r) (x .time) (x .number) (requestOf (x .request)) (scene r) (x .outcome) (z .pre .0) (shown r) in
     queue-fits (scene r) (kept c) (l .self .queue) (before′ r) (l .inv .2) (change t) (queue-left c) k
     (rw (e ∙ ap (λ y. requeued (sceneView (scene r)) y (before′ r) .queue) (sym (t .before .before .before .queue-change .ensures))) at (z .pre .1))
 
@@ -298,7 +298,7 @@ requeued-queue c =
     (λ v.
     ap (λ (z : Station). viewed waitingView n (z .queue)) (v .3)
     ∙ ap (λ z. viewed waitingView n (set (l .self .queue) (c .before .entry-place .result) z)) (v .2 .ensures)
-    ∙ ap (λ z. viewed waitingView n (set (l .self .queue) z (enteredOf (start r .args .q) (getD (l .self .queue) z noWaiting) (change t)))) p
+    ∙ ap (λ z. viewed waitingView n (set (l .self .queue) z (enteredOf (start r .args .request) (getD (l .self .queue) z noWaiting) (change t)))) p
     ∙ queue-written (scene r) (kept c) (l .self .queue) (before′ r) (l .inv .2) (change t) (queue-left c) (fits c) (rw p at (v .0 .taken)))
     (λ v. ap (λ (z : Station). viewed waitingView n (z .queue)) (v .1) ∙ queue-kept (scene r) (kept c) (l .self .queue) (before′ r) (l .inv .2) (change t) (queue-left c) (fits c) (rw p at (v .0 .left)))
     (c .if4 .came)
@@ -314,7 +314,7 @@ after c = c .before .length-after .result
 abbrev next : Blanking → Station
 next c =
     record {
-      clock = start (from c) .args .t;
+      clock = start (from c) .args .time;
       mast = requeued′ c .if4 .self .mast;
       count = slots (from c);
       waiting = after c;
@@ -331,16 +331,16 @@ after-fits c = rw (c .before .length-after .ensures) (fits (requeued′ c))
 next-wide : (c : Blanking) → length (requeued′ c .if4 .self .slots) ≡ 16
 next-wide c = ap length (requeued-slots-are (requeued′ c)) ∙ turned-wide (turned′ (closed (requeued′ c)))
 
-moved : (c : Blanking) → modelOf (next c) ≡ applied (sceneView (scene (from c))) (start (from c) .args .o) (before′ (from c)) .next
+moved : (c : Blanking) → modelOf (next c) ≡ applied (sceneView (scene (from c))) (start (from c) .args .outcome) (before′ (from c)) .next
 unfolding modelOf setClock sceneView
 moved c =
     let l = requeued′ c in
     let t = turned′ (closed l) in
     let r = from c in
-    moved-is (sceneView (scene r)) (start r .args .o) (before′ r) (modelOf (next c)) refl
+    moved-is (sceneView (scene r)) (start r .args .outcome) (before′ r) (modelOf (next c)) refl
     (ap (viewed slotView (slots r)) (requeued-slots-are l) ∙ turned-slots t
     ∙ ap (λ y. turned (sceneView (scene r)) y (during t) .slots) (t .before .before .turn-of .ensures)
-    ∙ ap (λ y. turned (sceneView (scene r)) (turnOf (start r .args .t) (waiting r) (start r .args .o)) (requeued (sceneView (scene r)) y (before′ r)) .slots) (t .before .before .before .queue-change .ensures))
+    ∙ ap (λ y. turned (sceneView (scene r)) (turnOf (start r .args .time) (waiting r) (start r .args .outcome)) (requeued (sceneView (scene r)) y (before′ r)) .slots) (t .before .before .before .queue-change .ensures))
     (ap (λ n. viewed waitingView n (l .if4 .self .queue)) (c .before .length-after .ensures) ∙ requeued-queue l
     ∙ ap (λ y. requeued (sceneView (scene r)) y (before′ r) .queue) (t .before .before .before .queue-change .ensures))
 
@@ -389,28 +389,28 @@ Emptied = tie.After-loop4 Inv-loop μ-loop Inv-loop2 μ-loop2 Inv-loop3 μ-loop3
 abbrev Tidy-place : Type 0
 Tidy-place = tie.In-loop5 Inv-loop μ-loop Inv-loop2 μ-loop2 Inv-loop3 μ-loop3 Inv-loop4 μ-loop4 Inv-loop5 μ-loop5
 
-in-slots : (c : Slot-in) → c .before .before .before .before .before .before .before .args .i .0 < 16
+in-slots : (c : Slot-in) → c .before .before .before .before .before .before .before .args .number .0 < 16
 in-slots c = omega (arith, c .if1 .taken, c .before .before .before .before .before .least .ensures)
 
-in-slots-again : (c : Slot-out) → start (c .before .before .before .before .before .before .before .before .before .before .before) .args .i .0 < 16
+in-slots-again : (c : Slot-out) → start (c .before .before .before .before .before .before .before .before .before .before .before) .args .number .0 < 16
 in-slots-again c = omega (arith, c .if3 .taken, slots-is (c .before .before .before .before .before .before .before .before .before .before .before))
 
-in-queue : (c : Moving) → c .before .loop .j + 1 < 32
+in-queue : (c : Moving) → c .before .loop .gap + 1 < 32
 in-queue c = omega (arith, c .loop-test .taken, c .before .loop .inv .3)
 
 in-place : (c : Writing) → c .before .entry-place .result < 32
 in-place c = c .if4 .taken
 
-blank-in : (c : Blank-slot) → (0 < c .before .loop2 .n) × (c .before .loop2 .n - 1 < 16)
+blank-in : (c : Blank-slot) → (0 < c .before .loop2 .i) × (c .before .loop2 .i - 1 < 16)
 blank-in c = (omega (arith, c .loop2-test .taken), omega (arith, c .loop2-test .taken, c .before .loop2 .inv .6))
 
-tidy-in : (c : Tidy-slot) → (0 < c .before .loop3 .n) × (c .before .loop3 .n - 1 < 16)
+tidy-in : (c : Tidy-slot) → (0 < c .before .loop3 .i) × (c .before .loop3 .i - 1 < 16)
 tidy-in c = (c .loop3-test .taken, omega (arith, c .loop3-test .taken, c .before .loop3 .inv .5, c .before .loop3 .inv .6))
 
-empty-in : (c : Blank-place) → (0 < c .before .loop4 .n) × (c .before .loop4 .n - 1 < 32)
+empty-in : (c : Blank-place) → (0 < c .before .loop4 .i) × (c .before .loop4 .i - 1 < 32)
 empty-in c = (omega (arith, c .loop4-test .taken), omega (arith, c .loop4-test .taken, c .before .loop4 .inv .6))
 
-place-in : (c : Tidy-place) → (0 < c .before .loop5 .n) × (c .before .loop5 .n - 1 < 32)
+place-in : (c : Tidy-place) → (0 < c .before .loop5 .i) × (c .before .loop5 .i - 1 < 32)
 place-in c = (c .loop5-test .taken, omega (arith, c .loop5-test .taken, c .before .loop5 .inv .5, c .before .loop5 .inv .6))
 
 -- ── the needs ──
@@ -429,7 +429,7 @@ loop-again c =
     let l = c .before .before .loop in
     let h = in-queue (c .before) in
     let r = read (c .before .before .before .before) in
-    (l .inv .0, l .inv .1, length-set (l .self .queue) (l .j) (getD (l .self .queue) (l .j + 1) noWaiting) ∙ l .inv .2, l .inv .3, omega (arith, h), gap-moves waitingView (waiting r) (l .self .queue) (l .j) noWaiting (c .before .loop-test .taken) (omega (arith, h, l .inv .2)) ∙ l .inv .5)
+    (l .inv .0, l .inv .1, length-set (l .self .queue) (l .gap) (getD (l .self .queue) (l .gap + 1) noWaiting) ∙ l .inv .2, l .inv .3, omega (arith, h), gap-moves waitingView (waiting r) (l .self .queue) (l .gap) noWaiting (c .before .loop-test .taken) (omega (arith, h, l .inv .2)) ∙ l .inv .5)
 
 length-after-requires : tie.Need-length-after-requires Inv-loop μ-loop Inv-loop2 μ-loop2 Inv-loop3 μ-loop3 Inv-loop4 μ-loop4 Inv-loop5 μ-loop5
 length-after-requires c κs = let h = fits c in omega (arith, h)
@@ -457,13 +457,13 @@ loop2-again c =
       l .inv .4,
       omega (arith, k),
       omega (arith, l .inv .6),
-      ap (λ z. set z (l .n - 1) (r .before .before .before .before .blank-slot .result)) (l .inv .7)
-          ∙ ap (λ z. set (doneFrom tidySlot blankSlot (slots r) (next (c .before) .slots) (l .n)) (l .n - 1) z) (r .before .before .before .before .blank-slot .ensures)
-          ∙ done-unused tidySlot blankSlot (slots r) (next (c .before) .slots) (l .n) (h .0) k,
+      ap (λ z. set z (l .i - 1) (r .before .before .before .before .blank-slot .result)) (l .inv .7)
+          ∙ ap (λ z. set (doneFrom tidySlot blankSlot (slots r) (next (c .before) .slots) (l .i)) (l .i - 1) z) (r .before .before .before .before .blank-slot .ensures)
+          ∙ done-unused tidySlot blankSlot (slots r) (next (c .before) .slots) (l .i) (h .0) k,
     )
 
 -- the unused slots are blank
-blanked : (c : Blanked) → c .before .loop2 .n ≡ slots (from (c .before))
+blanked : (c : Blanked) → c .before .loop2 .i ≡ slots (from (c .before))
 blanked c = omega (arith, c .before .loop2 .inv .5, c .loop2-test .left)
 
 blanked-slots : (c : Blanked) → c .before .loop2 .self .slots ≡ doneFrom tidySlot blankSlot (slots (from (c .before))) (next (c .before) .slots) (slots (from (c .before)))
@@ -487,7 +487,7 @@ loop3-holds c =
       f,
       w,
       done-again tidySlot blankSlot n (next (c .before) .slots) (l .self .slots) (blanked-slots c) ∙ ap (doneFrom tidySlot blankSlot n (l .self .slots)) (sym (blanked c)),
-      slots-none n (l .self .slots) (l .n) (omega (arith, blanked c, w, f)),
+      slots-none n (l .self .slots) (l .i) (omega (arith, blanked c, w, f)),
     )
 
 loop3-less : tie.Need-loop3-less Inv-loop μ-loop Inv-loop2 μ-loop2 Inv-loop3 μ-loop3 Inv-loop4 μ-loop4 Inv-loop5 μ-loop5
@@ -500,8 +500,8 @@ loop3-again c =
     let a = i .before .before .before .loop2 .self .slots in
     let n = slots (from (i .before .before .before)) in
     let h = tidy-in i in
-    let at = ap (λ z. getD z (l .n - 1) noSlot) (l .inv .8) ∙ done-at tidySlot blankSlot n a (l .n) (h .0) noSlot in
-    let k : l .n ≤ 16 = omega (arith, l .inv .5, l .inv .6) in (
+    let at = ap (λ z. getD z (l .i - 1) noSlot) (l .inv .8) ∙ done-at tidySlot blankSlot n a (l .i) (h .0) noSlot in
+    let k : l .i ≤ 16 = omega (arith, l .inv .5, l .inv .6) in (
       l .inv .0,
       l .inv .1,
       l .inv .2,
@@ -510,13 +510,13 @@ loop3-again c =
       omega (arith, l .inv .5),
       l .inv .6,
       l .inv .7,
-      ap (λ z. set z (l .n - 1) (c .tidy-slot .result)) (l .inv .8)
-          ∙ ap (λ z. set (doneFrom tidySlot blankSlot n a (l .n)) (l .n - 1) z) (c .tidy-slot .ensures ∙ ap tidySlot at)
-          ∙ done-used tidySlot blankSlot n a (l .n) (h .0) noSlot (l .inv .5) (omega (arith, k, l .inv .7)),
+      ap (λ z. set z (l .i - 1) (c .tidy-slot .result)) (l .inv .8)
+          ∙ ap (λ z. set (doneFrom tidySlot blankSlot n a (l .i)) (l .i - 1) z) (c .tidy-slot .ensures ∙ ap tidySlot at)
+          ∙ done-used tidySlot blankSlot n a (l .i) (h .0) noSlot (l .inv .5) (omega (arith, k, l .inv .7)),
       c .before .loss-due .ensures
-          ∙ ap (λ z. joinDue (loss (l .n - 1)) (lossDue (slotView (getD (l .self .slots) (l .n - 1) noSlot))) z) (c .before .before .main-due .ensures)
-          ∙ ap (λ z. joinDue (loss (l .n - 1)) (lossDue (slotView z)) (joinDue (main (l .n - 1)) (mainDue (slotView z)) (dueView (l .d)))) at
-          ∙ slots-down n a (l .n) (h .0) (l .inv .5) (omega (arith, k, l .inv .7)) (l .inv .9),
+          ∙ ap (λ z. joinDue (loss (l .i - 1)) (lossDue (slotView (getD (l .self .slots) (l .i - 1) noSlot))) z) (c .before .before .main-due .ensures)
+          ∙ ap (λ z. joinDue (loss (l .i - 1)) (lossDue (slotView z)) (joinDue (main (l .i - 1)) (mainDue (slotView z)) (dueView (l .first)))) at
+          ∙ slots-down n a (l .i) (h .0) (l .inv .5) (omega (arith, k, l .inv .7)) (l .inv .9),
     )
 
 -- the slots are laid out anew
@@ -549,16 +549,16 @@ loop4-again c =
       l .inv .4,
       omega (arith, k),
       omega (arith, l .inv .6),
-      ap (λ z. set z (l .n - 1) (from b .before .before .before .blank-waiting .result)) (l .inv .7)
-          ∙ ap (λ z. set (doneFrom tidyWaiting blankWaiting (after b) q (l .n)) (l .n - 1) z) (from b .before .before .before .blank-waiting .ensures)
-          ∙ done-unused tidyWaiting blankWaiting (after b) q (l .n) (h .0) k,
+      ap (λ z. set z (l .i - 1) (from b .before .before .before .blank-waiting .result)) (l .inv .7)
+          ∙ ap (λ z. set (doneFrom tidyWaiting blankWaiting (after b) q (l .i)) (l .i - 1) z) (from b .before .before .before .blank-waiting .ensures)
+          ∙ done-unused tidyWaiting blankWaiting (after b) q (l .i) (h .0) k,
     )
 
 -- the unused places are blank
 abbrev blanking : Emptied → Blanking
 blanking c = c .before .before .before .before .before
 
-emptied : (c : Emptied) → c .before .loop4 .n ≡ after (blanking c)
+emptied : (c : Emptied) → c .before .loop4 .i ≡ after (blanking c)
 emptied c = omega (arith, c .before .loop4 .inv .5, c .loop4-test .left)
 
 emptied-queue : (c : Emptied) → c .before .loop4 .self .queue ≡ doneFrom tidyWaiting blankWaiting (after (blanking c)) (next (blanking c) .queue) (after (blanking c))
@@ -585,7 +585,7 @@ loop5-holds c =
       f,
       w,
       done-again tidyWaiting blankWaiting (after b) (next b .queue) (l .self .queue) (emptied-queue c) ∙ ap (doneFrom tidyWaiting blankWaiting (after b) (l .self .queue)) (sym (emptied c)),
-      queue-none (after b) (l .self .queue) (l .n) _ (omega (arith, emptied c, w, f)),
+      queue-none (after b) (l .self .queue) (l .i) _ (omega (arith, emptied c, w, f)),
     )
 
 loop5-less : tie.Need-loop5-less Inv-loop μ-loop Inv-loop2 μ-loop2 Inv-loop3 μ-loop3 Inv-loop4 μ-loop4 Inv-loop5 μ-loop5
@@ -599,8 +599,8 @@ loop5-again c =
     let a = e .before .loop4 .self .queue in
     let n = after (blanking e) in
     let h = place-in i in
-    let at = ap (λ z. getD z (l .n - 1) noWaiting) (l .inv .8) ∙ done-at tidyWaiting blankWaiting n a (l .n) (h .0) noWaiting in
-    let k : l .n ≤ 32 = omega (arith, l .inv .5, l .inv .6) in (
+    let at = ap (λ z. getD z (l .i - 1) noWaiting) (l .inv .8) ∙ done-at tidyWaiting blankWaiting n a (l .i) (h .0) noWaiting in
+    let k : l .i ≤ 32 = omega (arith, l .inv .5, l .inv .6) in (
       l .inv .0,
       l .inv .1,
       l .inv .2,
@@ -609,12 +609,12 @@ loop5-again c =
       omega (arith, l .inv .5),
       l .inv .6,
       l .inv .7,
-      ap (λ z. set z (l .n - 1) (c .tidy-waiting .result)) (l .inv .8)
-          ∙ ap (λ z. set (doneFrom tidyWaiting blankWaiting n a (l .n)) (l .n - 1) z) (c .tidy-waiting .ensures ∙ ap tidyWaiting at)
-          ∙ done-used tidyWaiting blankWaiting n a (l .n) (h .0) noWaiting (l .inv .5) (omega (arith, k, l .inv .7)),
+      ap (λ z. set z (l .i - 1) (c .tidy-waiting .result)) (l .inv .8)
+          ∙ ap (λ z. set (doneFrom tidyWaiting blankWaiting n a (l .i)) (l .i - 1) z) (c .tidy-waiting .ensures ∙ ap tidyWaiting at)
+          ∙ done-used tidyWaiting blankWaiting n a (l .i) (h .0) noWaiting (l .inv .5) (omega (arith, k, l .inv .7)),
       c .before .sooner-of .ensures
-          ∙ ap (λ (z : Waiting). sooner (record { what = ofQueue (l .n - 1); at = z .due .0 }) (dueView (l .d))) at
-          ∙ queue-down n a (l .n) _ (h .0) (l .inv .5) (omega (arith, k, l .inv .7)) (l .inv .9),
+          ∙ ap (λ (z : Waiting). sooner (record { what = ofQueue (l .i - 1); at = z .due .0 }) (dueView (l .first))) at
+          ∙ queue-down n a (l .i) _ (h .0) (l .inv .5) (omega (arith, k, l .inv .7)) (l .inv .9),
     )
 
 same-length : tie.Need-same-length Inv-loop μ-loop Inv-loop2 μ-loop2 Inv-loop3 μ-loop3 Inv-loop4 μ-loop4 Inv-loop5 μ-loop5
@@ -633,16 +633,16 @@ returns c =
     let z = start r in
     let x = z .args in
     let n = next b in
-    let d5 : l5 .n ≡ 0 = omega (arith, c .before .before .loop5-test .left) in
-    let d3 : l3 .n ≡ 0 = omega (arith, e .before .before .loop3-test .left) in
+    let d5 : l5 .i ≡ 0 = omega (arith, c .before .before .loop5-test .left) in
+    let d3 : l3 .i ≡ 0 = omega (arith, e .before .before .loop3-test .left) in
     let slots-done = l4 .inv .4 ∙ l3 .inv .8 ∙ ap (doneFrom tidySlot blankSlot (slots r) (l2 .self .slots)) d3 in
     let queue-done = l5 .inv .8 ∙ ap (doneFrom tidyWaiting blankWaiting (after b) (l4 .self .queue)) d5 in
     let image = image-is n (few b) (after-fits b) (next-wide b) (requeued-long (requeued′ b)) (l5 .self) (l5 .inv .0 ∙ l4 .inv .0 ∙ l3 .inv .0 ∙ l2 .inv .0) (l5 .inv .1 ∙ l4 .inv .1 ∙ l3 .inv .1 ∙ l2 .inv .1) (l5 .inv .2 ∙ l4 .inv .2 ∙ l3 .inv .2 ∙ l2 .inv .2) (l5 .inv .3 ∙ l4 .inv .3 ∙ l3 .inv .3 ∙ l2 .inv .3)
     (done-whole tidySlot blankSlot (slots r) 16 (n .slots) (l2 .self .slots) (l5 .self .slots) (blanked-slots bl) (l5 .inv .4 ∙ slots-done) (next-wide b))
     (done-whole tidyWaiting blankWaiting (after b) 32 (n .queue) (l4 .self .queue) (l5 .self .queue) (emptied-queue e) queue-done (requeued-long (requeued′ b))) in
-    let due = due-is n (few b) (after-fits b) (next-wide b) (requeued-long (requeued′ b)) (l2 .self .slots) (l4 .self .queue) (l3 .d) (l5 .d) (blanked-slots bl) (emptied-queue e)
+    let due = due-is n (few b) (after-fits b) (next-wide b) (requeued-long (requeued′ b)) (l2 .self .slots) (l4 .self .queue) (l3 .first) (l5 .first) (blanked-slots bl) (emptied-queue e)
     (rw d3 at (l3 .inv .9)) (rw d5 at (l5 .inv .9)) in
-    enacts (own r) (x .t) (x .i) (requestOf (x .q)) (scene r) (x .o) (z .pre .0) (shown r) n (moved b, kept-config b) (x .k) _ (now (x .room)) _ (turned′ (closed (requeued′ b)) .before .before .before .before .before .before .tell .ensures) _ (c .before .answer-of .ensures) _
+    enacts (own r) (x .time) (x .number) (requestOf (x .request)) (scene r) (x .outcome) (z .pre .0) (shown r) n (moved b, kept-config b) (x .block) _ (now (x .room)) _ (turned′ (closed (requeued′ b)) .before .before .before .before .before .before .tell .ensures) _ (c .before .answer-of .ensures) _
     (rw (c .due-time .ensures ∙ due, image))
 
 cast-before : tie.Need-cast-before Inv-loop μ-loop Inv-loop2 μ-loop2 Inv-loop3 μ-loop3 Inv-loop4 μ-loop4 Inv-loop5 μ-loop5
@@ -666,8 +666,8 @@ mul-t62 c = let h = in-place (c .before .before) in omega (arith, h)
 element-set-from-self-2 : tie.Need-element-set-from-self-2 Inv-loop μ-loop Inv-loop2 μ-loop2 Inv-loop3 μ-loop3 Inv-loop4 μ-loop4 Inv-loop5 μ-loop5
 element-set-from-self-2 c = in-place (c .before .before)
 
-sub-n : tie.Need-sub-n Inv-loop μ-loop Inv-loop2 μ-loop2 Inv-loop3 μ-loop3 Inv-loop4 μ-loop4 Inv-loop5 μ-loop5
-sub-n c = let h = blank-in c in omega (arith, h)
+sub-i : tie.Need-sub-i Inv-loop μ-loop Inv-loop2 μ-loop2 Inv-loop3 μ-loop3 Inv-loop4 μ-loop4 Inv-loop5 μ-loop5
+sub-i c = let h = blank-in c in omega (arith, h)
 
 cast-blank : tie.Need-cast-blank Inv-loop μ-loop Inv-loop2 μ-loop2 Inv-loop3 μ-loop3 Inv-loop4 μ-loop4 Inv-loop5 μ-loop5
 cast-blank c = let h = blank-in c in omega (arith, h)
@@ -678,17 +678,17 @@ mul-blank c = let h = blank-in c in omega (arith, h)
 element-set-from-blank : tie.Need-element-set-from-blank Inv-loop μ-loop Inv-loop2 μ-loop2 Inv-loop3 μ-loop3 Inv-loop4 μ-loop4 Inv-loop5 μ-loop5
 element-set-from-blank c = blank-in c .1
 
-sub-n-2 : tie.Need-sub-n-2 Inv-loop μ-loop Inv-loop2 μ-loop2 Inv-loop3 μ-loop3 Inv-loop4 μ-loop4 Inv-loop5 μ-loop5
-sub-n-2 c = let h = tidy-in c in omega (arith, h)
+sub-i-2 : tie.Need-sub-i-2 Inv-loop μ-loop Inv-loop2 μ-loop2 Inv-loop3 μ-loop3 Inv-loop4 μ-loop4 Inv-loop5 μ-loop5
+sub-i-2 c = let h = tidy-in c in omega (arith, h)
 
-cast-s : tie.Need-cast-s Inv-loop μ-loop Inv-loop2 μ-loop2 Inv-loop3 μ-loop3 Inv-loop4 μ-loop4 Inv-loop5 μ-loop5
-cast-s c = let h = tidy-in c in omega (arith, h)
+cast-stored : tie.Need-cast-stored Inv-loop μ-loop Inv-loop2 μ-loop2 Inv-loop3 μ-loop3 Inv-loop4 μ-loop4 Inv-loop5 μ-loop5
+cast-stored c = let h = tidy-in c in omega (arith, h)
 
-mul-s : tie.Need-mul-s Inv-loop μ-loop Inv-loop2 μ-loop2 Inv-loop3 μ-loop3 Inv-loop4 μ-loop4 Inv-loop5 μ-loop5
-mul-s c = let h = tidy-in c in omega (arith, h)
+mul-stored : tie.Need-mul-stored Inv-loop μ-loop Inv-loop2 μ-loop2 Inv-loop3 μ-loop3 Inv-loop4 μ-loop4 Inv-loop5 μ-loop5
+mul-stored c = let h = tidy-in c in omega (arith, h)
 
-element-copy-out-s : tie.Need-element-copy-out-s Inv-loop μ-loop Inv-loop2 μ-loop2 Inv-loop3 μ-loop3 Inv-loop4 μ-loop4 Inv-loop5 μ-loop5
-element-copy-out-s c = tidy-in c .1
+element-copy-out-stored : tie.Need-element-copy-out-stored Inv-loop μ-loop Inv-loop2 μ-loop2 Inv-loop3 μ-loop3 Inv-loop4 μ-loop4 Inv-loop5 μ-loop5
+element-copy-out-stored c = tidy-in c .1
 
 cast-t79 : tie.Need-cast-t79 Inv-loop μ-loop Inv-loop2 μ-loop2 Inv-loop3 μ-loop3 Inv-loop4 μ-loop4 Inv-loop5 μ-loop5
 cast-t79 c = let h = tidy-in (c .before) in omega (arith, h)
@@ -714,8 +714,8 @@ mul-t75 c = let h = tidy-in (c .before .before .before .before) in omega (arith,
 element-set-from-self-3 : tie.Need-element-set-from-self-3 Inv-loop μ-loop Inv-loop2 μ-loop2 Inv-loop3 μ-loop3 Inv-loop4 μ-loop4 Inv-loop5 μ-loop5
 element-set-from-self-3 c = tidy-in (c .before .before .before .before) .1
 
-sub-n-3 : tie.Need-sub-n-3 Inv-loop μ-loop Inv-loop2 μ-loop2 Inv-loop3 μ-loop3 Inv-loop4 μ-loop4 Inv-loop5 μ-loop5
-sub-n-3 c = let h = empty-in c in omega (arith, h)
+sub-i-3 : tie.Need-sub-i-3 Inv-loop μ-loop Inv-loop2 μ-loop2 Inv-loop3 μ-loop3 Inv-loop4 μ-loop4 Inv-loop5 μ-loop5
+sub-i-3 c = let h = empty-in c in omega (arith, h)
 
 cast-nobody : tie.Need-cast-nobody Inv-loop μ-loop Inv-loop2 μ-loop2 Inv-loop3 μ-loop3 Inv-loop4 μ-loop4 Inv-loop5 μ-loop5
 cast-nobody c = let h = empty-in c in omega (arith, h)
@@ -726,17 +726,17 @@ mul-nobody c = let h = empty-in c in omega (arith, h)
 element-set-from-nobody : tie.Need-element-set-from-nobody Inv-loop μ-loop Inv-loop2 μ-loop2 Inv-loop3 μ-loop3 Inv-loop4 μ-loop4 Inv-loop5 μ-loop5
 element-set-from-nobody c = empty-in c .1
 
-sub-n-4 : tie.Need-sub-n-4 Inv-loop μ-loop Inv-loop2 μ-loop2 Inv-loop3 μ-loop3 Inv-loop4 μ-loop4 Inv-loop5 μ-loop5
-sub-n-4 c = let h = place-in c in omega (arith, h)
+sub-i-4 : tie.Need-sub-i-4 Inv-loop μ-loop Inv-loop2 μ-loop2 Inv-loop3 μ-loop3 Inv-loop4 μ-loop4 Inv-loop5 μ-loop5
+sub-i-4 c = let h = place-in c in omega (arith, h)
 
-cast-e : tie.Need-cast-e Inv-loop μ-loop Inv-loop2 μ-loop2 Inv-loop3 μ-loop3 Inv-loop4 μ-loop4 Inv-loop5 μ-loop5
-cast-e c = let h = place-in c in omega (arith, h)
+cast-entry : tie.Need-cast-entry Inv-loop μ-loop Inv-loop2 μ-loop2 Inv-loop3 μ-loop3 Inv-loop4 μ-loop4 Inv-loop5 μ-loop5
+cast-entry c = let h = place-in c in omega (arith, h)
 
-mul-e : tie.Need-mul-e Inv-loop μ-loop Inv-loop2 μ-loop2 Inv-loop3 μ-loop3 Inv-loop4 μ-loop4 Inv-loop5 μ-loop5
-mul-e c = let h = place-in c in omega (arith, h)
+mul-entry : tie.Need-mul-entry Inv-loop μ-loop Inv-loop2 μ-loop2 Inv-loop3 μ-loop3 Inv-loop4 μ-loop4 Inv-loop5 μ-loop5
+mul-entry c = let h = place-in c in omega (arith, h)
 
-element-copy-out-e : tie.Need-element-copy-out-e Inv-loop μ-loop Inv-loop2 μ-loop2 Inv-loop3 μ-loop3 Inv-loop4 μ-loop4 Inv-loop5 μ-loop5
-element-copy-out-e c = place-in c .1
+element-copy-out-entry : tie.Need-element-copy-out-entry Inv-loop μ-loop Inv-loop2 μ-loop2 Inv-loop3 μ-loop3 Inv-loop4 μ-loop4 Inv-loop5 μ-loop5
+element-copy-out-entry c = place-in c .1
 
 sooner-of-requires : tie.Need-sooner-of-requires Inv-loop μ-loop Inv-loop2 μ-loop2 Inv-loop3 μ-loop3 Inv-loop4 μ-loop4 Inv-loop5 μ-loop5
 sooner-of-requires c κs = search needs
@@ -816,17 +816,17 @@ enact-spec =
     element-set-from-self-2
     length-after-requires
     loop2-holds
-    sub-n
+    sub-i
     cast-blank
     mul-blank
     element-set-from-blank
     loop2-less
     loop2-again
     loop3-holds
-    sub-n-2
-    cast-s
-    mul-s
-    element-copy-out-s
+    sub-i-2
+    cast-stored
+    mul-stored
+    element-copy-out-stored
     cast-t79
     main-due-requires
     cast-t79-2
@@ -838,17 +838,17 @@ enact-spec =
     loop3-less
     loop3-again
     loop4-holds
-    sub-n-3
+    sub-i-3
     cast-nobody
     mul-nobody
     element-set-from-nobody
     loop4-less
     loop4-again
     loop5-holds
-    sub-n-4
-    cast-e
-    mul-e
-    element-copy-out-e
+    sub-i-4
+    cast-entry
+    mul-entry
+    element-copy-out-entry
     sooner-of-requires
     tidy-waiting-requires
     cast-t89
