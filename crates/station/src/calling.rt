@@ -82,17 +82,17 @@ impl Station {
             ⌝ }
     {
         let queue = self.queue;
-        let place = place_of(queue, self.waiting, request.ship, request.station);
-        match place {
-            Place::At(k) => Choice {
+        let found = place_of(queue, self.waiting, request.ship, request.station);
+        match found {
+            Place::At(place) => Choice {
                 slot: SlotNumber(0),
-                outcome: Outcome::Replaces(k),
+                outcome: Outcome::Replaces(place),
             },
             Place::Nothing => self.newcomer(),
         }
     }
 
-    // b. or c.: the ship has the slot i.
+    // b. or c.: the ship has that slot.
     fn asked_again(self, time: Tenths, slot: SlotNumber, request: Request) -> Choice
         ensures { λ r. ⌜ chosenAt self time r request ≡ requested (modelAt self time) (requestOf request) (Q.holds (slot .0)) ⌝ }
     {
@@ -137,14 +137,14 @@ impl Station {
         match self.stands(request) {
             Standing::Nowhere => self.newcomer(),
             Standing::Holds(slot) => self.asked_again(time, slot, request),
-            Standing::Waits(k) => Choice {
+            Standing::Waits(place) => Choice {
                 slot: SlotNumber(0),
-                outcome: Outcome::Replaces(k),
+                outcome: Outcome::Replaces(place),
             },
         }
     }
 
-    // A BQ on the slot i: a ring-back acknowledged, or a call from ashore agreed to.
+    // A BQ on that slot: a ring-back acknowledged, or a call from ashore agreed to.
     fn agreed(self, time: Tenths, slot: SlotNumber, request: Request) -> Choice
         requires { ⌜ time .0 ≤ limit ⌝ }
         ensures { λ r. ⌜
@@ -292,7 +292,7 @@ impl Station {
         let first = look.due;
         let verdict = look.judge_now(room.len(), time).and_read(answer);
         match verdict {
-            Verdict::Refused(n) => self.refused(n, first),
+            Verdict::Refused(number) => self.refused(number, first),
             Verdict::Accepted => {
                 let slots = self.slots;
                 let heard = heard_in(self.mast, slots, self.count, meaning);

@@ -66,7 +66,7 @@ impl Station {
         let verdict = look.judge_slot(room.len(), time, slot)
             .and_then(may_happen(what, the_slot), 35);
         match verdict {
-            Verdict::Refused(n) => self.refused(n, first),
+            Verdict::Refused(number) => self.refused(number, first),
             Verdict::Accepted => {
                 let request = the_slot.request;
                 let mode = request.mode;

@@ -94,7 +94,7 @@ impl Station {
             .and_then(!engaged, 38)
             .and_then(is_found(free), 37);
         match verdict {
-            Verdict::Refused(n) => self.refused(n, first),
+            Verdict::Refused(number) => self.refused(number, first),
             Verdict::Accepted => {
                 let slot = slot_found(free);
                 self.enact(time, slot, Outcome::Calls, request, 0, room)

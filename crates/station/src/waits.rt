@@ -76,7 +76,7 @@ impl Station {
         let first = look.due;
         let verdict = look.judge(room.len(), time);
         match verdict {
-            Verdict::Refused(n) => self.refused(n, first),
+            Verdict::Refused(number) => self.refused(number, first),
             Verdict::Accepted => {
                 let due = due_by(first, time);
                 let when = moment(due, time);

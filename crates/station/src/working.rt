@@ -53,7 +53,7 @@ impl Station {
         let first = look.due;
         let verdict = look.judge_slot(room.len(), time, slot).and_read(answer);
         match verdict {
-            Verdict::Refused(n) => self.refused(n, first),
+            Verdict::Refused(number) => self.refused(number, first),
             Verdict::Accepted => {
                 let slots = self.slots;
                 let heard = heard_in(self.mast, slots, self.count, meaning);

@@ -31,7 +31,7 @@ unfolding requested wholeAt wholeOf outOf
 returns-3 c =
     let x = c .before .before .before .before .args in
     let st : R.Station = setClock (x .time .0) (modelOf (x .self)) in
-    let h = rw (c .before .k .given .1) at (c .before .before .before .stands .ensures (x .time .0)) in
+    let h = rw (c .before .place .given .1) at (c .before .before .before .stands .ensures (x .time .0)) in
     ap (requested st (requestOf (x .request))) h
 
 pub asked-spec : {M : Type 1} → statement M

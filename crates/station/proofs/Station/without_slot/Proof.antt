@@ -11,7 +11,7 @@ returns : tie.Need-returns
 unfolding modelOf setClock requestOf
 returns c =
     let x = c .before .before .before .before .before .args in
-    let h = rw (c .before .place .given .1) at (c .before .before .before .place-of .ensures) in
+    let h = rw (c .before .found .given .1) at (c .before .before .before .place-of .ensures) in
     λ t own. replaces-is 0 (setClock t (modelOf (x .self))) own (requestOf (x .request)) _ h
 
 returns-2 : tie.Need-returns-2
