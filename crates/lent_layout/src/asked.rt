@@ -28,10 +28,10 @@ const DIGITS_PLACE: usize = COUNT + 1;
 
 pub(crate) const REQUEST_SIZE: usize = DIGITS_PLACE + DIGITS;
 
-fn mode_mark(m: Mode) -> u8
-    ensures { λ r. ⌜ r ≡ modeMark m ⌝ }
+fn mode_mark(mode: Mode) -> u8
+    ensures { λ r. ⌜ r ≡ modeMark mode ⌝ }
 {
-    match m {
+    match mode {
         Mode::Simplex => 0,
         Mode::Duplex => 1,
     }
@@ -68,16 +68,16 @@ pub(crate) fn request_at(bytes: &[u8], place: usize) -> Request
     }
 }
 
-pub(crate) fn lay_request(q: Request, place: usize, room: &mut [u8])
+pub(crate) fn lay_request(request: Request, place: usize, room: &mut [u8])
     requires { ⌜ place + requestSize ≤ length (now room) ⌝ }
-    ensures { λ _. ⌜ now (room .exit) ≡ laid (now (room .entry)) place (encode requestFields (requestNumbers q)) ⌝ }
+    ensures { λ _. ⌜ now (room .exit) ≡ laid (now (room .entry)) place (encode requestFields (requestNumbers request)) ⌝ }
 {
-    let mode = q.mode;
-    let number = q.number;
+    let mode = request.mode;
+    let number = request.number;
     let digits = number.digits;
-    let ship = low_first(q.ship);
-    let station = low_first(q.station);
-    let marks = [mode_mark(mode), q.second, number.count];
+    let ship = low_first(request.ship);
+    let station = low_first(request.station);
+    let marks = [mode_mark(mode), request.second, number.count];
     lay(&ship, place, room);
     lay(&station, place + STATION, room);
     lay(&marks, place + MODE, room);

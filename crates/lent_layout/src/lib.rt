@@ -64,15 +64,15 @@ fn slots_from(bytes: &[u8], count: u8) -> [Slot; SLOTS]
         ⌝ }
 {
     let blank = blank_slot();
-    let mut a = [blank; SLOTS];
-    let n = least(count, MOST_SLOTS) as usize;
+    let mut slots = [blank; SLOTS];
+    let used = least(count, MOST_SLOTS) as usize;
     let mut i = 0;
-    while i < n {
-        let s = slot_at(bytes, SLOTS_PLACE + SLOT_SIZE * i);
-        a[i] = s;
+    while i < used {
+        let slot = slot_at(bytes, SLOTS_PLACE + SLOT_SIZE * i);
+        slots[i] = slot;
         i += 1;
     }
-    a
+    slots
 }
 
 fn queue_from(bytes: &[u8], waiting: u8) -> [Waiting; QUEUE_ROOM]
@@ -83,15 +83,15 @@ fn queue_from(bytes: &[u8], waiting: u8) -> [Waiting; QUEUE_ROOM]
         ⌝ }
 {
     let blank = blank_waiting();
-    let mut a = [blank; QUEUE_ROOM];
-    let n = least(waiting, MOST_WAITING) as usize;
+    let mut queue = [blank; QUEUE_ROOM];
+    let used = least(waiting, MOST_WAITING) as usize;
     let mut i = 0;
-    while i < n {
-        let w = waiting_at(bytes, QUEUE_PLACE + WAITING_SIZE * i);
-        a[i] = w;
+    while i < used {
+        let entry = waiting_at(bytes, QUEUE_PLACE + WAITING_SIZE * i);
+        queue[i] = entry;
         i += 1;
     }
-    a
+    queue
 }
 
 // Bytes of another size or another version stand for the blank station, which is not sound.
@@ -106,8 +106,8 @@ pub fn station_from(bytes: &[u8]) -> Station
     }
     let count = bytes[SLOT_COUNT];
     let waiting = bytes[WAITING_COUNT];
-    let a = slots_from(bytes, count);
-    let b = queue_from(bytes, waiting);
+    let slots = slots_from(bytes, count);
+    let queue = queue_from(bytes, waiting);
     Station {
         clock: Tenths(four_at(bytes, CLOCK)),
         mast: Mast {
@@ -115,47 +115,51 @@ pub fn station_from(bytes: &[u8]) -> Station
         },
         count: count,
         waiting: waiting,
-        slots: a,
-        queue: b,
+        slots: slots,
+        queue: queue,
     }
 }
 
 // Lent bytes of another size stay as they are. A blank record is zeros.
-pub fn lay_station(s: Station, bytes: &mut [u8])
-    ensures { λ _. ⌜ now (bytes .exit) ≡ stationLaid s (now (bytes .entry)) ⌝ }
+pub fn lay_station(station: Station, bytes: &mut [u8])
+    ensures { λ _. ⌜ now (bytes .exit) ≡ stationLaid station (now (bytes .entry)) ⌝ }
 {
     if bytes.len() != STATION_SIZE {
         return;
     }
     let version = [LAYOUT_VERSION];
-    let clock = s.clock;
+    let clock = station.clock;
     let time = low_first(clock.0);
-    let mast = s.mast;
+    let mast = station.mast;
     let identity = low_first(mast.identity);
-    let counts = [s.count, s.waiting];
+    let counts = [station.count, station.waiting];
     lay(&version, 0, bytes);
     lay(&time, CLOCK, bytes);
     lay(&identity, IDENTITY, bytes);
     lay(&counts, SLOT_COUNT, bytes);
     // Record by record out of the station: an array handed on is copied whole.
-    let n = least(s.count, MOST_SLOTS) as usize;
+    let slots = least(station.count, MOST_SLOTS) as usize;
     let mut i = 0;
-    while i < n {
-        let x = s.slots[i];
-        lay_slot(x, SLOTS_PLACE + SLOT_SIZE * i, bytes);
+    while i < slots {
+        let slot = station.slots[i];
+        lay_slot(slot, SLOTS_PLACE + SLOT_SIZE * i, bytes);
         i += 1;
     }
-    lay_zeros(SLOT_SIZE * (SLOTS - n), SLOTS_PLACE + SLOT_SIZE * n, bytes);
-    let m = least(s.waiting, MOST_WAITING) as usize;
+    lay_zeros(
+        SLOT_SIZE * (SLOTS - slots),
+        SLOTS_PLACE + SLOT_SIZE * slots,
+        bytes,
+    );
+    let waiting = least(station.waiting, MOST_WAITING) as usize;
     let mut k = 0;
-    while k < m {
-        let w = s.queue[k];
-        lay_waiting(w, QUEUE_PLACE + WAITING_SIZE * k, bytes);
+    while k < waiting {
+        let entry = station.queue[k];
+        lay_waiting(entry, QUEUE_PLACE + WAITING_SIZE * k, bytes);
         k += 1;
     }
     lay_zeros(
-        WAITING_SIZE * (QUEUE_ROOM - m),
-        QUEUE_PLACE + WAITING_SIZE * m,
+        WAITING_SIZE * (QUEUE_ROOM - waiting),
+        QUEUE_PLACE + WAITING_SIZE * waiting,
         bytes,
     );
 }

@@ -7,14 +7,14 @@ ghost use Rattle.layouts.specs.Fields.{numberAt, laid};
 ghost use Rattle.lent_layout.specs.Numbers.{numbersFrom};
 use sequence::DIGITS;
 
-pub(crate) fn four_at(bytes: &[u8], i: usize) -> u32
-    requires { ⌜ i + 4 ≤ length (now bytes) ⌝ }
-    ensures { λ r. ⌜ r ≡ numberAt (now (bytes .entry)) i 4 ⌝ }
+pub(crate) fn four_at(bytes: &[u8], place: usize) -> u32
+    requires { ⌜ place + 4 ≤ length (now bytes) ⌝ }
+    ensures { λ r. ⌜ r ≡ numberAt (now (bytes .entry)) place 4 ⌝ }
 {
-    (bytes[i] as u32)
-        + 256 * (bytes[i + 1] as u32)
-        + 65536 * (bytes[i + 2] as u32)
-        + 16777216 * (bytes[i + 3] as u32)
+    (bytes[place] as u32)
+        + 256 * (bytes[place + 1] as u32)
+        + 65536 * (bytes[place + 2] as u32)
+        + 16777216 * (bytes[place + 3] as u32)
 }
 
 // Sixteen digits, one a byte.
@@ -35,9 +35,9 @@ pub(crate) fn lay(bytes: &[u8], place: usize, room: &mut [u8])
     requires { ⌜ place + length (now bytes) ≤ length (now room) ⌝ }
     ensures { λ _. ⌜ now (room .exit) ≡ laid (now (room .entry)) place (now (bytes .entry)) ⌝ }
 {
-    let n = bytes.len();
+    let count = bytes.len();
     let mut i = 0;
-    while i < n {
+    while i < count {
         room[place + i] = bytes[i];
         i += 1;
     }

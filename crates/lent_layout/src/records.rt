@@ -96,14 +96,14 @@ pub(crate) fn waiting_at(bytes: &[u8], place: usize) -> Waiting
 }
 
 // The first eight fields of a slot.
-fn lay_phase(f: PhaseFields, place: usize, room: &mut [u8])
+fn lay_phase(fields: PhaseFields, place: usize, room: &mut [u8])
     requires { ⌜ place + slotSize ≤ length (now room) ⌝ }
-    ensures { λ _. ⌜ now (room .exit) ≡ laid (now (room .entry)) place (encode (take 8 slotFields) (phaseNumbers f [])) ⌝ }
+    ensures { λ _. ⌜ now (room .exit) ≡ laid (now (room .entry)) place (encode (take 8 slotFields) (phaseNumbers fields [])) ⌝ }
 {
-    let carrier = f.carrier;
-    let lasted = f.lasted;
-    let kind = [f.kind];
-    let time = low_first(f.time);
+    let carrier = fields.carrier;
+    let lasted = fields.lasted;
+    let kind = [fields.kind];
+    let time = low_first(fields.time);
     let lost = [carrier.mark];
     let due = low_first(carrier.due);
     let duration = [lasted.mark, lasted.hours, lasted.minutes, lasted.seconds];
@@ -114,13 +114,13 @@ fn lay_phase(f: PhaseFields, place: usize, room: &mut [u8])
     lay(&duration, place + TOLD, room);
 }
 
-pub(crate) fn lay_slot(s: Slot, place: usize, room: &mut [u8])
+pub(crate) fn lay_slot(slot: Slot, place: usize, room: &mut [u8])
     requires { ⌜ place + slotSize ≤ length (now room) ⌝ }
-    ensures { λ _. ⌜ now (room .exit) ≡ laid (now (room .entry)) place (slotBytes s) ⌝ }
+    ensures { λ _. ⌜ now (room .exit) ≡ laid (now (room .entry)) place (slotBytes slot) ⌝ }
 {
-    let phase = s.phase;
-    let channel = s.channel;
-    let request = s.request;
+    let phase = slot.phase;
+    let channel = slot.channel;
+    let request = slot.request;
     let fields = phase_fields(phase);
     let number = low_first(channel.0);
     lay_phase(fields, place, room);
@@ -128,13 +128,13 @@ pub(crate) fn lay_slot(s: Slot, place: usize, room: &mut [u8])
     lay_request(request, place + REQUEST, room);
 }
 
-pub(crate) fn lay_waiting(w: Waiting, place: usize, room: &mut [u8])
+pub(crate) fn lay_waiting(entry: Waiting, place: usize, room: &mut [u8])
     requires { ⌜ place + waitingSize ≤ length (now room) ⌝ }
-    ensures { λ _. ⌜ now (room .exit) ≡ laid (now (room .entry)) place (waitingBytes w) ⌝ }
+    ensures { λ _. ⌜ now (room .exit) ≡ laid (now (room .entry)) place (waitingBytes entry) ⌝ }
 {
-    let t = w.due;
-    let request = w.request;
-    let due = low_first(t.0);
+    let time = entry.due;
+    let request = entry.request;
+    let due = low_first(time.0);
     lay(&due, place, room);
     lay_request(request, place + WAITING_REQUEST, room);
 }

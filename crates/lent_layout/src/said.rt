@@ -36,27 +36,27 @@ const DIGITS_PLACE: usize = END + 1;
 
 pub const MEANING_SIZE: usize = DIGITS_PLACE + DIGITS;
 
-pub fn lay_meaning(m: Meaning, room: &mut [u8])
-    ensures { λ _. ⌜ now (room .exit) ≡ meaningLaid m (now (room .entry)) ⌝ }
+pub fn lay_meaning(meaning: Meaning, room: &mut [u8])
+    ensures { λ _. ⌜ now (room .exit) ≡ meaningLaid meaning (now (room .entry)) ⌝ }
 {
     if room.len() < MEANING_SIZE {
         return;
     }
-    let number = m.number;
+    let number = meaning.number;
     let digits = number.digits;
-    let field = m.field;
+    let field = meaning.field;
     let held = field_bytes(field);
-    let address = low_first(m.address);
-    let sender = low_first(m.sender);
+    let address = low_first(meaning.address);
+    let sender = low_first(meaning.sender);
     let marks = [
-        m.first,
-        m.second,
+        meaning.first,
+        meaning.second,
         held.kind,
         held.first,
         held.second,
         held.third,
         number.count,
-        m.end,
+        meaning.end,
     ];
     lay(&address, 0, room);
     lay(&sender, SENDER, room);

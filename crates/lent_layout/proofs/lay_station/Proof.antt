@@ -19,16 +19,16 @@ use Rattle.lent_layout.proofs.lay_station.Statement.{statement}
 use Rattle.lent_layout.proofs.lay_station.Tie as tie
 
 abbrev Inv-loop : tie.InvT-loop
-Inv-loop bytes₀ s n i₀ bytes i = (bytes ≡ laid bytes₀ slotsPlace (flatMap slotBytes (take i (s .slots)))) × (i ≤ n) × (length bytes ≡ stationSize) × (length bytes₀ ≡ stationSize)
+Inv-loop bytes₀ station slots i₀ bytes i = (bytes ≡ laid bytes₀ slotsPlace (flatMap slotBytes (take i (station .slots)))) × (i ≤ slots) × (length bytes ≡ stationSize) × (length bytes₀ ≡ stationSize)
 
 abbrev μ-loop : tie.MeasureT-loop
-μ-loop bytes₀ s n i₀ bytes i = n - i
+μ-loop bytes₀ station slots i₀ bytes i = slots - i
 
 abbrev Inv-loop2 : tie.InvT-loop2
-Inv-loop2 bytes₀ s n i m k₀ bytes k = (bytes ≡ laid bytes₀ queuePlace (flatMap waitingBytes (take k (s .queue)))) × (k ≤ m) × (length bytes ≡ stationSize) × (length bytes₀ ≡ stationSize)
+Inv-loop2 bytes₀ station slots i waiting k₀ bytes k = (bytes ≡ laid bytes₀ queuePlace (flatMap waitingBytes (take k (station .queue)))) × (k ≤ waiting) × (length bytes ≡ stationSize) × (length bytes₀ ≡ stationSize)
 
 abbrev μ-loop2 : tie.MeasureT-loop2
-μ-loop2 bytes₀ s n i m k₀ bytes k = m - k
+μ-loop2 bytes₀ station slots i waiting k₀ bytes k = waiting - k
 
 returns : tie.Need-returns Inv-loop μ-loop Inv-loop2 μ-loop2
 unfolding stationLaid
@@ -50,8 +50,8 @@ loop-holds : tie.Need-loop-holds Inv-loop μ-loop Inv-loop2 μ-loop2
 unfolding laid flatMap
 loop-holds c = (paste-zero _ slotsPlace [], omega arith, omega (arith, station-size-computed), omega (arith, station-size-computed))
 
-element-copy-out-x : tie.Need-element-copy-out-x Inv-loop μ-loop Inv-loop2 μ-loop2
-element-copy-out-x c = omega arith
+element-copy-out-slot : tie.Need-element-copy-out-slot Inv-loop μ-loop Inv-loop2 μ-loop2
+element-copy-out-slot c = omega arith
 
 mul-lay-slot : tie.Need-mul-lay-slot Inv-loop μ-loop Inv-loop2 μ-loop2
 mul-lay-slot c = omega arith
@@ -96,8 +96,8 @@ loop2-holds : tie.Need-loop2-holds Inv-loop μ-loop Inv-loop2 μ-loop2
 unfolding laid flatMap
 loop2-holds c = (paste-zero _ queuePlace [], omega arith, omega (arith, station-size-computed), omega (arith, station-size-computed))
 
-element-copy-out-w : tie.Need-element-copy-out-w Inv-loop μ-loop Inv-loop2 μ-loop2
-element-copy-out-w c = omega arith
+element-copy-out-entry : tie.Need-element-copy-out-entry Inv-loop μ-loop Inv-loop2 μ-loop2
+element-copy-out-entry c = omega arith
 
 mul-lay-waiting : tie.Need-mul-lay-waiting Inv-loop μ-loop Inv-loop2 μ-loop2
 mul-lay-waiting c = omega arith
@@ -170,4 +170,4 @@ returns-2 c = let queued = c .before .before in
     ∙ (rw (slots-laid, counted .lay4 .ensures, named .lay3 .ensures, timed .lay2 .ensures, versioned .lay .ensures, numbers .low-first2 .ensures, numbers .before .before .low-first .ensures) (station-laid s (start .args .bytes .now) (begun .if1 .left ∙ sym station-size-computed))))
 
 pub lay-station-spec : {M : Type 1} → statement M
-lay-station-spec = tie.close (tie.spec Inv-loop μ-loop Inv-loop2 μ-loop2 returns (λ c κs. search needs) (λ c κs. search needs) (λ c. search needs) lay-requires (λ c. search needs) lay-requires-2 (λ c. search needs) lay-requires-3 (λ c. search needs) lay-requires-4 (λ c κs. search needs) (λ c. search needs) loop-holds (λ c. search needs) element-copy-out-x mul-lay-slot add-lay-slot lay-slot-requires add-i loop-less loop-again sub-lay-zeros mul-lay-zeros mul-lay-zeros-2 add-lay-zeros lay-zeros-requires (λ c κs. search needs) (λ c. search needs) loop2-holds (λ c. search needs) element-copy-out-w mul-lay-waiting add-lay-waiting lay-waiting-requires add-k loop2-less loop2-again sub-lay-zeros-2 mul-lay-zeros-3 mul-lay-zeros-4 add-lay-zeros-2 lay-zeros-requires-2 same-length returns-2)
+lay-station-spec = tie.close (tie.spec Inv-loop μ-loop Inv-loop2 μ-loop2 returns (λ c κs. search needs) (λ c κs. search needs) (λ c. search needs) lay-requires (λ c. search needs) lay-requires-2 (λ c. search needs) lay-requires-3 (λ c. search needs) lay-requires-4 (λ c κs. search needs) (λ c. search needs) loop-holds (λ c. search needs) element-copy-out-slot mul-lay-slot add-lay-slot lay-slot-requires add-i loop-less loop-again sub-lay-zeros mul-lay-zeros mul-lay-zeros-2 add-lay-zeros lay-zeros-requires (λ c κs. search needs) (λ c. search needs) loop2-holds (λ c. search needs) element-copy-out-entry mul-lay-waiting add-lay-waiting lay-waiting-requires add-k loop2-less loop2-again sub-lay-zeros-2 mul-lay-zeros-3 mul-lay-zeros-4 add-lay-zeros-2 lay-zeros-requires-2 same-length returns-2)

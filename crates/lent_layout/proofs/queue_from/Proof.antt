@@ -15,10 +15,10 @@ use Rattle.lent_layout.proofs.queue_from.Statement.{statement}
 use Rattle.lent_layout.proofs.queue_from.Tie as tie
 
 abbrev Inv-loop : tie.InvT-loop
-Inv-loop bytes waiting a₀ n i₀ a i = (a ≡ padded blankWaiting 32 (recordsAt (λ p. waitingFrom (decode waitingFields (bytes) p)) i waitingSize queuePlace)) × (i ≤ n) × (length a ≡ 32)
+Inv-loop bytes waiting queue₀ used i₀ queue i = (queue ≡ padded blankWaiting 32 (recordsAt (λ p. waitingFrom (decode waitingFields (bytes) p)) i waitingSize queuePlace)) × (i ≤ used) × (length queue ≡ 32)
 
 abbrev μ-loop : tie.MeasureT-loop
-μ-loop bytes waiting a₀ n i₀ a i = n - i
+μ-loop bytes waiting queue₀ used i₀ queue i = used - i
 
 loop-holds : tie.Need-loop-holds Inv-loop μ-loop
 unfolding recordsAt padded
@@ -33,8 +33,8 @@ add-waiting-at c = omega arith
 waiting-at-requires : tie.Need-waiting-at-requires Inv-loop μ-loop
 waiting-at-requires c κs = omega (arith, waiting-size-computed, queue-place-computed)
 
-array-set-from-a : tie.Need-array-set-from-a Inv-loop μ-loop
-array-set-from-a c = omega arith
+array-set-from-queue : tie.Need-array-set-from-queue Inv-loop μ-loop
+array-set-from-queue c = omega arith
 
 add-i : tie.Need-add-i Inv-loop μ-loop
 add-i c = omega arith
@@ -53,4 +53,4 @@ returns c = let a = c .before .before .before .before .before .args in
     (rw e at (c .before .loop .inv .0)) ∙ records-read (λ p. waitingFrom (decode waitingFields (a .bytes .now) p)) waitingSize blankWaiting 32 (a .waiting) queuePlace
 
 pub queue-from-spec : {M : Type 1} → statement M
-queue-from-spec = tie.close (tie.spec Inv-loop μ-loop (λ c κs. search needs) (λ c κs. search needs) (λ c. search needs) loop-holds mul-waiting-at add-waiting-at waiting-at-requires (λ c. search needs) array-set-from-a add-i loop-less loop-again returns)
+queue-from-spec = tie.close (tie.spec Inv-loop μ-loop (λ c κs. search needs) (λ c κs. search needs) (λ c. search needs) loop-holds mul-waiting-at add-waiting-at waiting-at-requires (λ c. search needs) array-set-from-queue add-i loop-less loop-again returns)

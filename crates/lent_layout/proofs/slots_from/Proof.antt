@@ -15,10 +15,10 @@ use Rattle.lent_layout.proofs.slots_from.Statement.{statement}
 use Rattle.lent_layout.proofs.slots_from.Tie as tie
 
 abbrev Inv-loop : tie.InvT-loop
-Inv-loop bytes count a₀ n i₀ a i = (a ≡ padded blankSlot 16 (recordsAt (λ p. slotFrom (decode slotFields (bytes) p)) i slotSize slotsPlace)) × (i ≤ n) × (length a ≡ 16)
+Inv-loop bytes count slots₀ used i₀ slots i = (slots ≡ padded blankSlot 16 (recordsAt (λ p. slotFrom (decode slotFields (bytes) p)) i slotSize slotsPlace)) × (i ≤ used) × (length slots ≡ 16)
 
 abbrev μ-loop : tie.MeasureT-loop
-μ-loop bytes count a₀ n i₀ a i = n - i
+μ-loop bytes count slots₀ used i₀ slots i = used - i
 
 loop-holds : tie.Need-loop-holds Inv-loop μ-loop
 unfolding recordsAt padded
@@ -33,8 +33,8 @@ add-slot-at c = omega arith
 slot-at-requires : tie.Need-slot-at-requires Inv-loop μ-loop
 slot-at-requires c κs = omega (arith, slot-size-computed, queue-place-computed)
 
-array-set-from-a : tie.Need-array-set-from-a Inv-loop μ-loop
-array-set-from-a c = omega arith
+array-set-from-slots : tie.Need-array-set-from-slots Inv-loop μ-loop
+array-set-from-slots c = omega arith
 
 add-i : tie.Need-add-i Inv-loop μ-loop
 add-i c = omega arith
@@ -53,4 +53,4 @@ returns c = let a = c .before .before .before .before .before .args in
     (rw e at (c .before .loop .inv .0)) ∙ records-read (λ p. slotFrom (decode slotFields (a .bytes .now) p)) slotSize blankSlot 16 (a .count) slotsPlace
 
 pub slots-from-spec : {M : Type 1} → statement M
-slots-from-spec = tie.close (tie.spec Inv-loop μ-loop (λ c κs. search needs) (λ c κs. search needs) (λ c. search needs) loop-holds mul-slot-at add-slot-at slot-at-requires (λ c. search needs) array-set-from-a add-i loop-less loop-again returns)
+slots-from-spec = tie.close (tie.spec Inv-loop μ-loop (λ c κs. search needs) (λ c κs. search needs) (λ c. search needs) loop-holds mul-slot-at add-slot-at slot-at-requires (λ c. search needs) array-set-from-slots add-i loop-less loop-again returns)

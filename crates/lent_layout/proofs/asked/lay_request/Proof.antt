@@ -18,14 +18,14 @@ lay-requires-3 c κs = omega arith
 
 lay-requires-4 : tie.Need-lay-requires-4
 unfolding requestFields
-lay-requires-4 c κs = let good = c .before .before .before .before .before .before .before .before .before .before .before .before .before .before .before .before .before .before .before .before .before .before .before .good in let w : length (c .before .before .before .before .before .before .before .before .before .before .before .before .before .before .before .before .before .before .before .before .before .before .before .args .q .number .digits) ≡ 16 = search needs in omega arith
+lay-requires-4 c κs = let good = c .before .before .before .before .before .before .before .before .before .before .before .before .before .before .before .before .before .before .before .before .before .before .before .good in let w : length (c .before .before .before .before .before .before .before .before .before .before .before .before .before .before .before .before .before .before .before .before .before .before .before .args .request .number .digits) ≡ 16 = search needs in omega arith
 
 returns : tie.Need-returns
 returns c = let a = c .before .before .before .before .before .before .before .before .before .before .before .before .before .before .before .before .before .before .before .before .before .before .before .before .before .before .args in
     let good = c .before .before .before .before .before .before .before .before .before .before .before .before .before .before .before .before .before .before .before .before .before .before .before .before .before .before .good in
-    let w : length (a .q .number .digits) ≡ 16 = search needs in
+    let w : length (a .request .number .digits) ≡ 16 = search needs in
     let h : a .place ≤ length (a .room .now) = omega (arith, c .before .before .before .before .before .before .before .before .before .before .before .before .before .before .before .before .before .before .before .before .before .before .before .before .before .before .pre) in
-    c .before .before .lay4 .ensures ∙ (rw (c .before .before .before .before .before .before .before .lay3 .ensures, c .before .before .before .before .before .before .before .before .before .before .before .before .lay2 .ensures, c .before .before .before .before .before .before .before .before .before .before .before .before .before .before .before .before .before .lay .ensures, c .before .before .before .before .before .before .before .before .before .before .before .before .before .before .before .before .before .before .before .before .mode-mark .ensures, c .before .before .before .before .before .before .before .before .before .before .before .before .before .before .before .before .before .before .before .before .before .low-first2 .ensures, c .before .before .before .before .before .before .before .before .before .before .before .before .before .before .before .before .before .before .before .before .before .before .low-first .ensures) (request-laid (a .q) (a .room .now) (a .place) w h))
+    c .before .before .lay4 .ensures ∙ (rw (c .before .before .before .before .before .before .before .lay3 .ensures, c .before .before .before .before .before .before .before .before .before .before .before .before .lay2 .ensures, c .before .before .before .before .before .before .before .before .before .before .before .before .before .before .before .before .before .lay .ensures, c .before .before .before .before .before .before .before .before .before .before .before .before .before .before .before .before .before .before .before .before .mode-mark .ensures, c .before .before .before .before .before .before .before .before .before .before .before .before .before .before .before .before .before .before .before .before .before .low-first2 .ensures, c .before .before .before .before .before .before .before .before .before .before .before .before .before .before .before .before .before .before .before .before .before .before .low-first .ensures) (request-laid (a .request) (a .room .now) (a .place) w h))
 
 pub lay-request-spec : {M : Type 1} → statement M
 unfolding requestFields

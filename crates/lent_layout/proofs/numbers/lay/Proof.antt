@@ -9,10 +9,10 @@ use Rattle.lent_layout.proofs.numbers.lay.Statement.{statement}
 use Rattle.lent_layout.proofs.numbers.lay.Tie as tie
 
 abbrev Inv-loop : tie.InvT-loop
-Inv-loop bytes place room₀ n i₀ room i = (room ≡ paste room₀ place bytes i) × (i ≤ n) × (length room ≡ length room₀)
+Inv-loop bytes place room₀ count i₀ room i = (room ≡ paste room₀ place bytes i) × (i ≤ count) × (length room ≡ length room₀)
 
 abbrev μ-loop : tie.MeasureT-loop
-μ-loop bytes place room₀ n i₀ room i = n - i
+μ-loop bytes place room₀ count i₀ room i = count - i
 
 loop-holds : tie.Need-loop-holds Inv-loop μ-loop
 loop-holds c = (paste-zero (c .args .room .now) (c .args .place) (c .args .bytes .now), omega arith, refl)

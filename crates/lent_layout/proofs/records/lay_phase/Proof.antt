@@ -31,7 +31,7 @@ lay-requires-5 c κs = omega arith
 returns : tie.Need-returns
 returns c = let a = c .before .before .before .before .before .before .before .before .before .before .before .before .before .before .before .before .before .before .before .before .before .before .before .before .before .before .before .before .before .before .args in
     let h : a .place ≤ length (a .room .now) = omega arith in
-    c .before .before .lay5 .ensures ∙ (rw (c .before .before .before .before .before .before .before .lay4 .ensures, c .before .before .before .before .before .before .before .before .before .before .before .before .lay3 .ensures, c .before .before .before .before .before .before .before .before .before .before .before .before .before .before .before .before .before .lay2 .ensures, c .before .before .before .before .before .before .before .before .before .before .before .before .before .before .before .before .before .before .before .before .before .before .lay .ensures, c .before .before .before .before .before .before .before .before .before .before .before .before .before .before .before .before .before .before .before .before .before .before .before .before .before .low-first2 .ensures, c .before .before .before .before .before .before .before .before .before .before .before .before .before .before .before .before .before .before .before .before .before .before .before .before .before .before .low-first .ensures) (phase-laid (a .f) (a .room .now) (a .place) h))
+    c .before .before .lay5 .ensures ∙ (rw (c .before .before .before .before .before .before .before .lay4 .ensures, c .before .before .before .before .before .before .before .before .before .before .before .before .lay3 .ensures, c .before .before .before .before .before .before .before .before .before .before .before .before .before .before .before .before .before .lay2 .ensures, c .before .before .before .before .before .before .before .before .before .before .before .before .before .before .before .before .before .before .before .before .before .before .lay .ensures, c .before .before .before .before .before .before .before .before .before .before .before .before .before .before .before .before .before .before .before .before .before .before .before .before .before .low-first2 .ensures, c .before .before .before .before .before .before .before .before .before .before .before .before .before .before .before .before .before .before .before .before .before .before .before .before .before .before .low-first .ensures) (phase-laid (a .fields) (a .room .now) (a .place) h))
 
 pub lay-phase-spec : {M : Type 1} → statement M
 unfolding slotFields requestFields

@@ -28,7 +28,7 @@ returns : tie.Need-returns
 unfolding slotFields
 returns c = let a = c .before .before .before .before .before .before .before .before .before .before .before .before .before .before .before .before .before .before .args in
     let h : a .place ≤ length (a .room .now) = omega arith in
-    c .before .before .lay-request .ensures ∙ (rw (c .before .before .before .before .before .before .lay .ensures, c .before .before .before .before .before .before .before .before .before .before .before .lay-phase .ensures, c .before .before .before .before .before .before .before .before .before .before .before .before .before .low-first .ensures) (slot-laid (a .s) _ (a .room .now) (a .place) (c .before .before .before .before .before .before .before .before .before .before .before .before .before .before .phase-fields .ensures) h))
+    c .before .before .lay-request .ensures ∙ (rw (c .before .before .before .before .before .before .lay .ensures, c .before .before .before .before .before .before .before .before .before .before .before .lay-phase .ensures, c .before .before .before .before .before .before .before .before .before .before .before .before .before .low-first .ensures) (slot-laid (a .slot) _ (a .room .now) (a .place) (c .before .before .before .before .before .before .before .before .before .before .before .before .before .before .phase-fields .ensures) h))
 
 pub lay-slot-spec : {M : Type 1} → statement M
 unfolding slotFields requestFields

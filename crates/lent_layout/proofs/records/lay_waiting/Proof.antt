@@ -19,7 +19,7 @@ lay-request-requires c κs = omega arith
 returns : tie.Need-returns
 returns c = let a = c .before .before .before .before .before .before .before .before .before .before .before .before .before .args in
     let h : a .place ≤ length (a .room .now) = omega arith in
-    c .before .before .lay-request .ensures ∙ (rw (c .before .before .before .before .before .before .lay .ensures, c .before .before .before .before .before .before .before .before .before .low-first .ensures) (waiting-laid (a .w) (a .room .now) (a .place) h))
+    c .before .before .lay-request .ensures ∙ (rw (c .before .before .before .before .before .before .lay .ensures, c .before .before .before .before .before .before .before .before .before .low-first .ensures) (waiting-laid (a .entry) (a .room .now) (a .place) h))
 
 pub lay-waiting-spec : {M : Type 1} → statement M
 unfolding waitingFields requestFields
