@@ -22,7 +22,7 @@ pub(crate) fn due_number(due: NextDue) -> u64
 {
     match due {
         NextDue::Never => 0,
-        NextDue::At(t) => 65536 + 4294967296 * (t.0 as u64),
+        NextDue::At(time) => 65536 + 4294967296 * (time.0 as u64),
     }
 }
 

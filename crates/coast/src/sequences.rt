@@ -22,8 +22,8 @@ pub extern "C" fn coast_read_sequence(symbols: &[u8], meaning: &mut [u8]) -> u32
     let answer = reading.answer;
     let number = answer.number();
     if number == 0 {
-        let m = reading.meaning;
-        lay_meaning(m, meaning);
+        let by_value = reading.meaning;
+        lay_meaning(by_value, meaning);
         return 0;
     }
     number as u32
@@ -41,8 +41,8 @@ pub extern "C" fn coast_write_sequence(meaning: &[u8], room: &mut [u8]) -> u32
     if meaning.len() < MEANING_SIZE {
         return 22;
     }
-    let m = meaning_from(meaning);
-    let written = write(m, room);
+    let by_value = meaning_from(meaning);
+    let written = write(by_value, room);
     let answer = written.answer;
     let count = written.length;
     answer.number() as u32 + 256 * (count as u32)

@@ -21,9 +21,9 @@ fn channels_in(bytes: &[u8]) -> [Channel; SLOTS]
     ensures { λ r. ⌜ r ≡ sixteenOf (now (bytes .entry)) ⌝ }
 {
     let mut channels = [Channel(0); SLOTS];
-    let n = bytes.len();
+    let count = bytes.len();
     let mut i = 0;
-    while i < n {
+    while i < count {
         let number = bytes[i] as u32;
         channels[i] = Channel(number);
         i += 1;
@@ -40,14 +40,14 @@ pub extern "C" fn coast_set_up(identity: u32, channels: &[u8], station: &mut [u8
     if station.len() != STATION_SIZE {
         return 23;
     }
-    let n = channels.len();
-    if SLOTS < n {
+    let count = channels.len();
+    if SLOTS < count {
         return 36;
     }
     let all = channels_in(channels);
-    let u = Station::set_up(identity, all, n as u8);
-    let answer = u.answer;
-    let fresh = u.station;
+    let begun = Station::set_up(identity, all, count as u8);
+    let answer = begun.answer;
+    let fresh = begun.station;
     let made = Stepped {
         answer: answer,
         count: 0,
@@ -62,11 +62,11 @@ pub extern "C" fn coast_set_up(identity: u32, channels: &[u8], station: &mut [u8
 pub extern "C" fn coast_next_due(station: &[u8]) -> u64
     ensures { λ r. ⌜ r ≡ dueReturned (stationFrom (now (station .entry))) ⌝ }
 {
-    let s = station_from(station);
-    if !s.is_sound() {
+    let by_value = station_from(station);
+    if !by_value.is_sound() {
         return 29;
     }
-    due_number(s.next_due())
+    due_number(by_value.next_due())
 }
 
 // The station's clock, from which a host goes on that comes back.
@@ -74,10 +74,10 @@ pub extern "C" fn coast_next_due(station: &[u8]) -> u64
 pub extern "C" fn coast_clock(station: &[u8]) -> u64
     ensures { λ r. ⌜ r ≡ clockReturned (stationFrom (now (station .entry))) ⌝ }
 {
-    let s = station_from(station);
-    if !s.is_sound() {
+    let by_value = station_from(station);
+    if !by_value.is_sound() {
         return 29;
     }
-    let clock = s.clock;
+    let clock = by_value.clock;
     4294967296 * (clock.0 as u64)
 }

@@ -12,10 +12,10 @@ use Rattle.coast.proofs.setting.channels_in.Statement.{statement}
 use Rattle.coast.proofs.setting.channels_in.Tie as tie
 
 abbrev Inv-loop : tie.InvT-loop
-Inv-loop bytes channels₀ n i₀ channels i = (i ≤ n) × (length channels ≡ 16) × (channels ≡ padded (channelNumber 0) 16 (viewed channelNumber i bytes))
+Inv-loop bytes channels₀ count i₀ channels i = (i ≤ count) × (length channels ≡ 16) × (channels ≡ padded (channelNumber 0) 16 (viewed channelNumber i bytes))
 
 abbrev μ-loop : tie.MeasureT-loop
-μ-loop bytes channels₀ n i₀ channels i = n - i
+μ-loop bytes channels₀ count i₀ channels i = count - i
 
 loop-holds : tie.Need-loop-holds Inv-loop μ-loop
 unfolding padded viewed
