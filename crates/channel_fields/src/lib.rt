@@ -23,17 +23,17 @@ pub fn field_bytes(field: Field) -> FieldBytes
             second: 0,
             third: 0,
         },
-        Field::Channel(c) => FieldBytes {
+        Field::Channel(channel) => FieldBytes {
             kind: 1,
-            first: (c.0 % 256) as u8,
+            first: (channel.0 % 256) as u8,
             second: 0,
             third: 0,
         },
-        Field::Duration(d) => FieldBytes {
+        Field::Duration(duration) => FieldBytes {
             kind: 2,
-            first: d.hours,
-            second: d.minutes,
-            third: d.seconds,
+            first: duration.hours,
+            second: duration.minutes,
+            third: duration.seconds,
         },
     }
 }
@@ -44,13 +44,13 @@ fn no_field() -> Field
     Field::Channel(Channel(0))
 }
 
-pub fn field_from(f: FieldBytes) -> Field
-    ensures { λ r. ⌜ r ≡ fieldFrom f ⌝ }
+pub fn field_from(bytes: FieldBytes) -> Field
+    ensures { λ r. ⌜ r ≡ fieldFrom bytes ⌝ }
 {
-    let kind = f.kind;
-    let first = f.first;
-    let second = f.second;
-    let third = f.third;
+    let kind = bytes.kind;
+    let first = bytes.first;
+    let second = bytes.second;
+    let third = bytes.third;
     if kind == 2 {
         return Field::Duration(Duration {
             hours: first,

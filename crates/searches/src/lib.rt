@@ -157,7 +157,7 @@ fn waiting_at(place: Place) -> Standing
     ensures { λ r. ⌜ standingView r ≡ standsAt none (placeView place) ⌝ }
 {
     match place {
-        Place::At(k) => Standing::Waits(k),
+        Place::At(number) => Standing::Waits(number),
         Place::Nothing => Standing::Nowhere,
     }
 }
@@ -180,7 +180,7 @@ pub fn standing(
     let place = place_of(queue, waiting, ship, station);
     let found = slot_from(slots, count, SlotNumber(0), ship, station);
     match found {
-        Found::At(i) => Standing::Holds(i),
+        Found::At(slot) => Standing::Holds(slot),
         Found::Nothing => waiting_at(place),
     }
 }

@@ -82,27 +82,27 @@ pub fn telecommands_ok(first: u8, second: u8) -> bool
 pub fn channel_ok(channel: Channel) -> bool
     ensures { λ r. ⌜ r ≡ channelOk channel ⌝ }
 {
-    let n = channel.0;
-    if n == 16 {
+    let number = channel.0;
+    if number == 16 {
         return false;
     }
-    if n == 70 {
+    if number == 70 {
         return false;
     }
-    if n < 1 {
+    if number < 1 {
         return false;
     }
-    if n <= 28 {
+    if number <= 28 {
         return true;
     }
-    60 <= n && n <= 88
+    60 <= number && number <= 88
 }
 
-pub fn duration_ok(d: Duration) -> bool
-    ensures { λ r. ⌜ r ≡ durationOk d ⌝ }
+pub fn duration_ok(duration: Duration) -> bool
+    ensures { λ r. ⌜ r ≡ durationOk duration ⌝ }
 {
-    if d.hours <= 99 {
-        return d.minutes <= 59 && d.seconds <= 59;
+    if duration.hours <= 99 {
+        return duration.minutes <= 59 && duration.seconds <= 59;
     }
     false
 }

@@ -55,11 +55,11 @@ impl Seconds {
     pub fn duration(self) -> Lasted
         ensures { λ r. ⌜ r ≡ durationOf self ⌝ }
     {
-        let s = self.0;
-        if s <= 359999 {
-            let hours = (s / 3600) as u8;
-            let minutes = (s / 60 % 60) as u8;
-            let seconds = (s % 60) as u8;
+        let whole = self.0;
+        if whole <= 359999 {
+            let hours = (whole / 3600) as u8;
+            let minutes = (whole / 60 % 60) as u8;
+            let seconds = (whole % 60) as u8;
             return Lasted::Lasting(Duration {
                 hours: hours,
                 minutes: minutes,

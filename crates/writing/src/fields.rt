@@ -16,15 +16,15 @@ pub(crate) fn field_ok(first: u8, field: Field) -> bool
 {
     match field {
         Field::Blank => true,
-        Field::Channel(c) => {
+        Field::Channel(channel) => {
             if is_call(first) {
-                return channel_ok(c);
+                return channel_ok(channel);
             }
             false
         }
-        Field::Duration(d) => {
+        Field::Duration(duration) => {
             if first == FIRST_OVER {
-                return duration_ok(d);
+                return duration_ok(duration);
             }
             false
         }
@@ -37,7 +37,7 @@ pub(crate) fn field_first(field: Field) -> u8
     match field {
         Field::Blank => UNTOLD,
         Field::Channel(_) => CHANNEL_TOLD,
-        Field::Duration(d) => d.hours,
+        Field::Duration(duration) => duration.hours,
     }
 }
 
@@ -47,7 +47,7 @@ pub(crate) fn field_second(field: Field) -> u8
     match field {
         Field::Blank => UNTOLD,
         Field::Channel(_) => 0,
-        Field::Duration(d) => d.minutes,
+        Field::Duration(duration) => duration.minutes,
     }
 }
 
@@ -57,7 +57,7 @@ pub(crate) fn field_third(field: Field) -> u8
 {
     match field {
         Field::Blank => UNTOLD,
-        Field::Channel(c) => c.0 as u8,
-        Field::Duration(d) => d.seconds,
+        Field::Channel(channel) => channel.0 as u8,
+        Field::Duration(duration) => duration.seconds,
     }
 }
