@@ -96,11 +96,17 @@ void print_order(const uint8_t *action) {
         print_sending(coast_payload(action), coast_payload_length(action));
         return;
     }
+    if (kind == COAST_ACTION_BUSY_TONE)
+        printf("five seconds of ");
     printf("%s", coast_action_words(kind));
-    if (kind == COAST_ACTION_DIAL)
-        printf(" %s", coast_dialled(action, number));
-    if (kind == COAST_ACTION_CHARGE)
-        print_charge(action);
+    switch (kind) {
+    case COAST_ACTION_DIAL: printf(" %s", coast_dialled(action, number)); break;
+    case COAST_ACTION_CHARGE: print_charge(action); break;
+    case COAST_ACTION_RINGING_ON:
+    case COAST_ACTION_RINGING_OFF:
+    case COAST_ACTION_BUSY_TONE: printf(" for the caller"); break;
+    default: break;
+    }
 }
 
 void print_action(const uint8_t *action, const uint8_t *channels) {

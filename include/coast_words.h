@@ -108,9 +108,9 @@ static inline const char *coast_action_words(uint32_t kind) {
     case COAST_ACTION_DIAL: return "dial";
     case COAST_ACTION_RELEASE_LINE: return "release the line";
     case COAST_ACTION_CHARGE: return "charge";
-    case COAST_ACTION_RINGING_ON: return "ringing on for the caller";
-    case COAST_ACTION_RINGING_OFF: return "ringing off for the caller";
-    case COAST_ACTION_BUSY_TONE: return "five seconds of busy tone for the caller";
+    case COAST_ACTION_RINGING_ON: return "ringing on";
+    case COAST_ACTION_RINGING_OFF: return "ringing off";
+    case COAST_ACTION_BUSY_TONE: return "busy tone";
     default: return "no action of the library";
     }
 }

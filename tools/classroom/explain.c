@@ -1,14 +1,17 @@
-/* Puts a script and its replies in words: a filter, one line out for each line in, at once.
+/* Puts a script and its replies in words: a filter, one line out for each line in, at once. With a word behind it, whatever that is,
+ * it tells what a line of a script may be instead.
  *
  * A line of the script comes in as `> LINE`. Behind it comes its reply as a script program prints it: the first line, and one for
- * each action. The words are those of coast_words.h and examples/words.c; here lines are only taken apart. Kept from line to line
- * is the channel of each slot, from the set-up that was done, and how many actions are still to come. Whatever is no such line gets
- * `not understood: ` and the reason. */
+ * each action. The words are those of coast_words.h, examples/words.c and script_words.h; here lines are only taken apart. Kept from
+ * line to line is the channel of each slot, from the set-up that was done, and how many actions are still to come. Whatever is no
+ * such line gets `not understood: ` and the reason. */
 #include <stdbool.h>
 #include <coast_words.h>
 #include <words.h>
+#include "script_words.h"
 
 extern int printf(const char *, ...);
+extern int snprintf(char *, size_t, const char *, ...);
 extern int getchar(void);
 extern int fflush(void *);
 
@@ -87,33 +90,25 @@ static const char *misshaped(struct text text) {
 
 /* ---- lines of a script ---- */
 
-struct form {
-    char letter;
-    size_t least; /* numbers that it needs */
-    bool listed;  /* whether more may follow */
-    const char *takes, *words;
-};
+static bool is_listed(const struct line_words *words) {
+    size_t length = 0;
+    while (words->fields[length] != '\0')
+        length++;
+    return words->fields[length - 1u] == '.';
+}
 
-static const struct form forms[] = {
-    {'S', 1, true, "S takes an identity and channels", NULL},
-    {'Q', 1, true, "Q takes a time and symbols", NULL},
-    {'W', 2, true, "W takes a time, a slot and symbols", NULL},
-    {'C', 3, true, "C takes a time, a ship, a mode and digits", NULL},
-    {'U', 2, false, "U takes a time and a slot", "the ship's carrier comes"},
-    {'D', 2, false, "D takes a time and a slot", "the ship's carrier goes"},
-    {'P', 2, false, "P takes a time and a slot", "dialling has ended"},
-    {'O', 2, false, "O takes a time and a slot", "the handset ashore is lifted (off-hook)"},
-    {'H', 2, false, "H takes a time and a slot", "the handset ashore is put down (on-hook)"},
-    {'M', 2, false, "M takes a time and a slot", "the operator takes the slot"},
-    {'F', 2, false, "F takes a time and a slot", "the operator gives the slot back"},
-    {'T', 1, false, "T takes a time", NULL},
-};
+/* The numbers that a line needs: those of its list may be none. */
+static size_t least_of(const struct line_words *words) {
+    size_t count = is_listed(words) ? 0u : 1u;
+    for (const char *field = words->fields; *field != '\0'; field++)
+        count += *field == ' ';
+    return count;
+}
 
-static const struct form *form_of(char letter) {
-    for (size_t i = 0; i < sizeof forms / sizeof forms[0]; i++)
-        if (forms[i].letter == letter)
-            return &forms[i];
-    return NULL;
+static const char *takes(const struct line_words *words) {
+    static char told[40];
+    snprintf(told, sizeof told, "%c takes %s", words->letter, words->fields);
+    return told;
 }
 
 static bool all_within(const struct numbers *numbers, size_t from, uint32_t most) {
@@ -123,22 +118,23 @@ static bool all_within(const struct numbers *numbers, size_t from, uint32_t most
     return true;
 }
 
-static const char *read_script_line(struct text text, const struct form **form, struct numbers *numbers) {
+static const char *read_script_line(struct text text, const struct line_words **words, struct numbers *numbers) {
     const char *wrong = misshaped(text);
     if (wrong != NULL)
         return wrong;
-    *form = form_of(*text.at++);
-    if (*form == NULL)
+    *words = words_of_line(*text.at++);
+    if (*words == NULL)
         return "no line of a script begins so";
     if (text.at < text.end && *text.at != ' ')
         return "behind its letter comes a space";
     wrong = take_numbers(&text, numbers);
     if (wrong != NULL)
         return wrong;
-    if (numbers->count < (*form)->least || (numbers->count > (*form)->least && !(*form)->listed))
-        return (*form)->takes;
-    bool symbols = (*form)->letter == 'Q' || (*form)->letter == 'W';
-    return symbols && !all_within(numbers, (*form)->least, UINT8_MAX) ? "a symbol is over 255" : NULL;
+    size_t least = least_of(*words);
+    if (numbers->count < least || (numbers->count > least && !is_listed(*words)))
+        return takes(*words);
+    bool symbols = (*words)->letter == 'Q' || (*words)->letter == 'W';
+    return symbols && !all_within(numbers, least, UINT8_MAX) ? "a symbol is over 255" : NULL;
 }
 
 static void print_slot(uint32_t slot) {
@@ -169,10 +165,10 @@ static void print_set_up(const struct numbers *numbers) {
 }
 
 /* Digits that are none stand apart, as they were written. */
-static void print_call_from_ashore(const struct numbers *numbers) {
+static void print_call(const char *name, const struct numbers *numbers) {
     const char *apart = all_within(numbers, 3, 9) ? "" : " ";
     uint32_t mode = numbers->all[2];
-    printf("from ashore: a call to ship %09u, ", (unsigned)numbers->all[1]);
+    printf("%s to ship %09u, ", name, (unsigned)numbers->all[1]);
     if (mode == SIMPLEX || mode == DUPLEX)
         printf("%s", coast_telecommand_words(mode));
     else
@@ -182,10 +178,10 @@ static void print_call_from_ashore(const struct numbers *numbers) {
         printf("%s%u", i > 3u ? apart : "", (unsigned)numbers->all[i]);
 }
 
-static void print_happening(const struct form *form, const struct numbers *numbers) {
+static void print_happening(const struct line_words *words, const struct numbers *numbers) {
     print_time(numbers->all[0]);
     printf(", ");
-    switch (form->letter) {
+    switch (words->letter) {
     case 'Q':
         printf("on channel %u: ", CALLING_CHANNEL);
         print_symbols(numbers, 1);
@@ -194,24 +190,24 @@ static void print_happening(const struct form *form, const struct numbers *numbe
         print_slot(numbers->all[1]);
         print_symbols(numbers, 2);
         break;
-    case 'C': print_call_from_ashore(numbers); break;
-    case 'T': printf("tick"); break;
-    default: print_slot(numbers->all[1]); printf("%s", form->words);
+    case 'C': print_call(words->name, numbers); break;
+    case 'T': printf("%s", words->sentence); break;
+    default: print_slot(numbers->all[1]); printf("%s", words->sentence);
     }
 }
 
 static const char *explain_script_line(struct text text) {
-    const struct form *form = NULL;
+    const struct line_words *words = NULL;
     struct numbers numbers = {.count = 0};
     asked.count = 0;
     actions_to_come = 0;
-    const char *wrong = read_script_line(text, &form, &numbers);
+    const char *wrong = read_script_line(text, &words, &numbers);
     if (wrong != NULL)
         return wrong;
-    if (form->letter == 'S')
+    if (words->letter == 'S')
         print_set_up(&numbers);
     else
-        print_happening(form, &numbers);
+        print_happening(words, &numbers);
     return NULL;
 }
 
@@ -356,8 +352,17 @@ static const char *explain(struct text text) {
     return explain_action(text);
 }
 
-int main(void) {
+static int help(void) {
+    for (size_t i = 0; i < sizeof line_words / sizeof line_words[0]; i++)
+        printf("%c %-24s %s\n", line_words[i].letter, line_words[i].fields, line_words[i].sentence);
+    return fflush(NULL) == 0 ? 0 : 1;
+}
+
+int main(int count, char **words) {
     char line[MARK_LENGTH + LINE_MOST + 1u];
+    (void)words;
+    if (count > 1)
+        return help();
     for (int length = read_line(line, sizeof line); length >= 0; length = read_line(line, sizeof line)) {
         const char *wrong = explain((struct text){line, line + length});
         if (wrong != NULL)

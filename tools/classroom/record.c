@@ -11,6 +11,7 @@
  * sentences, explain.c tells. */
 #include <coast_words.h>
 #include "../../tests/host/event.h"
+#include "script_words.h"
 
 extern int printf(const char *, ...);
 
@@ -43,17 +44,17 @@ static uint32_t earliest; /* of the due times that the record holds */
 
 /* ---- labels ---- */
 
-static void print_sequence(const uint8_t *symbols, size_t count) {
+/* False where it cannot be read. */
+static bool print_sequence(const uint8_t *symbols, size_t count) {
     uint8_t meaning[COAST_MEANING_SIZE];
-    if (coast_read_sequence(symbols, count, meaning, sizeof meaning) != COAST_ANSWER_DONE) {
-        printf("a sequence");
-        return;
-    }
+    if (coast_read_sequence(symbols, count, meaning, sizeof meaning) != COAST_ANSWER_DONE)
+        return false;
     printf("%s", coast_telecommand_words(meaning[COAST_AT_FIRST]));
     if (meaning[COAST_AT_FIRST] == UNABLE)
         printf(", %s", coast_reason_words(meaning[COAST_AT_SECOND]));
     else if (meaning[COAST_AT_END] != NO_REPLY_WANTED)
         printf(" %s", coast_end_words(meaning[COAST_AT_END]));
+    return true;
 }
 
 static void print_number(bool has, uint32_t number) {
@@ -71,32 +72,16 @@ static void print_who(const struct event *event) {
     print_number(heard || takes_ship(event->letter), heard ? coast_number_at(meaning + COAST_AT_SENDER) : event->ship);
 }
 
-static const char *event_label(char letter) {
-    switch (letter) {
-    case 'S': return "set up";
-    case 'C': return "call from shore";
-    case 'U': return "carrier up";
-    case 'D': return "carrier down";
-    case 'P': return "dialling ended";
-    case 'O': return "off-hook";
-    case 'H': return "on-hook";
-    case 'M': return "operator takes";
-    case 'F': return "operator gives back";
-    case 'T': return "tick";
-    default: return "no label";
-    }
-}
-
 static void print_event(const struct event *event) {
     printf("event %c", event->letter);
     print_number(event->letter != SET_UP_LETTER, event->number);
     print_number(takes_slot(event->letter), event->slot);
     print_who(event);
     printf(" ");
-    if (takes_symbols(event->letter))
-        print_sequence(event->list, event->count);
-    else
-        printf("%s", event_label(event->letter));
+    if (!takes_symbols(event->letter) || !print_sequence(event->list, event->count)) {
+        const struct line_words *words = words_of_line(event->letter);
+        printf("%s", words == NULL ? "no label" : words->name);
+    }
     printf("\n");
 }
 
@@ -109,27 +94,22 @@ static void print_channel(const uint8_t *action) {
 
 static void print_does(const uint8_t *action) {
     char number[COAST_NUMBER_TEXT];
-    uint32_t slot = coast_action_slot(action);
+    uint32_t kind = coast_action_kind(action), slot = coast_action_slot(action);
     printf("does");
     print_number(slot != NO_SLOT, slot);
     printf(" ");
-    switch (coast_action_kind(action)) {
-    case COAST_ACTION_SEND_CHANNEL_70:
-    case COAST_ACTION_SEND_WORKING:
+    if (kind == COAST_ACTION_SEND_CHANNEL_70 || kind == COAST_ACTION_SEND_WORKING) {
         print_channel(action);
         print_sequence(coast_payload(action), coast_payload_length(action));
-        break;
-    case COAST_ACTION_DIAL: printf("dial %s", coast_dialled(action, number)); break;
-    case COAST_ACTION_RELEASE_LINE: printf("release line"); break;
-    case COAST_ACTION_CHARGE: printf("charge %u s", (unsigned)coast_charge_seconds(action)); break;
-    case COAST_ACTION_RINGING_ON: printf("ringing on"); break;
-    case COAST_ACTION_RINGING_OFF: printf("ringing off"); break;
-    case COAST_ACTION_BUSY_TONE: printf("busy tone"); break;
-    default: printf("%s", coast_action_words(coast_action_kind(action)));
+    } else
+        printf("%s", coast_action_words(kind));
+    if (kind == COAST_ACTION_DIAL)
+        printf(" %s", coast_dialled(action, number));
+    if (kind == COAST_ACTION_CHARGE) {
+        printf(" %u s\n", (unsigned)coast_charge_seconds(action));
+        printf("charged %u %u %u", (unsigned)slot, (unsigned)coast_charge_start(action), (unsigned)coast_charge_stop(action));
     }
     printf("\n");
-    if (coast_action_kind(action) == COAST_ACTION_CHARGE)
-        printf("charged %u %u %u\n", (unsigned)slot, (unsigned)coast_charge_start(action), (unsigned)coast_charge_stop(action));
 }
 
 /* ---- the reply, as the script program prints it ---- */

@@ -1,5 +1,5 @@
 """A script with its replies, in numbers and below them in words: tools/rehearse --words, which tells more."""
-import os, re, select, subprocess, sys, threading, time
+import os, re, select, subprocess, sys, threading
 
 import plainly, running
 from words import Words
@@ -10,19 +10,10 @@ BELOW = '      '  # before the words
 PROMPT = '> '
 WELCOME = 'A script, line by line. help tells what a line may be; quit ends.'
 HELP = '''\
-S IDENTITY CHANNEL..       sets the station up, with a slot for each channel: the first line, and only once
-Q TIME SYMBOL..            a sequence is heard on channel 70
-W TIME SLOT SYMBOL..       a sequence is heard on a slot's working channel
-U TIME SLOT                the ship's carrier comes         D TIME SLOT   it goes
-P TIME SLOT                the exchange has dialled
-O TIME SLOT                the handset ashore is lifted     H TIME SLOT   it is put down
-C TIME SHIP MODE DIGIT..   somebody ashore calls a ship, MODE 100 simplex or 101 duplex, with the caller's number
-M TIME SLOT                the operator takes a slot        F TIME SLOT   and gives it back
-T TIME                     a tick of the host's clock
 Times are tenths of a second; slots count from 0; lessons/sequence writes symbols; lessons/01-first-call/script is a first call.
 A reply begins with four parts: the answer (0 done, 1 ignored, else a refusal), the clock, how many actions follow, and when
 the next wait falls due (- where none runs). Then each action has a line: kind, slot, payload. lessons/README.md has the kinds.
-help prints this; quit, or the end of the input, ends.'''
+help prints this; quit, exit and the end of the input end.'''
 
 
 class Silent(Exception):
@@ -32,8 +23,8 @@ class Silent(Exception):
 class Program:
     """The script program at work: lines go in, their replies come out."""
 
-    def __init__(self):
-        self.child = subprocess.Popen([running.PROGRAM], stdin=subprocess.PIPE, stdout=subprocess.PIPE, bufsize=0)
+    def __init__(self, options):
+        self.child = subprocess.Popen([running.PROGRAM, *options], stdin=subprocess.PIPE, stdout=subprocess.PIPE, bufsize=0)
         self.read = b''
 
     def __enter__(self):
@@ -122,7 +113,7 @@ def converse(program, words):
     print(WELCOME)
     for line in typed():
         if line.strip() == 'help':
-            print(HELP)
+            print(words.help() + HELP)
         elif line.strip():
             line = line.encode(errors='surrogateescape')
             print(BELOW + words.of(PROMPT.encode() + line))
@@ -132,8 +123,9 @@ def converse(program, words):
     return 0
 
 
-def main(_):
-    with Words() as words, Program() as program:
+def main(options):
+    """The options are those of tools/rehearse but --words: --old, or none."""
+    with Words(old='--old' in options) as words, Program(options) as program:
         try:
             if not sys.stdin.isatty():
                 return play(sys.stdin.buffer.read(), program, words)

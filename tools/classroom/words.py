@@ -7,8 +7,9 @@
 """
 import functools, os, subprocess
 
-HERE = os.path.dirname(os.path.abspath(__file__))
-RUN = os.path.join(HERE, '..', 'x86-64')
+from running import ROOT
+
+RUN = os.path.join(ROOT, 'tools', 'x86-64')
 
 
 class NoWords(SystemExit):
@@ -18,23 +19,34 @@ class NoWords(SystemExit):
 @functools.lru_cache(maxsize=None)
 def built(name):
     """The path of a program of the classroom."""
-    done = subprocess.run([os.path.join(HERE, 'build'), name], stdout=subprocess.PIPE, text=True)
+    done = subprocess.run([os.path.join(ROOT, 'tools', 'classroom', 'build'), name], stdout=subprocess.PIPE, text=True)
     if done.returncode != 0:
         raise NoWords(f'tools/classroom/build {name} could not build the program: see above')
     return done.stdout.strip()
 
 
+def built_last(name):
+    """The same as it was built last, where it ever was: nothing is proved for it."""
+    path = os.path.join(ROOT, 'target', 'classroom', name)
+    return path if os.path.exists(path) else built(name)
+
+
 class Words:
     """Lines are text or bytes, whatever stands in them; a line feed at the end may be left out."""
 
-    def __init__(self):
-        self.program = subprocess.Popen([RUN, 'run', built('explain')], stdin=subprocess.PIPE, stdout=subprocess.PIPE)
+    def __init__(self, old=False):
+        self.command = [RUN, 'run', built_last('explain') if old else built('explain')]
+        self.program = subprocess.Popen(self.command, stdin=subprocess.PIPE, stdout=subprocess.PIPE)
 
     def __enter__(self):
         return self
 
     def __exit__(self, *_):
         self.program.communicate()
+
+    def help(self):
+        """What a line of a script may be, a line for each letter."""
+        return subprocess.run([*self.command, 'help'], stdout=subprocess.PIPE, text=True, check=True).stdout
 
     def of(self, line):
         """One line in words."""
