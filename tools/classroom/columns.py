@@ -19,15 +19,9 @@ def stride(tenths):
     return 16 + log_of(tenths) * 5 // 16 * 2
 
 
-def clock_text(tenths):
-    """Seconds; from 100 s on minutes too, from an hour on hours."""
-    seconds, tenth = divmod(tenths, 10)
-    if seconds < 100:
-        return f'{seconds}.{tenth} s'
-    minutes, seconds = divmod(seconds, 60)
-    if minutes < 60:
-        return f'{minutes}:{seconds:02}.{tenth}'
-    return f'{minutes // 60}:{minutes % 60:02}:{seconds:02}.{tenth}'
+def seconds_of(tenths):
+    """As the words have it: 26.1 s."""
+    return f'{tenths // 10}.{tenths % 10} s'
 
 
 def answer_of(step):
@@ -49,7 +43,7 @@ def room_of_marks(step):
 
 def half_clock(step):
     """Half of what the clock at the head of a column takes."""
-    return max(width_of(str(step.clock)), width_of(clock_text(step.clock))) // 2 + 4
+    return max(width_of(str(step.clock)), width_of(seconds_of(step.clock))) // 2 + 4
 
 
 def room_of_span(span):

@@ -11,19 +11,19 @@ from shapes import LINE, WAIT, action_mark, bar, event_mark, text, wait_bar
 SHAPES = """text{font:12px Arial,Helvetica,sans-serif}
 .name{font-weight:bold}.name,.number{font-size:13px}
 .number,.tick,.on,.off{text-anchor:middle}
-.on,.off{font-weight:bold}.off{paint-order:stroke;stroke-width:3px}
+.on,.off{font-weight:bold}.off,.free{paint-order:stroke;stroke-width:3px}
 path,rect,circle{stroke-width:1.5}
 .grid{stroke-width:1}
 .called{stroke-dasharray:6 3}.line{stroke-dasharray:2 2}.talks{stroke-width:3}.held{stroke-dasharray:9 2 2 2}
 .left{stroke-dasharray:2 3}
-.grid,.edge,.left,.end,.act{fill:none}
+.grid,.edge,.left,.end,.act,.together{fill:none}
 .ignored{stroke-dasharray:3 2}
 .charge{fill:url(#hatch)}
 """
 COLOURS = """.paper,.wait,.refused,.ignored{{fill:{paper}}}text{{fill:{ink}}}.dim{{fill:{line}}}.on{{fill:{paper}}}
 .grid{{stroke:{grid}}}.edge{{stroke:{edge}}}
-.wait,.left,.end,.act,.refused,.ignored{{stroke:{line}}}.done,.fires{{fill:{line}}}
-.refused{{stroke:{bad}}}.off{{stroke:{paper}}}
+.wait,.left,.end,.act,.refused,.ignored,.together{{stroke:{line}}}.done,.fires{{fill:{line}}}
+.refused{{stroke:{bad}}}.off,.free{{stroke:{paper}}}
 .asked{{fill:{asked};stroke:{asked_edge}}}.called{{fill:{called};stroke:{called_edge}}}.line{{fill:{on_line};stroke:{on_line_edge}}}
 .talks{{fill:{talks};stroke:{talks_edge}}}.held,.taken{{fill:{held};stroke:{line}}}
 .charge{{stroke:{talks_edge}}}.hatch{{stroke:{hatch}}}
@@ -56,7 +56,7 @@ HATCH = ('<pattern id="hatch" width="6" height="6" patternUnits="userSpaceOnUse"
          '<path class="hatch" d="M0 0V6" stroke-width="5"/></pattern>')
 
 NOTES = ['Not to scale: a longer time is drawn wider, but not in proportion.',
-         'The clock stands at each line: in tenths, and below them in s, min:s or h:min:s.',
+         'The clock stands at each line: in tenths, and below them in seconds.',
          'Below an event stand its ship, and the time that the line gives where the clock shows another.']
 SIGNS = [
     (lambda y: event_mark(17, y, 'Q', 0), 26, 'an event by its letter: done'),
@@ -64,7 +64,8 @@ SIGNS = [
     (lambda y: event_mark(17, y, 'T', 32), 26, 'refused, with the number'),
     (lambda y: action_mark(6, y + 4, ''), 22, 'an action, in the order told'),
     (lambda y: bar('asked', 8, y - 9, 36, 18), 40, "a slot's phase, and its ship"),
-    (lambda y: ''.join(wait_bar(8, y - 9, 36, (False, False), '', None, True)), 40, 'a wait that ran out: it fell due'),
+    (lambda y: ''.join(wait_bar(8, y - 9, 36, (False, False), '', None, 'fires')), 40, 'a wait that ran out: it fell due'),
+    (lambda y: ''.join(wait_bar(8, y - 9, 36, (False, False), '', None, 'together')), 40, 'due with others: one of them ran out'),
     (lambda y: ''.join(wait_bar(8, y - 9, 36, (False, False), '', (58, True))), 62, 'a wait that ended before it was due'),
     (lambda y: bar('charge', 8, y - 9, 36, WAIT), 40, 'a charge, from the answer to the stop'),
 ]

@@ -1,9 +1,14 @@
 """A script that was played, what lasts in it, where it stands along the picture, and the words for all of it."""
-from columns import clock_text, strips
+from columns import seconds_of, strips
 from playing import play
-from spans import Spans, ran_out
+from spans import FREE, Spans
 
-MOST_TOLD = 20  # phases, or charges, in a summary
+MOST_TOLD, MOST_SLOTS = 10, 4  # phases of a slot or charges, and slots, in a summary
+
+
+def some(names, most, what=''):
+    """The names, or the first of them and how many more there are."""
+    return names if len(names) <= most else [*names[:most], f'and {len(names) - most} more{what}']
 
 
 class Played:
@@ -37,24 +42,25 @@ class Played:
     def span_words(self, span):
         slot = '' if span.kind == 'queue' else f'slot {span.row}, channel {self.channel(span.row)}: '
         what = {'queue': 'in the queue, ship ', 'wait': 'a wait, '}.get(span.kind, '')
-        words = f'{slot}{what}{span.label}{self.whose(span)}, from {clock_text(self.steps[span.begin].clock)}'
+        due = '' if span.due is None else f' ({seconds_of(span.due)})'
+        words = f'{slot}{what}{span.label}{due}{self.whose(span)}, from {seconds_of(self.steps[span.begin].clock)}'
         if span.end is None:
             return f'{words} on'
-        how = '' if span.due is None else ', when it fell due' if ran_out(self.steps, span) else ', before it was due'
-        return f'{words} to {clock_text(self.steps[span.end].clock)}{how}'
+        how = self.ending(span)
+        return f'{words} to {seconds_of(self.steps[span.end].clock)}{f", {how}" if how else ""}'
+
+    def ending(self, span):
+        return self.spans.ending(self.steps, span)
 
     def slot_words(self, slot):
-        names = [span.label for span in self.spans.phases if span.row == slot]
-        return f'slot {slot}, channel {self.channel(slot)}: {", ".join(names) or "free"}'
+        names = [span.label for span in self.spans.phases if span.row == slot and span.phase != FREE]
+        return f'slot {slot}, channel {self.channel(slot)}: {", ".join(some(names, MOST_TOLD)) or "free"}'
 
     def summary(self):
         """What a reader without the picture has to know of it."""
-        if len(self.spans.phases) > MOST_TOLD:
-            told = [f'{len(self.steps)} lines, {self.spans.slots} slots']
-        else:
-            told = [self.slot_words(slot) for slot in range(self.spans.slots)]
+        told = some([self.slot_words(slot) for slot in range(self.spans.slots)], MOST_SLOTS, ' slots')
         count, charges = len(self.spans.queue), [span.label for span in self.spans.charges]
         told += [f'queue: {count} {"ship waits" if count == 1 else "ships wait"}'] if count else []
-        told += [', '.join(charges) if len(charges) <= MOST_TOLD else f'{len(charges)} charges'] if charges else []
+        told += [', '.join(some(charges, MOST_TOLD))] if charges else []
         words = '; '.join(told) or 'no station stands'
         return words[0].upper() + words[1:]

@@ -40,11 +40,11 @@ def fitting(x, y, to_x, words, letter=SMALL, style=''):
     return [text(x + 6, y, words, style)] if words and x + 6 + width_of(words, letter) <= to_x else []
 
 
-def wait_bar(x, y, to_x, opens, label, due=None, fires=False):
-    """A wait as it runs. `due` is where it would have fallen due, and whether that lies in the strip."""
+def wait_bar(x, y, to_x, opens, label, due=None, sign=None):
+    """A wait as it runs. `due` is where it would have fallen due, and whether that lies in the strip; `sign` is that of its end."""
     parts = [bar('wait', x, y, to_x, WAIT, opens)] + fitting(x, y + 13, to_x, label)
-    if fires:
-        parts.append(f'<path class="fires" d="M{to_x - 7} {y}h7v{WAIT}h-7l5 -{WAIT // 2}z"/>')
+    if sign:
+        parts.append(f'<path class="{sign}" d="M{to_x - 7} {y}h7v{WAIT}h-7l5 -{WAIT // 2}z"/>')
     if due:
         place, here = due
         parts.append(line(to_x, y + WAIT // 2, place, y + WAIT // 2, 'left'))
@@ -53,11 +53,18 @@ def wait_bar(x, y, to_x, opens, label, due=None, fires=False):
     return parts
 
 
+def free_line(x, y, to_x, label):
+    """A slot that is free: no bar, but its label and a line behind it."""
+    words = fitting(x, y + 4, to_x, label, style='dim free')
+    begin = min(x + 10 + width_of(label), to_x) if words else x
+    return [*words, line(begin, y, to_x, y, 'edge')]
+
+
 def event_mark(x, y, letter, answer):
-    """A disc where it was done, a ring where it was ignored, a crossed square where it was refused."""
+    """A disc where it was done, a ring where it was ignored, a square where it was refused."""
     shape = f'<circle class="{"done" if answer == 0 else "ignored"}" cx="{x}" cy="{y}" r="9"/>'
     if answer > 1:
-        shape = f'<path class="refused" d="M{x - 9} {y - 9}h18v18h-18zl18 18"/>'
+        shape = f'<path class="refused" d="M{x - 9} {y - 9}h18v18h-18z"/>'
     return shape + text(x, y + 4, letter, 'on' if answer == 0 else 'off')
 
 

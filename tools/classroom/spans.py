@@ -3,6 +3,7 @@ the queue, charges. All of it is read off the record and off the charges; nothin
 import collections
 
 FREE = 0
+RAN_OUT, TOGETHER, EARLY = 'when it fell due', 'at its due time', 'before it was due'   # how a wait ended
 
 # Columns are lines of the script; `end` is None where it still stands at the end. `due` is None where nothing falls due.
 Span = collections.namedtuple('Span', 'kind row begin end label ship due phase')
@@ -24,7 +25,7 @@ def seen(steps, slot, what):
 
 
 def phases(steps, slot):
-    for found, begin, end in runs(seen(steps, slot, lambda s: None if s.phase == FREE else (s.phase, s.words, s.ship))):
+    for found, begin, end in runs(seen(steps, slot, lambda s: (s.phase, s.words, s.ship))):
         phase, words, ship = found
         yield Span('phase', slot, begin, end, words, ship, None, phase)
 
@@ -62,7 +63,7 @@ def queue(steps):
         yield Span('queue', row, begin, end, f'{waiting.ship}, due {waiting.due}', waiting.ship, waiting.due, None)
 
 
-def ran_out(steps, span):
+def ends_due(steps, span):
     """Whether it was gone when the clock stood at its due time."""
     return span.end is not None and span.due == steps[span.end].clock
 
@@ -75,4 +76,11 @@ class Spans:
         self.waits = sorted((span for slot in each for span in waits(steps, slot)), key=lambda span: span.begin)
         self.charges = [span for slot in each for span in charges(steps, slot)]
         self.queue = list(queue(steps))
+        self.ends_due = collections.Counter(span.end for span in [*self.waits, *self.queue] if ends_due(steps, span))
         self.all = [*self.phases, *self.waits, *self.charges, *self.queue]
+
+    def ending(self, steps, span):
+        """How a wait has ended. The record does not say which ran out where several that were due are gone after one line."""
+        if span.due is None or span.end is None:
+            return None
+        return EARLY if not ends_due(steps, span) else RAN_OUT if self.ends_due[span.end] == 1 else TOGETHER

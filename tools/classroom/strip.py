@@ -1,12 +1,13 @@
 """One strip of the picture: the lines of the script and the clock at its head, then a row for the station, one for each slot with its
 phases, waits, charges, events and actions, and the queue."""
-from columns import LARGE, LEFT, answer_of, below, clock_text
-from shapes import BAR, LINE, MARK, WAIT, action_mark, bar, event_mark, fitting, line, text, titled, wait_bar
-from spans import ran_out
+from columns import LARGE, answer_of, below, seconds_of
+from shapes import BAR, LINE, MARK, WAIT, action_mark, bar, event_mark, fitting, free_line, line, text, titled, wait_bar
+from spans import EARLY, FREE, RAN_OUT, TOGETHER
 
 HEAD, PAD = 52, 6
 STYLES = {1: 'asked', 4: 'asked', 2: 'called', 3: 'called', 10: 'called', 11: 'called', 5: 'line', 9: 'line', 12: 'line',
           6: 'talks', 7: 'held', 8: 'taken'}
+SIGNS = {RAN_OUT: 'fires', TOGETHER: 'together'}   # at the end of a wait
 
 
 class Drawn:
@@ -25,14 +26,14 @@ class Drawn:
     # ── the head, and lines across ────────────────────────────────────────────
 
     def head(self):
-        for row, name in enumerate(('line', 'clock, tenths', 'clock')):
+        for row, name in enumerate(('line', 'clock, tenths', 'clock, seconds')):
             self.parts.append(text(8, 14 + row * LINE, name, 'dim'))
         before = None
         for column in self.columns:
             x, clock = self.strip.at(column), self.played.steps[column].clock
             self.parts.append(text(x, 14, str(column + 1), 'number'))
             style = 'tick dim' if clock == before else 'tick'
-            self.parts += [text(x, 30, str(clock), style), text(x, 46, clock_text(clock), style)]
+            self.parts += [text(x, 30, str(clock), style), text(x, 46, seconds_of(clock), style)]
             before = clock
         self.y = HEAD
 
@@ -71,21 +72,26 @@ class Drawn:
     # ── what lasts ────────────────────────────────────────────────────────────
 
     def phases(self, spans):
-        middle = self.y + BAR // 2
-        self.parts.append(line(LEFT, middle, self.strip.right, middle, 'grid'))
+        high = WAIT if all(span.phase == FREE for span in spans) else BAR
         for span in spans:
             x, to_x = self.ends(span)
-            parts = [bar(STYLES[span.phase], x, self.y, to_x, BAR, self.opens(span))]
-            parts += fitting(x, self.y + 15, to_x, span.label, LARGE, 'name') + fitting(x, self.y + 30, to_x, str(span.ship or ''))
+            if span.phase == FREE:
+                parts = free_line(x, self.y + high // 2, to_x, span.label)
+            else:
+                parts = [bar(STYLES[span.phase], x, self.y, to_x, BAR, self.opens(span))]
+                parts += fitting(x, self.y + 15, to_x, span.label, LARGE, 'name') + fitting(x, self.y + 30, to_x, str(span.ship or ''))
             self.parts.append(titled(self.played.span_words(span), *parts))
-        self.y += BAR + 3
+        self.y += high + 3
 
-    def fires(self, span):
-        return ran_out(self.played.steps, span) and span.end <= self.strip.last
+    def ends_here(self, span):
+        return span.end is not None and span.end <= self.strip.last
+
+    def sign(self, span):
+        return SIGNS.get(self.played.ending(span)) if self.ends_here(span) else None
 
     def due_place(self, span):
         """Where a wait that was ended here would have fallen due."""
-        if span.end is None or span.end > self.strip.last or self.fires(span):
+        if not self.ends_here(span) or self.played.ending(span) != EARLY:
             return None
         return self.strip.place_of(self.played.steps, span.due, span.end)
 
@@ -95,7 +101,7 @@ class Drawn:
             (x, to_x), due = self.ends(span), self.due_place(span)
             lane = next((lane for lane, free in enumerate(lanes) if free <= x), len(lanes))
             lanes[lane:lane + 1] = [max(to_x, due[0] if due else 0)]
-            parts = wait_bar(x, self.y + lane * (WAIT + 3), to_x, self.opens(span), span.label, due, self.fires(span))
+            parts = wait_bar(x, self.y + lane * (WAIT + 3), to_x, self.opens(span), span.label, due, self.sign(span))
             self.parts.append(titled(self.played.span_words(span), *parts))
         self.y += len(lanes) * (WAIT + 3)
 
@@ -127,10 +133,13 @@ class Drawn:
         """Whether a slot only stays in its phase."""
         steps = self.played.steps[self.strip.first:self.strip.last + 1]
         marked = any(does.slot == slot for step in steps for does in step.does) or any(self.played.row_of(c) == slot for c in self.columns)
-        return not marked and len(phases) == 1 and all(map(self.goes_through, phases + waits))
+        return not marked and len(phases) == 1 and (phases[0].phase == FREE or all(map(self.goes_through, phases + waits)))
 
     def through(self, span, waits):
         """A quiet slot, in one line."""
+        if span.phase == FREE:
+            self.phases([span])
+            return
         x, to_x = self.ends(span)
         words = ', '.join([f'{span.label} {span.ship or ""}'.strip(), *(wait.label for wait in waits)])
         parts = bar(STYLES[span.phase], x, self.y, to_x, WAIT, self.opens(span)), *fitting(x, self.y + 13, to_x, words)
@@ -168,7 +177,7 @@ class Drawn:
         rows = {row: place for place, row in enumerate(sorted({span.row for span in spans}))}
         for span in spans:
             (x, to_x), y = self.ends(span), self.y + rows[span.row] * (WAIT + 3)
-            parts = wait_bar(x, y, to_x, self.opens(span), span.label, None, self.fires(span))
+            parts = wait_bar(x, y, to_x, self.opens(span), span.label, None, self.sign(span))
             self.parts.append(titled(self.played.span_words(span), *parts))
         self.y = max(self.y + len(rows) * (WAIT + 3) + 2, top + 26)
 
