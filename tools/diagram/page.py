@@ -15,14 +15,14 @@ due one tenth after its length.
 MATRIX = """
 ## What each event does
 
-What a slot is afterwards, where the event is about this slot: a sequence comes from its ship, a call from ashore is for its ship. *Stays*:
-answered 0, and this slot is as it was. *Ignored*: answered 1. *Refused*: with that number; a call from ashore with 38 where its ship has a
+What a slot is afterwards, where the event is about this slot: a sequence comes from its ship, a call from shore is for its ship. *Stays*:
+answered 0, and this slot is as it was. *Ignored*: answered 1. *Refused*: with that number; a call from shore with 38 where its ship has a
 slot or waits, else with 37 where no slot is free. Of any other cell that names several, the next table tells which it is.
 """
 ARROWS = """
 ## Every way from one phase to another
 
-Also what changes while the phase stays. A request from a ship that has another slot is about that slot, and a call from ashore for such a
+Also what changes while the phase stays. A request from a ship that has another slot is about that slot, and a call from shore for such a
 ship, one in a hold too, is refused.
 """
 QUEUE = """

@@ -7,7 +7,7 @@ PHASES = {
     'dialling': 'dialling', 'dialledOut': 'dialled out', 'answered': 'answered', 'held': 'hold',
 }
 EVENTS = {
-    'onChannel70 callRequest': 'call request', 'onChannel70 dataRequest': 'data request', 'fromAshore': 'call from ashore',
+    'onChannel70 callRequest': 'call request', 'onChannel70 dataRequest': 'data request', 'fromAshore': 'call from shore',
     'onChannel70 bq': 'BQ', 'onChannel70 declined': 'BQ with 104', 'onSlot heard workingCall': 'working call',
     'onSlot heard endOfCall': 'end of call', 'onSlot signal lineDialledOut': 'dialling ended', 'onSlot signal lineLifted': 'off-hook',
     'onSlot signal lineHung': 'on-hook', 'onSlot signal carrierHeard': 'carrier up', 'onSlot signal carrierLost': 'carrier down',
@@ -18,7 +18,7 @@ EVENTS = {
     'onSlot heard dataRequest': 'data request on the working channel', 'onSlot heard bq': 'BQ on the working channel',
     'onSlot heard declined': 'BQ with 104 on the working channel', 'onSlot heard nothing': 'any other sequence on the working channel',
 }
-# What the rules ask, and each answer: from whom a sequence is, and for whom a call from ashore.
+# What the rules ask, and each answer: from whom a sequence is, and for whom a call from shore.
 ANSWERS = {
     'is true': 'from its ship', 'is false': 'from another ship', 'same true': 'the same request', 'same false': 'another request',
     'ltb true': 'the queue has room', 'ltb false': 'the queue is full', 'queue []': 'nobody waits', 'queue ∷': 'a ship waits',
