@@ -1,5 +1,5 @@
-/* Plays a script through the library's entries with lent bytes, and prints after each line what a picture of it needs; `-` stands
- * where there is none:
+/* Plays a script through the library's entries with lent bytes, and prints after each line, at once, what a picture of it needs; `-`
+ * stands where there is none:
  *   event W 250 0 200056789 duplex         the event: letter, time, slot, who sends or is called, a label
  *   does 0 dial 5551234                    each action: slot, a label; of a charge also its bounds, `charged 0 720 4829`
  *   = 0 250 1 851                          the reply, as the script program prints it
@@ -14,6 +14,7 @@
 #include "script_words.h"
 
 extern int printf(const char *, ...);
+extern int fflush(void *);
 
 #define UNREADABLE 40u
 #define STATION_WRONG 41u
@@ -217,6 +218,8 @@ int main(void) {
             return 1;
         }
         printf("\n");
+        if (fflush(NULL) != 0)
+            return 1;
     }
     return 0;
 }

@@ -1,7 +1,8 @@
 """A script with its replies, in numbers and below them in words: tools/rehearse --words, which tells more."""
-import os, re, select, subprocess, sys, threading
+import contextlib, os, re, select, subprocess, sys, threading
 
 import plainly, running
+from playing import Record
 from words import Words
 
 MOST_WAIT = 5     # seconds for a line of a reply
@@ -73,21 +74,24 @@ class Program:
         return self.read, running.how_it_ended(self.child.wait(), True, 0, 0)
 
 
-def tell(mark, line, words):
-    print(mark + running.shown(line), BELOW + words.of(mark.encode() + line), sep='\n')
+def tell(mark, line, words, more=''):
+    print(mark + running.shown(line), BELOW + words.of(mark.encode() + line) + more, sep='\n')
 
 
-def tell_reply(program, words):
+def tell_reply(line, program, words, record):
+    """The reply to a line; where there is a record, also whose wait falls due next."""
+    more = record.next_due(line) if record else ''
     for row in program.reply():
-        tell('', row, words)
+        tell('', row, words, more)
+        more = ''
 
 
-def play(script, program, words):
+def play(script, program, words, record):
     """A whole script. A program that prints its replies late may do so here."""
     threading.Thread(target=program.send, args=(script, True), daemon=True).start()
     for line in running.lines_of(script):
         tell(PROMPT, line.rstrip(b'\n'), words)
-        tell_reply(program, words)
+        tell_reply(line, program, words, record)
     rest, ending = program.rest()
     if rest:
         plainly.tell(f'the program prints more than the replies: {running.shown(rest)}')
@@ -109,7 +113,7 @@ def typed():
         yield line
 
 
-def converse(program, words):
+def converse(program, words, record):
     print(WELCOME)
     for line in typed():
         if line.strip() == 'help':
@@ -118,19 +122,20 @@ def converse(program, words):
             line = line.encode(errors='surrogateescape')
             print(BELOW + words.of(PROMPT.encode() + line))
             program.send(line + b'\n')
-            tell_reply(program, words)
+            tell_reply(line, program, words, record)
         sys.stdout.flush()
     return 0
 
 
 def main(options):
-    """The options are those of tools/rehearse but --words: --old, or none."""
-    with Words(old='--old' in options) as words, Program(options) as program:
+    """The options are those of tools/rehearse but --words: --old, or none. An old program has no record, and another's has none."""
+    own = not options and not os.environ.get('REHEARSE')
+    with Words(old='--old' in options) as words, Program(options) as program, Record() if own else contextlib.nullcontext() as record:
         try:
             if not sys.stdin.isatty():
-                return play(sys.stdin.buffer.read(), program, words)
+                return play(sys.stdin.buffer.read(), program, words, record)
             sys.stdin.reconfigure(errors='surrogateescape')
-            return converse(program, words)
+            return converse(program, words, record)
         except Silent as silent:
             sys.stdout.flush()
             plainly.tell(f'the program has no reply: {silent}')
