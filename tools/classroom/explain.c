@@ -191,7 +191,7 @@ static void print_happening(const struct line_words *words, const struct numbers
         print_symbols(numbers, 2);
         break;
     case 'C': print_call(words->name, numbers); break;
-    case 'T': printf("%s", words->sentence); break;
+    case 'T': printf("%s", words->name); break;
     default: print_slot(numbers->all[1]); printf("%s", words->sentence);
     }
 }
