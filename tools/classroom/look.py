@@ -61,7 +61,7 @@ NOTES = ['Not to scale: a longer time is drawn wider, but not in proportion.',
 SIGNS = [
     (lambda y: event_mark(17, y, 'Q', 0), 26, 'an event by its letter: done'),
     (lambda y: event_mark(17, y, 'O', 1), 26, 'ignored'),
-    (lambda y: event_mark(17, y, 'T', 32), 26, 'refused, with the number'),
+    (lambda y: event_mark(17, y, 'T', 32), 28, 'refused, with the number'),
     (lambda y: action_mark(6, y + 4, ''), 22, 'an action, in the order told'),
     (lambda y: bar('asked', 8, y - 9, 36, 18), 40, "a slot's phase, and its ship"),
     (lambda y: ''.join(wait_bar(8, y - 9, 36, (False, False), '', None, 'fires')), 40, 'a wait that ran out: it fell due'),
