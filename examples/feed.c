@@ -14,14 +14,24 @@ extern int getchar(void);
 #define BQ 122u
 #define NO_REPLY 127u
 
+/* Why a line cannot be read on at this character, or NULL. */
+static const char *fault_at(int c, size_t length) {
+    if (c == '\r')
+        return "it has a carriage return; a line ends with a line feed alone";
+    if (c < ' ' || c > '~')
+        return "it has a byte that is no printed character";
+    return length < LINE_MOST ? NULL : "it is too long";
+}
+
 bool next_line(struct line *line) {
     size_t length = 0;
     int c = getchar();
     bool any = c >= 0;
-    line->readable = true;
+    line->unreadable = NULL;
     for (; c >= 0 && c != '\n'; c = getchar()) {
-        line->readable = line->readable && length < LINE_MOST && c >= ' ' && c <= '~';
-        if (line->readable)
+        if (line->unreadable == NULL)
+            line->unreadable = fault_at(c, length);
+        if (line->unreadable == NULL)
             line->text[length++] = (char)c;
     }
     line->text[length] = '\0';
@@ -209,14 +219,14 @@ static bool take_slot_event(const char **at, struct order *order) {
 bool says_nothing(const struct line *line) {
     const char *at = line->text;
     skip_spaces(&at);
-    return line->readable && (*at == '\0' || *at == '#');
+    return line->unreadable == NULL && (*at == '\0' || *at == '#');
 }
 
 bool read_order(const struct line *line, uint32_t station, struct order *order) {
     const char *at = line->text;
     *order = (struct order){.kind = SET_UP};
     skip_spaces(&at);
-    if (!line->readable)
+    if (line->unreadable != NULL)
         return false;
     if (take_word(&at, "station"))
         return take_whole(&at, UINT32_MAX, &order->number) && take_word(&at, "on") && take_bytes(&at, order);

@@ -27,7 +27,7 @@
 
 struct line {
     char text[LINE_MOST + 1u];
-    bool readable; /* not too long, and nothing in it but printed characters */
+    const char *unreadable; /* why it cannot be read, or NULL */
 };
 
 typedef uint64_t slot_event(uint8_t *station, size_t size, uint32_t time, uint32_t slot, uint8_t *room, size_t room_size);

@@ -195,7 +195,9 @@ static bool come_back(struct rack *rack) {
 /* One line of the feed. */
 static void play(struct rack *rack, const struct line *line) {
     struct order order;
-    if (says_nothing(line))
+    if (line->unreadable != NULL)
+        printf("line %u cannot be read (%s): skipped\n", (unsigned)rack->line, line->unreadable);
+    else if (says_nothing(line))
         printf("%s\n", line->text);
     else if (read_order(line, rack->kept.identity, &order))
         obey(rack, &order, line->text);
