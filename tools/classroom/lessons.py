@@ -15,7 +15,7 @@ TO_FILL = 'TO BE FILLED IN'
 NO_PROSE = ('#', '|', '![', '[![', '<', '    ')   # what a paragraph of a page begins with that is none
 
 Script = collections.namedtuple('Script', 'name text wanted')     # wanted: None where the output is missing
-Quote = collections.namedtuple('Quote', 'kind line paragraph')
+Quote = collections.namedtuple('Quote', 'kind line paragraph right')   # right: of a wrong line, the one that should stand there
 
 
 def contents(path):
@@ -41,6 +41,10 @@ def points():
 
 def listed():
     return '\n'.join(f'{name:25} {point}' for name, point in points().items())
+
+
+def none_such(word):
+    return f'there is no lesson {word}; these there are:\n{listed()}'
 
 
 def named(word):
@@ -91,8 +95,10 @@ class Page:
     def __init__(self, text):
         self.text, self.quotes, paragraph = text, [], ''
         for part in re.split(r'\n\s*\n', text):
-            quoted = QUOTE.findall(part)
-            self.quotes += [Quote(kind, line, paragraph) for kind, line in quoted]
+            quoted, right = QUOTE.findall(part), None
+            for kind, line in quoted:
+                right = line if kind == 'right' else right
+                self.quotes.append(Quote(kind, line, paragraph, right))
             if not quoted and not part.startswith(NO_PROSE):
                 paragraph = part
         self.rows = re.findall(r'^\|(.*)\|$', text, re.M)
@@ -100,6 +106,16 @@ class Page:
     def paragraphs(self, kind, line):
         """The paragraphs before the quotes of this kind that are this line, each once."""
         return list(dict.fromkeys(quote.paragraph for quote in self.quotes if (quote.kind, quote.line) == (kind, line)))
+
+    def known(self, wanted, got):
+        """The paragraphs on the mistake that prints this line: they call it wrong; or, with no wrong line, right in another place."""
+        with_wrong, elsewhere = {quote.paragraph for quote in self.quotes if quote.kind == 'wrong'}, self.paragraphs('right', got)
+        exchanged = [one for one in self.paragraphs('right', wanted) if one in elsewhere and one not in with_wrong]
+        return self.paragraphs('wrong', got) or exchanged
+
+    def mistakes(self, wanted):
+        """The lines that are known to be printed in place of this one, each with its paragraph."""
+        return [(quote.line, quote.paragraph) for quote in self.quotes if quote.kind == 'wrong' and quote.right == wanted]
 
     def rows_of(self, played, answer):
         """The rows for a line of the script that is answered so."""
@@ -118,14 +134,11 @@ def fits(pattern, line):
 
 
 def said_of(lesson, played, answer, wanted, got):
-    """What the lesson's page says of a line that should be printed and was not: a heading, and the words."""
+    """What the lesson's page says of a line that should be printed and was not: headings, each with its words."""
     page, path = page_of(lesson), f'lessons/{lesson}/README.md'
-    known, about = page.paragraphs('wrong', shown(got)), page.paragraphs('right', shown(wanted))
-    rows_told = page.rows_of(shown(played), shown(answer))
+    known = page.known(shown(wanted), shown(got))
     if known:
-        return f'{path} knows this mistake:', known
-    if about:
-        return f'{path} on what often goes wrong here:', about
-    if rows_told:
-        return f'{path} on this line of the script:', [' | '.join(cell.strip() for cell in rows_told[0].split('|'))]
-    return 'The point of the lesson:', [points()[lesson]]
+        return [(f'{path} knows this mistake:', words) for words in known]
+    told = [(f'{path} on this line of the script:', row.strip()) for row in page.rows_of(shown(played), shown(answer))[:1]]
+    told += [(f'A program that prints {line} there has made this mistake:', words) for line, words in page.mistakes(shown(wanted))]
+    return told or [('The point of the lesson:', points()[lesson])]

@@ -109,8 +109,9 @@ def in_words(one, words):
     where = f'{one.lesson}, {one.script.name}: '
     if one.difference is None:
         return [where + f'all that it printed is right, but {one.ran.ending}']
-    told = [where + f'the first difference is at line {one.difference.line + 1}', *heard(one, b'> ' + one.line, words)]
+    told = [where + f'the first difference is at line {one.difference.line + 1} of the script', *heard(one, b'> ' + one.line, words)]
     told += ['should print:', *heard(one, one.difference.wanted, words), 'prints:', *heard(one, one.printed, words)]
     told += [f'Note: {note}.' for note in (remark(one), one.ran.ending) if note]
-    heading, paragraphs = lessons.said_of(one.lesson, one.line, one.answer, one.difference.wanted, one.printed)
-    return told + [heading] + [INDENT + line for paragraph in paragraphs for line in paragraph.splitlines()]
+    for heading, said in lessons.said_of(one.lesson, one.line, one.answer, one.difference.wanted, one.printed):
+        told += [heading, *(INDENT + line for line in said.splitlines())]
+    return told

@@ -1,14 +1,17 @@
 """Script programs at work, and what they print: its lines, its answers, and the first line where two outputs part."""
-import collections, contextlib, errno, os, re, select, signal, subprocess, tempfile, time
+import collections, contextlib, errno, os, re, select, signal, subprocess, sys, tempfile, time
 
 ROOT = os.path.normpath(os.path.join(os.path.dirname(os.path.abspath(__file__)), '..', '..'))
 PROGRAM = os.path.join(ROOT, 'tools', 'rehearse')   # the project's own, or the one that REHEARSE names
 MOST_SECONDS = 60        # for one script; a program of ours that takes longer has stopped answering
 MOST_BYTES = 1 << 20     # of what a student's program prints; no lesson has a hundredth of it
 NOTHING_MORE = b'(nothing more)'
+NOT_AT_HAND = 77         # the status of a program of ours that is not built, or is older than its sources; it says so itself
+ONE_FILE = ('a program is named by its file alone, without arguments: one in Python has #!/usr/bin/env python3 for its first line, '
+            'and may be run after chmod +x')
 
 Difference = collections.namedtuple('Difference', 'line row wanted got')
-Ran = collections.namedtuple('Ran', 'output ending started')   # ending: in words, where a program did not end well
+Ran = collections.namedtuple('Ran', 'output ending status')   # ending: in words, where it did not end well; status: None, not begun
 
 
 def said(program, script):
@@ -67,7 +70,7 @@ def ran(program, script, seconds, complaints=None):
         try:
             child = subprocess.Popen([program], stdin=handed, stdout=subprocess.PIPE, stderr=complaints, start_new_session=True)
         except OSError as failed:
-            return Ran(b'', no_start(program, failed), False)
+            return Ran(b'', no_start(program, failed), None)
     ended = False
     try:
         output, ended = printed_by(child, time.monotonic() + seconds)
@@ -77,7 +80,17 @@ def ran(program, script, seconds, complaints=None):
                 os.killpg(child.pid, signal.SIGKILL)
             child.wait()
         child.stdout.close()
-    return Ran(output, how_it_ended(child.returncode, ended, len(output), seconds), True)
+    return Ran(output, how_it_ended(child.returncode, ended, len(output), seconds), child.returncode)
+
+
+def replies(script):
+    """What the project's own program prints for a script; without that the whole ends here."""
+    done = ran(PROGRAM, script, MOST_SECONDS)
+    if done.status == NOT_AT_HAND:
+        sys.exit(NOT_AT_HAND)
+    if done.ending:
+        sys.exit(f'the script program did not answer: {done.ending}')
+    return done.output
 
 
 def printed_by(child, until):
@@ -116,9 +129,9 @@ def no_start(program, failed):
     if isinstance(failed, FileNotFoundError) and os.path.exists(program):
         return f'{program} cannot be run: what its first line names behind #! is not there'
     if isinstance(failed, FileNotFoundError):
-        return f'there is no program {program}'
+        return f'there is no program {program}' + (f'; {ONE_FILE}' if ' ' in program else '')
     if isinstance(failed, PermissionError):
         return f'{program} may not be run: chmod +x {program}'
     if failed.errno == errno.ENOEXEC:
-        return f'{program} cannot be run: it is no program for this machine, or a script without #! in its first line'
+        return f'{program} cannot be run: it is no program for this machine, or has no first line like #!/usr/bin/env python3'
     return f'{program} cannot be run: {failed.strerror}'
