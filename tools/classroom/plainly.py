@@ -19,6 +19,12 @@ def usage(words):
     return WRONG_USAGE
 
 
+def tell_usage():
+    """What the program says of itself."""
+    print(sys.modules['__main__'].__doc__)
+    return 0
+
+
 def begin(main):
     """Ends the program with the status that `main` gives for its arguments, or with a message."""
     if sys.stdout is None:
@@ -26,7 +32,7 @@ def begin(main):
         sys.exit(1)
     sys.stdout.reconfigure(errors='backslashreplace')
     try:
-        status = main(sys.argv[1:])
+        status = tell_usage() if '--help' in sys.argv[1:] else main(sys.argv[1:])
         sys.stdout.flush()
     except NotUnderstood as told:
         status = ended(told, WRONG_USAGE)
