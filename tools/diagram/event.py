@@ -34,7 +34,8 @@ SAID = {
     'crates/deciding/proofs/RuleLaws.antt': ('pub working-is : ', ['outOf', 'workingBy', 'workingOn']),
     'crates/station/specs/Step.antt': ('steppedBy s e = ', ['act', 'refusal']),
 }
-NOTES = ['In brackets the crate, below it the definitions that', "the contract names. steppedBy is the rules' own act,", 'or their refusal.']
+NOTES = ['In brackets the crate, below it the definitions that', "the contract names. steppedBy is the rules' own act,",
+         'or their refusal.']
 
 
 # ── held to the code ──────────────────────────────────────────────────────────
