@@ -1,0 +1,37 @@
+// The ten-unit code: the character of a symbol, and the symbol of a character.
+ghost use mathlib.Core.Path.{_≡_};
+ghost use Rattle.characters.specs.Code.{characterOf, symbolOf};
+
+mod table;
+
+use crate::table::SYMBOLS;
+use sequence::LAST_SYMBOL;
+
+// What is no character's symbol, and no symbol's character.
+pub const NONE: u8 = 128;
+
+pub const NO_CHARACTER: u16 = 1024;
+
+// The character of a symbol, its first unit the lowest bit.
+pub fn character_of(symbol: u8) -> u16
+    ensures { λ r. ⌜ r ≡ characterOf symbol ⌝ }
+{
+    if LAST_SYMBOL < symbol {
+        return NO_CHARACTER;
+    }
+    let zeros = 7 - u8::count_ones(symbol);
+    symbol as u16
+        + 128 * ((zeros / 4) as u16)
+        + 256 * ((zeros / 2 % 2) as u16)
+        + 512 * ((zeros % 2) as u16)
+}
+
+// The symbol of a character, or none.
+pub fn symbol_of(character: u16) -> u8
+    ensures { λ r. ⌜ r ≡ symbolOf character ⌝ }
+{
+    if character < NO_CHARACTER {
+        return SYMBOLS[character as usize];
+    }
+    NONE
+}

@@ -1,0 +1,6 @@
+pub mod Answers
+pub mod Layout
+pub mod Writing
+pub mod Phasing
+pub mod Copies
+pub mod Reading
