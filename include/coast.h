@@ -1,4 +1,5 @@
-/* The coast station's library for C: the station with its events, and the reader and writer of one channel 70 sequence.
+/* The coast station's library for C: the station with its events, the reader and writer of one channel 70 sequence, and those of
+ * its characters as they go on the air.
  * Link libcoast.a, built for x86-64: where tools/install put it, cc host.c $(pkg-config --cflags --libs coast).
  * coast_words.h has helpers over this header: actions taken apart, answers in words.
  *
@@ -28,9 +29,9 @@ extern "C" {
 /* The library's version: MAJOR moves where a host has to be changed, MINOR where only something is added for it, PATCH where only
  * a fault is mended. It is no version of the lent layout: COAST_LAYOUT_VERSION is that. A new layout moves MINOR at least: a host
  * need not be changed, but the stations that it kept are refused. */
-#define COAST_VERSION "1.3.0"
+#define COAST_VERSION "1.4.0"
 #define COAST_VERSION_MAJOR 1
-#define COAST_VERSION_MINOR 3
+#define COAST_VERSION_MINOR 4
 #define COAST_VERSION_PATCH 0
 
 /* The deepest that any entry reaches into the stack, as measured. */
@@ -76,7 +77,7 @@ extern "C" {
 #define COAST_ANSWER_BAD_CHANNEL_FIELD 18 /* the channel field does not go with the first telecommand */
 #define COAST_ANSWER_BAD_NUMBER 19        /* not 1 to 16 digits 0 to 9, or marked odd for even, or not 0 past the count */
 #define COAST_ANSWER_BAD_END 20           /* the end of sequence is not 117, 122 or 127 */
-#define COAST_ANSWER_ROOM_SHORT 21        /* the room for a sequence is under 28 bytes */
+#define COAST_ANSWER_ROOM_SHORT 21        /* the room for a sequence is under 28 bytes, or for a transmission under 148 */
 #define COAST_ANSWER_MEANING_SHORT 22     /* the meaning's bytes are fewer than 32 */
 #define COAST_ANSWER_WRONG_SIZE 23        /* the bytes to set a station up in are not 1723 */
 #define COAST_ANSWER_NOT_SOUND 29         /* the station handed in is not sound, or its bytes are not 1723 of this version */
@@ -89,6 +90,9 @@ extern "C" {
 #define COAST_ANSWER_BAD_SET_UP 36        /* not a coast station's identity, or not 1 to 16 different working channels */
 #define COAST_ANSWER_NO_FREE_SLOT 37      /* a call from ashore, and no slot is free */
 #define COAST_ANSWER_SHIP_ENGAGED 38      /* a call from ashore to a ship that has a slot, a held one too, or waits for one */
+#define COAST_ANSWER_NO_PHASING 51        /* no transmission begins in what the modem handed over */
+#define COAST_ANSWER_COPIES_BAD 52        /* all copies of one symbol were received, and none is good */
+#define COAST_ANSWER_ENDS_EARLY 53        /* of one symbol no copy is good, and one was not received any more */
 
 /* Times are in tenths of a second from the set-up on, up to this one: twelve years and eight months. A host that is to run
  * for longer sets its station up anew before then, at an hour without calls, and counts its time from 0 again. */
@@ -109,6 +113,44 @@ uint32_t coast_read_sequence(const uint8_t *symbols, size_t count, uint8_t *mean
  * a byte of it that its kind does not use is not 0.) Bytes of the room after the sequence stay as they were. The room must
  * have 28 bytes even where the sequence is shorter. */
 uint32_t coast_write_sequence(const uint8_t *meaning, size_t size, uint8_t *room, size_t room_size);
+
+/* Characters: a symbol goes on the air in ten units, its character. A modem that sends and receives units takes and hands over
+ * characters: each is a number 0 to 1023, its first unit the lowest bit, and stands in two bytes, the low byte first. Units 1 to 7
+ * are the symbol, its low bit first; units 8 to 10 say how many of these seven are 0, the high bit first. So 128 of the
+ * 1024 characters are symbols'; every other, and every number over 1023, is "none". A modem that lost a character hands
+ * over COAST_NO_CHARACTER in its place. */
+#define COAST_NO_SYMBOL 128
+#define COAST_NO_CHARACTER 1024
+#define COAST_CHARACTER_SIZE 2
+
+/* The character of a symbol, or COAST_NO_CHARACTER where that is over 127; the symbol of a character, or COAST_NO_SYMBOL where that
+ * is none. Proved: each undoes the other, and a symbol's character with any one unit changed is none. */
+uint32_t coast_write_character(uint32_t symbol);
+uint32_t coast_read_character(uint32_t character);
+
+/* A transmission is a sequence on the air: phasing, by which a receiver finds its place, and then every symbol twice, with four
+ * characters between the two. A sequence of n symbols has 2 (n + 9) characters. The dot pattern before them is the modem's. */
+#define COAST_SHORTEST_TRANSMISSION 60 /* characters, of 21 symbols */
+#define COAST_LONGEST_TRANSMISSION 74  /* characters, of 28 symbols */
+#define COAST_TRANSMISSION_SIZE 148    /* bytes of the longest */
+
+/* Writes the transmission of the sequence of `count` symbols into the `room_size` bytes at `room`.
+ * coast_answer of what is returned is 0, and coast_count, 60 to 74, is that of the characters written at the front of the room, two
+ * bytes each; or the answer is the first of 21, 11, 12 that fits, in this order, and the count is 0. Nothing else of the sequence is
+ * judged. Bytes of the room after the transmission stay as they were. The room must have 148 bytes even where the transmission is
+ * shorter. */
+uint32_t coast_write_transmission(const uint8_t *symbols, size_t count, uint8_t *room, size_t room_size);
+
+/* Reads a transmission in what the modem handed over, the `size` bytes at `characters`, as symbols into the `room_size` bytes at
+ * `room`. It may begin anywhere there, and up to eleven characters of its beginning may be missing. Half a character at the end is
+ * not looked at.
+ * coast_answer of what is returned is 0, and coast_count, 21 to 28, is that of the symbols written at the front of the room; or the
+ * answer is the first of 21, 51, 52, 53 that fits, in this order, and the count is 0. Bytes of the room after the symbols stay as
+ * they were. The room must have 28 bytes even where there are fewer symbols. What the symbols say is judged by coast_read_sequence, or
+ * by the event that they are handed to.
+ * Proved of every sequence that coast_read_sequence accepts: what was written is read back; so it is with up to five characters in
+ * a row turned to none, anywhere, and with up to eleven lost at the beginning. And nothing is read but what stood in good characters. */
+uint32_t coast_read_transmission(const uint8_t *characters, size_t size, uint8_t *room, size_t room_size);
 
 /* A station lives in 1723 bytes that the host lends; nobody but the library needs to look inside. Numbers stand low byte
  * first. `coast_set_up` fills them, and every event that is answered 0 or 1 leaves the next station there. They may be copied,
@@ -272,7 +314,8 @@ static inline uint32_t coast_answer(uint64_t returned) {
     return (uint32_t)(returned & 255u);
 }
 
-/* The count of actions laid, or of the symbols that coast_write_sequence wrote. */
+/* The count of actions laid, of the symbols that coast_write_sequence wrote or coast_read_transmission read, or of the characters
+ * that coast_write_transmission wrote. */
 static inline size_t coast_count(uint64_t returned) {
     return (size_t)(returned >> 8 & 255u);
 }
@@ -305,6 +348,9 @@ static inline uint32_t coast_time(uint64_t returned) {
 COAST_HOLDS(COAST_ACTIONS_SIZE == 8 * COAST_ONE_ACTION_SIZE);
 COAST_HOLDS(COAST_AT_ACTION_PAYLOAD + COAST_LONGEST_SEQUENCE <= COAST_ONE_ACTION_SIZE);
 COAST_HOLDS(COAST_AT_DIGITS + 16 == COAST_MEANING_SIZE);
+COAST_HOLDS(COAST_SHORTEST_TRANSMISSION == 2 * (COAST_SHORTEST_SEQUENCE + 9));
+COAST_HOLDS(COAST_LONGEST_TRANSMISSION == 2 * (COAST_LONGEST_SEQUENCE + 9));
+COAST_HOLDS(COAST_TRANSMISSION_SIZE == COAST_CHARACTER_SIZE * COAST_LONGEST_TRANSMISSION);
 #undef COAST_HOLDS
 
 #endif

@@ -14,6 +14,10 @@
 #if COAST_LAYOUT_VERSION != LAYOUT_VERSION || COAST_AT_VERSION != VERSION || COAST_AT_VERSION != 0
 #error "the layout's version, or its place, is wrong"
 #endif
+#if COAST_NO_SYMBOL != 128 || COAST_NO_CHARACTER != 1024 || COAST_CHARACTER_SIZE != 2 || COAST_SHORTEST_TRANSMISSION != 60 || \
+    COAST_LONGEST_TRANSMISSION != 74 || COAST_TRANSMISSION_SIZE != 148
+#error "a figure of a character or of a transmission is wrong"
+#endif
 #if COAST_AT_ADDRESS != ADDRESS || COAST_AT_SENDER != SENDER || COAST_AT_FIRST != FIRST || COAST_AT_SECOND != SECOND || \
     COAST_AT_FIELD_KIND != FIELD_KIND || COAST_AT_FIELD != FIELD || COAST_AT_DIGIT_COUNT != DIGIT_COUNT ||              \
     COAST_AT_END != END || COAST_AT_DIGITS != DIGITS
@@ -32,7 +36,8 @@
     COAST_ANSWER_WRONG_SIZE != 23 || COAST_ANSWER_IGNORED != 1 || COAST_ANSWER_NOT_SOUND != 29 ||                                \
     COAST_ANSWER_ACTIONS_SHORT != 30 || COAST_ANSWER_TIME_TOO_LATE != 31 || COAST_ANSWER_TIME_BEFORE_CLOCK != 32 ||              \
     COAST_ANSWER_WAIT_DUE != 33 || COAST_ANSWER_NO_SLOT != 34 || COAST_ANSWER_OPERATOR != 35 || COAST_ANSWER_BAD_SET_UP != 36 || \
-    COAST_ANSWER_NO_FREE_SLOT != 37 || COAST_ANSWER_SHIP_ENGAGED != 38
+    COAST_ANSWER_NO_FREE_SLOT != 37 || COAST_ANSWER_SHIP_ENGAGED != 38 || COAST_ANSWER_NO_PHASING != 51 ||                       \
+    COAST_ANSWER_COPIES_BAD != 52 || COAST_ANSWER_ENDS_EARLY != 53
 #error "an answer is wrong"
 #endif
 #if COAST_AT_ACTION_KIND != 0 || COAST_AT_ACTION_SLOT != 1 || COAST_AT_ACTION_LENGTH != 2 || COAST_AT_ACTION_PAYLOAD != 4
@@ -47,6 +52,8 @@
 struct others {
     uint32_t (*reads)(const uint8_t *symbols, size_t count, uint8_t *meaning, size_t size);
     uint32_t (*writes)(const uint8_t *meaning, size_t size, uint8_t *room, size_t room_size);
+    uint32_t (*of_character[2])(uint32_t number);
+    uint32_t (*of_transmission[2])(const uint8_t *given, size_t size, uint8_t *room, size_t room_size);
     uint32_t (*answer)(uint64_t returned);
     size_t (*count)(uint64_t returned);
     int (*waits)(uint64_t returned);
@@ -65,8 +72,9 @@ struct others {
 
 /* Refused by the compiler where one has another type. */
 extern const struct others others;
-const struct others others = {coast_read_sequence, coast_write_sequence, coast_answer, coast_count, coast_waits, coast_due,
-    coast_time, coast_number_at, coast_put_number, coast_action_at,
+const struct others others = {coast_read_sequence, coast_write_sequence, {coast_write_character, coast_read_character},
+    {coast_write_transmission, coast_read_transmission}, coast_answer, coast_count, coast_waits, coast_due, coast_time,
+    coast_number_at, coast_put_number, coast_action_at,
     {coast_action_kind, coast_action_slot, coast_charge_ship, coast_charge_start, coast_charge_stop, coast_charge_seconds},
     coast_payload_length, coast_payload, coast_digits_text, coast_dialled,
     {coast_answer_words, coast_action_words, coast_telecommand_words, coast_reason_words, coast_end_words, coast_phase_words}};

@@ -19,4 +19,7 @@ void copy(uint8_t *to, const uint8_t *from, size_t count);
 /* ---- stations.c: the station's entries ---- */
 void try_stations(void);
 
+/* ---- air.c: characters and transmissions ---- */
+void try_the_air(void);
+
 #endif

@@ -236,5 +236,6 @@ int main(void) {
     try_refusals_to_write();
     try_garbage();
     try_stations();
+    try_the_air();
     return all_as_wanted() ? 0 : 1;
 }

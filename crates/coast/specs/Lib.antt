@@ -1,4 +1,5 @@
 pub mod Sequences
+pub mod Transmissions
 pub mod Events
 pub mod Digits
 pub mod Statement

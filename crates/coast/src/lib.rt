@@ -3,3 +3,4 @@ pub mod events;
 pub mod sequences;
 pub mod setting;
 pub mod shore_calls;
+pub mod transmissions;
