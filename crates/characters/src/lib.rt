@@ -1,6 +1,7 @@
 // The ten-unit code: the character of a symbol, and the symbol of a character.
 ghost use mathlib.Core.Path.{_≡_};
-ghost use Rattle.characters.specs.Code.{characterOf, symbolOf};
+ghost use Rattle.characters.specs.Rows.{inRow};
+ghost use Rattle.characters.specs.Code.{characterOf, symbolOf, noCharacter};
 
 mod table;
 
@@ -26,12 +27,20 @@ pub fn character_of(symbol: u8) -> u16
         + 512 * ((zeros % 2) as u16)
 }
 
+// The table by value, for who looks at many characters: a constant is laid out anew wherever it is named.
+pub fn symbol_table() -> [u8; 1024]
+    ensures { λ r. ⌜ r ≡ inRow symbolOf 0 noCharacter ⌝ }
+{
+    SYMBOLS
+}
+
 // The symbol of a character, or none.
 pub fn symbol_of(character: u16) -> u8
     ensures { λ r. ⌜ r ≡ symbolOf character ⌝ }
 {
     if character < NO_CHARACTER {
-        return SYMBOLS[character as usize];
+        let table = symbol_table();
+        return table[character as usize];
     }
     NONE
 }

@@ -5,8 +5,8 @@ ghost use Rattle.characters.specs.Code.{characterOf, symbolOf};
 ghost use Rattle.transmission.specs.Writing.{transmissionWritten, roomAfterWriting};
 ghost use Rattle.transmission.specs.Reading.{transmissionRead, roomAfterReading};
 ghost use Rattle.coast.specs.Transmissions.{answerWithCount};
-use characters::NONE;
 use characters::NO_CHARACTER;
+use characters::NONE;
 use characters::character_of;
 use characters::symbol_of;
 use receiving::read_transmission;
@@ -18,7 +18,7 @@ use sequence::LAST_SYMBOL;
 pub extern "C" fn coast_write_character(symbol: u32) -> u32
     ensures { λ r. ⌜ r ≡ characterOf symbol ⌝ }
 {
-    if LAST_SYMBOL as u32 < symbol {
+    if (LAST_SYMBOL as u32) < symbol {
         return NO_CHARACTER as u32;
     }
     character_of(symbol as u8) as u32
@@ -29,7 +29,7 @@ pub extern "C" fn coast_write_character(symbol: u32) -> u32
 pub extern "C" fn coast_read_character(character: u32) -> u32
     ensures { λ r. ⌜ r ≡ symbolOf character ⌝ }
 {
-    if NO_CHARACTER as u32 <= character {
+    if (NO_CHARACTER as u32) <= character {
         return NONE as u32;
     }
     symbol_of(character as u16) as u32
