@@ -1,0 +1,145 @@
+-- Laws of a transmission's layout: how long its parts are, and what stands in each place.
+use Prim.Native.Nat.{ℕ, zero, suc, _+_, _-_, _*_, _%_, _/_, _<_, _≤_}
+use mathlib.Core.Path.{_≡_, refl, sym, ap, _∙_}
+use mathlib.Core.List.{List, [], _∷_, _++_, map}
+use native.Mathlib.Omega.{arith}
+use lib.ListN.{length, getD, replicate, length-append, length-map, getD-replicate, List·getD-append, List·getD-map}
+use lib.Seq.{getD-append-add}
+use Rattle.characters.specs.Code.{characterOf}
+use Rattle.characters.proofs.RowLaws.{at-place}
+use Rattle.transmission.specs.Layout.{dxPhasing, rxPhasing, formatTwice, endOf, dx, rx, inTurn, transmission, bytesOf}
+
+-- within a list the default plays no part
+pub any-default : (l : List ℕ) (i d e : ℕ) → i < length l → getD l i d ≡ getD l i e
+any-default [] i d e h = absurd (omega arith)
+any-default (x ∷ l) zero d e h = refl
+any-default (x ∷ l) (suc i) d e h = any-default l i d e (omega arith)
+
+pub map-within : (f : ℕ → ℕ) (l : List ℕ) (i d : ℕ) → i < length l → getD (map f l) i d ≡ f (getD l i 0)
+map-within f l i d h = any-default (map f l) i d (f 0) (rw (length-map l f) h) ∙ List·getD-map f l i 0
+
+-- ── two lists in turn ────────────────────────────────────────────────────────
+
+pub in-turn-length : (xs ys : List ℕ) → length xs ≡ length ys → length (inTurn xs ys) ≡ 2 * length xs
+in-turn-length [] ys e = refl
+in-turn-length (x ∷ xs) [] e = absurd (omega arith)
+in-turn-length (x ∷ xs) (y ∷ ys) e = let h = in-turn-length xs ys (omega arith) in omega arith
+
+pub in-turn-first : (xs ys : List ℕ) (i d : ℕ) → i < length xs → i < length ys → getD (inTurn xs ys) (2 * i) d ≡ getD xs i d
+in-turn-first [] ys i d h k = absurd (omega arith)
+in-turn-first (x ∷ xs) [] i d h k = absurd (omega arith)
+in-turn-first (x ∷ xs) (y ∷ ys) zero d h k = refl
+in-turn-first (x ∷ xs) (y ∷ ys) (suc i) d h k =
+    let e : 2 * suc i ≡ suc (suc (2 * i)) = omega arith in
+    rw e (in-turn-first xs ys i d (omega arith) (omega arith))
+
+pub in-turn-second : (xs ys : List ℕ) (i d : ℕ) → i < length xs → i < length ys → getD (inTurn xs ys) (2 * i + 1) d ≡ getD ys i d
+in-turn-second [] ys i d h k = absurd (omega arith)
+in-turn-second (x ∷ xs) [] i d h k = absurd (omega arith)
+in-turn-second (x ∷ xs) (y ∷ ys) zero d h k = refl
+in-turn-second (x ∷ xs) (y ∷ ys) (suc i) d h k =
+    let e : 2 * suc i + 1 ≡ suc (suc (2 * i + 1)) = omega arith in
+    rw e (in-turn-second xs ys i d (omega arith) (omega arith))
+
+-- ── bytes of characters ──────────────────────────────────────────────────────
+
+pub bytes-length : (cs : List ℕ) → length (bytesOf cs) ≡ 2 * length cs
+bytes-length [] = refl
+bytes-length (c ∷ cs) = let h = bytes-length cs in omega arith
+
+pub low-byte : (cs : List ℕ) (i : ℕ) → getD (bytesOf cs) (2 * i) 0 ≡ getD cs i 0 % 256
+low-byte [] i = refl
+low-byte (c ∷ cs) zero = refl
+low-byte (c ∷ cs) (suc i) =
+    let e : 2 * suc i ≡ suc (suc (2 * i)) = omega arith in
+    rw e (low-byte cs i)
+
+pub high-byte : (cs : List ℕ) (i : ℕ) → getD (bytesOf cs) (2 * i + 1) 0 ≡ getD cs i 0 / 256
+high-byte [] i = refl
+high-byte (c ∷ cs) zero = refl
+high-byte (c ∷ cs) (suc i) =
+    let e : 2 * suc i + 1 ≡ suc (suc (2 * i + 1)) = omega arith in
+    rw e (high-byte cs i)
+
+-- ── DX and RX ────────────────────────────────────────────────────────────────
+
+module _ (s : List ℕ) where
+  pub dx-length : length (dx s) ≡ length s + 9
+  unfolding dx dxPhasing
+  dx-length = simp length-append (omega arith)
+
+  pub rx-length : length (rx s) ≡ length s + 9
+  unfolding rx rxPhasing
+  rx-length = omega arith
+
+  pub dx-phasing : (i d : ℕ) → i < 6 → getD (dx s) i d ≡ 125
+  unfolding dx dxPhasing
+  dx-phasing i d h = List·getD-append dxPhasing (formatTwice s ++ (endOf s ∷ endOf s ∷ [])) d i h ∙ getD-replicate 6 i 125 d h
+
+  pub dx-format : (d : ℕ) → getD (dx s) 6 d ≡ getD s 0 0
+  unfolding dx dxPhasing
+  dx-format d = refl
+
+  pub dx-symbol : (k d : ℕ) → k < length s → getD (dx s) (7 + k) d ≡ getD s k d
+  unfolding dx dxPhasing
+  dx-symbol k d h =
+      getD-append-add (dxPhasing ++ (getD s 0 0 ∷ [])) (s ++ (endOf s ∷ endOf s ∷ [])) k d
+      ∙ List·getD-append s (endOf s ∷ endOf s ∷ []) d k h
+
+  pub dx-end : (i d : ℕ) → i < 2 → getD (dx s) (7 + length s + i) d ≡ endOf s
+  unfolding dx dxPhasing
+  dx-end i d h =
+      let e : 7 + length s + i ≡ 7 + (length s + i) = omega arith in
+      rw e
+      (getD-append-add (dxPhasing ++ (getD s 0 0 ∷ [])) (s ++ (endOf s ∷ endOf s ∷ [])) (length s + i) d
+      ∙ getD-append-add s (replicate 2 (endOf s)) i d
+      ∙ getD-replicate 2 i (endOf s) d h)
+
+  pub rx-phasing : (i d : ℕ) → i < 8 → getD (rx s) i d ≡ 111 - i
+  unfolding rx rxPhasing
+  rx-phasing i d h =
+      List·getD-append rxPhasing (formatTwice s) d i h ∙ any-default rxPhasing i d 0 h ∙ at-place (λ i. 111 - i) 8 i h
+
+  pub rx-format : (d : ℕ) → getD (rx s) 8 d ≡ getD s 0 0
+  unfolding rx rxPhasing
+  rx-format d = refl
+
+  pub rx-symbol : (k d : ℕ) → getD (rx s) (9 + k) d ≡ getD s k d
+  unfolding rx rxPhasing
+  rx-symbol k d = getD-append-add (rxPhasing ++ (getD s 0 0 ∷ [])) s k d
+
+  -- "the RX of the character in DX place n stands in the RX place after DX place n + 2"
+  pub rx-behind-dx : (k d : ℕ) → k ≤ length s → getD (rx s) (8 + k) d ≡ getD (dx s) (6 + k) d
+  rx-behind-dx zero d h = rx-format d ∙ sym (dx-format d)
+  rx-behind-dx (suc k) d h =
+      let e : 8 + suc k ≡ 9 + k = omega arith in
+      let f : 6 + suc k ≡ 7 + k = omega arith in
+      rw (e, f) (rx-symbol k d ∙ sym (dx-symbol k d h))
+
+  -- ── the characters ─────────────────────────────────────────────────────────
+
+  pub transmission-length : length (transmission s) ≡ 2 * (length s + 9)
+  unfolding transmission
+  transmission-length =
+      let a = dx-length in
+      let b = rx-length in
+      rw (length-map (inTurn (dx s) (rx s)) characterOf, in-turn-length (dx s) (rx s) (omega arith), dx-length)
+
+  -- DX in the even places, RX in the odd ones
+  pub transmission-dx : (i d : ℕ) → i < length s + 9 → getD (transmission s) (2 * i) d ≡ characterOf (getD (dx s) i 0)
+  unfolding transmission
+  transmission-dx i d h =
+      let a = dx-length in
+      let b = rx-length in
+      let l = in-turn-length (dx s) (rx s) (omega arith) in
+      map-within characterOf (inTurn (dx s) (rx s)) (2 * i) d (omega arith)
+      ∙ ap characterOf (in-turn-first (dx s) (rx s) i 0 (omega arith) (omega arith))
+
+  pub transmission-rx : (i d : ℕ) → i < length s + 9 → getD (transmission s) (2 * i + 1) d ≡ characterOf (getD (rx s) i 0)
+  unfolding transmission
+  transmission-rx i d h =
+      let a = dx-length in
+      let b = rx-length in
+      let l = in-turn-length (dx s) (rx s) (omega arith) in
+      map-within characterOf (inTurn (dx s) (rx s)) (2 * i + 1) d (omega arith)
+      ∙ ap characterOf (in-turn-second (dx s) (rx s) i 0 (omega arith) (omega arith))
