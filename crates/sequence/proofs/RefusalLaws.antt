@@ -32,19 +32,23 @@ all-held (r ∷ rows) last e =
     let h = both-true (r .holds) (allHold rows) e in
     rw (h .0) (all-held rows last (h .1))
 
--- no row of the table refuses with Done
-abbrev pub refuse : List (Row Answer) → Bool
-refuse [] = true
-refuse (r ∷ rows) = not (isDone (r .refusal)) && refuse rows
+-- no row of the table refuses with an answer of a kind
+abbrev pub noneRefuses : {A : Type 0} → (A → Bool) → List (Row A) → Bool
+noneRefuses kind [] = true
+noneRefuses kind (r ∷ rows) = not (kind (r .refusal)) && noneRefuses kind rows
 
--- and then an answer of Done says that every test holds
-pub done-held : (rows : List (Row Answer)) → refuse rows ≡ true → isDone (firstRefusal rows Done) ≡ true → allHold rows ≡ true
-done-held [] n e = refl
-done-held (r ∷ rows) n e =
-    let h = both-true (not (isDone (r .refusal))) (refuse rows) n in
-    go (r .holds) (not-true (isDone (r .refusal)) (h .0)) (done-held rows (h .1)) e
+-- and then an answer of that kind says that every test holds
+pub kind-held : {A : Type 0} (kind : A → Bool) (rows : List (Row A)) (last : A) → noneRefuses kind rows ≡ true
+    → kind (firstRefusal rows last) ≡ true → allHold rows ≡ true
+kind-held kind [] last n e = refl
+kind-held kind (r ∷ rows) last n e =
+    let h = both-true (not (kind (r .refusal))) (noneRefuses kind rows) n in
+    go (r .holds) (not-true (kind (r .refusal)) (h .0)) (kind-held kind rows last (h .1)) e
   where
-    go : (b : Bool) → isDone (r .refusal) ≡ false → (isDone (firstRefusal rows Done) ≡ true → allHold rows ≡ true)
-        → isDone (cond b (firstRefusal rows Done) (r .refusal)) ≡ true → allHold (row b (r .refusal) ∷ rows) ≡ true
+    go : (b : Bool) → kind (r .refusal) ≡ false → (kind (firstRefusal rows last) ≡ true → allHold rows ≡ true)
+        → kind (cond b (firstRefusal rows last) (r .refusal)) ≡ true → allHold (row b (r .refusal) ∷ rows) ≡ true
     go true n later t = later t
     go false n later t = sym n ∙ t
+
+pub done-held : (rows : List (Row Answer)) → noneRefuses isDone rows ≡ true → isDone (firstRefusal rows Done) ≡ true → allHold rows ≡ true
+done-held rows n e = kind-held isDone rows Done n e
