@@ -3,8 +3,11 @@ use Prim.Native.Nat.{ℕ, zero, suc, _+_, _-_, _*_, _%_, _/_, _<_, _≤_}
 use mathlib.Core.Path.{_≡_, refl, sym, ap, _∙_}
 use mathlib.Core.List.{List, [], _∷_, _++_, map}
 use native.Mathlib.Omega.{arith}
-use lib.ListN.{length, getD, replicate, length-append, length-map, getD-replicate, List·getD-append, List·getD-map}
-use lib.Seq.{getD-append-add}
+use lib.Dec.{eqb}
+use lib.ListN.{length, getD, take, drop, replicate, length-append, length-map, getD-replicate, List·getD-append, List·getD-map}
+use lib.Seq.{getD-append-add, take-nil, drop-nil}
+use borrow.Author.Tests.{eqb-true, eqb-false}
+use Rattle.sequence.proofs.Tests.{Either, yes!, no!, which}
 use Rattle.characters.specs.Code.{characterOf}
 use Rattle.characters.proofs.RowLaws.{at-place}
 use Rattle.transmission.specs.Layout.{dxPhasing, rxPhasing, formatTwice, endOf, dx, rx, inTurn, transmission, bytesOf}
@@ -61,6 +64,20 @@ high-byte (c ∷ cs) (suc i) =
     let e : 2 * suc i + 1 ≡ suc (suc (2 * i + 1)) = omega arith in
     rw e (high-byte cs i)
 
+pub bytes-taken : (n : ℕ) (cs : List ℕ) → take (2 * n) (bytesOf cs) ≡ bytesOf (take n cs)
+bytes-taken zero cs = refl
+bytes-taken (suc n) [] = take-nil (2 * suc n)
+bytes-taken (suc n) (c ∷ cs) =
+    let e : 2 * suc n ≡ suc (suc (2 * n)) = omega arith in
+    rw (e, bytes-taken n cs)
+
+pub bytes-dropped : (n : ℕ) (cs : List ℕ) → drop (2 * n) (bytesOf cs) ≡ bytesOf (drop n cs)
+bytes-dropped zero cs = refl
+bytes-dropped (suc n) [] = drop-nil (2 * suc n)
+bytes-dropped (suc n) (c ∷ cs) =
+    let e : 2 * suc n ≡ suc (suc (2 * n)) = omega arith in
+    rw (e, bytes-dropped n cs)
+
 -- ── DX and RX ────────────────────────────────────────────────────────────────
 
 module _ (s : List ℕ) where
@@ -86,14 +103,27 @@ module _ (s : List ℕ) where
       getD-append-add (dxPhasing ++ (getD s 0 0 ∷ [])) (s ++ (endOf s ∷ endOf s ∷ [])) k d
       ∙ List·getD-append s (endOf s ∷ endOf s ∷ []) d k h
 
-  pub dx-end : (i d : ℕ) → i < 2 → getD (dx s) (7 + length s + i) d ≡ endOf s
+  -- the format's two DX places
+  pub dx-formats : (i d : ℕ) → 1 ≤ length s → 6 ≤ i → i < 8 → getD (dx s) i d ≡ getD s 0 0
+  dx-formats i d some low high = go (which (eqb i 6))
+    where
+      go : Either (eqb i 6) → getD (dx s) i d ≡ getD s 0 0
+      go (yes! e) = rw (eqb-true i 6 e) (dx-format d)
+      go (no! e) =
+          let n = eqb-false i 6 e in
+          let k : i ≡ 7 + 0 = omega arith in
+          rw k (dx-symbol 0 d some ∙ any-default s 0 d 0 some)
+
+  -- "at the end DX has end, check, end, end": the last two
+  pub dx-end : (i d : ℕ) → length s + 7 ≤ i → i < length s + 9 → getD (dx s) i d ≡ endOf s
   unfolding dx dxPhasing
-  dx-end i d h =
-      let e : 7 + length s + i ≡ 7 + (length s + i) = omega arith in
+  dx-end i d low high =
+      let k = i - (length s + 7) in
+      let e : i ≡ 7 + (length s + k) = omega arith in
       rw e
-      (getD-append-add (dxPhasing ++ (getD s 0 0 ∷ [])) (s ++ (endOf s ∷ endOf s ∷ [])) (length s + i) d
-      ∙ getD-append-add s (replicate 2 (endOf s)) i d
-      ∙ getD-replicate 2 i (endOf s) d h)
+      (getD-append-add (dxPhasing ++ (getD s 0 0 ∷ [])) (s ++ (endOf s ∷ endOf s ∷ [])) (length s + k) d
+      ∙ getD-append-add s (replicate 2 (endOf s)) k d
+      ∙ getD-replicate 2 k (endOf s) d (omega arith))
 
   pub rx-phasing : (i d : ℕ) → i < 8 → getD (rx s) i d ≡ 111 - i
   unfolding rx rxPhasing
@@ -107,6 +137,12 @@ module _ (s : List ℕ) where
   pub rx-symbol : (k d : ℕ) → getD (rx s) (9 + k) d ≡ getD s k d
   unfolding rx rxPhasing
   rx-symbol k d = getD-append-add (rxPhasing ++ (getD s 0 0 ∷ [])) s k d
+
+  -- "and RX end, check": the end
+  pub rx-end : (d : ℕ) → 2 ≤ length s → getD (rx s) (length s + 7) d ≡ endOf s
+  rx-end d two =
+      let e : length s + 7 ≡ 9 + (length s - 2) = omega arith in
+      rw e (rx-symbol (length s - 2) d ∙ any-default s (length s - 2) d 0 (omega arith))
 
   -- "the RX of the character in DX place n stands in the RX place after DX place n + 2"
   pub rx-behind-dx : (k d : ℕ) → k ≤ length s → getD (rx s) (8 + k) d ≡ getD (dx s) (6 + k) d
