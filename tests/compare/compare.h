@@ -12,13 +12,18 @@
 #define LONGEST 28u
 #define MOST_SYMBOLS 40u /* no sequence longer than this is tried */
 #define MOST_ROOM 64u    /* nor a longer room or meaning */
-#define MOST_ANSWER 22u
+#define MOST_ANSWER 53u
 
-/* ---- agree.c: one call of each, compared whole; where they differ it prints both and gives false ---- */
+/* ---- tally.c: how often each answer was given ---- */
 struct tally {
     uint32_t calls;
-    uint32_t answers[MOST_ANSWER + 1u]; /* how often each answer was given */
+    uint32_t answers[MOST_ANSWER + 1u];
 };
+void count_answer(struct tally *tally, uint32_t returned);
+/* Prints it; false where one of the answers wanted was given too seldom. */
+bool report(const char *what, const struct tally *tally, const uint8_t *wanted, size_t count);
+
+/* ---- agree.c: one call of each, compared whole; where they differ it prints both and gives false ---- */
 extern const struct trial *on_trial;
 extern struct tally reads, writes;
 bool reads_agree(const uint8_t *symbols, size_t count, size_t size);

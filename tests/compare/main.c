@@ -4,26 +4,8 @@
 
 extern int printf(const char *, ...);
 
-/* Fewer of an answer than this would say that the run no longer tries what it is for. */
-#define ENOUGH 1000u
-
 /* The same run every time. */
 #define SEED 689u
-
-/* Prints how often each answer was given; false where one of those wanted was given too seldom. */
-static bool report(const char *what, const struct tally *tally, const uint8_t *wanted, size_t count) {
-    bool enough = true;
-    printf("compare: %u %s agree; answers", (unsigned)tally->calls, what);
-    for (size_t i = 0; i < count; i++) {
-        uint32_t times = tally->answers[wanted[i]];
-        printf("%s %u: %u", i == 0u ? "" : ",", (unsigned)wanted[i], (unsigned)times);
-        enough = enough && times >= ENOUGH;
-    }
-    printf("\n");
-    if (!enough)
-        printf("compare: too few of one answer\n");
-    return enough;
-}
 
 /* Runs one part and prints its count of calls. */
 static bool run(const char *what, bool (*part)(void)) {
