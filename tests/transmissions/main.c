@@ -13,6 +13,13 @@ static uint32_t calls_so_far(void) {
     return read_calls.calls + write_calls.calls + character_calls.calls;
 }
 
+static bool parts_by_chance_agree(uint32_t rounds) {
+    uint32_t before = calls_so_far();
+    bool agree = read_transmissions(rounds) && write_lists(rounds) && read_strays(rounds / 8u);
+    printf("compare: by chance: %u calls%s\n", (unsigned)(calls_so_far() - before), agree ? "" : ", the last differs");
+    return agree;
+}
+
 /* The parts that are the same in every run. */
 static bool fixed_parts_agree(void) {
     static const struct {
@@ -41,19 +48,12 @@ static bool fixed_parts_agree(void) {
     return true;
 }
 
-static bool parts_by_chance_agree(uint32_t rounds) {
-    uint32_t before = calls_so_far();
-    bool agree = read_transmissions(rounds) && write_lists(rounds) && read_strays(rounds / 8u);
-    printf("compare: by chance: %u calls%s\n", (unsigned)(calls_so_far() - before), agree ? "" : ", the last differs");
-    return agree;
-}
-
 /* The whole run on one trial. */
 static bool agrees(const struct air_trial *trial, uint32_t rounds, uint32_t seed) {
     air_trial = trial;
     read_calls = write_calls = character_calls = (struct tally){0};
     begin_chance(seed);
-    bool agree = fixed_parts_agree() && parts_by_chance_agree(rounds);
+    bool agree = parts_by_chance_agree(rounds) && fixed_parts_agree();
     printf("compare: %s %s\n", trial->name, agree ? "agrees" : "differs");
     return agree;
 }
