@@ -3,10 +3,19 @@
 
 extern int printf(const char *, ...);
 
+static bool time_transmissions(void) {
+    draw_transmissions();
+    bool same = time_both("a transmission written", write_transmissions, drawn_transmissions);
+    same = time_both("a whole transmission read", read_whole, drawn_transmissions) && same;
+    same = time_both("one with bit noise read", read_noisy, drawn_transmissions) && same;
+    return time_both("one among strays read", read_among_strays, drawn_transmissions) && same;
+}
+
 int main(void) {
     draw_sequences();
     bool same = time_both("a read", read_all, drawn);
     same = time_both("a write", write_all, drawn) && same;
+    same = time_transmissions() && same;
     if (!record_events()) {
         printf("bench: no events\n");
         return 1;

@@ -25,6 +25,17 @@ extern const uint32_t drawn;
 uint64_t read_all(enum side side);
 uint64_t write_all(enum side side);
 
+/* ---- transmissions.c: transmissions of valid sequences: whole, with bit noise, with strays before and behind ---- */
+void draw_transmissions(void);
+extern const uint32_t drawn_transmissions;
+uint64_t write_transmissions(enum side side);
+uint64_t read_whole(enum side side);
+uint64_t read_noisy(enum side side);
+uint64_t read_among_strays(enum side side);
+
+/* ---- flipped.c: each unit of each character is flipped or not, by itself ---- */
+void flip_units(uint8_t *bytes, size_t size, uint32_t of_a_thousand);
+
 /* ---- events.c: the script lines of standard input ---- */
 extern const struct lent_bytes lent; /* a station, and a room for its actions */
 const struct entries *entries_of(enum side side);

@@ -48,7 +48,9 @@ static void print_copies(enum side side) {
 /* Gives the deepest of them all. */
 static unsigned print_depths(enum side side) {
     unsigned deepest[UINT8_MAX + 1u] = {0}; /* by the entry's letter */
-    unsigned read = depth_of(read_all, side), written = depth_of(write_all, side), all = more(read, written);
+    unsigned read = depth_of(read_all, side), written = depth_of(write_all, side);
+    unsigned received = more(depth_of(read_noisy, side), depth_of(read_among_strays, side));
+    unsigned sent = depth_of(write_transmissions, side), all = more(more(read, written), more(received, sent));
     for (uint32_t i = 0; i < event_count(); i++) {
         unsigned *most = &deepest[(uint8_t)letter_of(i)];
         *most = more(*most, depth_of_event(side, i));
@@ -56,7 +58,8 @@ static unsigned print_depths(enum side side) {
             if (only_asks(*letter))
                 deepest[(uint8_t)*letter] = more(deepest[(uint8_t)*letter], depth_of_asking(side, *letter));
     }
-    printf("stack in bytes (N next due time, K clock), %s: read %u, write %u", names[side], read, written);
+    printf("stack in bytes (N next due time, K clock), %s: read %u, write %u, transmission read %u, written %u", names[side],
+        read, written, received, sent);
     for (const char *letter = entry_letters; *letter != '\0'; letter++) {
         printf(", %c %u", *letter, deepest[(uint8_t)*letter]);
         all = more(all, deepest[(uint8_t)*letter]);
@@ -67,6 +70,7 @@ static unsigned print_depths(enum side side) {
 
 int main(void) {
     draw_sequences();
+    draw_transmissions();
     if (!record_events())
         return 1;
     for (enum side side = LIBRARY; side < SIDES; side++)

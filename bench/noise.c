@@ -11,7 +11,6 @@ extern int printf(const char *, ...);
 
 #define TRANSMISSIONS 100000u
 #define SEED 493u
-#define UNITS 10u /* of a character */
 
 enum outcome { RIGHT, NO_PHASING, COPIES_BAD, ENDS_EARLY, SEQUENCE_REFUSED, WRONG, OUTCOMES };
 
@@ -34,13 +33,6 @@ static struct sent draw_sent(void) {
     sent.count = draw_sequence(sent.symbols);
     sent.size = CHARACTER_BYTES * (second_write_transmission(sent.symbols, sent.count, sent.bytes, sizeof sent.bytes) >> 8);
     return sent;
-}
-
-static void flip_units(struct sent *sent, uint32_t of_a_thousand) {
-    for (size_t i = 0; i < sent->size; i += CHARACTER_BYTES)
-        for (uint32_t unit = 0; unit < UNITS; unit++)
-            if (chance(1000) < of_a_thousand)
-                sent->bytes[i + unit / 8u] ^= (uint8_t)(1u << unit % 8u);
 }
 
 static bool same_meaning(const uint8_t *a, const uint8_t *b) {
@@ -70,7 +62,7 @@ static bool receive_all(uint32_t of_a_thousand) {
     unsigned times[OUTCOMES] = {0};
     for (uint32_t i = 0; i < TRANSMISSIONS; i++) {
         struct sent sent = draw_sent();
-        flip_units(&sent, of_a_thousand);
+        flip_units(sent.bytes, sent.size, of_a_thousand);
         enum outcome outcome = receive(&receivers[LIBRARY], &sent);
         if (receive(&receivers[SECOND], &sent) != outcome) {
             printf("noise: the two differ\n");
