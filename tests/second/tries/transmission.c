@@ -84,11 +84,11 @@ static void hear_P1_from(size_t first) {
         add(P1_on_the_air[i]);
 }
 
-/* A list of 28 symbols, ones but for a 127 at each of these two places. */
-static void hear_ends(size_t first, size_t second) {
+/* A list of 28 symbols, ones but for another at each of these two places. */
+static void hear_ends(uint8_t end, size_t first, size_t second) {
     uint8_t symbols[28], bytes[148];
     memset(symbols, 1, sizeof symbols);
-    symbols[first] = symbols[second] = 127;
+    symbols[first] = symbols[second] = end;
     want("28 symbols written", second_write_transmission(symbols, 28, bytes, sizeof bytes), 256u * 74u);
     for (heard_count = 0; heard_count < 74u;) {
         const uint8_t *character = bytes + 2u * heard_count;
@@ -211,6 +211,10 @@ static void try_phasing(void) {
         keep_phasing(kept[i].dx, kept[i].rx);
         want_read(kept[i].what, kept[i].returned);
     }
+    hear_P1();
+    keep_phasing("------", "RR------");
+    heard[4] = 125; /* the seven bits of a 125, and a wrong count */
+    want_read("a spoiled phasing character", 51);
     heard_count = 0;
     want_read("nothing handed in", 51);
     want("nothing at all", second_read_transmission(NULL, 0, came_out, sizeof came_out), 51);
@@ -302,6 +306,10 @@ static void try_early_ends(void) {
     want_read("no end of sequence", 53);
     heard_count = 16;
     want_read("phasing alone", 53);
+    heard_count = 4;
+    want_read("a little of the phasing", 53);
+    heard_count = 2;
+    want_read("too little of it", 51);
     hear_P1();
     heard[60] = NONE;
     want_P1("the repeat of the check");
@@ -321,16 +329,18 @@ static void try_ends(void) {
         uint8_t first, second, count;
     } ends[] = {{18, 18, 28}, {18, 19, 21}, {19, 20, 21}, {19, 27, 21}, {20, 26, 22}, {25, 27, 27}, {26, 27, 28}, {27, 27, 28},
         {0, 1, 28}};
-    for (size_t i = 0; i < sizeof ends / sizeof ends[0]; i++) {
-        hear_ends(ends[i].first, ends[i].second);
-        want_read("the first end from 19 on", 256u * ends[i].count);
-    }
-    hear_ends(19, 22);
+    static const uint8_t symbols[] = {117, 122, 127, 116, 118, 121, 123, 126};
+    for (size_t i = 0; i < sizeof ends / sizeof ends[0]; i++)
+        for (size_t j = 0; j < sizeof symbols; j++) {
+            hear_ends(symbols[j], ends[i].first, ends[i].second);
+            want_read("the first end from 19 on", 256u * (j < 3u ? ends[i].count : 28u));
+        }
+    hear_ends(127, 19, 22);
     heard[14 + 2 * 19] = NONE;
     want_read("an end by its repeat", 256u * 21u);
     heard[19 + 2 * 19] = NONE;
     want_read("an unreadable end", 52);
-    hear_ends(19, 22);
+    hear_ends(127, 19, 22);
     heard[14 + 2 * 23] = heard[19 + 2 * 23] = NONE;
     want_read("both copies bad behind the end", 256u * 21u);
     hear_P1();
