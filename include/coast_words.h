@@ -15,6 +15,16 @@ static inline void coast_put_number(uint8_t *bytes, uint32_t number) {
         bytes[i] = (uint8_t)(number >> 8 * i & 255u);
 }
 
+/* The character at this place of what a modem hands over or is to send, in two bytes, the low byte first. */
+static inline uint32_t coast_character_at(const uint8_t *characters, size_t place) {
+    return characters[place * COAST_CHARACTER_SIZE] | (uint32_t)characters[place * COAST_CHARACTER_SIZE + 1] << 8;
+}
+
+static inline void coast_put_character(uint8_t *characters, size_t place, uint32_t character) {
+    characters[place * COAST_CHARACTER_SIZE] = (uint8_t)(character & 255u);
+    characters[place * COAST_CHARACTER_SIZE + 1] = (uint8_t)(character >> 8 & 255u);
+}
+
 /* The action at this place of the room, from 0 to one less than coast_count; and its parts. */
 static inline const uint8_t *coast_action_at(const uint8_t *room, size_t place) {
     return room + place * COAST_ONE_ACTION_SIZE;
@@ -82,7 +92,7 @@ static inline const char *coast_answer_words(uint32_t answer) {
     case COAST_ANSWER_BAD_CHANNEL_FIELD: return "a channel field that does not go with the telecommand";
     case COAST_ANSWER_BAD_NUMBER: return "not a number of 1 to 16 digits";
     case COAST_ANSWER_BAD_END: return "no end of sequence";
-    case COAST_ANSWER_ROOM_SHORT: return "too little room for a sequence";
+    case COAST_ANSWER_ROOM_SHORT: return "too little room for a sequence or a transmission";
     case COAST_ANSWER_MEANING_SHORT: return "too few bytes for a meaning";
     case COAST_ANSWER_WRONG_SIZE: return "not the size of a station";
     case COAST_ANSWER_NOT_SOUND: return "not a sound station of this version";
@@ -95,6 +105,9 @@ static inline const char *coast_answer_words(uint32_t answer) {
     case COAST_ANSWER_BAD_SET_UP: return "not a coast station with 1 to 16 working channels";
     case COAST_ANSWER_NO_FREE_SLOT: return "no slot is free";
     case COAST_ANSWER_SHIP_ENGAGED: return "the ship has a slot already, or waits for one";
+    case COAST_ANSWER_NO_PHASING: return "no phasing found";
+    case COAST_ANSWER_COPIES_BAD: return "all copies of a symbol are bad";
+    case COAST_ANSWER_ENDS_EARLY: return "the transmission ends early";
     default: return "no answer of the library";
     }
 }
