@@ -5,44 +5,17 @@
  *   sequence charge SHIP START STOP SECONDS                                        the bytes of a charge's payload
  *
  * Status 1 where the library refuses, with the refusal's number and words on standard error; 2 where a number does not fit. */
-#include <stdbool.h>
 #include <coast_words.h>
 #include <words.h>
+#include "orders.h"
 
 extern int printf(const char *, ...);
 extern int dprintf(int, const char *, ...);
-extern int fflush(void *);
-extern int strcmp(const char *, const char *);
 
 #define STANDARD_ERROR 2
-#define REFUSED 1
-#define WRONG_USAGE 2
 #define PARTS 9u       /* of a meaning, before its digits */
 #define MOST_DIGITS 16 /* that are laid; a count of more is the writer's to refuse */
 #define MOST_WORDS 255 /* what a byte can count */
-
-/* A decimal number up to the largest; false where the word is none. */
-static bool read_number(const char *word, uint32_t largest, uint32_t *number) {
-    uint64_t read = 0;
-    if (*word == '\0')
-        return false;
-    for (; *word != '\0'; word++) {
-        if (*word < '0' || *word > '9')
-            return false;
-        read = read * 10u + (uint64_t)(*word - '0');
-        if (read > largest)
-            return false;
-    }
-    *number = (uint32_t)read;
-    return true;
-}
-
-static bool read_numbers(char **words, size_t count, uint32_t largest, uint32_t *numbers) {
-    for (size_t i = 0; i < count; i++)
-        if (!read_number(words[i], largest, &numbers[i]))
-            return false;
-    return true;
-}
 
 static void print_bytes(const uint8_t *bytes, size_t count) {
     for (size_t i = 0; i < count; i++)
@@ -52,7 +25,7 @@ static void print_bytes(const uint8_t *bytes, size_t count) {
 
 static int refused(uint32_t answer) {
     dprintf(STANDARD_ERROR, "refused: %u, %s\n", (unsigned)answer, coast_answer_words(answer));
-    return REFUSED;
+    return FAILED;
 }
 
 /* The meaning's bytes, of its parts and digits. */
@@ -114,19 +87,8 @@ static int lay_charge(char **words, size_t count) {
     return 0;
 }
 
-static const struct {
-    const char *name;
-    int (*done)(char **words, size_t count);
-} orders[] = {{"write", write_sequence}, {"read", read_sequence}, {"charge", lay_charge}};
-
-static int do_order(char **words, size_t count) {
-    for (size_t i = 0; count > 0u && i < sizeof orders / sizeof orders[0]; i++)
-        if (strcmp(words[0], orders[i].name) == 0)
-            return orders[i].done(words + 1, count - 1u);
-    return WRONG_USAGE;
-}
+static const struct order orders[] = {{"write", write_sequence}, {"read", read_sequence}, {"charge", lay_charge}};
 
 int main(int count, char **words) {
-    int status = do_order(words + 1, (size_t)count - 1u);
-    return fflush(NULL) == 0 ? status : REFUSED;
+    return follow(orders, sizeof orders / sizeof orders[0], count, words);
 }
