@@ -1,10 +1,11 @@
-"""The lessons: their folders with scripts, outputs and pages, and the table of lessons/README.md."""
+"""The lessons: their folders with scripts, lines for lessons/air, outputs and pages, and the table of lessons/README.md."""
 import collections, os, re
 
 from running import ROOT, answers_of, lines_of, shown
 
 FOLDER = os.path.join(ROOT, 'lessons')
 TABLE = os.path.join(FOLDER, 'README.md')
+AIR = os.path.join(FOLDER, 'air')
 NAME = re.compile(r'\d\d-[a-z][a-z0-9]*(-[a-z0-9]+)*')
 ROW = re.compile(r'^\| \[(?P<name>[^\]]*)\]\((?P<link>[^)]*)\) \| (?P<point>.*) \|$', re.M)
 ANSWER = re.compile(r'\d+ \d+ \d+ (?:\d+|-)')
@@ -14,7 +15,7 @@ QUOTE = re.compile(r'^    (right|wrong): (.*)$', re.M)
 TO_FILL = 'TO BE FILLED IN'
 NO_PROSE = ('#', '|', '![', '[![', '<', '    ')   # what a paragraph of a page begins with that is none
 
-Script = collections.namedtuple('Script', 'name text wanted')     # wanted: None where the output is missing
+Script = collections.namedtuple('Script', 'name text output wanted')   # output: its file; wanted: None where that is missing
 Quote = collections.namedtuple('Quote', 'kind line paragraph right')   # right: of a wrong line, the one that should stand there
 
 
@@ -58,12 +59,23 @@ def path_of(lesson, file=''):
     return os.path.join(FOLDER, lesson, file)
 
 
+def with_outputs(lesson, pattern, name, output):
+    """The files of a lesson that are called so, and a name may follow; each with its output, which is called after it."""
+    found = sorted(file for file in os.listdir(path_of(lesson)) if re.fullmatch(pattern, file))
+    outputs = [file.replace(name, output, 1) for file in found]
+    return [Script(file, contents(path_of(lesson, file)), printed,
+                   contents(path_of(lesson, printed)) if os.path.isfile(path_of(lesson, printed)) else None)
+            for file, printed in zip(found, outputs)]
+
+
 def scripts(lesson):
     """The scripts of a lesson with their outputs."""
-    found = sorted(name for name in os.listdir(path_of(lesson)) if re.fullmatch(r'script(-.+)?', name))
-    outputs = [path_of(lesson, name.replace('script', 'output', 1)) for name in found]
-    return [Script(name, contents(path_of(lesson, name)), contents(output) if os.path.isfile(output) else None)
-            for name, output in zip(found, outputs)]
+    return with_outputs(lesson, r'script(-.+)?', 'script', 'output')
+
+
+def airs(lesson):
+    """What a lesson has lessons/air do, with what that prints."""
+    return with_outputs(lesson, r'air(-(?!output).+)?', 'air', 'air-output')
 
 
 def is_reply(line):
