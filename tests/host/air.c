@@ -1,5 +1,5 @@
 /* The host beside its modem: characters and transmissions, through the header. */
-#include "../../include/coast.h"
+#include "../../include/coast_words.h"
 #include "../c/checked.h"
 #include "checks.h"
 #include "lent.h"
@@ -65,14 +65,9 @@ static const uint8_t p1_sent[] = {
 
 #define P1_SIZE (2u * sizeof p1_sent)
 
-static void put_character(uint8_t *bytes, size_t place, uint32_t character) {
-    bytes[2u * place] = (uint8_t)character;
-    bytes[2u * place + 1u] = (uint8_t)(character >> 8);
-}
-
 static void put_p1(uint8_t *bytes) {
     for (size_t i = 0; i < sizeof p1_sent; i++)
-        put_character(bytes, i, coast_write_character(p1_sent[i]));
+        coast_put_character(bytes, i, coast_write_character(p1_sent[i]));
 }
 
 /* Writes into lent memory of any size; a refusal must change nothing. */
@@ -116,7 +111,7 @@ static uint32_t read_damaged(size_t lost, size_t place, size_t count, uint8_t *s
     uint8_t sent[P1_SIZE];
     put_p1(sent);
     for (size_t i = place; i < place + count && i < sizeof p1_sent; i++)
-        put_character(sent, i, COAST_NO_CHARACTER);
+        coast_put_character(sent, i, COAST_NO_CHARACTER);
     return read_lent(sent + 2u * lost, P1_SIZE - 2u * lost, COAST_LONGEST_SEQUENCE, true, symbols);
 }
 
