@@ -1,2 +1,3 @@
 pub mod LayoutLaws
+pub mod HeardLaws
 pub mod Settled
