@@ -1,3 +1,5 @@
 pub mod LayoutLaws
 pub mod HeardLaws
+pub mod PhasingLaws
+pub mod BestLaws
 pub mod Settled
