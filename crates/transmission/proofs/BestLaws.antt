@@ -18,7 +18,7 @@ pub record Best (t : List ℕ) (among : ℕ → Type 0) (best : Start) : Type 0 
   pub most : (q : ℕ) → among q → phasingAt t q ≤ best .phasing
   pub earliest : (q : ℕ) → among q → q < best .place → phasingAt t q < best .phasing
   pub its-own : 1 ≤ best .phasing → phasingAt t (best .place) ≡ best .phasing
-  pub nowhere : best .phasing ≡ 0 → best .place ≡ 0
+  pub found : 1 ≤ best .place → 1 ≤ best .phasing
 
 -- nothing was found among no starts
 pub none-yet : (t : List ℕ) (among : ℕ → Type 0) → ((q : ℕ) → among q → ⊥) → Best t among (record { place = 0; phasing = 0 })
@@ -27,7 +27,17 @@ none-yet t among empty =
       most = λ q a. absurd (empty q a);
       earliest = λ q a l. absurd (empty q a);
       its-own = λ h. absurd (omega (arith, h));
-      nowhere = λ e. refl;
+      found = λ h. absurd (omega (arith, h));
+    }
+
+-- and so among fewer
+pub of-fewer : (t : List ℕ) (among fewer : ℕ → Type 0) (best : Start) → Best t among best → ((q : ℕ) → fewer q → among q) → Best t fewer best
+of-fewer t among fewer best b all =
+    record {
+      most = λ q f. b .most q (all q f);
+      earliest = λ q f. b .earliest q (all q f);
+      its-own = b .its-own;
+      found = b .found;
     }
 
 -- ── one start more ───────────────────────────────────────────────────────────
@@ -44,18 +54,18 @@ module _ (t : List ℕ) (among wider : ℕ → Type 0) (best : Start) (start : �
         most = λ q w. ⊎-elim (λ a. b .most q a) (λ e. rw e h) (more q w);
         earliest = λ q w. ⊎-elim (λ a. b .earliest q a) (λ e. rw e k) (more q w);
         its-own = b .its-own;
-        nowhere = b .nowhere;
+        found = b .found;
       }
 
   -- it has more phasing characters, or as many and is earlier
   pub beaten : best .phasing ≤ phasingAt t start → (best .place ≤ start → best .phasing < phasingAt t start) → 1 ≤ phasingAt t start
       → Best t wider (startAt t start)
-  beaten h k found =
+  beaten h k some =
       record {
         most = λ q w. ⊎-elim (λ a. omega (arith, b .most q a)) (λ e. rw e (omega arith)) (more q w);
         earliest = λ q w l. ⊎-elim (λ a. sooner q l a) (λ e. absurd (omega (arith, e, l))) (more q w);
         its-own = λ f. refl;
-        nowhere = λ e. absurd (omega (arith, e, found));
+        found = λ l. some;
       }
     where
       sooner : (q : ℕ) → q < start → among q → phasingAt t q < phasingAt t start
@@ -71,13 +81,14 @@ abbrev pub Every : ℕ → Type 0
 Every q = Prim.Unit {0}
 
 -- where no other start has phasing, the best of some is the best of all
-pub best-of-all : (t : List ℕ) (among : ℕ → Type 0) (best : Start) → Best t among best → ((q : ℕ) → 1 ≤ phasingAt t q → among q) → Best t Every best
+pub best-of-all : (t : List ℕ) (among : ℕ → Type 0) (best : Start) → Best t among best → ((q : ℕ) → 1 ≤ phasingAt t q → among q)
+    → Best t Every best
 best-of-all t among best b all =
     record {
       most = λ q u. ⊎-elim (λ a. b .most q a) (λ z. omega (arith, z)) (either q);
-      earliest = λ q u l. ⊎-elim (λ a. b .earliest q a l) (λ z. somewhere q z l) (either q);
+      earliest = λ q u l. ⊎-elim (λ a. b .earliest q a l) (λ z. omega (arith, z, b .found (omega (arith, l)))) (either q);
       its-own = b .its-own;
-      nowhere = b .nowhere;
+      found = b .found;
     }
   where
     either : (q : ℕ) → among q ⊎ (phasingAt t q ≡ 0)
@@ -86,13 +97,6 @@ best-of-all t among best b all =
         go : Either (leb 1 (phasingAt t q)) → among q ⊎ (phasingAt t q ≡ 0)
         go (yes! e) = inl (all q (leb-true _ _ e))
         go (no! e) = inr (omega (arith, leb-false 1 (phasingAt t q) e))
-
-    somewhere : (q : ℕ) → phasingAt t q ≡ 0 → q < best .place → phasingAt t q < best .phasing
-    somewhere q z l = go (which (leb 1 (best .phasing)))
-      where
-        go : Either (leb 1 (best .phasing)) → phasingAt t q < best .phasing
-        go (yes! e) = omega (arith, z, leb-true 1 (best .phasing) e)
-        go (no! e) = absurd (omega (arith, l, b .nowhere (omega (arith, leb-false 1 (best .phasing) e))))
 
 -- there is one only
 no-more : (t : List ℕ) (a b : Start) → Best t Every a → Best t Every b → a .phasing ≤ b .phasing

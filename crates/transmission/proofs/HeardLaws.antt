@@ -27,7 +27,9 @@ character-there (low ∷ high ∷ bytes) (suc i) d h =
 module _ (characters : List ℕ) where
   pub length-heard : length (heard characters) ≡ mostLost + length characters
   unfolding heard
-  length-heard = length-append (replicate mostLost none) (map symbolOf characters) ∙ ap (λ (n : ℕ). mostLost + n) (length-map characters symbolOf)
+  length-heard =
+      length-append (replicate mostLost none) (map symbolOf characters)
+      ∙ ap (λ (n : ℕ). mostLost + n) (length-map characters symbolOf)
 
   -- the eleven before the first that was handed in
   pub heard-lost : (place : ℕ) → place < mostLost → heardAt (heard characters) place ≡ none

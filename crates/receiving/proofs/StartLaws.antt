@@ -1,0 +1,99 @@
+-- The search for the best start, one character more.
+use Prim.Native.Nat.{ℕ, _+_, _-_, _*_, _/_, _%_, _≤_, _<_}
+use mathlib.Core.Path.{_≡_, sym, ap, _∙_}
+use mathlib.Core.Logic.{_⊎_, inl, inr, ⊎-elim}
+use mathlib.Core.List.{List}
+use native.Mathlib.Nat.{eq-or-lt-of-le}
+use native.Mathlib.Omega.{arith}
+use lib.Dec.{ltb}
+use lib.ListN.{length, getD}
+use borrow.Author.Tests.{ltb-true, ltb-false}
+use Rattle.sequence.proofs.Tests.{Either, yes!, no!, which}
+use Rattle.characters.specs.Code.{characterOf, symbolOf}
+use Rattle.characters.proofs.CodeLaws.{units-low, good-character}
+use Rattle.transmission.specs.declared.Start.{Start}
+use Rattle.transmission.specs.Phasing.{charactersOf, mostLost, heard, phasingAt, startAt, bestStart}
+use Rattle.transmission.proofs.HeardLaws.{length-characters, length-heard, heard-lost}
+use Rattle.transmission.proofs.PhasingLaws.{HasRx}
+use Rattle.transmission.proofs.BestLaws.{Best, OneMore, none-yet, of-fewer, stays, beaten, best-with-rx}
+use Rattle.receiving.specs.Characters.{characterAt}
+use Rattle.receiving.specs.Starts.{betterOf, BestBefore}
+use Rattle.receiving.proofs.CharacterLaws.{handed-in, heard-is}
+
+-- ── one start more ───────────────────────────────────────────────────────────
+
+pub better-is-best : (t : List ℕ) (among wider : ℕ → Type 0) (best : Start) (start : ℕ) → Best t among best → OneMore among wider start
+    → Best t wider (betterOf best (startAt t start))
+better-is-best t among wider best start b more =
+    go (which (ltb (best .phasing) (phasingAt t start))) (which (ltb (phasingAt t start) (best .phasing))) (which (ltb start (best .place)))
+  where
+    go : Either (ltb (best .phasing) (phasingAt t start)) → Either (ltb (phasingAt t start) (best .phasing)) → Either (ltb start (best .place))
+        → Best t wider (betterOf best (startAt t start))
+    go (yes! e) less sooner =
+        let l = ltb-true (best .phasing) (phasingAt t start) e in
+        rw e (beaten t among wider best start b more (omega arith) (λ k. l) (omega arith))
+    go (no! e) (yes! f) sooner =
+        let l = ltb-true (phasingAt t start) (best .phasing) f in
+        rw (e, f) (stays t among wider best start b more (omega arith) (λ k. l))
+    go (no! e) (no! f) (yes! g) =
+        let l = ltb-true start (best .place) g in
+        let same : best .phasing ≡ phasingAt t start =
+        omega (arith, ltb-false (best .phasing) (phasingAt t start) e, ltb-false (phasingAt t start) (best .phasing) f) in
+        rw (e, f, g) (beaten t among wider best start b more (omega arith) (λ k. absurd (omega (arith, k, l))) (omega (arith, same, b .found (omega (arith, l)))))
+    go (no! e) (no! f) (no! g) =
+        let l = ltb-false start (best .place) g in
+        rw (e, f, g) (stays t among wider best start b more (ltb-false (best .phasing) (phasingAt t start) e) (λ k. absurd (omega (arith, k, l))))
+
+-- ── one character more ───────────────────────────────────────────────────────
+
+-- the character in place i is the RX character of a start that has so many places before it
+pub record Here (bytes : List ℕ) (i start : ℕ) : Type 0 where
+  pub number : ℕ
+  pub of-eight : number < 8
+  pub its-place : start + 1 + 2 * number ≡ mostLost + i
+  pub its-units : getD bytes (2 * i) 0 % 128 ≡ 111 - number
+
+units-of : (bytes : List ℕ) (i symbol : ℕ) → i < length bytes / 2 → symbol ≤ 127 → symbolOf (characterAt bytes (mostLost + i)) ≡ symbol
+    → getD bytes (2 * i) 0 % 128 ≡ symbol
+units-of bytes i symbol h k e =
+    let back : mostLost + i - mostLost ≡ i = omega arith in
+    let bytes-of = rw back at (handed-in bytes (mostLost + i) (omega arith) (omega arith)) in
+    let its-own = sym (ap characterOf e) ∙ good-character (characterAt bytes (mostLost + i)) (rw e k) in
+    omega (arith, bytes-of, its-own, units-low symbol k)
+
+pub rx-or-here : (bytes : List ℕ) (i start : ℕ) → i < length bytes / 2 → HasRx (heard (charactersOf bytes)) (mostLost + (i + 1)) start
+    → HasRx (heard (charactersOf bytes)) (mostLost + i) start ⊎ Here bytes i start
+rx-or-here bytes i start h r = go (which (ltb (start + 1 + 2 * r .number) (mostLost + i)))
+  where
+    go : Either (ltb (start + 1 + 2 * r .number) (mostLost + i)) → HasRx (heard (charactersOf bytes)) (mostLost + i) start ⊎ Here bytes i start
+    go (yes! l) = inl (record { number = r .number; of-eight = r .of-eight; before-end = ltb-true _ _ l; there = r .there })
+    go (no! l) =
+        let e : start + 1 + 2 * r .number ≡ mostLost + i = omega (arith, ltb-false (start + 1 + 2 * r .number) (mostLost + i) l, r .before-end) in
+        let s = sym (heard-is bytes (mostLost + i)) ∙ (rw e at (r .there)) in
+        inr (record { number = r .number; of-eight = r .of-eight; its-place = e; its-units = units-of bytes i (111 - r .number) h (omega arith) s })
+
+module _ (bytes : List ℕ) (i : ℕ) (best : Start) (there : i < length bytes / 2) (b : BestBefore bytes (mostLost + i) best) where
+  -- the character is no start's
+  pub passed-over : ((q : ℕ) → Here bytes i q → ⊥) → BestBefore bytes (mostLost + (i + 1)) best
+  passed-over no-start =
+      of-fewer (heard (charactersOf bytes)) _ _ best b (λ q r. ⊎-elim (λ before. before) (λ here. absurd (no-start q here)) (rx-or-here bytes i q there r))
+
+  -- it can be one start's only
+  pub looked-at : (start : ℕ) → ((q : ℕ) → Here bytes i q → q ≡ start)
+      → BestBefore bytes (mostLost + (i + 1)) (betterOf best (startAt (heard (charactersOf bytes)) start))
+  looked-at start its-start =
+      better-is-best (heard (charactersOf bytes)) _ _ best start b
+      (λ q r. ⊎-elim inl (λ here. inr (its-start q here)) (rx-or-here bytes i q there r))
+
+-- none before the first character, and the best of all behind the last
+pub none-before : (bytes : List ℕ) → BestBefore bytes (mostLost + 0) (record { place = 0; phasing = 0 })
+none-before bytes = none-yet (heard (charactersOf bytes)) _ (λ q r. lost q r)
+  where
+    lost : (q : ℕ) → HasRx (heard (charactersOf bytes)) (mostLost + 0) q → ⊥
+    lost q r = omega (arith, sym (r .there) ∙ heard-lost (charactersOf bytes) (q + 1 + 2 * r .number) (omega (arith, r .before-end)))
+
+pub best-behind : (bytes : List ℕ) (i : ℕ) (best : Start) → length bytes / 2 ≡ i → BestBefore bytes (mostLost + i) best
+    → best ≡ bestStart (heard (charactersOf bytes))
+best-behind bytes i best e b =
+    let f : length (heard (charactersOf bytes)) ≡ mostLost + i = length-heard (charactersOf bytes) ∙ ap (λ (n : ℕ). mostLost + n) (length-characters bytes ∙ e) in
+    best-with-rx (heard (charactersOf bytes)) best (rw f b)

@@ -1,0 +1,41 @@
+// What was heard: two bytes a character, behind eleven characters that may have been lost.
+ghost use mathlib.Core.Path.{_≡_};
+ghost use Rattle.characters.specs.Code.{symbolOf};
+ghost use Rattle.transmission.specs.Phasing.{charactersOf, heard, heardAt};
+ghost use Rattle.receiving.specs.Characters.{characterAt};
+use characters::NO_CHARACTER;
+use characters::NONE;
+use characters::character_of;
+use transmission::MOST_LOST;
+
+// The character at a place, and no character before the first and past the last that was handed in.
+pub(crate) fn character_at(characters: &[u8], place: usize) -> u16
+    ensures { λ r. ⌜ r ≡ characterAt (now (characters .entry)) place ⌝ }
+{
+    if place < MOST_LOST {
+        return NO_CHARACTER;
+    }
+    let i = place - MOST_LOST;
+    if i < characters.len() / 2 {
+        return characters[2 * i] as u16 + 256 * (characters[2 * i + 1] as u16);
+    }
+    NO_CHARACTER
+}
+
+// The symbol of a character, or none, by the rule in place of the table: the compiler lays a table out anew at each look.
+fn symbol_by_rule(character: u16) -> u8
+    ensures { λ r. ⌜ r ≡ symbolOf character ⌝ }
+{
+    let symbol = (character % 128) as u8;
+    if character_of(symbol) == character {
+        return symbol;
+    }
+    NONE
+}
+
+// The symbol, or none, at a place of what was heard.
+pub(crate) fn heard_at(characters: &[u8], place: usize) -> u8
+    ensures { λ r. ⌜ r ≡ heardAt (heard (charactersOf (now (characters .entry)))) place ⌝ }
+{
+    symbol_by_rule(character_at(characters, place))
+}
