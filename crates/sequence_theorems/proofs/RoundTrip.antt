@@ -28,7 +28,7 @@ use Rattle.sequence_theorems.proofs.FieldLaws.{kept, Back, back}
 use Rattle.sequence_theorems.proofs.NumberLaws.{pairs-all, number-same, number-reads, Again, again}
 
 -- bounds over appended lists, and of an exclusive-or
-all-append : (m : ℕ) (k l : List ℕ) → allAtMost m k ≡ true → allAtMost m l ≡ true → allAtMost m (k ++ l) ≡ true
+pub all-append : (m : ℕ) (k l : List ℕ) → allAtMost m k ≡ true → allAtMost m l ≡ true → allAtMost m (k ++ l) ≡ true
 all-append m [] l e f = f
 all-append m (a ∷ k) l e f =
     let h = both-true (leb a m) (allAtMost m k) e in
@@ -186,12 +186,12 @@ module _ (s : List ℕ) (ok : isDone (answerOf s) ≡ true) where
   sizes : (21 ≤ length s) × (length s ≤ 28)
   sizes = long s (passed s ok .long)
 
-  pairs-count : length (pairsIn s) ≡ length s - 20
+  pub pairs-count : length (pairsIn s) ≡ length s - 20
   unfolding pairsIn
   pairs-count = let h = sizes in simp (length-take, length-drop) (omega arith)
 
   -- the last two symbols
-  last-two : drop 18 s ≡ pairsIn s ++ (getD s (length s - 2) 0 ∷ getD s (length s - 1) 0 ∷ [])
+  pub last-two : drop 18 s ≡ pairsIn s ++ (getD s (length s - 2) 0 ∷ getD s (length s - 1) 0 ∷ [])
   unfolding pairsIn
   last-two =
       let h = sizes in

@@ -18,7 +18,7 @@ use Rattle.sequence_theorems.specs.Statement.{ReadsExactly, OneMeaning, 
 use Rattle.sequence_theorems.proofs.RoundTrip.{reads-back, lays-back, reads-valid}
 
 -- an answer of Done, and the meaning beside it
-answered : (s : List ℕ) → readingOf s .answer ≡ Done → isDone (answerOf s) ≡ true
+pub answered : (s : List ℕ) → readingOf s .answer ≡ Done → isDone (answerOf s) ≡ true
 unfolding readingOf
 answered s e = ap isDone e
 

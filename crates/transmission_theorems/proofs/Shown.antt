@@ -1,0 +1,54 @@
+-- What may be heard of a transmission, and what a start that is found says.
+use Prim.Native.Nat.{ℕ, _+_, _-_, _≤_, _<_}
+use mathlib.Core.Path.{_≡_}
+use mathlib.Core.Logic.{_⊎_}
+use mathlib.Core.Bool.{true}
+use mathlib.Core.List.{List, _++_}
+use lib.ListN.{length, getD, replicate}
+use Rattle.characters.specs.Code.{none}
+use Rattle.transmission.specs.Layout.{dx, rx, inTurn}
+use Rattle.transmission.specs.Phasing.{mostLost, heardAt}
+use Rattle.transmission.specs.Reading.{startIn, phasingIn}
+use Rattle.transmission_theorems.specs.Statement.{Accepted}
+
+-- the symbols of a transmission in the order sent
+abbrev pub sent : List ℕ → List ℕ
+sent s = inTurn (dx s) (rx s)
+
+-- behind the eleven places of `heard`
+abbrev pub sentBehind : List ℕ → List ℕ
+sentBehind s = replicate mostLost none ++ sent s
+
+-- every place of t holds none, or what was sent there: the transmission of s begins at place 11 less the characters lost
+abbrev pub ShownAt : List ℕ → ℕ → List ℕ → ℕ → Type 0
+ShownAt s lost t q = (heardAt t q ≡ none) ⊎ (heardAt t q ≡ getD (sentBehind s) (lost + q) none)
+
+abbrev pub Shown : List ℕ → ℕ → List ℕ → Type 0
+Shown s lost t = (q : ℕ) → ShownAt s lost t q
+
+-- t holds what was sent, from a start on, but for `count` places in a row
+abbrev pub KeptBut : List ℕ → List ℕ → ℕ → ℕ → ℕ → Type 0
+KeptBut s t start place count =
+    (p : ℕ) → (p < place) ⊎ (place + count ≤ p) → heardAt t (start + p) ≡ getD (sent s) p none
+
+-- the transmission is found at a start
+abbrev pub Found : List ℕ → ℕ → Type 0
+Found t start = (startIn t ≡ start) × (phasingIn t ≡ true)
+
+-- What `Starts` proves:
+
+-- up to five places in a row spoiled
+abbrev pub FoundSpoiled : Type 0
+FoundSpoiled =
+    (s t : List ℕ) → Accepted s → Shown s 0 t → (place count : ℕ) → count ≤ 5 → KeptBut s t mostLost place count → Found t mostLost
+
+-- up to eleven lost at the beginning
+abbrev pub FoundCut : Type 0
+FoundCut =
+    (s t : List ℕ) → Accepted s → (lost : ℕ) → lost ≤ mostLost → Shown s lost t → KeptBut s t (mostLost - lost) 0 lost
+    → Found t (mostLost - lost)
+
+-- a transmission of any symbols with nothing before it
+abbrev pub FoundAlone : Type 0
+FoundAlone =
+    (s t : List ℕ) → 1 ≤ length s → KeptBut s t mostLost 0 0 → ((q : ℕ) → q < mostLost → heardAt t q ≡ none) → Found t mostLost
