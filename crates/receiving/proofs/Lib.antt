@@ -1,2 +1,4 @@
 pub mod CharacterLaws
 pub mod StartLaws
+pub mod AnswerLaws
+pub mod Settled

@@ -158,6 +158,10 @@ best-of t (suc n) = go (which (leb (phasingAt t n) (bestOf t n .phasing))) (best
 start-within : (t : List ℕ) (q : ℕ) → 1 ≤ phasingAt t q → q < length t
 start-within t q h = let r = start-has-rx t q h in omega (arith, r .before-end)
 
+pub best-within : (t : List ℕ) → bestStart t .place ≤ length t
+unfolding bestStart
+best-within t = best-place t (length t)
+
 pub best-start : (t : List ℕ) → Best t Every (bestStart t)
 unfolding bestStart
 best-start t = best-of-all t (λ q. q < length t) (bestOf t (length t)) (best-of t (length t)) (start-within t)

@@ -1,0 +1,95 @@
+// The symbols of a transmission that starts at a place of what was heard.
+ghost use mathlib.Core.Path.{_≡_};
+ghost use mathlib.Core.List.{[], _∷_};
+ghost use Prim.Native.Nat.{_+_, _/_, _≤_, _<_};
+ghost use lib.ListN.{length};
+ghost use Rattle.sequence.specs.Figures.{longest};
+ghost use Rattle.transmission.specs.Phasing.{mostLost, charactersOf, heard};
+ghost use Rattle.transmission.specs.Copies.{firstGood, symbolAt, symbolsFrom, countOf};
+ghost use Rattle.receiving.specs.Copies.{FirstUnread};
+use crate::heard::heard_at;
+use characters::NONE;
+use sequence::LONGEST;
+use sequence::parts::end_ok;
+
+// "at a place from 19 on, and at place 27 at the latest": where no end stands up to place 25, there are 28 symbols.
+const FIRST_END: usize = 19;
+
+const LAST_END: usize = 25;
+
+// "the repeat used where the first copy is none"
+fn first_good(characters: &[u8], first: usize, repeat: usize) -> u8
+    ensures { λ r. ⌜ r ≡ firstGood (heard (charactersOf (now (characters .entry)))) (first ∷ repeat ∷ []) ⌝ }
+{
+    let symbol = heard_at(characters, first);
+    if symbol == NONE {
+        return heard_at(characters, repeat);
+    }
+    symbol
+}
+
+// The format stands twice, so that it has "four places in the order sent".
+fn format_at(characters: &[u8], start: usize) -> u8
+    requires { ⌜ start ≤ mostLost + length (now characters) / 2 ⌝ }
+    ensures { λ r. ⌜ r ≡ symbolAt (heard (charactersOf (now (characters .entry)))) start 0 ⌝ }
+{
+    let symbol = first_good(characters, start + 12, start + 14);
+    if symbol == NONE {
+        return first_good(characters, start + 17, start + 19);
+    }
+    symbol
+}
+
+// "each symbol sent again after four other characters"
+fn symbol_at(characters: &[u8], start: usize, k: usize) -> u8
+    requires { ⌜ (start ≤ mostLost + length (now characters) / 2) × (k < longest) ⌝ }
+    ensures { λ r. ⌜ r ≡ symbolAt (heard (charactersOf (now (characters .entry)))) start k ⌝ }
+{
+    if k == 0 {
+        return format_at(characters, start);
+    }
+    first_good(characters, start + 14 + 2 * k, start + 19 + 2 * k)
+}
+
+// As many symbols as the longest sequence has.
+pub(crate) fn symbols_from(characters: &[u8], start: usize) -> [u8; LONGEST]
+    requires { ⌜ start ≤ mostLost + length (now characters) / 2 ⌝ }
+    ensures { λ r. ⌜ r ≡ symbolsFrom (heard (charactersOf (now (characters .entry)))) start ⌝ }
+{
+    let mut symbols = [0u8; LONGEST];
+    let mut k = 0;
+    while k < LONGEST {
+        symbols[k] = symbol_at(characters, start, k);
+        k += 1;
+    }
+    symbols
+}
+
+// "ends with the symbol after the first 117, 122 or 127"
+pub(crate) fn count_of(symbols: [u8; LONGEST]) -> usize
+    ensures { λ r. ⌜ r ≡ countOf symbols ⌝ }
+{
+    let mut place = FIRST_END;
+    while place <= LAST_END {
+        if end_ok(symbols[place]) {
+            return place + 2;
+        }
+        place += 1;
+    }
+    LONGEST
+}
+
+// The first symbol of so many that has no good copy, or their count where each has one.
+pub(crate) fn first_unread(symbols: [u8; LONGEST], count: usize) -> usize
+    requires { ⌜ count ≤ longest ⌝ }
+    ensures { λ r. ⌜ FirstUnread symbols count r ⌝ }
+{
+    let mut k = 0;
+    while k < count {
+        if symbols[k] == NONE {
+            return k;
+        }
+        k += 1;
+    }
+    count
+}
