@@ -1,4 +1,5 @@
 pub mod WriteLaws
+pub mod CountLaws
 pub mod SetUpLaws
 pub mod DigitLaws
 pub mod Theorems

@@ -3,6 +3,10 @@ use mathlib.Core.Path.{_≡_, sym, _∙_}
 use contract.Lifetimes.{Lfts}
 use Rattle.coast.proofs.sequences.coast_read_sequence.Reads as coast-read-sequence
 use Rattle.coast.proofs.sequences.coast_write_sequence.Reads as coast-write-sequence
+use Rattle.coast.proofs.transmissions.coast_write_character.Reads as coast-write-character
+use Rattle.coast.proofs.transmissions.coast_read_character.Reads as coast-read-character
+use Rattle.coast.proofs.transmissions.coast_write_transmission.Reads as coast-write-transmission
+use Rattle.coast.proofs.transmissions.coast_read_transmission.Reads as coast-read-transmission
 use Rattle.coast.proofs.setting.coast_set_up.Reads as coast-set-up
 use Rattle.coast.proofs.setting.coast_next_due.Reads as coast-next-due
 use Rattle.coast.proofs.setting.coast_clock.Reads as coast-clock
@@ -25,6 +29,22 @@ coast-read-sequence-settled κs a r r' s s' p q = (p .0 ∙ sym (q .0), p .1 ∙
 pub coast-write-sequence-settled : (κs : Lfts 2) (a : _) (r r' : _) (s s' : _)
     → coast-write-sequence.Post κs a r s → coast-write-sequence.Post κs a r' s' → (r ≡ r') × (s .1 .0 .now ≡ s' .1 .0 .now)
 coast-write-sequence-settled κs a r r' s s' p q = (p .0 ∙ sym (q .0), p .1 ∙ sym (q .1))
+
+pub coast-write-character-settled : (κs : Lfts 0) (a : _) (r r' : _) (s s' : _)
+    → coast-write-character.Post κs a r s → coast-write-character.Post κs a r' s' → r ≡ r'
+coast-write-character-settled κs a r r' s s' p q = p ∙ sym q
+
+pub coast-read-character-settled : (κs : Lfts 0) (a : _) (r r' : _) (s s' : _)
+    → coast-read-character.Post κs a r s → coast-read-character.Post κs a r' s' → r ≡ r'
+coast-read-character-settled κs a r r' s s' p q = p ∙ sym q
+
+pub coast-write-transmission-settled : (κs : Lfts 2) (a : _) (r r' : _) (s s' : _)
+    → coast-write-transmission.Post κs a r s → coast-write-transmission.Post κs a r' s' → (r ≡ r') × (s .1 .0 .now ≡ s' .1 .0 .now)
+coast-write-transmission-settled κs a r r' s s' p q = (p .0 ∙ sym (q .0), p .1 ∙ sym (q .1))
+
+pub coast-read-transmission-settled : (κs : Lfts 2) (a : _) (r r' : _) (s s' : _)
+    → coast-read-transmission.Post κs a r s → coast-read-transmission.Post κs a r' s' → (r ≡ r') × (s .1 .0 .now ≡ s' .1 .0 .now)
+coast-read-transmission-settled κs a r r' s s' p q = (p .0 ∙ sym (q .0), p .1 ∙ sym (q .1))
 
 pub coast-set-up-settled : (κs : Lfts 2) (a : _) (r r' : _) (s s' : _)
     → coast-set-up.Post κs a r s → coast-set-up.Post κs a r' s' → (r ≡ r') × (s .1 .1 .0 .now ≡ s' .1 .1 .0 .now)
