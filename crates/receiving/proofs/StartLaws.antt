@@ -1,6 +1,7 @@
 -- The search for the best start, one character more.
 use Prim.Native.Nat.{ℕ, _+_, _-_, _*_, _/_, _%_, _≤_, _<_}
 use mathlib.Core.Path.{_≡_, sym, ap, _∙_}
+use mathlib.Core.Bool.{Bool, true, false, cond}
 use mathlib.Core.Logic.{_⊎_, inl, inr, ⊎-elim}
 use mathlib.Core.List.{List}
 use native.Mathlib.Nat.{eq-or-lt-of-le}
@@ -15,7 +16,7 @@ use Rattle.transmission.specs.declared.Start.{Start}
 use Rattle.transmission.specs.Phasing.{charactersOf, mostLost, heard, phasingAt, startAt, bestStart}
 use Rattle.transmission.proofs.HeardLaws.{length-characters, length-heard, heard-lost}
 use Rattle.transmission.proofs.PhasingLaws.{HasRx}
-use Rattle.transmission.proofs.BestLaws.{Best, OneMore, none-yet, of-fewer, stays, beaten, best-with-rx}
+use Rattle.transmission.proofs.BestLaws.{Best, OneMore, none-yet, of-fewer, stays, beaten, best-with-rx, best-when-whole}
 use Rattle.receiving.specs.Characters.{characterAt}
 use Rattle.receiving.specs.Starts.{betterOf, BestBefore}
 use Rattle.receiving.proofs.CharacterLaws.{handed-in, heard-is}
@@ -43,6 +44,16 @@ better-is-best t among wider best start b more =
     go (no! e) (no! f) (no! g) =
         let l = ltb-false start (best .place) g in
         rw (e, f, g) (stays t among wider best start b more (ltb-false (best .phasing) (phasingAt t start) e) (λ k. absurd (omega (arith, k, l))))
+
+either-place : (one other : Start) (end : ℕ) → one .place + 1 < end → other .place + 1 < end → betterOf one other .place + 1 < end
+either-place one other end h k =
+    go (ltb (one .phasing) (other .phasing)) (ltb (other .phasing) (one .phasing)) (ltb (other .place) (one .place))
+  where
+    go : (a b c : Bool) → cond a other (cond b one (cond c other one)) .place + 1 < end
+    go true b c = k
+    go false true c = h
+    go false false true = k
+    go false false false = h
 
 -- ── one character more ───────────────────────────────────────────────────────
 
@@ -75,25 +86,37 @@ rx-or-here bytes i start h r = go (which (ltb (start + 1 + 2 * r .number) (mostL
 module _ (bytes : List ℕ) (i : ℕ) (best : Start) (there : i < length bytes / 2) (b : BestBefore bytes (mostLost + i) best) where
   -- the character is no start's
   pub passed-over : ((q : ℕ) → Here bytes i q → ⊥) → BestBefore bytes (mostLost + (i + 1)) best
-  passed-over no-start =
-      of-fewer (heard (charactersOf bytes)) _ _ best b (λ q r. ⊎-elim (λ before. before) (λ here. absurd (no-start q here)) (rx-or-here bytes i q there r))
+  passed-over no-start = (of-fewer (heard (charactersOf bytes)) _ _ best (b .0) before, omega (arith, b .1))
+    where
+      before : (q : ℕ) → HasRx (heard (charactersOf bytes)) (mostLost + (i + 1)) q → HasRx (heard (charactersOf bytes)) (mostLost + i) q
+      before q r = ⊎-elim (λ rx. rx) (λ here. absurd (no-start q here)) (rx-or-here bytes i q there r)
 
   -- it can be one start's only
-  pub looked-at : (start : ℕ) → ((q : ℕ) → Here bytes i q → q ≡ start)
+  pub looked-at : (start : ℕ) → start < mostLost + i → ((q : ℕ) → Here bytes i q → q ≡ start)
       → BestBefore bytes (mostLost + (i + 1)) (betterOf best (startAt (heard (charactersOf bytes)) start))
-  looked-at start its-start =
-      better-is-best (heard (charactersOf bytes)) _ _ best start b
-      (λ q r. ⊎-elim inl (λ here. inr (its-start q here)) (rx-or-here bytes i q there r))
+  looked-at start h its-start = (
+    better-is-best (heard (charactersOf bytes)) _ _ best start (b .0) one-more,
+    either-place best (startAt (heard (charactersOf bytes)) start) _ (omega (arith, b .1)) (omega arith),
+  )
+    where
+      one-more : OneMore (HasRx (heard (charactersOf bytes)) (mostLost + i)) (HasRx (heard (charactersOf bytes)) (mostLost + (i + 1))) start
+      one-more q r = ⊎-elim inl (λ here. inr (its-start q here)) (rx-or-here bytes i q there r)
 
--- none before the first character, and the best of all behind the last
+-- none before the first character
 pub none-before : (bytes : List ℕ) → BestBefore bytes (mostLost + 0) (record { place = 0; phasing = 0 })
-none-before bytes = none-yet (heard (charactersOf bytes)) _ (λ q r. lost q r)
+none-before bytes = (none-yet (heard (charactersOf bytes)) _ lost, omega arith)
   where
     lost : (q : ℕ) → HasRx (heard (charactersOf bytes)) (mostLost + 0) q → ⊥
     lost q r = omega (arith, sym (r .there) ∙ heard-lost (charactersOf bytes) (q + 1 + 2 * r .number) (omega (arith, r .before-end)))
 
+-- the best of all behind the last, and where phasing is whole
 pub best-behind : (bytes : List ℕ) (i : ℕ) (best : Start) → length bytes / 2 ≡ i → BestBefore bytes (mostLost + i) best
     → best ≡ bestStart (heard (charactersOf bytes))
 best-behind bytes i best e b =
-    let f : length (heard (charactersOf bytes)) ≡ mostLost + i = length-heard (charactersOf bytes) ∙ ap (λ (n : ℕ). mostLost + n) (length-characters bytes ∙ e) in
-    best-with-rx (heard (charactersOf bytes)) best (rw f b)
+    let f : length (heard (charactersOf bytes)) ≡ mostLost + i =
+    length-heard (charactersOf bytes) ∙ ap (λ (n : ℕ). mostLost + n) (length-characters bytes ∙ e) in
+    best-with-rx (heard (charactersOf bytes)) best (rw f (b .0))
+
+pub best-whole : (bytes : List ℕ) (place : ℕ) (best : Start) → best .phasing ≡ 14 → BestBefore bytes place best
+    → best ≡ bestStart (heard (charactersOf bytes))
+best-whole bytes place best e b = best-when-whole (heard (charactersOf bytes)) place best (b .0) (b .1) e

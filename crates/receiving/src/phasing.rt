@@ -19,6 +19,8 @@ const RX_CHARACTERS: [u16; RX_PHASING] = [623, 366, 365, 876, 363, 874, 873, 232
 
 const LAST_RX_PHASING_SYMBOL: u8 = 104;
 
+const WHOLE_PHASING: usize = DX_PHASING + RX_PHASING;
+
 // How many of the characters wanted stand in their places, every second one from a place on.
 fn standing_in(characters: &[u8], wanted: &[u16], place: usize) -> usize
     requires { ⌜ (length (now wanted) ≤ 8) × (place ≤ 12 + length (now characters) / 2) ⌝ }
@@ -108,7 +110,7 @@ fn best_with(characters: &[u8], i: usize, best: Start) -> Start
     )
 }
 
-// "the one with the most phasing characters counts, of equals the earliest"
+// "the one with the most phasing characters counts, of equals the earliest": behind a whole phasing none is better.
 pub(crate) fn best_start(characters: &[u8]) -> Start
     ensures { λ r. ⌜ r ≡ bestStart (heard (charactersOf (now (characters .entry)))) ⌝ }
 {
@@ -119,6 +121,9 @@ pub(crate) fn best_start(characters: &[u8]) -> Start
     };
     let mut i = 0;
     while i < count {
+        if best.phasing == WHOLE_PHASING {
+            return best;
+        }
         best = best_with(characters, i, best);
         i += 1;
     }

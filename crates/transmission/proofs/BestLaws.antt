@@ -1,5 +1,5 @@
 -- The best start has the most phasing characters, and is the earliest that has so many.
-use Prim.Native.Nat.{ℕ, zero, suc, _≤_, _<_}
+use Prim.Native.Nat.{ℕ, zero, suc, _+_, _≤_, _<_}
 use mathlib.Core.Path.{_≡_, refl, sym}
 use mathlib.Core.Logic.{_⊎_, inl, inr, ⊎-elim}
 use mathlib.Core.List.{List}
@@ -11,7 +11,7 @@ use borrow.Author.Tests.{leb-true, leb-false, ltb-true, ltb-false}
 use Rattle.sequence.proofs.Tests.{Either, yes!, no!, which}
 use Rattle.transmission.specs.declared.Start.{Start}
 use Rattle.transmission.specs.Phasing.{phasingAt, startAt, better, bestOf, bestStart}
-use Rattle.transmission.proofs.PhasingLaws.{HasRx, start-has-rx}
+use Rattle.transmission.proofs.PhasingLaws.{HasRx, start-has-rx, at-most-14, whole-has-first}
 
 -- the best among some starts
 pub record Best (t : List ℕ) (among : ℕ → Type 0) (best : Start) : Type 0 where
@@ -169,3 +169,20 @@ best-start t = best-of-all t (λ q. q < length t) (bestOf t (length t)) (best-of
 -- the best of the starts that have an RX character in its place is the best start
 pub best-with-rx : (t : List ℕ) (best : Start) → Best t (HasRx t (length t)) best → best ≡ bestStart t
 best-with-rx t best b = one-best t best (bestStart t) (best-of-all t (HasRx t (length t)) best b (start-has-rx t)) (best-start t)
+
+-- with fourteen it is the best start, wherever the search has come to: none has more, and an earlier one with as many was passed
+pub best-when-whole : (t : List ℕ) (end : ℕ) (best : Start) → Best t (HasRx t end) best → best .place + 1 < end → best .phasing ≡ 14
+    → best ≡ bestStart t
+best-when-whole t end best b h e = one-best t best (bestStart t) all (best-start t)
+  where
+    sooner : (q : ℕ) → q < best .place → phasingAt t q < best .phasing
+    sooner q l = go (which (ltb (phasingAt t q) 14))
+      where
+        go : Either (ltb (phasingAt t q) 14) → phasingAt t q < best .phasing
+        go (yes! f) = omega (arith, e, ltb-true (phasingAt t q) 14 f)
+        go (no! f) =
+            let whole : phasingAt t q ≡ 14 = omega (arith, ltb-false (phasingAt t q) 14 f, at-most-14 t q) in
+            b .earliest q (whole-has-first t q end whole (omega (arith, l, h))) l
+
+    all : Best t Every best
+    all = record { most = λ q u. omega (arith, e, at-most-14 t q); earliest = λ q u. sooner q; its-own = b .its-own; found = b .found }

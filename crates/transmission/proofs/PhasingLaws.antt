@@ -1,16 +1,16 @@
 -- What makes a start: how many of its phasing characters are needed, and the RX character that every start has.
 use Prim.Native.Nat.{ℕ, suc, _+_, _-_, _*_, _≤_, _<_}
 use mathlib.Core.Path.{_≡_, _∙_}
-use mathlib.Core.Bool.{true, false, _||_, and-true, and-false, or-true, or-false}
+use mathlib.Core.Bool.{Bool, true, false, cond, _||_, and-true, and-false, or-true, or-false}
 use mathlib.Core.List.{List, [], _∷_}
 use native.Mathlib.Omega.{arith}
 use lib.Dec.{leb, ltb, eqb}
-use lib.ListN.{length, getD, List·getD-eq-default}
+use lib.ListN.{length, getD, drop, List·getD-eq-default}
 use borrow.Author.Tests.{le-leb, leb-true, leb-false, ltb-true, ltb-false, eqb-true}
 use Rattle.sequence.proofs.Tests.{Either, yes!, no!, which}
 use Rattle.characters.specs.Code.{none}
 use Rattle.characters.proofs.RowLaws.{at-place}
-use Rattle.transmission.specs.Layout.{rxPhasing}
+use Rattle.transmission.specs.Layout.{dxPhasing, rxPhasing}
 use Rattle.transmission.specs.Phasing.{heardAt, inPlace, dxGood, rxGood, isPhasing, phasingAt}
 
 -- ── "two DX and one RX, or one DX and two RX, or three RX", by the count of RX ─
@@ -94,3 +94,53 @@ start-has-rx t start h =
       before-end = within t (start + 1 + 2 * s .number) (111 - s .number) e (omega arith);
       there = e;
     }
+
+-- ── no start has more than fourteen ──────────────────────────────────────────
+
+one-at-most : (b : Bool) → cond b 1 0 ≤ 1
+one-at-most true = omega arith
+one-at-most false = omega arith
+
+pub in-place-most : (t wanted : List ℕ) (place : ℕ) → inPlace t wanted place ≤ length wanted
+in-place-most t [] place = omega arith
+in-place-most t (symbol ∷ wanted) place =
+    omega (arith, one-at-most (eqb (heardAt t place) symbol), in-place-most t wanted (place + 2))
+
+module _ (t : List ℕ) (start : ℕ) where
+  pub dx-most : dxGood t start ≤ 6
+  unfolding dxGood dxPhasing
+  dx-most = in-place-most t dxPhasing start
+
+  pub rx-most : rxGood t start ≤ 8
+  unfolding rxGood rxPhasing
+  rx-most = in-place-most t rxPhasing (start + 1)
+
+  pub phasing-most : phasingAt t start ≤ dxGood t start + rxGood t start
+  unfolding phasingAt
+  phasing-most = go (isPhasing (dxGood t start) (rxGood t start))
+    where
+      go : (b : Bool) → cond b (dxGood t start + rxGood t start) 0 ≤ dxGood t start + rxGood t start
+      go true = omega arith
+      go false = omega arith
+
+  pub at-most-14 : phasingAt t start ≤ 14
+  at-most-14 = omega (arith, phasing-most, dx-most, rx-most)
+
+  -- one that has them all has its first RX character
+  first-rx : 8 ≤ rxGood t start → heardAt t (start + 1) ≡ 111
+  unfolding rxGood rxPhasing
+  first-rx h = go (which (eqb (heardAt t (start + 1)) 111))
+    where
+      go : Either (eqb (heardAt t (start + 1)) 111) → heardAt t (start + 1) ≡ 111
+      go (yes! e) = eqb-true _ _ e
+      go (no! e) = absurd (omega (arith, rw e at h, in-place-most t (drop 1 rxPhasing) (start + 1 + 2)))
+
+  pub whole-has-first : (end : ℕ) → phasingAt t start ≡ 14 → start + 1 < end → HasRx t end start
+  whole-has-first end e h =
+      let f : start + 1 + 2 * 0 ≡ start + 1 = omega arith in
+      record {
+        number = 0;
+        of-eight = omega arith;
+        before-end = omega arith;
+        there = rw f (first-rx (omega (arith, e, phasing-most, dx-most)));
+      }

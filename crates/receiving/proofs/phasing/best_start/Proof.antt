@@ -4,7 +4,7 @@ use native.Mathlib.Omega.{arith}
 use lib.ListN.{length}
 use Rattle.transmission.specs.Phasing.{mostLost}
 use Rattle.receiving.specs.Starts.{BestBefore}
-use Rattle.receiving.proofs.StartLaws.{none-before, best-behind}
+use Rattle.receiving.proofs.StartLaws.{none-before, best-behind, best-whole}
 use Rattle.receiving.proofs.phasing.best_start.Statement.{statement}
 use Rattle.receiving.proofs.phasing.best_start.Tie as tie
 
@@ -17,8 +17,12 @@ abbrev μ-loop : tie.MeasureT-loop
 loop-holds : tie.Need-loop-holds Inv-loop μ-loop
 loop-holds c = (omega arith, none-before (c .before .args .characters .now))
 
+returns : tie.Need-returns Inv-loop μ-loop
+returns c = let l = c .before .before .before .loop in
+    best-whole (c .before .before .before .before .before .args .characters .now) _ (l .best) (c .if1 .taken) (l .inv .1)
+
 best-with-requires : tie.Need-best-with-requires Inv-loop μ-loop
-best-with-requires c κs = (c .loop-test .taken, c .before .loop .inv .1)
+best-with-requires c κs = (c .before .before .loop-test .taken, c .before .before .before .loop .inv .1)
 
 add-i : tie.Need-add-i Inv-loop μ-loop
 add-i c = omega arith
@@ -29,10 +33,11 @@ loop-less c = omega arith
 loop-again : tie.Need-loop-again Inv-loop μ-loop
 loop-again c = (omega arith, c .best-with .ensures)
 
-returns : tie.Need-returns Inv-loop μ-loop
-returns c = best-behind (c .before .before .before .args .characters .now) (c .before .loop .i) (c .before .loop .best) (omega arith) (c .before .loop .inv .1)
+returns-2 : tie.Need-returns-2 Inv-loop μ-loop
+returns-2 c = let l = c .before .loop in
+    best-behind (c .before .before .before .args .characters .now) (l .i) (l .best) (omega arith) (l .inv .1)
 
 pub best-start-spec : {M : Type 1} → statement M
 best-start-spec =
     tie.close
-    (tie.spec Inv-loop μ-loop loop-holds best-with-requires add-i loop-less loop-again returns)
+    (tie.spec Inv-loop μ-loop loop-holds returns best-with-requires add-i loop-less loop-again returns-2)

@@ -52,7 +52,7 @@ better-of-requires c κs = search needs
 returns-4 : tie.Need-returns-4
 returns-4 c = let s = c .before .before .before .before .before .before .before in
     rw (c .better-of .ensures, c .before .phasing-at .ensures)
-    (looked-at (s .args .characters .now) (s .args .i) (s .args .best) (s .pre .0) (s .pre .1) (mostLost + s .args .i - (1 + 2 * (111 - getD (s .args .characters .now) (2 * s .args .i) 0 % 128))) (λ q h. omega (arith, h .its-units, h .its-place, h .of-eight)))
+    (looked-at (s .args .characters .now) (s .args .i) (s .args .best) (s .pre .0) (s .pre .1) (mostLost + s .args .i - (1 + 2 * (111 - getD (s .args .characters .now) (2 * s .args .i) 0 % 128))) (omega arith) (λ q h. omega (arith, h .its-units, h .its-place, h .of-eight)))
 
 pub best-with-spec : {M : Type 1} → statement M
 best-with-spec =
