@@ -6,3 +6,5 @@ pub mod RowTests
 pub mod SymbolLaws
 pub mod CopyLaws
 pub mod Settled
+pub mod Tested
+pub mod Computed

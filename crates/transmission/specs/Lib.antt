@@ -4,3 +4,4 @@ pub mod Writing
 pub mod Phasing
 pub mod Copies
 pub mod Reading
+pub mod Cases
