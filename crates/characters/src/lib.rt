@@ -13,6 +13,9 @@ pub const NONE: u8 = 128;
 
 pub const NO_CHARACTER: u16 = 1024;
 
+// The three units that give a count of zeros, high bit first.
+const COUNTS: [u16; 8] = [0, 512, 256, 768, 128, 640, 384, 896];
+
 // The character of a symbol, its first unit the lowest bit.
 pub fn character_of(symbol: u8) -> u16
     ensures { λ r. ⌜ r ≡ characterOf symbol ⌝ }
@@ -21,10 +24,7 @@ pub fn character_of(symbol: u8) -> u16
         return NO_CHARACTER;
     }
     let zeros = 7 - u8::count_ones(symbol);
-    symbol as u16
-        + 128 * ((zeros / 4) as u16)
-        + 256 * ((zeros / 2 % 2) as u16)
-        + 512 * ((zeros % 2) as u16)
+    symbol as u16 + COUNTS[zeros as usize]
 }
 
 // The table by value, for who looks at many characters: a constant is laid out anew wherever it is named.

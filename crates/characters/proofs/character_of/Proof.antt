@@ -1,11 +1,16 @@
-use mathlib.Core.Path.{_≡_, refl}
+use Prim.Native.Nat.{ℕ, _+_, _-_, _*_, _/_, _%_}
 use native.Mathlib.Omega.{arith}
-use borrow.Author.Needs.{needs}
 use borrow.Author.Tests.{lt-leb, le-leb}
+use lib.Count.{ones}
 use Rattle.characters.specs.Code.{zeros, tenUnits, characterOf}
+use Rattle.characters.proofs.RowLaws.{at-place}
 use Rattle.characters.proofs.CodeLaws.{ones-in-symbol}
 use Rattle.characters.proofs.character_of.Statement.{statement}
 use Rattle.characters.proofs.character_of.Tie as tie
+
+-- the units of a count: computed, the eight entries are these
+abbrev units : ℕ → ℕ
+units count = 128 * (count / 4) + 256 * (count / 2 % 2) + 512 * (count % 2)
 
 returns : tie.Need-returns
 unfolding characterOf
@@ -15,49 +20,21 @@ sub-zeros : tie.Need-sub-zeros
 sub-zeros c = ones-in-symbol (c .before .args .symbol) (c .if1 .left)
 
 cast-result : tie.Need-cast-result
-cast-result c = search needs
+cast-result c = omega arith
 
 mul-result : tie.Need-mul-result
-mul-result c = search needs
+mul-result c = omega arith
+
+array-read-result : tie.Need-array-read-result
+array-read-result c = omega arith
 
 add-result : tie.Need-add-result
-add-result c = search needs
-
-cast-result-2 : tie.Need-cast-result-2
-cast-result-2 c = search needs
-
-mul-result-2 : tie.Need-mul-result-2
-mul-result-2 c = search needs
-
-add-result-2 : tie.Need-add-result-2
-add-result-2 c = search needs
-
-cast-result-3 : tie.Need-cast-result-3
-cast-result-3 c = search needs
-
-mul-result-3 : tie.Need-mul-result-3
-mul-result-3 c = search needs
-
-add-result-3 : tie.Need-add-result-3
-add-result-3 c = search needs
+add-result c = omega (arith, at-place units 8 (7 - ones (c .before .args .symbol)) (omega arith))
 
 returns-2 : tie.Need-returns-2
 unfolding characterOf tenUnits zeros
-returns-2 c = rw (le-leb _ _ (c .if1 .left))
+returns-2 c =
+    rw (le-leb _ _ (c .if1 .left), at-place units 8 (7 - ones (c .before .args .symbol)) (omega arith)) (omega arith)
 
 pub character-of-spec : {M : Type 1} → statement M
-character-of-spec =
-    tie.close
-    (tie.spec
-    returns
-    sub-zeros
-    cast-result
-    mul-result
-    add-result
-    cast-result-2
-    mul-result-2
-    add-result-2
-    cast-result-3
-    mul-result-3
-    add-result-3
-    returns-2)
+character-of-spec = tie.close (tie.spec returns sub-zeros cast-result mul-result array-read-result add-result returns-2)
