@@ -6,9 +6,11 @@ ghost use lib.ListN.{length};
 ghost use Rattle.sequence.specs.Figures.{longest};
 ghost use Rattle.transmission.specs.Phasing.{mostLost, charactersOf, heard};
 ghost use Rattle.transmission.specs.Copies.{firstGood, symbolAt, symbolsFrom, countOf};
+ghost use Rattle.receiving.specs.Characters.{IsTable};
 ghost use Rattle.receiving.specs.Copies.{FirstUnread};
 use crate::heard::heard_at;
 use characters::NONE;
+use characters::symbol_table;
 use sequence::LONGEST;
 use sequence::parts::end_ok;
 
@@ -18,37 +20,38 @@ const FIRST_END: usize = 19;
 const LAST_END: usize = 25;
 
 // "the repeat used where the first copy is none"
-fn first_good(characters: &[u8], first: usize, repeat: usize) -> u8
+fn first_good(characters: &[u8], table: &[u8], first: usize, repeat: usize) -> u8
+    requires { ⌜ IsTable (now table) ⌝ }
     ensures { λ r. ⌜ r ≡ firstGood (heard (charactersOf (now (characters .entry)))) (first ∷ repeat ∷ []) ⌝ }
 {
-    let symbol = heard_at(characters, first);
+    let symbol = heard_at(characters, table, first);
     if symbol == NONE {
-        return heard_at(characters, repeat);
+        return heard_at(characters, table, repeat);
     }
     symbol
 }
 
 // The format stands twice, so that it has "four places in the order sent".
-fn format_at(characters: &[u8], start: usize) -> u8
-    requires { ⌜ start ≤ mostLost + length (now characters) / 2 ⌝ }
+fn format_at(characters: &[u8], table: &[u8], start: usize) -> u8
+    requires { ⌜ IsTable (now table) × (start ≤ mostLost + length (now characters) / 2) ⌝ }
     ensures { λ r. ⌜ r ≡ symbolAt (heard (charactersOf (now (characters .entry)))) start 0 ⌝ }
 {
-    let symbol = first_good(characters, start + 12, start + 14);
+    let symbol = first_good(characters, table, start + 12, start + 14);
     if symbol == NONE {
-        return first_good(characters, start + 17, start + 19);
+        return first_good(characters, table, start + 17, start + 19);
     }
     symbol
 }
 
 // "each symbol sent again after four other characters"
-fn symbol_at(characters: &[u8], start: usize, k: usize) -> u8
-    requires { ⌜ (start ≤ mostLost + length (now characters) / 2) × (k < longest) ⌝ }
+fn symbol_at(characters: &[u8], table: &[u8], start: usize, k: usize) -> u8
+    requires { ⌜ IsTable (now table) × (start ≤ mostLost + length (now characters) / 2) × (k < longest) ⌝ }
     ensures { λ r. ⌜ r ≡ symbolAt (heard (charactersOf (now (characters .entry)))) start k ⌝ }
 {
     if k == 0 {
-        return format_at(characters, start);
+        return format_at(characters, table, start);
     }
-    first_good(characters, start + 14 + 2 * k, start + 19 + 2 * k)
+    first_good(characters, table, start + 14 + 2 * k, start + 19 + 2 * k)
 }
 
 // As many symbols as the longest sequence has.
@@ -56,10 +59,11 @@ pub(crate) fn symbols_from(characters: &[u8], start: usize) -> [u8; LONGEST]
     requires { ⌜ start ≤ mostLost + length (now characters) / 2 ⌝ }
     ensures { λ r. ⌜ r ≡ symbolsFrom (heard (charactersOf (now (characters .entry)))) start ⌝ }
 {
+    let table = symbol_table();
     let mut symbols = [0u8; LONGEST];
     let mut k = 0;
     while k < LONGEST {
-        symbols[k] = symbol_at(characters, start, k);
+        symbols[k] = symbol_at(characters, &table, start, k);
         k += 1;
     }
     symbols

@@ -1,11 +1,9 @@
 // What was heard: two bytes a character, behind eleven characters that may have been lost.
 ghost use mathlib.Core.Path.{_≡_};
-ghost use Rattle.characters.specs.Code.{symbolOf};
 ghost use Rattle.transmission.specs.Phasing.{charactersOf, heard, heardAt};
-ghost use Rattle.receiving.specs.Characters.{characterAt};
+ghost use Rattle.receiving.specs.Characters.{characterAt, IsTable};
 use characters::NO_CHARACTER;
 use characters::NONE;
-use characters::character_of;
 use transmission::MOST_LOST;
 
 // The character at a place, and no character before the first and past the last that was handed in.
@@ -22,20 +20,14 @@ pub(crate) fn character_at(characters: &[u8], place: usize) -> u16
     NO_CHARACTER
 }
 
-// The symbol of a character, or none, by the rule in place of the table: the compiler lays a table out anew at each look.
-fn symbol_by_rule(character: u16) -> u8
-    ensures { λ r. ⌜ r ≡ symbolOf character ⌝ }
-{
-    let symbol = (character % 128) as u8;
-    if character_of(symbol) == character {
-        return symbol;
-    }
-    NONE
-}
-
-// The symbol, or none, at a place of what was heard.
-pub(crate) fn heard_at(characters: &[u8], place: usize) -> u8
+// The symbol, or none, at a place of what was heard, by the table of all characters.
+pub(crate) fn heard_at(characters: &[u8], table: &[u8], place: usize) -> u8
+    requires { ⌜ IsTable (now table) ⌝ }
     ensures { λ r. ⌜ r ≡ heardAt (heard (charactersOf (now (characters .entry)))) place ⌝ }
 {
-    symbol_by_rule(character_at(characters, place))
+    let character = character_at(characters, place);
+    if character < NO_CHARACTER {
+        return table[character as usize];
+    }
+    NONE
 }

@@ -13,7 +13,7 @@ heard-at-requires-2 : tie.Need-heard-at-requires-2
 heard-at-requires-2 c κs = search needs
 
 returns : tie.Need-returns
-returns c = let s = c .before .before .before .before .args in
+returns c = let s = c .before .before .before .before .before .args in
     let e = c .before .before .heard-at .ensures in
     rw (← e, c .before .if1 .taken) (c .heard-at2 .ensures ∙ sym (one-place (heard (charactersOf (s .characters .now))) (s .repeat)))
 
