@@ -14,7 +14,8 @@ use Rattle.transmission.specs.declared.Start.{Start}
 use Rattle.transmission.specs.Answers.{isDone}
 use Rattle.transmission.specs.Phasing.{charactersOf, mostLost, heard, bestStart}
 use Rattle.transmission.specs.Copies.{symbolAt, symbolsFrom, countOf, copiesThere}
-use Rattle.transmission.specs.Reading.{startIn, countIn, symbolsIn, phasingIn, unread, readingRefusals, readingAnswer, transmissionRead, roomAfterReading}
+use Rattle.transmission.specs.Reading.{startIn, countIn, symbolsIn, phasingIn, unread, readingRefusals, readingAnswer}
+use Rattle.transmission.specs.Reading.{transmissionRead, roomAfterReading}
 use Rattle.transmission.proofs.HeardLaws.{length-characters, length-heard}
 use Rattle.transmission.proofs.BestLaws.{best-within}
 use Rattle.transmission.proofs.SymbolLaws.{symbol-there, count-most}
@@ -37,7 +38,8 @@ count-fits symbols count e = omega (arith, e, count-most symbols)
 
 -- ── 52 and 53 ────────────────────────────────────────────────────────────────
 
-module _ (t symbols : List ℕ) (start count : ℕ) (s : start ≡ startIn t) (all : symbols ≡ symbolsFrom t start) (n : count ≡ countOf symbols) where
+module _ (t symbols : List ℕ) (start count : ℕ) (s : start ≡ startIn t) (all : symbols ≡ symbolsFrom t start)
+    (n : count ≡ countOf symbols) where
   symbols-in : symbols ≡ symbolsFrom t (startIn t)
   symbols-in = all ∙ ap (symbolsFrom t) s
 

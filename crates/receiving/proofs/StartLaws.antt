@@ -28,8 +28,8 @@ pub better-is-best : (t : List ℕ) (among wider : ℕ → Type 0) (best : Start
 better-is-best t among wider best start b more =
     go (which (ltb (best .phasing) (phasingAt t start))) (which (ltb (phasingAt t start) (best .phasing))) (which (ltb start (best .place)))
   where
-    go : Either (ltb (best .phasing) (phasingAt t start)) → Either (ltb (phasingAt t start) (best .phasing)) → Either (ltb start (best .place))
-        → Best t wider (betterOf best (startAt t start))
+    go : Either (ltb (best .phasing) (phasingAt t start)) → Either (ltb (phasingAt t start) (best .phasing))
+        → Either (ltb start (best .place)) → Best t wider (betterOf best (startAt t start))
     go (yes! e) less sooner =
         let l = ltb-true (best .phasing) (phasingAt t start) e in
         rw e (beaten t among wider best start b more (omega arith) (λ k. l) (omega arith))
@@ -40,10 +40,12 @@ better-is-best t among wider best start b more =
         let l = ltb-true start (best .place) g in
         let same : best .phasing ≡ phasingAt t start =
         omega (arith, ltb-false (best .phasing) (phasingAt t start) e, ltb-false (phasingAt t start) (best .phasing) f) in
-        rw (e, f, g) (beaten t among wider best start b more (omega arith) (λ k. absurd (omega (arith, k, l))) (omega (arith, same, b .found (omega (arith, l)))))
+        let some = b .found (omega (arith, l)) in
+        rw (e, f, g) (beaten t among wider best start b more (omega arith) (λ k. absurd (omega (arith, k, l))) (omega arith))
     go (no! e) (no! f) (no! g) =
         let l = ltb-false start (best .place) g in
-        rw (e, f, g) (stays t among wider best start b more (ltb-false (best .phasing) (phasingAt t start) e) (λ k. absurd (omega (arith, k, l))))
+        let no-more = ltb-false (best .phasing) (phasingAt t start) e in
+        rw (e, f, g) (stays t among wider best start b more no-more (λ k. absurd (omega (arith, k, l))))
 
 either-place : (one other : Start) (end : ℕ) → one .place + 1 < end → other .place + 1 < end → betterOf one other .place + 1 < end
 either-place one other end h k =
@@ -76,12 +78,15 @@ pub rx-or-here : (bytes : List ℕ) (i start : ℕ) → i < length bytes / 2 →
     → HasRx (heard (charactersOf bytes)) (mostLost + i) start ⊎ Here bytes i start
 rx-or-here bytes i start h r = go (which (ltb (start + 1 + 2 * r .number) (mostLost + i)))
   where
-    go : Either (ltb (start + 1 + 2 * r .number) (mostLost + i)) → HasRx (heard (charactersOf bytes)) (mostLost + i) start ⊎ Here bytes i start
+    go : Either (ltb (start + 1 + 2 * r .number) (mostLost + i))
+        → HasRx (heard (charactersOf bytes)) (mostLost + i) start ⊎ Here bytes i start
     go (yes! l) = inl (record { number = r .number; of-eight = r .of-eight; before-end = ltb-true _ _ l; there = r .there })
     go (no! l) =
-        let e : start + 1 + 2 * r .number ≡ mostLost + i = omega (arith, ltb-false (start + 1 + 2 * r .number) (mostLost + i) l, r .before-end) in
+        let e : start + 1 + 2 * r .number ≡ mostLost + i =
+        omega (arith, ltb-false (start + 1 + 2 * r .number) (mostLost + i) l, r .before-end) in
         let s = sym (heard-is bytes (mostLost + i)) ∙ (rw e at (r .there)) in
-        inr (record { number = r .number; of-eight = r .of-eight; its-place = e; its-units = units-of bytes i (111 - r .number) h (omega arith) s })
+        let units = units-of bytes i (111 - r .number) h (omega arith) s in
+        inr (record { number = r .number; of-eight = r .of-eight; its-place = e; its-units = units })
 
 module _ (bytes : List ℕ) (i : ℕ) (best : Start) (there : i < length bytes / 2) (b : BestBefore bytes (mostLost + i) best) where
   -- the character is no start's

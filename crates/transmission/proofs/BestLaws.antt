@@ -31,7 +31,8 @@ none-yet t among empty =
     }
 
 -- and so among fewer
-pub of-fewer : (t : List ℕ) (among fewer : ℕ → Type 0) (best : Start) → Best t among best → ((q : ℕ) → fewer q → among q) → Best t fewer best
+pub of-fewer : (t : List ℕ) (among fewer : ℕ → Type 0) (best : Start) → Best t among best → ((q : ℕ) → fewer q → among q)
+    → Best t fewer best
 of-fewer t among fewer best b all =
     record {
       most = λ q f. b .most q (all q f);

@@ -11,7 +11,8 @@ first-unread-requires c κs = let s = c .before in
 
 returns : tie.Need-returns
 returns c = let s = c .before .before .before in
-    all-good (heard (charactersOf (s .args .characters .now))) _ _ _ (s .pre .0) (s .pre .1) (s .pre .2) _ (c .before .first-unread .ensures) (c .if1 .taken)
+    let t = heard (charactersOf (s .args .characters .now)) in
+    all-good t _ _ _ (s .pre .0) (s .pre .1) (s .pre .2) _ (c .before .first-unread .ensures) (c .if1 .taken)
 
 add-if2 : tie.Need-add-if2
 add-if2 c = let s = c .before .before .before in
@@ -30,11 +31,17 @@ add-if2-3 c = search needs
 
 returns-2 : tie.Need-returns-2
 returns-2 c = let s = c .before .before .before .before in
-    all-bad (heard (charactersOf (s .args .characters .now))) _ _ _ (s .pre .0) (s .pre .1) (s .pre .2) _ (c .before .before .first-unread .ensures) (c .before .if1 .left) _ (heard-length (s .args .characters .now)) (c .if2 .taken)
+    let t = heard (charactersOf (s .args .characters .now)) in
+    let l = heard-length (s .args .characters .now) in
+    let f = c .before .before .first-unread .ensures in
+    all-bad t _ _ _ (s .pre .0) (s .pre .1) (s .pre .2) _ f (c .before .if1 .left) _ l (c .if2 .taken)
 
 returns-3 : tie.Need-returns-3
 returns-3 c = let s = c .before .before .before .before in
-    one-missing (heard (charactersOf (s .args .characters .now))) _ _ _ (s .pre .0) (s .pre .1) (s .pre .2) _ (c .before .before .first-unread .ensures) (c .before .if1 .left) _ (heard-length (s .args .characters .now)) (c .if2 .left)
+    let t = heard (charactersOf (s .args .characters .now)) in
+    let l = heard-length (s .args .characters .now) in
+    let f = c .before .before .first-unread .ensures in
+    one-missing t _ _ _ (s .pre .0) (s .pre .1) (s .pre .2) _ f (c .before .if1 .left) _ l (c .if2 .left)
 
 pub answer-to-copies-spec : {M : Type 1} → statement M
 answer-to-copies-spec =

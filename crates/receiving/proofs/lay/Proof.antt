@@ -11,7 +11,8 @@ use Rattle.receiving.proofs.lay.Statement.{statement}
 use Rattle.receiving.proofs.lay.Tie as tie
 
 abbrev Inv-loop : tie.InvT-loop
-Inv-loop count room₀ symbols i₀ room i = (room ≡ paste room₀ 0 symbols i) × (i ≤ count) × (length room ≡ length room₀) × (length symbols ≡ longest)
+Inv-loop count room₀ symbols i₀ room i =
+    (room ≡ paste room₀ 0 symbols i) × (i ≤ count) × (length room ≡ length room₀) × (length symbols ≡ longest)
 
 abbrev μ-loop : tie.MeasureT-loop
 μ-loop count room₀ symbols i₀ room i = count - i
@@ -33,8 +34,12 @@ loop-less c = omega arith
 
 loop-again : tie.Need-loop-again Inv-loop μ-loop
 loop-again c = let s = c .before .before in
-    let l = c .before .loop in
-    (rw (l .inv .0) (front-turn (s .args .room .now) _ (l .i) (omega arith) (omega arith)), omega arith, simp length-set (l .inv .2), l .inv .3)
+    let l = c .before .loop in (
+      rw (l .inv .0) (front-turn (s .args .room .now) _ (l .i) (omega arith) (omega arith)),
+      omega arith,
+      simp length-set (l .inv .2),
+      l .inv .3,
+    )
 
 same-length : tie.Need-same-length Inv-loop μ-loop
 same-length c = c .before .loop .inv .2

@@ -30,7 +30,8 @@ add-result c = omega arith
 returns : tie.Need-returns Inv-loop μ-loop
 returns c = let s = c .before .before .before .before .args .t1 in
     let l = c .before .before .before .loop in
-    sym (ends-here s (l .place) (c .before .before .loop-test .taken) (omega arith) (sym (c .before .end-ok .ensures) ∙ c .if1 .taken)) ∙ l .inv .0
+    let e = sym (c .before .end-ok .ensures) ∙ c .if1 .taken in
+    sym (ends-here s (l .place) (c .before .before .loop-test .taken) (omega arith) e) ∙ l .inv .0
 
 add-place : tie.Need-add-place Inv-loop μ-loop
 add-place c = omega arith
@@ -41,7 +42,9 @@ loop-less c = omega arith
 loop-again : tie.Need-loop-again Inv-loop μ-loop
 loop-again c = let s = c .before .before .before .before .args .t1 in
     let l = c .before .before .before .loop in
-    (sym (ends-later s (l .place) (c .before .before .loop-test .taken) (omega arith) (sym (c .before .end-ok .ensures) ∙ c .if1 .left)) ∙ l .inv .0, omega arith, omega arith, l .inv .3)
+    let e = sym (c .before .end-ok .ensures) ∙ c .if1 .left in
+    let f = sym (ends-later s (l .place) (c .before .before .loop-test .taken) (omega arith) e) ∙ l .inv .0 in
+    (f, omega arith, omega arith, l .inv .3)
 
 returns-2 : tie.Need-returns-2 Inv-loop μ-loop
 returns-2 c = let e : c .before .loop .place ≡ 26 = omega arith in

@@ -29,12 +29,16 @@ first-good-requires-2 c κs = search needs
 returns : tie.Need-returns
 unfolding symbolAt
 returns c = let s = c .before .before .before .before .before .args in
-    rw (good-of-both (heard (charactersOf (s .characters .now))) ((s .start + 12) ∷ (s .start + 14) ∷ []) ((s .start + 17) ∷ (s .start + 19) ∷ []), ← c .before .before .first-good .ensures, c .before .if1 .taken) (c .first-good2 .ensures)
+    let t = heard (charactersOf (s .characters .now)) in
+    let e = good-of-both t ((s .start + 12) ∷ (s .start + 14) ∷ []) ((s .start + 17) ∷ (s .start + 19) ∷ []) in
+    rw (e, ← c .before .before .first-good .ensures, c .before .if1 .taken) (c .first-good2 .ensures)
 
 returns-2 : tie.Need-returns-2
 unfolding symbolAt
 returns-2 c = let s = c .before .before .before .before .args in
-    rw (good-of-both (heard (charactersOf (s .characters .now))) ((s .start + 12) ∷ (s .start + 14) ∷ []) ((s .start + 17) ∷ (s .start + 19) ∷ []), ← c .before .first-good .ensures, ne-eqb _ _ (c .if1 .left))
+    let t = heard (charactersOf (s .characters .now)) in
+    let e = good-of-both t ((s .start + 12) ∷ (s .start + 14) ∷ []) ((s .start + 17) ∷ (s .start + 19) ∷ []) in
+    rw (e, ← c .before .first-good .ensures, ne-eqb _ _ (c .if1 .left))
 
 pub format-at-spec : {M : Type 1} → statement M
 format-at-spec =

@@ -13,7 +13,8 @@ use Rattle.receiving.proofs.copies.symbols_from.Statement.{statement}
 use Rattle.receiving.proofs.copies.symbols_from.Tie as tie
 
 abbrev Inv-loop : tie.InvT-loop
-Inv-loop bytes start table symbols₀ k₀ symbols k = (symbols ≡ paste symbols₀ 0 (symbolsFrom (heard (charactersOf bytes)) start) k) × (k ≤ longest) × (length symbols ≡ longest)
+Inv-loop bytes start table symbols₀ k₀ symbols k =
+    (symbols ≡ paste symbols₀ 0 (symbolsFrom (heard (charactersOf bytes)) start) k) × (k ≤ longest) × (length symbols ≡ longest)
 
 abbrev μ-loop : tie.MeasureT-loop
 μ-loop bytes start table symbols₀ k₀ symbols k = longest - k

@@ -35,7 +35,8 @@ mul-result-3 : tie.Need-mul-result-3
 mul-result-3 c = omega (arith, c .shared-slice-known2 .given (2 * (c .before .before .before .before .args .place - mostLost) + 1))
 
 add-result-2 : tie.Need-add-result-2
-add-result-2 c = omega (arith, c .before .shared-slice-known .given (2 * (c .before .before .before .before .args .place - mostLost)), c .shared-slice-known2 .given (2 * (c .before .before .before .before .args .place - mostLost) + 1))
+add-result-2 c = let i = c .before .before .before .before .args .place - mostLost in
+    omega (arith, c .before .shared-slice-known .given (2 * i), c .shared-slice-known2 .given (2 * i + 1))
 
 returns-2 : tie.Need-returns-2
 returns-2 c = sym (handed-in _ _ (c .before .before .before .if1 .left) (c .before .before .if2 .taken))

@@ -15,11 +15,13 @@ shared-slice-read-symbol c = search needs
 
 returns : tie.Need-returns
 returns c = let s = c .before .before .before in
-    passed-over (s .args .characters .now) (s .args .i) (s .args .best) (s .pre .0) (s .pre .1) (λ q h. omega (arith, c .if1 .taken, h .its-units, h .of-eight))
+    passed-over (s .args .characters .now) (s .args .i) (s .args .best) (s .pre .0) (s .pre .1)
+    (λ q h. omega (arith, c .if1 .taken, h .its-units, h .of-eight))
 
 returns-2 : tie.Need-returns-2
 returns-2 c = let s = c .before .before .before .before in
-    passed-over (s .args .characters .now) (s .args .i) (s .args .best) (s .pre .0) (s .pre .1) (λ q h. omega (arith, c .if2 .taken, h .its-units, h .of-eight))
+    passed-over (s .args .characters .now) (s .args .i) (s .args .best) (s .pre .0) (s .pre .1)
+    (λ q h. omega (arith, c .if2 .taken, h .its-units, h .of-eight))
 
 cast-behind : tie.Need-cast-behind
 cast-behind c = search needs
@@ -35,7 +37,8 @@ add-if3 c = search needs
 
 returns-3 : tie.Need-returns-3
 returns-3 c = let s = c .before .before .before .before .before in
-    passed-over (s .args .characters .now) (s .args .i) (s .args .best) (s .pre .0) (s .pre .1) (λ q h. omega (arith, c .if3 .taken, h .its-units, h .its-place))
+    passed-over (s .args .characters .now) (s .args .i) (s .args .best) (s .pre .0) (s .pre .1)
+    (λ q h. omega (arith, c .if3 .taken, h .its-units, h .its-place))
 
 add-start : tie.Need-add-start
 add-start c = search needs
@@ -51,8 +54,10 @@ better-of-requires c κs = search needs
 
 returns-4 : tie.Need-returns-4
 returns-4 c = let s = c .before .before .before .before .before .before .before in
+    let start = mostLost + s .args .i - (1 + 2 * (111 - getD (s .args .characters .now) (2 * s .args .i) 0 % 128)) in
     rw (c .better-of .ensures, c .before .phasing-at .ensures)
-    (looked-at (s .args .characters .now) (s .args .i) (s .args .best) (s .pre .0) (s .pre .1) (mostLost + s .args .i - (1 + 2 * (111 - getD (s .args .characters .now) (2 * s .args .i) 0 % 128))) (omega arith) (λ q h. omega (arith, h .its-units, h .its-place, h .of-eight)))
+    (looked-at (s .args .characters .now) (s .args .i) (s .args .best) (s .pre .0) (s .pre .1) start (omega arith)
+    (λ q h. omega (arith, h .its-units, h .its-place, h .of-eight)))
 
 pub best-with-spec : {M : Type 1} → statement M
 best-with-spec =

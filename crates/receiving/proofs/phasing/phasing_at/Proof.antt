@@ -27,15 +27,22 @@ is-phasing-requires c κs = search needs
 
 add-result : tie.Need-add-result
 add-result c = let s = c .before .before .before .before .before .before .before .args in
-    omega (arith, c .before .before .standing-in2 .ensures, c .before .before .before .before .standing-in .ensures, standing-most (s .characters .now) dxCharacters (s .start), standing-most (s .characters .now) rxCharacters (s .start + 1))
+    let dx = c .before .before .standing-in2 .ensures in
+    let rx = c .before .before .before .before .standing-in .ensures in
+    let most = standing-most (s .characters .now) in
+    omega (arith, dx, rx, most dxCharacters (s .start), most rxCharacters (s .start + 1))
 
 returns : tie.Need-returns
 returns c = let s = c .before .before .before .before .before .before .before .args in
-    phasing-there (s .characters .now) (s .start) _ _ (c .before .before .standing-in2 .ensures) (c .before .before .before .before .standing-in .ensures) (sym (c .before .is-phasing .ensures) ∙ c .if1 .taken)
+    let dx = c .before .before .standing-in2 .ensures in
+    let rx = c .before .before .before .before .standing-in .ensures in
+    phasing-there (s .characters .now) (s .start) _ _ dx rx (sym (c .before .is-phasing .ensures) ∙ c .if1 .taken)
 
 returns-2 : tie.Need-returns-2
 returns-2 c = let s = c .before .before .before .before .before .before .before .args in
-    phasing-missing (s .characters .now) (s .start) _ _ (c .before .before .standing-in2 .ensures) (c .before .before .before .before .standing-in .ensures) (sym (c .before .is-phasing .ensures) ∙ c .if1 .left)
+    let dx = c .before .before .standing-in2 .ensures in
+    let rx = c .before .before .before .before .standing-in .ensures in
+    phasing-missing (s .characters .now) (s .start) _ _ dx rx (sym (c .before .is-phasing .ensures) ∙ c .if1 .left)
 
 pub phasing-at-spec : {M : Type 1} → statement M
 phasing-at-spec =

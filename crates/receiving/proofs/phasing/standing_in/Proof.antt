@@ -10,7 +10,8 @@ use Rattle.receiving.proofs.phasing.standing_in.Statement.{statement}
 use Rattle.receiving.proofs.phasing.standing_in.Tie as tie
 
 abbrev Inv-loop : tie.InvT-loop
-Inv-loop b wanted place count₀ i₀ count i = (count + standing b (drop i wanted) (place + 2 * i) ≡ standing b wanted place) × (i ≤ length wanted) × (count ≤ i)
+Inv-loop b wanted place count₀ i₀ count i =
+    (count + standing b (drop i wanted) (place + 2 * i) ≡ standing b wanted place) × (i ≤ length wanted) × (count ≤ i)
 
 abbrev μ-loop : tie.MeasureT-loop
 μ-loop b wanted place count₀ i₀ count i = length wanted - i
