@@ -41,6 +41,7 @@ writingCases =
     -- 125, 111, 125, 110 as characters, and in bytes
     ∷ gives (take 4 (transmission p1)) (637 ∷ 623 ∷ 637 ∷ 366 ∷ [])
     ∷ gives (take 8 (bytesOf (transmission p1))) (125 ∷ 2 ∷ 111 ∷ 2 ∷ 125 ∷ 2 ∷ 110 ∷ 1 ∷ [])
+    ∷ gives (bytesOf (255 ∷ 256 ∷ 1023 ∷ [])) (255 ∷ 0 ∷ 0 ∷ 1 ∷ 255 ∷ 3 ∷ [])
     -- 2 (n + 9) characters, for 21 symbols and for 28
     ∷ writes p1 148 (0 ∷ 66 ∷ [])
     ∷ writes (replicate 21 0) 148 (0 ∷ 60 ∷ [])
@@ -82,7 +83,7 @@ phasingCases =
     ∷ starts (125 ∷ 111 ∷ []) 0 0
     ∷ starts (125 ∷ none ∷ 125 ∷ none ∷ 125 ∷ []) 0 0
     ∷ starts (125 ∷ none ∷ 125 ∷ none ∷ 125 ∷ none ∷ 125 ∷ none ∷ 125 ∷ none ∷ 125 ∷ []) 0 0
-    -- each in its place: an RX character where DX goes, one too early
+    -- not in their places: without a character between them, and 109 in the place of 110
     ∷ starts (111 ∷ 110 ∷ 109 ∷ []) 0 0
     ∷ starts (111 ∷ none ∷ 109 ∷ none ∷ 108 ∷ []) 0 0
     -- the last two DX and the last RX places
@@ -126,7 +127,8 @@ expectedOf r = r .answer ∷ r .count ∷ r .room
 
 abbrev pub computedOf : ReadCase → List ℕ
 computedOf r =
-    counted (transmissionRead (bytesOf (handed (r .symbols))) (length (r .lent))) ++ roomAfterReading (bytesOf (handed (r .symbols))) (r .lent)
+    counted (transmissionRead (bytesOf (handed (r .symbols))) (length (r .lent)))
+    ++ roomAfterReading (bytesOf (handed (r .symbols))) (r .lent)
 
 abbrev pub reads : List ℕ → ℕ → ℕ → List ℕ → ReadCase
 reads symbols start count s =
