@@ -1,4 +1,2 @@
-pub mod CharacterLaws
-pub mod StartLaws
 pub mod AnswerLaws
 pub mod Settled

@@ -4,13 +4,13 @@ ghost use mathlib.Core.List.{[], _∷_};
 ghost use Prim.Native.Nat.{_+_, _/_, _≤_, _<_};
 ghost use lib.ListN.{length};
 ghost use Rattle.sequence.specs.Figures.{longest};
-ghost use Rattle.transmission.specs.Phasing.{mostLost, charactersOf, heard};
+ghost use Rattle.transmission.specs.Phasing.{mostLost, charactersOf, heard, heardAt};
 ghost use Rattle.transmission.specs.Copies.{firstGood, symbolAt, symbolsFrom, countOf};
-ghost use Rattle.receiving.specs.Characters.{IsTable};
-ghost use Rattle.receiving.specs.Copies.{FirstUnread};
-use crate::heard::heard_at;
+ghost use Rattle.receiving.specs.Copies.{IsTable, FirstUnread};
+use characters::NO_CHARACTER;
 use characters::NONE;
 use characters::symbol_table;
+use phasing::character_at;
 use sequence::LONGEST;
 use sequence::parts::end_ok;
 
@@ -18,6 +18,18 @@ use sequence::parts::end_ok;
 const FIRST_END: usize = 19;
 
 const LAST_END: usize = 25;
+
+// The symbol, or none, at a place of what was heard, by the table of all characters.
+fn heard_at(characters: &[u8], table: &[u8], place: usize) -> u8
+    requires { ⌜ IsTable (now table) ⌝ }
+    ensures { λ r. ⌜ r ≡ heardAt (heard (charactersOf (now (characters .entry)))) place ⌝ }
+{
+    let character = character_at(characters, place);
+    if character < NO_CHARACTER {
+        return table[character as usize];
+    }
+    NONE
+}
 
 // "the repeat used where the first copy is none"
 fn first_good(characters: &[u8], table: &[u8], first: usize, repeat: usize) -> u8

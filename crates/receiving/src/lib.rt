@@ -10,13 +10,11 @@ ghost use Rattle.transmission.specs.Reading.{startIn, transmissionRead, roomAft
 ghost use Rattle.receiving.specs.Copies.{answerToCopies};
 
 mod copies;
-mod heard;
-mod phasing;
 
 use crate::copies::count_of;
 use crate::copies::first_unread;
 use crate::copies::symbols_from;
-use crate::phasing::best_start;
+use phasing::best_start;
 use sequence::LONGEST;
 use transmission::Answer;
 use transmission::Counted;

@@ -3,9 +3,9 @@ use mathlib.Core.Path.{sym}
 use native.Mathlib.Omega.{arith}
 use borrow.Author.Needs.{needs}
 use Rattle.transmission.specs.Phasing.{mostLost}
-use Rattle.receiving.proofs.CharacterLaws.{before-first, handed-in, past-last}
-use Rattle.receiving.proofs.heard.character_at.Statement.{statement}
-use Rattle.receiving.proofs.heard.character_at.Tie as tie
+use Rattle.phasing.proofs.CharacterLaws.{before-first, handed-in, past-last}
+use Rattle.phasing.proofs.character_at.Statement.{statement}
+use Rattle.phasing.proofs.character_at.Tie as tie
 
 returns : tie.Need-returns
 returns c = sym (before-first _ _ (c .if1 .taken))

@@ -4,9 +4,9 @@ use borrow.Author.Needs.{needs}
 use Rattle.characters.specs.Code.{symbolOf, noCharacter}
 use Rattle.characters.proofs.RowLaws.{at-place, length-in-row}
 use Rattle.characters.proofs.CodeLaws.{over-is-none}
-use Rattle.receiving.proofs.CharacterLaws.{heard-is}
-use Rattle.receiving.proofs.heard.heard_at.Statement.{statement}
-use Rattle.receiving.proofs.heard.heard_at.Tie as tie
+use Rattle.phasing.proofs.CharacterLaws.{heard-is}
+use Rattle.receiving.proofs.copies.heard_at.Statement.{statement}
+use Rattle.receiving.proofs.copies.heard_at.Tie as tie
 
 character-at-requires : tie.Need-character-at-requires
 character-at-requires c κs = search needs

@@ -2,8 +2,8 @@ use mathlib.Core.Path.{_≡_, sym, ap, _∙_}
 use Prim.Native.Nat.{_≤_}
 use native.Mathlib.Omega.{arith}
 use Rattle.transmission.proofs.PhasingLaws.{no-rx, one-rx, two-rx, three-rx}
-use Rattle.receiving.proofs.phasing.is_phasing.Statement.{statement}
-use Rattle.receiving.proofs.phasing.is_phasing.Tie as tie
+use Rattle.phasing.proofs.is_phasing.Statement.{statement}
+use Rattle.phasing.proofs.is_phasing.Tie as tie
 
 returns : tie.Need-returns
 returns c = rw (c .if1 .taken) (sym (no-rx _))

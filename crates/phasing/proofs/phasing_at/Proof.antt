@@ -1,11 +1,11 @@
 use Prim.Native.Nat.{_+_}
 use mathlib.Core.Path.{sym, _∙_}
 use native.Mathlib.Omega.{arith}
-use Rattle.receiving.specs.Characters.{dxCharacters, rxCharacters}
-use Rattle.receiving.proofs.CharacterLaws.{standing-most, phasing-there, phasing-missing}
+use Rattle.phasing.specs.Characters.{dxCharacters, rxCharacters}
+use Rattle.phasing.proofs.CharacterLaws.{standing-most, phasing-there, phasing-missing}
 use borrow.Author.Needs.{needs}
-use Rattle.receiving.proofs.phasing.phasing_at.Statement.{statement}
-use Rattle.receiving.proofs.phasing.phasing_at.Tie as tie
+use Rattle.phasing.proofs.phasing_at.Statement.{statement}
+use Rattle.phasing.proofs.phasing_at.Tie as tie
 
 slice-aggregate-standing-in : tie.Need-slice-aggregate-standing-in
 slice-aggregate-standing-in c = search needs

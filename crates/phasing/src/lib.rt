@@ -1,11 +1,11 @@
-// Where a transmission starts in what was handed in.
+// Where a transmission starts in what was handed in: two bytes a character, behind eleven characters that may have been lost.
 ghost use mathlib.Core.Path.{_≡_};
 ghost use Prim.Native.Nat.{_+_, _/_, _≤_, _<_};
 ghost use lib.ListN.{length};
 ghost use Rattle.transmission.specs.Phasing.{mostLost, charactersOf, heard, isPhasing, phasingAt, bestStart};
-ghost use Rattle.receiving.specs.Characters.{standing};
-ghost use Rattle.receiving.specs.Starts.{betterOf, BestBefore};
-use crate::heard::character_at;
+ghost use Rattle.phasing.specs.Characters.{characterAt, standing};
+ghost use Rattle.phasing.specs.Starts.{betterOf, BestBefore};
+use characters::NO_CHARACTER;
 use transmission::DX_PHASING;
 use transmission::FIRST_RX_PHASING_SYMBOL;
 use transmission::MOST_LOST;
@@ -20,6 +20,20 @@ const RX_CHARACTERS: [u16; RX_PHASING] = [623, 366, 365, 876, 363, 874, 873, 232
 const LAST_RX_PHASING_SYMBOL: u8 = 104;
 
 const WHOLE_PHASING: usize = DX_PHASING + RX_PHASING;
+
+// The character at a place, and no character before the first and past the last that was handed in.
+pub fn character_at(characters: &[u8], place: usize) -> u16
+    ensures { λ r. ⌜ r ≡ characterAt (now (characters .entry)) place ⌝ }
+{
+    if place < MOST_LOST {
+        return NO_CHARACTER;
+    }
+    let i = place - MOST_LOST;
+    if i < characters.len() / 2 {
+        return characters[2 * i] as u16 + 256 * (characters[2 * i + 1] as u16);
+    }
+    NO_CHARACTER
+}
 
 // How many of the characters wanted stand in their places, every second one from a place on.
 fn standing_in(characters: &[u8], wanted: &[u16], place: usize) -> usize
@@ -111,7 +125,7 @@ fn best_with(characters: &[u8], i: usize, best: Start) -> Start
 }
 
 // "the one with the most phasing characters counts, of equals the earliest": behind a whole phasing none is better.
-pub(crate) fn best_start(characters: &[u8]) -> Start
+pub fn best_start(characters: &[u8]) -> Start
     ensures { λ r. ⌜ r ≡ bestStart (heard (charactersOf (now (characters .entry)))) ⌝ }
 {
     let count = characters.len() / 2;

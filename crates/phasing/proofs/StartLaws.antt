@@ -17,9 +17,9 @@ use Rattle.transmission.specs.Phasing.{charactersOf, mostLost, heard, phasingAt
 use Rattle.transmission.proofs.HeardLaws.{length-characters, length-heard, heard-lost}
 use Rattle.transmission.proofs.PhasingLaws.{HasRx}
 use Rattle.transmission.proofs.BestLaws.{Best, OneMore, none-yet, of-fewer, stays, beaten, best-with-rx, best-when-whole}
-use Rattle.receiving.specs.Characters.{characterAt}
-use Rattle.receiving.specs.Starts.{betterOf, BestBefore}
-use Rattle.receiving.proofs.CharacterLaws.{handed-in, heard-is}
+use Rattle.phasing.specs.Characters.{characterAt}
+use Rattle.phasing.specs.Starts.{betterOf, BestBefore}
+use Rattle.phasing.proofs.CharacterLaws.{handed-in, heard-is}
 
 -- ── one start more ───────────────────────────────────────────────────────────
 

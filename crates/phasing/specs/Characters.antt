@@ -1,12 +1,10 @@
 -- The characters behind what was heard: a phasing character is known by its number, with no look at the table.
 use Prim.Native.Nat.{ℕ, _+_}
-use mathlib.Core.Path.{_≡_}
 use mathlib.Core.Bool.{cond}
 use mathlib.Core.List.{List, [], _∷_, _++_}
 use lib.Dec.{eqb}
 use lib.ListN.{getD, replicate}
-use Rattle.characters.specs.Rows.{inRow}
-use Rattle.characters.specs.Code.{noCharacter, symbolOf}
+use Rattle.characters.specs.Code.{noCharacter}
 use Rattle.transmission.specs.Phasing.{charactersOf, mostLost}
 
 -- the character at a place of what was heard, and none before the first and past the last that was handed in
@@ -24,7 +22,3 @@ rxCharacters = 623 ∷ 366 ∷ 365 ∷ 876 ∷ 363 ∷ 874 ∷ 873 ∷ 232 ∷ [
 abbrev pub standing : List ℕ → List ℕ → ℕ → ℕ
 standing bytes [] place = 0
 standing bytes (character ∷ wanted) place = cond (eqb (characterAt bytes place) character) 1 0 + standing bytes wanted (place + 2)
-
--- the table of all characters
-abbrev pub IsTable : List ℕ → Type 0
-IsTable table = table ≡ inRow symbolOf 0 noCharacter

@@ -18,7 +18,7 @@ use Rattle.characters.proofs.CodeLaws.{over-is-none, reads-as}
 use Rattle.transmission.specs.Layout.{dxPhasing, rxPhasing}
 use Rattle.transmission.specs.Phasing.{charactersOf, mostLost, heard, heardAt, inPlace, dxGood, rxGood, isPhasing, phasingAt}
 use Rattle.transmission.proofs.HeardLaws.{length-characters, character-there, heard-lost, heard-there}
-use Rattle.receiving.specs.Characters.{characterAt, dxCharacters, rxCharacters, standing}
+use Rattle.phasing.specs.Characters.{characterAt, dxCharacters, rxCharacters, standing}
 
 -- ── a character ──────────────────────────────────────────────────────────────
 

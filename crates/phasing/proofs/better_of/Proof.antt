@@ -1,6 +1,6 @@
 use borrow.Author.Tests.{lt-ltb, le-ltb}
-use Rattle.receiving.proofs.phasing.better_of.Statement.{statement}
-use Rattle.receiving.proofs.phasing.better_of.Tie as tie
+use Rattle.phasing.proofs.better_of.Statement.{statement}
+use Rattle.phasing.proofs.better_of.Tie as tie
 
 returns : tie.Need-returns
 returns c = rw (lt-ltb _ _ (c .if1 .taken))

@@ -4,10 +4,10 @@ use mathlib.Core.Logic.{⊎-elim}
 use native.Mathlib.Omega.{arith}
 use borrow.Author.Needs.{needs}
 use lib.ListN.{length, drop}
-use Rattle.receiving.specs.Characters.{standing}
-use Rattle.receiving.proofs.CharacterLaws.{standing-first, one-more, no-more, standing-last}
-use Rattle.receiving.proofs.phasing.standing_in.Statement.{statement}
-use Rattle.receiving.proofs.phasing.standing_in.Tie as tie
+use Rattle.phasing.specs.Characters.{standing}
+use Rattle.phasing.proofs.CharacterLaws.{standing-first, one-more, no-more, standing-last}
+use Rattle.phasing.proofs.standing_in.Statement.{statement}
+use Rattle.phasing.proofs.standing_in.Tie as tie
 
 abbrev Inv-loop : tie.InvT-loop
 Inv-loop b wanted place count₀ i₀ count i =

@@ -3,9 +3,9 @@ use native.Mathlib.Omega.{arith}
 use borrow.Author.Needs.{needs}
 use lib.ListN.{getD}
 use Rattle.transmission.specs.Phasing.{mostLost}
-use Rattle.receiving.proofs.StartLaws.{passed-over, looked-at}
-use Rattle.receiving.proofs.phasing.best_with.Statement.{statement}
-use Rattle.receiving.proofs.phasing.best_with.Tie as tie
+use Rattle.phasing.proofs.StartLaws.{passed-over, looked-at}
+use Rattle.phasing.proofs.best_with.Statement.{statement}
+use Rattle.phasing.proofs.best_with.Tie as tie
 
 mul-symbol : tie.Need-mul-symbol
 mul-symbol c = search needs

@@ -3,10 +3,10 @@ use mathlib.Core.Path.{_≡_}
 use native.Mathlib.Omega.{arith}
 use lib.ListN.{length}
 use Rattle.transmission.specs.Phasing.{mostLost}
-use Rattle.receiving.specs.Starts.{BestBefore}
-use Rattle.receiving.proofs.StartLaws.{none-before, best-behind, best-whole}
-use Rattle.receiving.proofs.phasing.best_start.Statement.{statement}
-use Rattle.receiving.proofs.phasing.best_start.Tie as tie
+use Rattle.phasing.specs.Starts.{BestBefore}
+use Rattle.phasing.proofs.StartLaws.{none-before, best-behind, best-whole}
+use Rattle.phasing.proofs.best_start.Statement.{statement}
+use Rattle.phasing.proofs.best_start.Tie as tie
 
 abbrev Inv-loop : tie.InvT-loop
 Inv-loop bytes count best₀ i₀ best i = (i ≤ length bytes / 2) × BestBefore bytes (mostLost + i) best
