@@ -4,8 +4,9 @@
  * coast_words.h has helpers over this header: actions taken apart, answers in words.
  *
  * All memory is the host's, lent for one call: a station's bytes, and a room, bytes for the library to write in, one for the
- * symbols of a sequence or one for the actions of an event. A pointer must be good for the count of bytes given after it, and
- * may be null where that count is 0. What is read and what is written, and two things that are written, must not overlap.
+ * symbols of a sequence, the characters of a transmission or the actions of an event. A pointer must be good for the count of
+ * bytes given after it, and may be null where that count is 0. What is read and what is written, and two things that are written,
+ * must not overlap.
  *
  * Every input has an answer: any bytes, any lengths. 0 and 1 accept; every other answer is a refusal, after which all lent
  * bytes are as they were.
@@ -90,7 +91,7 @@ extern "C" {
 #define COAST_ANSWER_BAD_SET_UP 36        /* not a coast station's identity, or not 1 to 16 different working channels */
 #define COAST_ANSWER_NO_FREE_SLOT 37      /* a call from ashore, and no slot is free */
 #define COAST_ANSWER_SHIP_ENGAGED 38      /* a call from ashore to a ship that has a slot, a held one too, or waits for one */
-#define COAST_ANSWER_NO_PHASING 51        /* no transmission begins in what the modem handed over */
+#define COAST_ANSWER_NO_PHASING 51        /* no phasing found in what the modem handed over */
 #define COAST_ANSWER_COPIES_BAD 52        /* all copies of one symbol were received, and none is good */
 #define COAST_ANSWER_ENDS_EARLY 53        /* of one symbol no copy is good, and one was not received any more */
 
@@ -116,15 +117,15 @@ uint32_t coast_write_sequence(const uint8_t *meaning, size_t size, uint8_t *room
 
 /* Characters: a symbol goes on the air in ten units, its character. A modem that sends and receives units takes and hands over
  * characters: each is a number 0 to 1023, its first unit the lowest bit, and stands in two bytes, the low byte first. Units 1 to 7
- * are the symbol, its low bit first; units 8 to 10 say how many of these seven are 0, the high bit first. So 128 of the
- * 1024 characters are symbols'; every other, and every number over 1023, is "none". A modem that lost a character hands
- * over COAST_NO_CHARACTER in its place. */
+ * are the symbol, its low bit first; units 8 to 10 say how many of these seven are 0, the high bit first: symbol 0 is 896, 1 is 385,
+ * 3 is 643 and 127 is 127. So 128 of the 1024 characters are symbols'; every other, and every number over 1023, is "none". A modem
+ * that lost a character hands over COAST_NO_CHARACTER in its place. Where a character begins, the modem has to find. */
 #define COAST_NO_SYMBOL 128
 #define COAST_NO_CHARACTER 1024
 #define COAST_CHARACTER_SIZE 2
 
 /* The character of a symbol, or COAST_NO_CHARACTER where that is over 127; the symbol of a character, or COAST_NO_SYMBOL where that
- * is none. Proved: each undoes the other, and a symbol's character with any one unit changed is none. */
+ * is none. Neither returns an answer. Proved: each undoes the other, and a symbol's character with any one unit changed is none. */
 uint32_t coast_write_character(uint32_t symbol);
 uint32_t coast_read_character(uint32_t character);
 
@@ -142,12 +143,14 @@ uint32_t coast_read_character(uint32_t character);
 uint32_t coast_write_transmission(const uint8_t *symbols, size_t count, uint8_t *room, size_t room_size);
 
 /* Reads a transmission in what the modem handed over, the `size` bytes at `characters`, as symbols into the `room_size` bytes at
- * `room`. It may begin anywhere there, and up to eleven characters of its beginning may be missing. Half a character at the end is
- * not looked at.
+ * `room`. It may begin anywhere there, and up to eleven characters of its beginning may be missing. Where several begin, the one with
+ * the most phasing characters in their places is read, of equals the first, and no other: so a host hands over one transmission at a
+ * time, with whatever came before and behind it. Half a character at the end is not looked at.
  * coast_answer of what is returned is 0, and coast_count, 21 to 28, is that of the symbols written at the front of the room; or the
  * answer is the first of 21, 51, 52, 53 that fits, in this order, and the count is 0. Bytes of the room after the symbols stay as
  * they were. The room must have 28 bytes even where there are fewer symbols. What the symbols say is judged by coast_read_sequence, or
- * by the event that they are handed to.
+ * by the event that they are handed to. After 51 or 53, while the modem still receives, a host may hand over all once more with what
+ * has come since.
  * Proved of every sequence that coast_read_sequence accepts: what was written is read back; so it is with up to five characters in
  * a row turned to none, anywhere, and with up to eleven lost at the beginning. And nothing is read but what stood in good characters. */
 uint32_t coast_read_transmission(const uint8_t *characters, size_t size, uint8_t *room, size_t room_size);
