@@ -96,8 +96,8 @@ fn better_of(one: Start, other: Start) -> Start
     one
 }
 
-// The best start that has an RX character among the characters up to this one. Every start has one, and the low seven units tell
-// which of the eight a character can be: one start is looked at for each of these characters, and none for the others.
+// The best start that has an RX character among the characters up to this one. Where none has, there is no phasing; and the low seven
+// units tell which of the eight a character can be: one start is looked at for each of these characters, and none for the others.
 fn best_with(characters: &[u8], i: usize, best: Start) -> Start
     requires { ⌜ (i < length (now characters) / 2) × BestBefore (now characters) (mostLost + i) best ⌝ }
     ensures { λ r. ⌜ BestBefore (now (characters .entry)) (mostLost + (i + 1)) r ⌝ }
