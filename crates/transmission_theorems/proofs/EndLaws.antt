@@ -9,6 +9,7 @@ use lib.ListN.{length, take, drop, take-append-drop, length-drop}
 use lib.Seq.{length-take-le, drop-append-le}
 use Rattle.sequence.specs.Layout.{endOk}
 use Rattle.transmission.specs.Copies.{beforeEnd, countOf}
+use Rattle.transmission.proofs.SymbolLaws.{count-most}
 
 -- as far as a list goes, what stands behind it does not move its first end
 end-within : (n : ℕ) (xs ys : List ℕ) → min (length xs) (beforeEnd (take n (xs ++ ys))) ≡ min (length xs) (beforeEnd (take n xs))
@@ -33,11 +34,6 @@ before-end-take (suc n) (x ∷ xs) = go (endOk x) (before-end-take n xs)
     go true h = sym (min-zero _)
     go false h = ap suc h ∙ sym (suc-min-suc _ _)
 
--- "at place 27 at the latest"
-count-at-most : (s : List ℕ) → countOf s ≤ 28
-unfolding countOf
-count-at-most s = omega (arith, before-end-take 7 (drop 19 s))
-
 -- whether symbols have their end last but one does not hang on what stands behind them
 module _ (s more : List ℕ) (long : 21 ≤ length s) where
   within : min (length s - 19) (beforeEnd (take 7 (drop 19 (s ++ more)))) ≡ min (length s - 19) (beforeEnd (take 7 (drop 19 s)))
@@ -54,6 +50,6 @@ module _ (s more : List ℕ) (long : 21 ≤ length s) where
 -- so it is with the symbols that are cut off at their end
 pub front-ends : (s r : List ℕ) → 21 ≤ length s → length r ≡ 28 → take (countOf r) r ≡ s → countOf s ≡ length s
 front-ends s r least size e =
-    let l : countOf r ≡ length s = sym (length-take-le (countOf r) r (omega (arith, count-at-most r))) ∙ ap length e in
+    let l : countOf r ≡ length s = sym (length-take-le (countOf r) r (omega (arith, count-most r))) ∙ ap length e in
     count-its-own s (drop (countOf r) r) least
     (ap (λ (f : List ℕ). countOf (f ++ drop (countOf r) r)) (sym e) ∙ ap countOf (take-append-drop (countOf r) r) ∙ l)

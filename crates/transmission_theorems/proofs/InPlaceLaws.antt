@@ -6,7 +6,6 @@ use mathlib.Core.List.{List, [], _∷_}
 use native.Mathlib.Nat.{zero-add, add-zero, add-assoc, add-le-add}
 use native.Mathlib.Omega.{arith}
 use lib.Dec.{eqb}
-use lib.ListN.{length}
 use borrow.Author.Tests.{eqb-true, eq-eqb}
 use Rattle.sequence.specs.Symbols.{within}
 use Rattle.sequence.proofs.Tests.{both-true}
@@ -48,20 +47,6 @@ passing-grows test other a b h (symbol ∷ wanted) place l =
     let k = both-true (ofPhasing symbol) (allOfPhasing wanted) l in
     rw (add-assoc a place 2, add-assoc b place 2)
     (add-le-add (one-more _ _ (h place symbol (k .0))) (passing-grows test other a b h wanted (place + 2) (k .1)))
-
--- no more than are wanted
-pub in-place-most : (t wanted : List ℕ) (place : ℕ) → inPlace t wanted place ≤ length wanted
-in-place-most t [] place = omega arith
-in-place-most t (symbol ∷ wanted) place =
-    omega (arith, one-more (eqb (heardAt t place) symbol) true (λ e. refl), in-place-most t wanted (place + 2))
-
-pub dx-most : (t : List ℕ) (start : ℕ) → dxGood t start ≤ 6
-unfolding dxGood dxPhasing
-dx-most t start = in-place-most t dxPhasing start
-
-pub rx-most : (t : List ℕ) (start : ℕ) → rxGood t start ≤ 8
-unfolding rxGood rxPhasing
-rx-most t start = in-place-most t rxPhasing (start + 1)
 
 dx-of-phasing : allOfPhasing dxPhasing ≡ true
 unfolding dxPhasing

@@ -5,15 +5,24 @@ use mathlib.Core.Logic.{_⊎_, inl, inr}
 use mathlib.Core.List.{List, _∷_}
 use native.Mathlib.Omega.{arith}
 use lib.ListN.{length, getD}
+use borrow.Author.Tests.{ne-eqb}
 use Rattle.characters.specs.Code.{none}
 use Rattle.transmission.specs.Layout.{dx, rx}
-use Rattle.transmission.specs.Phasing.{mostLost}
-use Rattle.transmission.specs.Copies.{copiesOf, symbolAt}
+use Rattle.transmission.specs.Phasing.{mostLost, heardAt}
+use Rattle.transmission.specs.Copies.{copiesOf, firstGood, symbolAt}
 use Rattle.transmission.proofs.LayoutLaws.{any-default, in-turn-first, in-turn-second}
 use Rattle.transmission.proofs.LayoutLaws.{dx-length, dx-format, dx-symbol, rx-length, rx-format, rx-symbol}
 use Rattle.transmission_theorems.proofs.Shown.{sent, Shown, KeptBut}
 use Rattle.transmission_theorems.proofs.ShownLaws.{Outside, Inside, out-or-in, NoneOrSent, shown-at}
-use Rattle.transmission_theorems.proofs.CopiesLaws.{Given, good, repeated, given}
+
+-- of some places, the first that is not none holds this symbol
+data Given (t : List ℕ) (symbol : ℕ) : List ℕ → Type 0 where
+  good : {place : ℕ} {places : List ℕ} → heardAt t place ≡ symbol → Given t symbol (place ∷ places)
+  repeated : {place : ℕ} {places : List ℕ} → heardAt t place ≡ none → Given t symbol places → Given t symbol (place ∷ places)
+
+given : {t : List ℕ} {symbol : ℕ} {places : List ℕ} → symbol ≤ 127 → Given t symbol places → firstGood t places ≡ symbol
+given {symbol = x} h (good e) = rw (e, ne-eqb x none (λ q. omega arith))
+given h (repeated e g) = rw e (given h g)
 
 -- the copies of a symbol, where they are sent
 module _ (s : List ℕ) where

@@ -1,8 +1,7 @@
 pub mod Characters
 pub mod Shown
-pub mod BestLaws
 pub mod InPlaceLaws
-pub mod PhasingLaws
+pub mod EnoughPhasing
 pub mod PossibleStarts
 pub mod Fits
 pub mod SequenceFits
@@ -10,10 +9,8 @@ pub mod NoOtherStart
 pub mod OwnStart
 pub mod Starts
 pub mod ShownLaws
-pub mod RowTests
 pub mod EndLaws
 pub mod AcceptedEnds
-pub mod CopiesLaws
 pub mod KeptCopies
 pub mod ReadBack
 pub mod ReplacedLaws

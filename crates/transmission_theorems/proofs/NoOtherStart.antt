@@ -27,7 +27,7 @@ use Rattle.transmission.proofs.LayoutLaws.{in-turn-length, dx-length, rx-length
 use Rattle.transmission_theorems.specs.Statement.{Accepted}
 use Rattle.transmission_theorems.proofs.Shown.{sentBehind, ShownAt, Shown}
 use Rattle.transmission_theorems.proofs.InPlaceLaws.{ofPhasing, not-none, at-most}
-use Rattle.transmission_theorems.proofs.PhasingLaws.{no-start, nothing-heard}
+use Rattle.transmission_theorems.proofs.EnoughPhasing.{no-start, nothing-heard}
 use Rattle.transmission_theorems.proofs.PossibleStarts.{mayBe, kindOf, kinds, mayBegin, none-else}
 use Rattle.transmission_theorems.proofs.Fits.{Fits, plain, at-fit, fits-so, sent-fit}
 use Rattle.transmission_theorems.proofs.SequenceFits.{layout-fits}

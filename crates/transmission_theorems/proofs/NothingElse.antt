@@ -21,10 +21,10 @@ use Rattle.transmission.specs.Reading.{startIn, countIn, symbolsIn, phasingIn, 
 use Rattle.transmission.specs.Reading.{copiesIn, wholeIn, readingRefusals, readingAnswer}
 use Rattle.transmission.proofs.HeardLaws.{heard-lost, heard-there, length-heard}
 use Rattle.transmission.proofs.LayoutLaws.{any-default}
+use Rattle.transmission.proofs.SymbolLaws.{symbols-length, symbol-there}
+use Rattle.transmission.proofs.RowTests.{in-row}
 use Rattle.transmission_theorems.specs.Statement.{Among, here, behind, StoodIn, NothingElse}
 use Rattle.transmission_theorems.proofs.Characters.{symbols-write-back}
-use Rattle.transmission_theorems.proofs.RowTests.{in-row}
-use Rattle.transmission_theorems.proofs.ReadBack.{symbols-length, symbol-in-row}
 
 -- the first good one of some places stands in one of them
 record StandsAt (t places : List ℕ) (symbol : ℕ) : Type 0 where
@@ -112,7 +112,7 @@ module _ (t : List ℕ) (k : ℕ) (h : k < length (symbolsIn t)) where
   read-at =
       getD-take (countIn t) (symbolsFrom t (startIn t)) k none (counted .0)
       ∙ any-default (symbolsFrom t (startIn t)) k none 0 (omega (arith, symbols-length t (startIn t), counted .1))
-      ∙ symbol-in-row t (startIn t) k (counted .1)
+      ∙ symbol-there t (startIn t) k (counted .1)
 
 pub only-what-stood : NothingElse
 unfolding symbolAt

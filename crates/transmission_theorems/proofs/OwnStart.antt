@@ -13,10 +13,10 @@ use Rattle.characters.specs.Code.{none}
 use Rattle.transmission.specs.Layout.{dxPhasing, rxPhasing, dx, rx}
 use Rattle.transmission.specs.Phasing.{heardAt, isPhasing, phasingAt}
 use Rattle.transmission.specs.Reading.{allInRow}
+use Rattle.transmission.proofs.RowTests.{in-row}
 use Rattle.transmission_theorems.proofs.Shown.{sent, KeptBut}
-use Rattle.transmission_theorems.proofs.RowTests.{in-row}
 use Rattle.transmission_theorems.proofs.InPlaceLaws.{ofPhasing, passing, at-least}
-use Rattle.transmission_theorems.proofs.PhasingLaws.{needs, starts}
+use Rattle.transmission_theorems.proofs.EnoughPhasing.{needs, starts}
 
 -- the symbol is sent in a place, and that is none of `count` from a place on
 abbrev stays : List ℕ → ℕ → ℕ → ℕ → ℕ → Bool

@@ -13,8 +13,8 @@ use Rattle.characters.specs.Code.{none}
 use Rattle.transmission.specs.Layout.{dxPhasing, rxPhasing, dx, rx}
 use Rattle.transmission.specs.Phasing.{mostLost, heardAt, isPhasing}
 use Rattle.transmission.specs.Reading.{allInRow}
+use Rattle.transmission.proofs.RowTests.{in-row}
 use Rattle.transmission_theorems.proofs.Shown.{sentBehind}
-use Rattle.transmission_theorems.proofs.RowTests.{in-row}
 use Rattle.transmission_theorems.proofs.InPlaceLaws.{passing}
 
 -- the first telecommand: 104 to 106, if any; the parity of the count: 105 or 106; a symbol of which all that is known is that it is not 125

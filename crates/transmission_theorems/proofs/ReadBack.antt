@@ -4,32 +4,22 @@ use mathlib.Core.Path.{_≡_, sym, ap, _∙_}
 use mathlib.Core.Bool.{true, false}
 use mathlib.Core.List.{List, _++_}
 use native.Mathlib.Omega.{arith}
-use native.Mathlib.Nat.{zero-add}
 use lib.ListN.{length, getD, take, drop, take-append-drop}
 use lib.Seq.{ext-getD, getD-take, length-take-le}
 use borrow.Author.Tests.{ne-eqb}
 use Rattle.sequence.specs.Figures.{longest}
 use Rattle.sequence.proofs.RefusalLaws.{all-held}
 use Rattle.characters.specs.Code.{none}
-use Rattle.characters.proofs.RowLaws.{length-in-row, at-place}
 use Rattle.transmission.specs.declared.Answer.the-variants.{Done}
 use Rattle.transmission.specs.Copies.{symbolAt, symbolsFrom, countOf}
-use Rattle.transmission.specs.Reading.{startIn, countIn, symbolsIn, phasingIn, unread}
-use Rattle.transmission.specs.Reading.{copiesIn, wholeIn, readingRefusals, readingAnswer}
+use Rattle.transmission.specs.Reading.{startIn, countIn, symbolsIn, phasingIn, unread, readingRefusals, readingAnswer}
+use Rattle.transmission.proofs.SymbolLaws.{symbols-length, symbol-there}
+use Rattle.transmission.proofs.CopyLaws.{all-copies, all-whole}
 use Rattle.transmission_theorems.proofs.EndLaws.{count-kept, front-ends}
-use Rattle.transmission_theorems.proofs.RowTests.{holds-in-row}
 
 -- 28 symbols from the start on, whatever follows the last
 abbrev inAll : List ℕ → List ℕ
 inAll t = symbolsFrom t (startIn t)
-
-pub symbols-length : (t : List ℕ) (start : ℕ) → length (symbolsFrom t start) ≡ 28
-unfolding symbolsFrom
-symbols-length t start = length-in-row (symbolAt t start) 0 28
-
-pub symbol-in-row : (t : List ℕ) (start k : ℕ) → k < 28 → getD (symbolsFrom t start) k 0 ≡ symbolAt t start k
-unfolding symbolsFrom
-symbol-in-row t start k h = at-place (symbolAt t start) 28 k h
 
 module _ (s t : List ℕ) (least : 21 ≤ length s) (most : length s ≤ 28) (small : (k : ℕ) → getD s k 0 ≤ 127)
     (ends : countOf s ≡ length s) (read : (k : ℕ) → k < length s → symbolAt t (startIn t) k ≡ getD s k 0) where
@@ -40,7 +30,7 @@ module _ (s t : List ℕ) (least : 21 ≤ length s) (most : length s ≤ 28) (sm
       ext-getD 0 _ s c
       (λ k h.
       let i : k < length s = omega arith in
-      getD-take (length s) (inAll t) k 0 i ∙ symbol-in-row t (startIn t) k (omega arith) ∙ read k i)
+      getD-take (length s) (inAll t) k 0 i ∙ symbol-there t (startIn t) k (omega arith) ∙ read k i)
 
   counts : countIn t ≡ length s
   unfolding countIn
@@ -59,17 +49,12 @@ module _ (s t : List ℕ) (least : 21 ≤ length s) (most : length s ≤ 28) (sm
       let i : k < length s = omega (arith, counts) in
       ne-eqb (symbolAt t (startIn t) k) none (λ e. omega (arith, small k, read k i))
 
-  copies : copiesIn t ≡ true
-  unfolding copiesIn
-  copies = holds-in-row _ 0 (countIn t) (λ k h. rw (zero-add k, all-read k h))
-
-  whole : wholeIn t ≡ true
-  unfolding wholeIn
-  whole = holds-in-row _ 0 (countIn t) (λ k h. rw (zero-add k, all-read k h))
-
   pub read-whole : phasingIn t ≡ true → readingAnswer t longest ≡ Done
   unfolding readingAnswer readingRefusals
-  read-whole found = all-held (readingRefusals t longest) Done (rw (found, copies, whole))
+  read-whole found =
+      let copies = all-copies t (countIn t) all-read (omega arith) in
+      let whole = all-whole t (countIn t) all-read (omega arith) in
+      all-held (readingRefusals t longest) Done (rw (found, copies, whole))
 
 -- and symbols that are read as some end where those end
 pub read-ends : (s t : List ℕ) → 21 ≤ length s → symbolsIn t ≡ s → countOf s ≡ length s

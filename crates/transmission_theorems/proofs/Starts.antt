@@ -16,11 +16,10 @@ use Rattle.characters.specs.Code.{none}
 use Rattle.transmission.specs.Layout.{dxPhasing}
 use Rattle.transmission.specs.Phasing.{heardAt, mostLost, dxGood, phasingAt, bestStart}
 use Rattle.transmission.specs.Reading.{startIn, phasingIn}
+use Rattle.transmission.proofs.PhasingLaws.{in-place-most, rx-most, phasing-most, at-most-14}
+use Rattle.transmission.proofs.BestLaws.{best-start}
 use Rattle.transmission_theorems.specs.Statement.{Accepted}
 use Rattle.transmission_theorems.proofs.Shown.{Found, FoundSpoiled, FoundCut, FoundAlone}
-use Rattle.transmission_theorems.proofs.BestLaws.{best-start}
-use Rattle.transmission_theorems.proofs.InPlaceLaws.{in-place-most, rx-most}
-use Rattle.transmission_theorems.proofs.PhasingLaws.{phasing-most, at-most-14, within-heard}
 use Rattle.transmission_theorems.proofs.NoOtherStart.{no-other-start}
 use Rattle.transmission_theorems.proofs.OwnStart.{spoiled-starts, cut-starts, whole-starts}
 
@@ -30,18 +29,18 @@ some-found : (t : List ℕ) (start : ℕ) → 1 ≤ phasingAt t start
 unfolding startIn phasingIn
 some-found t start h =
     let b = best-start t in
-    let most = b .most start (within-heard t start h) in
+    let most = b .most start tt in
     let own = b .its-own (omega arith) in
     (omega arith, le-leb 1 (bestStart t .phasing) (omega arith))
 
 -- no start before the best has as many
-before-best : (t : List ℕ) (start : ℕ) → 1 ≤ phasingAt t start → start < startIn t → phasingAt t start < phasingAt t (startIn t)
+before-best : (t : List ℕ) (start : ℕ) → start < startIn t → phasingAt t start < phasingAt t (startIn t)
 unfolding startIn
-before-best t start h l =
+before-best t start l =
     let b = best-start t in
-    let most = b .most start (within-heard t start h) in
+    let less = b .earliest start tt l in
     let own = b .its-own (omega arith) in
-    omega (arith, b .earliest start l)
+    omega arith
 
 -- the only one is found
 only-found : (t : List ℕ) (start : ℕ) → 1 ≤ phasingAt t start → ((q : ℕ) → (q ≡ start → ⊥) → phasingAt t q ≡ 0) → Found t start
@@ -87,7 +86,7 @@ module _ (t : List ℕ) (start : ℕ) (whole : phasingAt t start ≡ 14) where
           let n = eqb-false (startIn t) start p in
           let l = ltb-false (startIn t) start q in
           let w = best-whole in
-          let b = before-best t start (omega arith) (omega arith) in
+          let b = before-best t start (omega arith) in
           absurd (omega arith)
 
 -- a start at which nothing was heard is not whole

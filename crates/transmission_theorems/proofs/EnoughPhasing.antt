@@ -1,18 +1,17 @@
 -- How many phasing characters make a start.
-use Prim.Native.Nat.{ℕ, _+_, _≤_, _<_}
+use Prim.Native.Nat.{ℕ, _+_, _≤_}
 use mathlib.Core.Path.{_≡_, refl, sym, _∙_}
 use mathlib.Core.Logic.{_⊎_, inl, inr}
-use mathlib.Core.Bool.{Bool, true, false, cond, _&&_, _||_, or-true}
+use mathlib.Core.Bool.{true, false, cond, _&&_, _||_, or-true}
 use mathlib.Core.List.{List}
 use native.Mathlib.Omega.{arith}
-use lib.Dec.{leb, ltb}
-use lib.ListN.{length, List·getD-eq-default}
-use borrow.Author.Tests.{ltb-true, ltb-false, leb-true, leb-false, le-leb}
+use lib.Dec.{leb}
+use borrow.Author.Tests.{leb-true, leb-false, le-leb}
 use Rattle.sequence.proofs.Tests.{both-true, either-true, Either, yes!, no!, which}
 use Rattle.characters.specs.Code.{none}
 use Rattle.transmission.specs.Layout.{dxPhasing, rxPhasing}
 use Rattle.transmission.specs.Phasing.{heardAt, dxGood, rxGood, isPhasing, phasingAt}
-use Rattle.transmission_theorems.proofs.InPlaceLaws.{not-none, dx-most, rx-most, at-most}
+use Rattle.transmission_theorems.proofs.InPlaceLaws.{not-none, at-most}
 
 -- a start has an RX character, and three in all; and that is enough
 pub needs : (dx rx : ℕ) → isPhasing dx rx ≡ true → (1 ≤ rx) × (3 ≤ dx + rx)
@@ -65,31 +64,9 @@ no-start t start dx rx e h k = go (which (isPhasing (dxGood t start) (rxGood t s
         let z : true ≡ false = sym (enough dx rx (omega arith) (omega arith)) ∙ e in
         cc
 
-pub phasing-most : (t : List ℕ) (start : ℕ) → phasingAt t start ≤ dxGood t start + rxGood t start
-unfolding phasingAt
-phasing-most t start = go (isPhasing (dxGood t start) (rxGood t start))
-  where
-    go : (b : Bool) → cond b (dxGood t start + rxGood t start) 0 ≤ dxGood t start + rxGood t start
-    go true = omega arith
-    go false = omega arith
-
-pub at-most-14 : (t : List ℕ) (start : ℕ) → phasingAt t start ≤ 14
-at-most-14 t start = omega (arith, phasing-most t start, dx-most t start, rx-most t start)
-
 -- nothing stands where nothing was heard
 pub nothing-heard : (t : List ℕ) (start : ℕ) → ((q : ℕ) → heardAt t (start + q) ≡ none) → phasingAt t start ≡ 0
 unfolding dxPhasing rxPhasing isPhasing
 nothing-heard t start h =
     let b = at-most t start (λ q v. false) (λ q v l e. absurd (not-none v l (sym (h q) ∙ e))) in
     no-start t start 0 0 refl (b .0) (b .1)
-
--- so a start lies within what was heard
-pub within-heard : (t : List ℕ) (start : ℕ) → 1 ≤ phasingAt t start → start < length t
-within-heard t start h = go (which (ltb start (length t)))
-  where
-    go : Either (ltb start (length t)) → start < length t
-    go (yes! p) = ltb-true start (length t) p
-    go (no! p) =
-        let far = ltb-false start (length t) p in
-        let zero = nothing-heard t start (λ q. List·getD-eq-default t none {n = start + q} (omega arith)) in
-        absurd (omega arith)
