@@ -1,5 +1,5 @@
 -- Laws of the ten-unit code.
-use Prim.Native.Nat.{ℕ, _/_, _%_, _+_, _*_, _≤_, _<_}
+use Prim.Native.Nat.{ℕ, _%_, _≤_, _<_}
 use mathlib.Core.Path.{_≡_, refl, sym, ap, _∙_}
 use native.Mathlib.Omega.{arith}
 use lib.Dec.{eqb}

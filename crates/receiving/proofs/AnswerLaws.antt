@@ -9,7 +9,6 @@ use borrow.Author.Tests.{lt-leb, le-leb, lt-ltb, le-ltb, eq-eqb, ne-eqb}
 use Rattle.sequence.specs.Figures.{longest}
 use Rattle.transmission.specs.declared.Answer.{Answer}
 use Rattle.transmission.specs.declared.Answer.the-variants.{Done, ShortRoom, NoPhasing, CopiesBad, EndsEarly}
-use Rattle.transmission.specs.declared.Counted.{Counted}
 use Rattle.transmission.specs.declared.Start.{Start}
 use Rattle.transmission.specs.Answers.{isDone}
 use Rattle.transmission.specs.Phasing.{charactersOf, mostLost, heard, bestStart}

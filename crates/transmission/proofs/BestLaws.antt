@@ -10,7 +10,7 @@ use lib.ListN.{length}
 use borrow.Author.Tests.{leb-true, leb-false, ltb-true, ltb-false}
 use Rattle.sequence.proofs.Tests.{Either, yes!, no!, which}
 use Rattle.transmission.specs.declared.Start.{Start}
-use Rattle.transmission.specs.Phasing.{phasingAt, startAt, better, bestOf, bestStart}
+use Rattle.transmission.specs.Phasing.{phasingAt, startAt, bestOf, bestStart}
 use Rattle.transmission.proofs.PhasingLaws.{HasRx, start-has-rx, at-most-14, whole-has-first}
 
 -- the best among some starts

@@ -1,6 +1,6 @@
 -- Laws of a transmission's layout: how long its parts are, and what stands in each place.
-use Prim.Native.Nat.{ℕ, zero, suc, _+_, _-_, _*_, _%_, _/_, _<_, _≤_}
-use mathlib.Core.Path.{_≡_, refl, sym, ap, _∙_}
+use Prim.Native.Nat.{ℕ, zero, suc, _+_, _-_, _*_, _<_, _≤_}
+use mathlib.Core.Path.{_≡_, refl, ap, _∙_}
 use mathlib.Core.List.{List, [], _∷_, _++_, map}
 use native.Mathlib.Omega.{arith}
 use lib.Dec.{eqb}
@@ -49,20 +49,6 @@ in-turn-second (x ∷ xs) (y ∷ ys) (suc i) d h k =
 pub bytes-length : (cs : List ℕ) → length (bytesOf cs) ≡ 2 * length cs
 bytes-length [] = refl
 bytes-length (c ∷ cs) = let h = bytes-length cs in omega arith
-
-pub low-byte : (cs : List ℕ) (i : ℕ) → getD (bytesOf cs) (2 * i) 0 ≡ getD cs i 0 % 256
-low-byte [] i = refl
-low-byte (c ∷ cs) zero = refl
-low-byte (c ∷ cs) (suc i) =
-    let e : 2 * suc i ≡ suc (suc (2 * i)) = omega arith in
-    rw e (low-byte cs i)
-
-pub high-byte : (cs : List ℕ) (i : ℕ) → getD (bytesOf cs) (2 * i + 1) 0 ≡ getD cs i 0 / 256
-high-byte [] i = refl
-high-byte (c ∷ cs) zero = refl
-high-byte (c ∷ cs) (suc i) =
-    let e : 2 * suc i + 1 ≡ suc (suc (2 * i + 1)) = omega arith in
-    rw e (high-byte cs i)
 
 pub bytes-taken : (n : ℕ) (cs : List ℕ) → take (2 * n) (bytesOf cs) ≡ bytesOf (take n cs)
 bytes-taken zero cs = refl
@@ -143,14 +129,6 @@ module _ (s : List ℕ) where
   rx-end d two =
       let e : length s + 7 ≡ 9 + (length s - 2) = omega arith in
       rw e (rx-symbol (length s - 2) d ∙ any-default s (length s - 2) d 0 (omega arith))
-
-  -- "the RX of the character in DX place n stands in the RX place after DX place n + 2"
-  pub rx-behind-dx : (k d : ℕ) → k ≤ length s → getD (rx s) (8 + k) d ≡ getD (dx s) (6 + k) d
-  rx-behind-dx zero d h = rx-format d ∙ sym (dx-format d)
-  rx-behind-dx (suc k) d h =
-      let e : 8 + suc k ≡ 9 + k = omega arith in
-      let f : 6 + suc k ≡ 7 + k = omega arith in
-      rw (e, f) (rx-symbol k d ∙ sym (dx-symbol k d h))
 
   -- ── the characters ─────────────────────────────────────────────────────────
 

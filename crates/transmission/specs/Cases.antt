@@ -5,7 +5,6 @@ use lib.ListN.{length, take, drop, set, replicate}
 use Rattle.characters.specs.Code.{characterOf, none}
 use Rattle.characters.specs.Cases.{Case, gives}
 use Rattle.transmission.specs.declared.Counted.{Counted}
-use Rattle.transmission.specs.declared.Start.{Start}
 use Rattle.transmission.specs.Answers.{answerNumber}
 use Rattle.transmission.specs.Layout.{dx, rx, inTurn, transmission, bytesOf}
 use Rattle.transmission.specs.Writing.{transmissionWritten, roomAfterWriting}

@@ -1,4 +1,3 @@
-use mathlib.Core.Path.{_∙_, ap}
 use borrow.Author.Needs.{needs}
 use Rattle.characters.specs.Code.{symbolOf, noCharacter}
 use Rattle.characters.proofs.RowLaws.{at-place}

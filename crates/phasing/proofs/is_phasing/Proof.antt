@@ -1,5 +1,4 @@
-use mathlib.Core.Path.{_≡_, sym, ap, _∙_}
-use Prim.Native.Nat.{_≤_}
+use mathlib.Core.Path.{sym}
 use native.Mathlib.Omega.{arith}
 use Rattle.transmission.proofs.PhasingLaws.{no-rx, one-rx, two-rx, three-rx}
 use Rattle.phasing.proofs.is_phasing.Statement.{statement}

@@ -1,4 +1,3 @@
-use Prim.Native.Nat.{_<_, _≤_}
 use mathlib.Core.Path.{sym, ap, _∙_}
 use borrow.Author.Needs.{needs}
 use Rattle.characters.specs.Code.{symbolOf, noCharacter}
