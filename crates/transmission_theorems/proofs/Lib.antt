@@ -18,4 +18,5 @@ pub mod SentLaws
 pub mod HeardRest
 pub mod MadeGood
 pub mod NothingElse
+pub mod InRoom
 pub mod Theorems
