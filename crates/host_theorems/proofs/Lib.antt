@@ -4,3 +4,4 @@ pub mod Theorems
 pub mod Refusals
 pub mod Scripted
 pub mod Sequences
+pub mod Transmissions

@@ -145,13 +145,13 @@ counted w m rest v e f =
     rw (n, f) (take-at (layout m) rest (length (layout m)) refl)
 
 -- what an answer of 0 says
-record WasWritten (w : Passage) : Type 0 where
-  meaning : Meaning
-  is-valid : valid meaning ≡ true
-  symbols : written w ≡ layout meaning
-  bytes : InBytes (w .given) → telling (w .given) ≡ meaningBytes meaning
+pub record WasWritten (w : Passage) : Type 0 where
+  pub meaning : Meaning
+  pub is-valid : valid meaning ≡ true
+  pub symbols : written w ≡ layout meaning
+  pub bytes : InBytes (w .given) → telling (w .given) ≡ meaningBytes meaning
 
-was-written : {w : Passage} → ByWriter w → answerOf w ≡ 0 → WasWritten w
+pub was-written : {w : Passage} → ByWriter w → answerOf w ≡ 0 → WasWritten w
 was-written (by-write κs a n s p) e =
     let b = a .0 .now in
     let room = a .1 .0 .now in
@@ -208,10 +208,10 @@ c-takes-every-meaning m v = (
 
 -- ── and they are of something ────────────────────────────────────────────────
 
-lives : Lfts 2
+pub lives : Lfts 2
 lives = ([], ([], tt))
 
-abbrev slice : List ℕ → RefT (List ℕ)
+abbrev pub slice : List ℕ → RefT (List ℕ)
 slice l = record { ptr = (0, 0); name = 0; now = l }
 
 pub c-answers-every-input : CAnswersEveryInput

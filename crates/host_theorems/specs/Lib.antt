@@ -1,4 +1,5 @@
 pub mod Calls
 pub mod Statement
 pub mod Sequences
+pub mod Transmissions
 pub mod Scripts
