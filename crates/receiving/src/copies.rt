@@ -19,6 +19,16 @@ const FIRST_END: usize = 19;
 
 const LAST_END: usize = 25;
 
+// Where symbol k stands, with twice k to add: its first copy, and its repeat "after four other characters".
+const FIRST_COPY: usize = 14;
+
+pub(crate) const REPEAT: usize = 19;
+
+// "The format specifier stands twice": both copies once more, a place before.
+const FIRST_FORMAT: usize = FIRST_COPY - 2;
+
+const FORMAT_REPEAT: usize = REPEAT - 2;
+
 // The symbol, or none, at a place of what was heard, by the table of all characters.
 fn heard_at(characters: &[u8], table: &[u8], place: usize) -> u8
     requires { ⌜ IsTable (now table) ⌝ }
@@ -48,9 +58,9 @@ fn format_at(characters: &[u8], table: &[u8], start: usize) -> u8
     requires { ⌜ IsTable (now table) × (start ≤ mostLost + length (now characters) / 2) ⌝ }
     ensures { λ r. ⌜ r ≡ symbolAt (heard (charactersOf (now (characters .entry)))) start 0 ⌝ }
 {
-    let symbol = first_good(characters, table, start + 12, start + 14);
+    let symbol = first_good(characters, table, start + FIRST_FORMAT, start + FIRST_COPY);
     if symbol == NONE {
-        return first_good(characters, table, start + 17, start + 19);
+        return first_good(characters, table, start + FORMAT_REPEAT, start + REPEAT);
     }
     symbol
 }
@@ -63,7 +73,12 @@ fn symbol_at(characters: &[u8], table: &[u8], start: usize, k: usize) -> u8
     if k == 0 {
         return format_at(characters, table, start);
     }
-    first_good(characters, table, start + 14 + 2 * k, start + 19 + 2 * k)
+    first_good(
+        characters,
+        table,
+        start + FIRST_COPY + 2 * k,
+        start + REPEAT + 2 * k,
+    )
 }
 
 // As many symbols as the longest sequence has.

@@ -11,6 +11,7 @@ ghost use Rattle.receiving.specs.Copies.{answerToCopies};
 
 mod copies;
 
+use crate::copies::REPEAT;
 use crate::copies::count_of;
 use crate::copies::first_unread;
 use crate::copies::symbols_from;
@@ -33,7 +34,7 @@ fn answer_to_copies(characters: &[u8], start: usize, symbols: [u8; LONGEST], cou
     if count <= k {
         return Answer::Done;
     }
-    if start + 19 + 2 * k < MOST_LOST + characters.len() / 2 {
+    if start + REPEAT + 2 * k < MOST_LOST + characters.len() / 2 {
         return Answer::CopiesBad;
     }
     Answer::EndsEarly
