@@ -1,6 +1,7 @@
 -- Laws of the ten-unit code.
 use Prim.Native.Nat.{ℕ, _%_, _≤_, _<_}
 use mathlib.Core.Path.{_≡_, refl, sym, ap, _∙_}
+use mathlib.Core.Logic.{_⊎_, inl, inr, ⊎-elim}
 use native.Mathlib.Omega.{arith}
 use lib.Dec.{eqb}
 use borrow.Author.Tests.{le-leb, eq-eqb, ne-eqb, eqb-true, eqb-false}
@@ -12,11 +13,11 @@ use Rattle.characters.specs.Code.{zeros, tenUnits, characterOf, none, no
 pub ones-in-symbol : (symbol : ℕ) → symbol ≤ 127 → ones symbol ≤ 7
 ones-in-symbol symbol h = ones-le 7 symbol (omega (arith, h))
 
-pub zeros-at-most : (symbol : ℕ) → zeros symbol ≤ 7
+zeros-at-most : (symbol : ℕ) → zeros symbol ≤ 7
 unfolding zeros
 zeros-at-most symbol = omega arith
 
-pub units-fit : (symbol : ℕ) → symbol ≤ 127 → tenUnits symbol < noCharacter
+units-fit : (symbol : ℕ) → symbol ≤ 127 → tenUnits symbol < noCharacter
 unfolding tenUnits
 units-fit symbol h =
     let seven = zeros-at-most symbol in
@@ -41,13 +42,20 @@ pub symbol-of-its-own : (symbol : ℕ) → symbol ≤ 127 → symbolOf (characte
 unfolding symbolOf
 symbol-of-its-own symbol h = rw (units-low symbol h, eq-eqb (characterOf symbol) (characterOf symbol) refl)
 
-pub good-character : (character : ℕ) → symbolOf character ≤ 127 → characterOf (symbolOf character) ≡ character
+-- a character is none, or that of its symbol
+abbrev pub NoneOrGood : ℕ → Type 0
+NoneOrGood character = (symbolOf character ≡ none) ⊎ ((symbolOf character ≤ 127) × (characterOf (symbolOf character) ≡ character))
+
+pub none-or-good : (character : ℕ) → NoneOrGood character
 unfolding symbolOf
-good-character character h = go (which (eqb (characterOf (character % 128)) character)) h
+none-or-good character = go (which (eqb (characterOf (character % 128)) character))
   where
-    go : Either (eqb (characterOf (character % 128)) character) → symbolOf character ≤ 127 → characterOf (symbolOf character) ≡ character
-    go (yes! e) k = rw e (eqb-true _ _ e)
-    go (no! e) k = absurd (omega (arith, rw e at k))
+    go : Either (eqb (characterOf (character % 128)) character) → NoneOrGood character
+    go (yes! e) = inr (rw e (omega arith), rw e (eqb-true _ _ e))
+    go (no! e) = inl (rw e)
+
+pub good-character : (character : ℕ) → symbolOf character ≤ 127 → characterOf (symbolOf character) ≡ character
+good-character character h = ⊎-elim (λ n. absurd (omega (arith, n, h))) (λ good. good .1) (none-or-good character)
 
 -- a character is read as a symbol exactly where it is that symbol's own
 pub reads-as : (character symbol : ℕ) → symbol ≤ 127 → eqb (symbolOf character) symbol ≡ eqb character (characterOf symbol)

@@ -9,7 +9,7 @@ pub length-in-row : (f : ℕ → ℕ) (k n : ℕ) → length (inRow f k n) ≡ n
 length-in-row f k zero = refl
 length-in-row f k (suc n) = ap suc (length-in-row f (suc k) n)
 
-pub at-in-row : (f : ℕ → ℕ) (k n i : ℕ) → i < n → getD (inRow f k n) i 0 ≡ f (k + i)
+at-in-row : (f : ℕ → ℕ) (k n i : ℕ) → i < n → getD (inRow f k n) i 0 ≡ f (k + i)
 at-in-row f k zero i h = absurd (not-suc-le-zero h)
 at-in-row f k (suc n) zero h = ap f (sym (add-zero k))
 at-in-row f k (suc n) (suc i) h = at-in-row f (suc k) n i (le-of-suc-le-suc h) ∙ ap f (suc-add k i ∙ sym (add-suc k i))

@@ -1,7 +1,7 @@
 -- The character at a place, by the bytes handed in; and phasing by characters is phasing by symbols.
 use Prim.Native.Nat.{ℕ, _+_, _-_, _*_, _/_, _≤_, _<_}
 use mathlib.Core.Path.{_≡_, refl, _∙_}
-use mathlib.Core.Bool.{Bool, true, false, cond}
+use mathlib.Core.Bool.{true, false, cond}
 use mathlib.Core.List.{List, [], _∷_, map}
 use native.Mathlib.Nat.{zero-add, add-zero}
 use native.Mathlib.Omega.{arith}
@@ -18,6 +18,7 @@ use Rattle.characters.proofs.CodeLaws.{over-is-none, reads-as}
 use Rattle.transmission.specs.Layout.{dxPhasing, rxPhasing}
 use Rattle.transmission.specs.Phasing.{charactersOf, mostLost, heard, heardAt, inPlace, dxGood, rxGood, isPhasing, phasingAt}
 use Rattle.transmission.proofs.HeardLaws.{length-characters, character-there, heard-lost, heard-there}
+use Rattle.transmission.proofs.PhasingLaws.{one-at-most}
 use Rattle.phasing.specs.Characters.{characterAt, dxCharacters, rxCharacters, standing}
 
 -- ── a character ──────────────────────────────────────────────────────────────
@@ -91,13 +92,9 @@ pub standing-most : (bytes wanted : List ℕ) (place : ℕ) → standing bytes w
 standing-most bytes [] place = omega arith
 standing-most bytes (character ∷ wanted) place =
     omega (arith, one-at-most (eqb (characterAt bytes place) character), standing-most bytes wanted (place + 2))
-  where
-    one-at-most : (b : Bool) → cond b 1 0 ≤ 1
-    one-at-most true = omega arith
-    one-at-most false = omega arith
 
 -- by the characters of symbols they are as many as by the symbols
-pub standing-is : (bytes wanted : List ℕ) (place : ℕ) → allAtMost 127 wanted ≡ true
+standing-is : (bytes wanted : List ℕ) (place : ℕ) → allAtMost 127 wanted ≡ true
     → standing bytes (map characterOf wanted) place ≡ inPlace (heard (charactersOf bytes)) wanted place
 standing-is bytes [] place h = refl
 standing-is bytes (symbol ∷ wanted) place h =
@@ -105,11 +102,11 @@ standing-is bytes (symbol ∷ wanted) place h =
     rw (heard-is bytes place, reads-as (characterAt bytes place) symbol (leb-true _ _ (a .0)), standing-is bytes wanted (place + 2) (a .1))
 
 module _ (bytes : List ℕ) (start : ℕ) where
-  pub dx-standing : standing bytes dxCharacters start ≡ dxGood (heard (charactersOf bytes)) start
+  dx-standing : standing bytes dxCharacters start ≡ dxGood (heard (charactersOf bytes)) start
   unfolding dxGood dxPhasing characterOf tenUnits zeros ones onesIn
   dx-standing = standing-is bytes dxPhasing start refl
 
-  pub rx-standing : standing bytes rxCharacters (start + 1) ≡ rxGood (heard (charactersOf bytes)) start
+  rx-standing : standing bytes rxCharacters (start + 1) ≡ rxGood (heard (charactersOf bytes)) start
   unfolding rxGood rxPhasing characterOf tenUnits zeros ones onesIn
   rx-standing = standing-is bytes rxPhasing (start + 1) refl
 

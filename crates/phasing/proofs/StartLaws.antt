@@ -13,7 +13,7 @@ use Rattle.characters.specs.Code.{characterOf, symbolOf}
 use Rattle.characters.proofs.CodeLaws.{units-low, good-character}
 use Rattle.transmission.specs.declared.Start.{Start}
 use Rattle.transmission.specs.Phasing.{charactersOf, mostLost, heard, phasingAt, startAt, bestStart}
-use Rattle.transmission.proofs.HeardLaws.{length-characters, length-heard, heard-lost}
+use Rattle.transmission.proofs.HeardLaws.{heard-lost, length-heard-bytes}
 use Rattle.transmission.proofs.PhasingLaws.{HasRx}
 use Rattle.transmission.proofs.BestLaws.{Best, OneMore, none-yet, of-fewer, stays, beaten, best-with-rx, best-when-whole}
 use Rattle.phasing.specs.Characters.{characterAt}
@@ -22,7 +22,7 @@ use Rattle.phasing.proofs.CharacterLaws.{handed-in, heard-is}
 
 -- ── one start more ───────────────────────────────────────────────────────────
 
-pub better-is-best : (t : List ℕ) (among wider : ℕ → Type 0) (best : Start) (start : ℕ) → Best t among best → OneMore among wider start
+better-is-best : (t : List ℕ) (among wider : ℕ → Type 0) (best : Start) (start : ℕ) → Best t among best → OneMore among wider start
     → Best t wider (betterOf best (startAt t start))
 better-is-best t among wider best start b more =
     go (which (ltb (best .phasing) (phasingAt t start))) (which (ltb (phasingAt t start) (best .phasing))) (which (ltb start (best .place)))
@@ -73,7 +73,7 @@ units-of bytes i symbol h k e =
     let its-own = sym (ap characterOf e) ∙ good-character (characterAt bytes (mostLost + i)) (rw e k) in
     omega (arith, bytes-of, its-own, units-low symbol k)
 
-pub rx-or-here : (bytes : List ℕ) (i start : ℕ) → i < length bytes / 2 → HasRx (heard (charactersOf bytes)) (mostLost + (i + 1)) start
+rx-or-here : (bytes : List ℕ) (i start : ℕ) → i < length bytes / 2 → HasRx (heard (charactersOf bytes)) (mostLost + (i + 1)) start
     → HasRx (heard (charactersOf bytes)) (mostLost + i) start ⊎ Here bytes i start
 rx-or-here bytes i start h r = go (which (ltb (start + 1 + 2 * r .number) (mostLost + i)))
   where
@@ -117,8 +117,7 @@ none-before bytes = (none-yet (heard (charactersOf bytes)) _ lost, omega arith)
 pub best-behind : (bytes : List ℕ) (i : ℕ) (best : Start) → length bytes / 2 ≡ i → BestBefore bytes (mostLost + i) best
     → best ≡ bestStart (heard (charactersOf bytes))
 best-behind bytes i best e b =
-    let f : length (heard (charactersOf bytes)) ≡ mostLost + i =
-    length-heard (charactersOf bytes) ∙ ap (λ (n : ℕ). mostLost + n) (length-characters bytes ∙ e) in
+    let f : length (heard (charactersOf bytes)) ≡ mostLost + i = rw e at (length-heard-bytes bytes) in
     best-with-rx (heard (charactersOf bytes)) best (rw f (b .0))
 
 pub best-whole : (bytes : List ℕ) (place : ℕ) (best : Start) → best .phasing ≡ 14 → BestBefore bytes place best

@@ -15,18 +15,15 @@ use Rattle.transmission.specs.Phasing.{charactersOf, mostLost, heard, bestStart
 use Rattle.transmission.specs.Copies.{symbolAt, symbolsFrom, countOf, copiesThere}
 use Rattle.transmission.specs.Reading.{startIn, countIn, symbolsIn, phasingIn, unread, readingRefusals, readingAnswer}
 use Rattle.transmission.specs.Reading.{transmissionRead, roomAfterReading}
-use Rattle.transmission.proofs.HeardLaws.{length-characters, length-heard}
+use Rattle.transmission.proofs.HeardLaws.{length-heard-bytes}
 use Rattle.transmission.proofs.BestLaws.{best-within}
 use Rattle.transmission.proofs.SymbolLaws.{symbol-there, count-most}
 use Rattle.transmission.proofs.CopyLaws.{all-copies, all-whole, copies-bad, no-copies-bad, ends-early}
 use Rattle.receiving.specs.Copies.{FirstUnread, answerToCopies}
 
-pub heard-length : (bytes : List ℕ) → length (heard (charactersOf bytes)) ≡ mostLost + length bytes / 2
-heard-length bytes = length-heard (charactersOf bytes) ∙ ap (λ (n : ℕ). mostLost + n) (length-characters bytes)
-
 pub start-most : (bytes : List ℕ) → startIn (heard (charactersOf bytes)) ≤ mostLost + length bytes / 2
 unfolding startIn
-start-most bytes = omega (arith, best-within (heard (charactersOf bytes)), heard-length bytes)
+start-most bytes = omega (arith, best-within (heard (charactersOf bytes)), length-heard-bytes bytes)
 
 pub start-found : (t : List ℕ) (best : Start) → best ≡ bestStart t → best .place ≡ startIn t
 unfolding startIn

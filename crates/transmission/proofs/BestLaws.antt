@@ -82,7 +82,7 @@ abbrev pub Every : ℕ → Type 0
 Every q = Prim.Unit {0}
 
 -- where no other start has phasing, the best of some is the best of all
-pub best-of-all : (t : List ℕ) (among : ℕ → Type 0) (best : Start) → Best t among best → ((q : ℕ) → 1 ≤ phasingAt t q → among q)
+best-of-all : (t : List ℕ) (among : ℕ → Type 0) (best : Start) → Best t among best → ((q : ℕ) → 1 ≤ phasingAt t q → among q)
     → Best t Every best
 best-of-all t among best b all =
     record {
@@ -122,7 +122,7 @@ same-start a b e f = go (a .place) (b .place) (a .phasing) (b .phasing) e f
     go : (p q m n : ℕ) → p ≡ q → m ≡ n → _≡_ {A = Start} (record { place = p; phasing = m }) (record { place = q; phasing = n })
     go p q m n e f = rw (e, f)
 
-pub one-best : (t : List ℕ) (a b : Start) → Best t Every a → Best t Every b → a ≡ b
+one-best : (t : List ℕ) (a b : Start) → Best t Every a → Best t Every b → a ≡ b
 one-best t a b p q =
     let same : a .phasing ≡ b .phasing = omega (arith, no-more t a b p q, no-more t b a q p) in
     same-start a b (omega (arith, no-later t a b p q same, no-later t b a q p (sym same))) same

@@ -14,7 +14,8 @@ use Rattle.transmission.specs.Cases.{writingCases, phasingCases, reading
 use Rattle.transmission.proofs.Tested.{all-as-read}
 
 pub writing-computed : map (λ c. c .computed) writingCases ≡ map (λ c. c .expected) writingCases
-unfolding zeros tenUnits characterOf ones onesIn dxPhasing rxPhasing dx rx transmission lengthIn writingRefusals writingAnswer transmissionWritten transmissionLaid roomAfterWriting
+unfolding zeros tenUnits characterOf ones onesIn dxPhasing rxPhasing dx rx transmission lengthIn
+    writingRefusals writingAnswer transmissionWritten transmissionLaid roomAfterWriting
 writing-computed = refl
 
 pub phasing-computed : map (λ c. c .computed) phasingCases ≡ map (λ c. c .expected) phasingCases
@@ -22,5 +23,6 @@ unfolding zeros tenUnits characterOf symbolOf ones onesIn dxPhasing rxPhasing he
 phasing-computed = refl
 
 pub reading-computed : map computedOf readingCases ≡ map expectedOf readingCases
-unfolding zeros tenUnits characterOf symbolOf ones onesIn dxPhasing rxPhasing dx rx heard dxGood rxGood isPhasing phasingAt bestStart startIn phasingIn symbolAt symbolsFrom countOf copiesThere endOk
+unfolding zeros tenUnits characterOf symbolOf ones onesIn dxPhasing rxPhasing dx rx heard dxGood rxGood isPhasing phasingAt bestStart
+    startIn phasingIn symbolAt symbolsFrom countOf copiesThere endOk
 reading-computed = all-as-read readingCases refl

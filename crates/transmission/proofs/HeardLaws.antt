@@ -3,8 +3,11 @@ use Prim.Native.Nat.{ℕ, zero, suc, _+_, _*_, _/_, _<_}
 use mathlib.Core.Path.{_≡_, refl, ap, _∙_}
 use mathlib.Core.List.{List, [], _∷_, map}
 use native.Mathlib.Omega.{arith}
-use lib.ListN.{length, getD, replicate, length-append, length-map, getD-replicate, List·getD-append, List·getD-map}
+use lib.Dec.{ltb}
+use lib.ListN.{length, getD, replicate, length-append, length-map, getD-replicate, List·getD-append, List·getD-eq-default, List·getD-map}
 use lib.Seq.{getD-append-add}
+use borrow.Author.Tests.{ltb-true, ltb-false}
+use Rattle.sequence.proofs.Tests.{Either, yes!, no!, which}
 use Rattle.characters.specs.Code.{none, noCharacter, symbolOf}
 use Rattle.characters.proofs.CodeLaws.{over-is-none}
 use Rattle.transmission.specs.Phasing.{charactersOf, mostLost, heard, heardAt}
@@ -23,6 +26,14 @@ character-there (low ∷ high ∷ bytes) (suc i) d h =
     let e : 2 * suc i ≡ suc (suc (2 * i)) = omega arith in
     let f : suc (suc (2 * i)) + 1 ≡ suc (suc (2 * i + 1)) = omega arith in
     rw (e, f) (character-there bytes i d (omega arith))
+
+-- a place that holds a symbol is there
+pub good-is-there : (t : List ℕ) (place : ℕ) → (heardAt t place ≡ none → ⊥) → place < length t
+good-is-there t place good = go (which (ltb place (length t)))
+  where
+    go : Either (ltb place (length t)) → place < length t
+    go (yes! l) = ltb-true _ _ l
+    go (no! l) = absurd (good (List·getD-eq-default t none (ltb-false place _ l)))
 
 module _ (characters : List ℕ) where
   pub length-heard : length (heard characters) ≡ mostLost + length characters
@@ -43,3 +54,7 @@ module _ (characters : List ℕ) where
   heard-there i =
       getD-append-add (replicate mostLost none) (map symbolOf characters) i none
       ∙ rw (over-is-none noCharacter (omega arith)) (List·getD-map symbolOf characters i noCharacter)
+
+-- half a character at the end is not heard
+pub length-heard-bytes : (bytes : List ℕ) → length (heard (charactersOf bytes)) ≡ mostLost + length bytes / 2
+length-heard-bytes bytes = length-heard (charactersOf bytes) ∙ ap (λ (n : ℕ). mostLost + n) (length-characters bytes)

@@ -1,6 +1,6 @@
 -- Laws of a transmission's layout: how long its parts are, and what stands in each place.
 use Prim.Native.Nat.{ℕ, zero, suc, _+_, _-_, _*_, _<_, _≤_}
-use mathlib.Core.Path.{_≡_, refl, ap, _∙_}
+use mathlib.Core.Path.{_≡_, refl, sym, ap, _∙_}
 use mathlib.Core.List.{List, [], _∷_, _++_, map}
 use native.Mathlib.Omega.{arith}
 use lib.Dec.{eqb}
@@ -10,7 +10,7 @@ use borrow.Author.Tests.{eqb-true, eqb-false}
 use Rattle.sequence.proofs.Tests.{Either, yes!, no!, which}
 use Rattle.characters.specs.Code.{characterOf}
 use Rattle.characters.proofs.RowLaws.{at-place}
-use Rattle.transmission.specs.Layout.{dxPhasing, rxPhasing, formatTwice, endOf, dx, rx, inTurn, transmission, bytesOf}
+use Rattle.transmission.specs.Layout.{dxPhasing, rxPhasing, formatTwice, endOf, dx, rx, inTurn, sent, transmission, bytesOf}
 
 -- within a list the default plays no part
 pub any-default : (l : List ℕ) (i d e : ℕ) → i < length l → getD l i d ≡ getD l i e
@@ -18,17 +18,17 @@ any-default [] i d e h = absurd (omega arith)
 any-default (x ∷ l) zero d e h = refl
 any-default (x ∷ l) (suc i) d e h = any-default l i d e (omega arith)
 
-pub map-within : (f : ℕ → ℕ) (l : List ℕ) (i d : ℕ) → i < length l → getD (map f l) i d ≡ f (getD l i 0)
+map-within : (f : ℕ → ℕ) (l : List ℕ) (i d : ℕ) → i < length l → getD (map f l) i d ≡ f (getD l i 0)
 map-within f l i d h = any-default (map f l) i d (f 0) (rw (length-map l f) h) ∙ List·getD-map f l i 0
 
 -- ── two lists in turn ────────────────────────────────────────────────────────
 
-pub in-turn-length : (xs ys : List ℕ) → length xs ≡ length ys → length (inTurn xs ys) ≡ 2 * length xs
+in-turn-length : (xs ys : List ℕ) → length xs ≡ length ys → length (inTurn xs ys) ≡ 2 * length xs
 in-turn-length [] ys e = refl
 in-turn-length (x ∷ xs) [] e = absurd (omega arith)
 in-turn-length (x ∷ xs) (y ∷ ys) e = let h = in-turn-length xs ys (omega arith) in omega arith
 
-pub in-turn-first : (xs ys : List ℕ) (i d : ℕ) → i < length xs → i < length ys → getD (inTurn xs ys) (2 * i) d ≡ getD xs i d
+in-turn-first : (xs ys : List ℕ) (i d : ℕ) → i < length xs → i < length ys → getD (inTurn xs ys) (2 * i) d ≡ getD xs i d
 in-turn-first [] ys i d h k = absurd (omega arith)
 in-turn-first (x ∷ xs) [] i d h k = absurd (omega arith)
 in-turn-first (x ∷ xs) (y ∷ ys) zero d h k = refl
@@ -36,7 +36,7 @@ in-turn-first (x ∷ xs) (y ∷ ys) (suc i) d h k =
     let e : 2 * suc i ≡ suc (suc (2 * i)) = omega arith in
     rw e (in-turn-first xs ys i d (omega arith) (omega arith))
 
-pub in-turn-second : (xs ys : List ℕ) (i d : ℕ) → i < length xs → i < length ys → getD (inTurn xs ys) (2 * i + 1) d ≡ getD ys i d
+in-turn-second : (xs ys : List ℕ) (i d : ℕ) → i < length xs → i < length ys → getD (inTurn xs ys) (2 * i + 1) d ≡ getD ys i d
 in-turn-second [] ys i d h k = absurd (omega arith)
 in-turn-second (x ∷ xs) [] i d h k = absurd (omega arith)
 in-turn-second (x ∷ xs) (y ∷ ys) zero d h k = refl
@@ -67,11 +67,11 @@ bytes-dropped (suc n) (c ∷ cs) =
 -- ── DX and RX ────────────────────────────────────────────────────────────────
 
 module _ (s : List ℕ) where
-  pub dx-length : length (dx s) ≡ length s + 9
+  dx-length : length (dx s) ≡ length s + 9
   unfolding dx dxPhasing
   dx-length = simp length-append (omega arith)
 
-  pub rx-length : length (rx s) ≡ length s + 9
+  rx-length : length (rx s) ≡ length s + 9
   unfolding rx rxPhasing
   rx-length = omega arith
 
@@ -130,30 +130,28 @@ module _ (s : List ℕ) where
       let e : length s + 7 ≡ 9 + (length s - 2) = omega arith in
       rw e (rx-symbol (length s - 2) d ∙ any-default s (length s - 2) d 0 (omega arith))
 
+  -- ── in turn ────────────────────────────────────────────────────────────────
+
+  pub sent-length : length (sent s) ≡ 2 * (length s + 9)
+  sent-length = in-turn-length (dx s) (rx s) (dx-length ∙ sym rx-length) ∙ ap (λ (n : ℕ). 2 * n) dx-length
+
+  -- DX in the even places, RX in the odd ones
+  pub sent-dx : (i d : ℕ) → i < length s + 9 → getD (sent s) (2 * i) d ≡ getD (dx s) i d
+  sent-dx i d h = in-turn-first (dx s) (rx s) i d (rw dx-length h) (rw rx-length h)
+
+  pub sent-rx : (i d : ℕ) → i < length s + 9 → getD (sent s) (2 * i + 1) d ≡ getD (rx s) i d
+  sent-rx i d h = in-turn-second (dx s) (rx s) i d (rw dx-length h) (rw rx-length h)
+
   -- ── the characters ─────────────────────────────────────────────────────────
 
   pub transmission-length : length (transmission s) ≡ 2 * (length s + 9)
   unfolding transmission
-  transmission-length =
-      let a = dx-length in
-      let b = rx-length in
-      rw (length-map (inTurn (dx s) (rx s)) characterOf, in-turn-length (dx s) (rx s) (omega arith), dx-length)
+  transmission-length = length-map (sent s) characterOf ∙ sent-length
 
-  -- DX in the even places, RX in the odd ones
   pub transmission-dx : (i d : ℕ) → i < length s + 9 → getD (transmission s) (2 * i) d ≡ characterOf (getD (dx s) i 0)
   unfolding transmission
-  transmission-dx i d h =
-      let a = dx-length in
-      let b = rx-length in
-      let l = in-turn-length (dx s) (rx s) (omega arith) in
-      map-within characterOf (inTurn (dx s) (rx s)) (2 * i) d (omega arith)
-      ∙ ap characterOf (in-turn-first (dx s) (rx s) i 0 (omega arith) (omega arith))
+  transmission-dx i d h = map-within characterOf (sent s) (2 * i) d (omega (arith, sent-length)) ∙ ap characterOf (sent-dx i 0 h)
 
   pub transmission-rx : (i d : ℕ) → i < length s + 9 → getD (transmission s) (2 * i + 1) d ≡ characterOf (getD (rx s) i 0)
   unfolding transmission
-  transmission-rx i d h =
-      let a = dx-length in
-      let b = rx-length in
-      let l = in-turn-length (dx s) (rx s) (omega arith) in
-      map-within characterOf (inTurn (dx s) (rx s)) (2 * i + 1) d (omega arith)
-      ∙ ap characterOf (in-turn-second (dx s) (rx s) i 0 (omega arith) (omega arith))
+  transmission-rx i d h = map-within characterOf (sent s) (2 * i + 1) d (omega (arith, sent-length)) ∙ ap characterOf (sent-rx i 0 h)

@@ -4,14 +4,14 @@ use mathlib.Core.Path.{_≡_, _∙_}
 use mathlib.Core.Bool.{Bool, true, false, cond, _||_, and-true, and-false, or-true, or-false}
 use mathlib.Core.List.{List, [], _∷_}
 use native.Mathlib.Omega.{arith}
-use lib.Dec.{leb, ltb, eqb}
-use lib.ListN.{length, getD, drop, List·getD-eq-default}
-use borrow.Author.Tests.{le-leb, leb-true, leb-false, ltb-true, ltb-false, eqb-true}
+use lib.Dec.{leb, eqb}
+use lib.ListN.{length, getD, drop}
+use borrow.Author.Tests.{le-leb, leb-true, leb-false, eqb-true}
 use Rattle.sequence.proofs.Tests.{Either, yes!, no!, which}
-use Rattle.characters.specs.Code.{none}
 use Rattle.characters.proofs.RowLaws.{at-place}
 use Rattle.transmission.specs.Layout.{dxPhasing, rxPhasing}
 use Rattle.transmission.specs.Phasing.{heardAt, inPlace, dxGood, rxGood, isPhasing, phasingAt}
+use Rattle.transmission.proofs.HeardLaws.{good-is-there}
 
 -- ── "two DX and one RX, or one DX and two RX, or three RX", by the count of RX ─
 
@@ -45,7 +45,7 @@ pub record Stands (t wanted : List ℕ) (place : ℕ) : Type 0 where
   pub is-wanted : number < length wanted
   pub there : heardAt t (place + 2 * number) ≡ getD wanted number 0
 
-pub one-stands : (t wanted : List ℕ) (place : ℕ) → 1 ≤ inPlace t wanted place → Stands t wanted place
+one-stands : (t wanted : List ℕ) (place : ℕ) → 1 ≤ inPlace t wanted place → Stands t wanted place
 one-stands t [] place h = absurd (omega arith)
 one-stands t (symbol ∷ wanted) place h = go (which (eqb (heardAt t place) symbol)) (one-stands t wanted (place + 2)) h
   where
@@ -66,13 +66,6 @@ pub record HasRx (t : List ℕ) (end start : ℕ) : Type 0 where
   pub before-end : start + 1 + 2 * number < end
   pub there : heardAt t (start + 1 + 2 * number) ≡ 111 - number
 
-within : (t : List ℕ) (place symbol : ℕ) → heardAt t place ≡ symbol → symbol < none → place < length t
-within t place symbol e h = go (which (ltb place (length t)))
-  where
-    go : Either (ltb place (length t)) → place < length t
-    go (yes! l) = ltb-true _ _ l
-    go (no! l) = absurd (omega (arith, e, List·getD-eq-default t none (ltb-false _ _ l)))
-
 needs-rx : (t : List ℕ) (start : ℕ) → 1 ≤ phasingAt t start → 1 ≤ rxGood t start
 unfolding phasingAt
 needs-rx t start h = go (which (leb 1 (rxGood t start)))
@@ -91,13 +84,13 @@ start-has-rx t start h =
     record {
       number = s .number;
       of-eight = s .is-wanted;
-      before-end = within t (start + 1 + 2 * s .number) (111 - s .number) e (omega arith);
+      before-end = good-is-there t (start + 1 + 2 * s .number) (λ n. omega (arith, e, n));
       there = e;
     }
 
 -- ── no start has more than fourteen ──────────────────────────────────────────
 
-one-at-most : (b : Bool) → cond b 1 0 ≤ 1
+pub one-at-most : (b : Bool) → cond b 1 0 ≤ 1
 one-at-most true = omega arith
 one-at-most false = omega arith
 
@@ -107,7 +100,7 @@ in-place-most t (symbol ∷ wanted) place =
     omega (arith, one-at-most (eqb (heardAt t place) symbol), in-place-most t wanted (place + 2))
 
 module _ (t : List ℕ) (start : ℕ) where
-  pub dx-most : dxGood t start ≤ 6
+  dx-most : dxGood t start ≤ 6
   unfolding dxGood dxPhasing
   dx-most = in-place-most t dxPhasing start
 

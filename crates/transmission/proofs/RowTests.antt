@@ -7,13 +7,13 @@ use native.Mathlib.Nat.{add-zero, zero-add, add-suc, suc-add}
 use Rattle.sequence.proofs.Tests.{both-true, Either, yes!, no!, which}
 use Rattle.transmission.specs.Reading.{allInRow}
 
-pub holds-in-row : (test : ℕ → Bool) (k n : ℕ) → ((i : ℕ) → i < n → test (k + i) ≡ true) → allInRow test k n ≡ true
+holds-in-row : (test : ℕ → Bool) (k n : ℕ) → ((i : ℕ) → i < n → test (k + i) ≡ true) → allInRow test k n ≡ true
 holds-in-row test k zero h = refl
 holds-in-row test k (suc n) h =
     rw (ap test (sym (add-zero k)) ∙ h 0 (omega arith))
     (holds-in-row test (suc k) n (λ i l. ap test (suc-add k i ∙ sym (add-suc k i)) ∙ h (suc i) (omega arith)))
 
-pub row-holds : (test : ℕ → Bool) (k n i : ℕ) → allInRow test k n ≡ true → i < n → test (k + i) ≡ true
+row-holds : (test : ℕ → Bool) (k n i : ℕ) → allInRow test k n ≡ true → i < n → test (k + i) ≡ true
 row-holds test k zero i e h = absurd (omega arith)
 row-holds test k (suc n) zero e h = ap test (add-zero k) ∙ both-true (test k) (allInRow test (suc k) n) e .0
 row-holds test k (suc n) (suc i) e h =

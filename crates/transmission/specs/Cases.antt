@@ -6,7 +6,7 @@ use Rattle.characters.specs.Code.{characterOf, none}
 use Rattle.characters.specs.Cases.{Case, gives}
 use Rattle.transmission.specs.declared.Counted.{Counted}
 use Rattle.transmission.specs.Answers.{answerNumber}
-use Rattle.transmission.specs.Layout.{dx, rx, inTurn, transmission, bytesOf}
+use Rattle.transmission.specs.Layout.{sent, transmission, bytesOf}
 use Rattle.transmission.specs.Writing.{transmissionWritten, roomAfterWriting}
 use Rattle.transmission.specs.Phasing.{charactersOf, heard, bestStart}
 use Rattle.transmission.specs.Reading.{transmissionRead, roomAfterReading}
@@ -36,7 +36,7 @@ writes s room expected = gives (counted (transmissionWritten s room)) expected
 
 abbrev pub writingCases : List Case
 writingCases =
-    gives (inTurn (dx p1) (rx p1)) p1Sent
+    gives (sent p1) p1Sent
     -- 125, 111, 125, 110 as characters, and in bytes
     ∷ gives (take 4 (transmission p1)) (637 ∷ 623 ∷ 637 ∷ 366 ∷ [])
     ∷ gives (take 8 (bytesOf (transmission p1))) (125 ∷ 2 ∷ 111 ∷ 2 ∷ 125 ∷ 2 ∷ 110 ∷ 1 ∷ [])
@@ -101,9 +101,6 @@ phasingCases =
 abbrev pub without : List ℕ → List ℕ
 without [] = p1Sent
 without (place ∷ places) = set (without places) place none
-
-abbrev pub sent : List ℕ → List ℕ
-sent s = inTurn (dx s) (rx s)
 
 -- the symbols of the places before 18
 abbrev pub eighteen : List ℕ

@@ -34,8 +34,12 @@ inTurn [] ys = []
 inTurn (x ∷ xs) [] = []
 inTurn (x ∷ xs) (y ∷ ys) = x ∷ y ∷ inTurn xs ys
 
+-- the symbols in the order sent
+abbrev pub sent : List ℕ → List ℕ
+sent s = inTurn (dx s) (rx s)
+
 unfoldable pub transmission : List ℕ → List ℕ
-transmission s = map characterOf (inTurn (dx s) (rx s))
+transmission s = map characterOf (sent s)
 
 -- each character in two bytes, low byte first
 abbrev pub bytesOf : List ℕ → List ℕ

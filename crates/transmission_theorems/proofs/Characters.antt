@@ -1,31 +1,21 @@
 -- What one character withstands.
-use Prim.Native.Nat.{ℕ, _+_, _*_, _/_, _%_, _^_, _≤_}
+use Prim.Native.Nat.{ℕ, _+_, _*_, _/_, _%_, _^_}
 use mathlib.Core.Path.{_≡_, refl, sym, _∙_}
-use mathlib.Core.Logic.{_⊎_, inl, inr}
 use native.Mathlib.Omega.{arith}
 use lib.Bits.{bitXor}
 use lib.Count.{ones, onesIn}
-use lib.Dec.{eqb}
 use lib.ListN.{replicate, getD-replicate}
-use borrow.Author.Tests.{eqb-true}
-use Rattle.sequence.proofs.Tests.{Either, yes!, no!, which}
 use Rattle.characters.specs.Rows.{inRow}
 use Rattle.characters.specs.Code.{zeros, tenUnits, characterOf, symbolOf, none}
 use Rattle.characters.proofs.RowLaws.{at-place}
-use Rattle.characters.proofs.CodeLaws.{symbol-of-its-own}
+use Rattle.characters.proofs.CodeLaws.{symbol-of-its-own, none-or-good}
 use Rattle.transmission_theorems.specs.Statement.{CharactersReadBack, SymbolsWriteBack, OneBitGivesNone}
 
 pub characters-read-back : CharactersReadBack
 characters-read-back symbol h = symbol-of-its-own symbol h
 
 pub symbols-write-back : SymbolsWriteBack
-unfolding symbolOf
-symbols-write-back character = go (which (eqb (characterOf (character % 128)) character))
-  where
-    go : Either (eqb (characterOf (character % 128)) character)
-        → (symbolOf character ≡ none) ⊎ ((symbolOf character ≤ 127) × (characterOf (symbolOf character) ≡ character))
-    go (yes! e) = inr (rw e (omega arith), rw e (eqb-true _ _ e))
-    go (no! e) = inl (rw e)
+symbols-write-back character = none-or-good character
 
 -- the symbols of all ten neighbours of all 128 characters, one after the other
 neighbour : ℕ → ℕ → ℕ

@@ -14,8 +14,8 @@ use Rattle.transmission.specs.Layout.{transmission}
 use Rattle.transmission.specs.Phasing.{mostLost, heard, heardAt}
 use Rattle.transmission.proofs.HeardLaws.{heard-lost, heard-there}
 use Rattle.transmission_theorems.specs.Statement.{AllNone, no-more, one-more, replaced}
-use Rattle.transmission_theorems.proofs.Shown.{Shown, KeptBut}
-use Rattle.transmission_theorems.proofs.ShownLaws.{Inside, all-shown, none-or-sent}
+use Rattle.transmission_theorems.proofs.Shown.{Shown, Inside, KeptBut}
+use Rattle.transmission_theorems.proofs.ShownLaws.{all-shown, none-or-sent}
 use Rattle.transmission_theorems.proofs.ReplacedLaws.{replaced-inside, replaced-outside}
 use Rattle.transmission_theorems.proofs.SentLaws.{heard-as-sent}
 

@@ -17,7 +17,7 @@ use Rattle.transmission.specs.Phasing.{heardAt, inPlace, dxGood, rxGood}
 abbrev pub ofPhasing : ℕ → Bool
 ofPhasing symbol = within 104 111 symbol || eqb symbol 125
 
-abbrev pub allOfPhasing : List ℕ → Bool
+abbrev allOfPhasing : List ℕ → Bool
 allOfPhasing [] = true
 allOfPhasing (symbol ∷ wanted) = ofPhasing symbol && allOfPhasing wanted
 

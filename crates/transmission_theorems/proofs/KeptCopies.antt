@@ -7,13 +7,12 @@ use native.Mathlib.Omega.{arith}
 use lib.ListN.{length, getD}
 use borrow.Author.Tests.{ne-eqb}
 use Rattle.characters.specs.Code.{none}
-use Rattle.transmission.specs.Layout.{dx, rx}
+use Rattle.transmission.specs.Layout.{sent}
 use Rattle.transmission.specs.Phasing.{mostLost, heardAt}
 use Rattle.transmission.specs.Copies.{copiesOf, firstGood, symbolAt}
-use Rattle.transmission.proofs.LayoutLaws.{any-default, in-turn-first, in-turn-second}
-use Rattle.transmission.proofs.LayoutLaws.{dx-length, dx-format, dx-symbol, rx-length, rx-format, rx-symbol}
-use Rattle.transmission_theorems.proofs.Shown.{sent, Shown, KeptBut}
-use Rattle.transmission_theorems.proofs.ShownLaws.{Outside, Inside, out-or-in, NoneOrSent, shown-at}
+use Rattle.transmission.proofs.LayoutLaws.{any-default, dx-format, dx-symbol, rx-format, rx-symbol, sent-dx, sent-rx}
+use Rattle.transmission_theorems.proofs.Shown.{Shown, Outside, Inside, KeptBut}
+use Rattle.transmission_theorems.proofs.ShownLaws.{out-or-in, NoneOrSent, shown-at}
 
 -- of some places, the first that is not none holds this symbol
 data Given (t : List ℕ) (symbol : ℕ) : List ℕ → Type 0 where
@@ -26,33 +25,21 @@ given h (repeated e g) = rw e (given h g)
 
 -- the copies of a symbol, where they are sent
 module _ (s : List ℕ) where
-  in-dx : (i : ℕ) → i < length s + 9 → getD (sent s) (2 * i) none ≡ getD (dx s) i none
-  in-dx i h =
-      let a = dx-length s in
-      let b = rx-length s in
-      in-turn-first (dx s) (rx s) i none (omega arith) (omega arith)
-
-  in-rx : (i : ℕ) → i < length s + 9 → getD (sent s) (2 * i + 1) none ≡ getD (rx s) i none
-  in-rx i h =
-      let a = dx-length s in
-      let b = rx-length s in
-      in-turn-second (dx s) (rx s) i none (omega arith) (omega arith)
-
   first-copy : (k : ℕ) → k < length s → getD (sent s) (14 + 2 * k) none ≡ getD s k 0
   first-copy k h =
       let e : 14 + 2 * k ≡ 2 * (7 + k) = omega arith in
-      rw e (in-dx (7 + k) (omega arith) ∙ dx-symbol s k none h ∙ any-default s k none 0 h)
+      rw e (sent-dx s (7 + k) none (omega arith) ∙ dx-symbol s k none h ∙ any-default s k none 0 h)
 
   repeat : (k : ℕ) → k < length s → getD (sent s) (19 + 2 * k) none ≡ getD s k 0
   repeat k h =
       let e : 19 + 2 * k ≡ 2 * (9 + k) + 1 = omega arith in
-      rw e (in-rx (9 + k) (omega arith) ∙ rx-symbol s k none ∙ any-default s k none 0 h)
+      rw e (sent-rx s (9 + k) none (omega arith) ∙ rx-symbol s k none ∙ any-default s k none 0 h)
 
   first-format : getD (sent s) 12 none ≡ getD s 0 0
-  first-format = in-dx 6 (omega arith) ∙ dx-format s none
+  first-format = sent-dx s 6 none (omega arith) ∙ dx-format s none
 
   repeated-format : getD (sent s) 17 none ≡ getD s 0 0
-  repeated-format = in-rx 8 (omega arith) ∙ rx-format s none
+  repeated-format = sent-rx s 8 none (omega arith) ∙ rx-format s none
 
 -- what was sent stands in t, but for places in a row: few enough that a copy and its repeat, five places on, are not both among them
 module _ (s t : List ℕ) (lost start place count : ℕ) (begins : lost + start ≡ mostLost) (shown : Shown s lost t)

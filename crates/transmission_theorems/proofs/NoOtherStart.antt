@@ -21,9 +21,8 @@ use Rattle.writing.proofs.Valid.{parts, count-pairs, layout-length}
 use Rattle.sequence_theorems.proofs.RoundTrip.{lays-back, reads-valid}
 use Rattle.sequence_theorems.proofs.Theorems.{answered}
 use Rattle.characters.specs.Code.{none}
-use Rattle.transmission.specs.Layout.{dx, rx}
 use Rattle.transmission.specs.Phasing.{mostLost, heardAt, phasingAt}
-use Rattle.transmission.proofs.LayoutLaws.{in-turn-length, dx-length, rx-length}
+use Rattle.transmission.proofs.LayoutLaws.{sent-length}
 use Rattle.transmission_theorems.specs.Statement.{Accepted}
 use Rattle.transmission_theorems.proofs.Shown.{sentBehind, ShownAt, Shown}
 use Rattle.transmission_theorems.proofs.InPlaceLaws.{ofPhasing, not-none, at-most}
@@ -64,9 +63,7 @@ module _ (m : Meaning) (ok : valid m ≡ true) (t : List ℕ) (lost : ℕ) (show
   sent-most =
       let a = fit (m .number) (parts m ok .number) in
       let l = layout-length m ok in
-      let d = dx-length (layout m) in
-      let r = rx-length (layout m) in
-      let n = in-turn-length (dx (layout m)) (rx (layout m)) (omega arith) in
+      let n = sent-length (layout m) in
       simp length-append (omega (arith, a .most))
 
   far : (start : ℕ) → 85 ≤ lost + start → phasingAt t start ≡ 0

@@ -1,30 +1,30 @@
 -- Reading gives nothing but what stood in good characters.
 use Prim.Native.Nat.{ℕ, _+_, _-_, _≤_, _<_}
 use mathlib.Core.Path.{_≡_, refl, sym, ap, _∙_}
-use mathlib.Core.Logic.{_⊎_, inl, inr}
+use mathlib.Core.Logic.{inl, inr}
 use mathlib.Core.Bool.{Bool, true, false, cond, not, _&&_}
 use mathlib.Core.List.{List, [], _∷_}
 use native.Mathlib.Omega.{arith}
-use lib.Dec.{eqb, leb, ltb}
-use lib.ListN.{length, getD, length-take, List·getD-eq-default}
+use lib.Dec.{eqb, leb}
+use lib.ListN.{length, getD, length-take}
 use lib.Seq.{getD-take}
-use borrow.Author.Tests.{eqb-false, leb-true, leb-false, ltb-true, ltb-false}
-use Rattle.sequence.specs.Figures.{lastSymbol, longest}
+use borrow.Author.Tests.{eqb-false, leb-true, leb-false}
+use Rattle.sequence.specs.Figures.{longest}
 use Rattle.sequence.proofs.Tests.{both-true, Either, yes!, no!, which}
 use Rattle.sequence.proofs.RefusalLaws.{kind-held}
 use Rattle.characters.specs.Code.{none, noCharacter, characterOf, symbolOf}
+use Rattle.characters.proofs.CodeLaws.{NoneOrGood, none-or-good}
 use Rattle.transmission.specs.declared.Answer.the-variants.{Done}
 use Rattle.transmission.specs.Answers.{isDone}
 use Rattle.transmission.specs.Phasing.{mostLost, heard, heardAt}
 use Rattle.transmission.specs.Copies.{copiesOf, firstGood, symbolAt, symbolsFrom, copiesThere}
 use Rattle.transmission.specs.Reading.{startIn, countIn, symbolsIn, phasingIn, unread}
 use Rattle.transmission.specs.Reading.{copiesIn, wholeIn, readingRefusals, readingAnswer}
-use Rattle.transmission.proofs.HeardLaws.{heard-lost, heard-there, length-heard}
+use Rattle.transmission.proofs.HeardLaws.{good-is-there, length-heard, heard-lost, heard-there}
 use Rattle.transmission.proofs.LayoutLaws.{any-default}
 use Rattle.transmission.proofs.SymbolLaws.{symbols-length, symbol-there}
 use Rattle.transmission.proofs.RowTests.{in-row}
 use Rattle.transmission_theorems.specs.Statement.{Among, here, behind, StoodIn, NothingElse}
-use Rattle.transmission_theorems.proofs.Characters.{symbols-write-back}
 
 -- the first good one of some places stands in one of them
 record StandsAt (t places : List ℕ) (symbol : ℕ) : Type 0 where
@@ -51,13 +51,6 @@ module _ (characters : List ℕ) (place : ℕ) (good : heardAt (heard characters
       go (yes! e) = leb-true mostLost place e
       go (no! e) = absurd (good (heard-lost characters place (leb-false mostLost place e)))
 
-  not-after : place < length (heard characters)
-  not-after = go (which (ltb place (length (heard characters))))
-    where
-      go : Either (ltb place (length (heard characters))) → place < length (heard characters)
-      go (yes! e) = ltb-true place _ e
-      go (no! e) = absurd (good (List·getD-eq-default (heard characters) none (ltb-false place _ e)))
-
   its-place : mostLost + (place - mostLost) ≡ place
   its-place = let l = not-lost in omega arith
 
@@ -66,17 +59,14 @@ module _ (characters : List ℕ) (place : ℕ) (good : heardAt (heard characters
 
   stood : (k : ℕ) → Among place (copiesOf (startIn (heard characters)) k)
       → StoodIn characters k (heardAt (heard characters) place)
-  stood k among = go (symbols-write-back (getD characters (place - mostLost) noCharacter))
+  stood k among = go (none-or-good (getD characters (place - mostLost) noCharacter))
     where
-      go : (symbolOf (getD characters (place - mostLost) noCharacter) ≡ none)
-          ⊎ ((symbolOf (getD characters (place - mostLost) noCharacter) ≤ lastSymbol)
-          × (characterOf (symbolOf (getD characters (place - mostLost) noCharacter)) ≡ getD characters (place - mostLost) noCharacter))
-          → StoodIn characters k (heardAt (heard characters) place)
+      go : NoneOrGood (getD characters (place - mostLost) noCharacter) → StoodIn characters k (heardAt (heard characters) place)
       go (inl e) = absurd (good (sym its-symbol ∙ e))
       go (inr h) =
           record {
             place = place - mostLost;
-            there = omega (arith, not-lost, not-after, length-heard characters);
+            there = omega (arith, not-lost, good-is-there (heard characters) place good, length-heard characters);
             a-copy = rw its-place among;
             its-character = sym (h .1) ∙ ap characterOf its-symbol;
             is-symbol = rw its-symbol at (h .0);

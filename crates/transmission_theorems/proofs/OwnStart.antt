@@ -1,5 +1,5 @@
 -- A transmission's own start is a start still, with five places in a row spoiled or eleven lost at the beginning.
-use Prim.Native.Nat.{ℕ, _+_, _≤_, _<_}
+use Prim.Native.Nat.{ℕ, _+_, _≤_}
 use mathlib.Core.Path.{_≡_, refl, _∙_}
 use mathlib.Core.Logic.{_⊎_, inl, inr}
 use mathlib.Core.Bool.{Bool, true, _&&_, _||_}
@@ -10,11 +10,11 @@ use lib.ListN.{length, getD}
 use borrow.Author.Tests.{ltb-true, ltb-false, leb-true, eqb-true}
 use Rattle.sequence.proofs.Tests.{both-true, either-true, Either, yes!, no!, which}
 use Rattle.characters.specs.Code.{none}
-use Rattle.transmission.specs.Layout.{dxPhasing, rxPhasing, dx, rx}
+use Rattle.transmission.specs.Layout.{dxPhasing, rxPhasing, dx, rx, sent}
 use Rattle.transmission.specs.Phasing.{heardAt, isPhasing, phasingAt}
 use Rattle.transmission.specs.Reading.{allInRow}
 use Rattle.transmission.proofs.RowTests.{in-row}
-use Rattle.transmission_theorems.proofs.Shown.{sent, KeptBut}
+use Rattle.transmission_theorems.proofs.Shown.{Outside, KeptBut}
 use Rattle.transmission_theorems.proofs.InPlaceLaws.{ofPhasing, passing, at-least}
 use Rattle.transmission_theorems.proofs.EnoughPhasing.{needs, starts}
 
@@ -45,7 +45,7 @@ counts s t start place count kept e =
         let a = both-true (ltb q place || leb (place + count) q) (eqb (getD (sent s) q none) symbol) h in
         kept q (go (either-true (ltb q place) (leb (place + count) q) (a .0))) ∙ eqb-true _ _ (a .1)
       where
-        go : (ltb q place ≡ true) ⊎ (leb (place + count) q ≡ true) → (q < place) ⊎ (place + count ≤ q)
+        go : (ltb q place ≡ true) ⊎ (leb (place + count) q ≡ true) → Outside place count q
         go (inl p) = inl (ltb-true _ _ p)
         go (inr p) = inr (leb-true _ _ p)
 
@@ -80,14 +80,14 @@ spoiled-starts (a ∷ l) t start place count long few kept = go (which (ltb plac
         (λ q h. kept q (wider q h))
         (in-row (λ place. left (a ∷ l) place 5) 0 16 place (five-left a l) (omega arith) (omega (arith, ltb-true place 16 p)))
       where
-        wider : (q : ℕ) → (q < place) ⊎ (place + 5 ≤ q) → (q < place) ⊎ (place + count ≤ q)
+        wider : (q : ℕ) → Outside place 5 q → Outside place count q
         wider q (inl h) = inl h
         wider q (inr h) = inr (omega arith)
     go (no! p) =
         let far = ltb-false place 16 p in
         some-left (a ∷ l) t start 16 (place + count) (λ q h. kept q (later far q h)) (all-left a l (place + count))
       where
-        later : 16 ≤ place → (q : ℕ) → (q < 16) ⊎ (16 + (place + count) ≤ q) → (q < place) ⊎ (place + count ≤ q)
+        later : 16 ≤ place → (q : ℕ) → Outside 16 (place + count) q → Outside place count q
         later far q (inl h) = inl (omega arith)
         later far q (inr h) = inr (omega arith)
 

@@ -13,8 +13,7 @@ use Rattle.writing.proofs.EvenedLaws.{all-at}
 use Rattle.sequence_theorems.proofs.RoundTrip.{all-append}
 use Rattle.characters.specs.Code.{none, noCharacter, characterOf, symbolOf}
 use Rattle.characters.proofs.CodeLaws.{over-is-none, symbol-of-its-own}
-use Rattle.transmission.specs.Layout.{dxPhasing, rxPhasing, formatTwice, endOf, dx, rx, inTurn, transmission}
-use Rattle.transmission_theorems.proofs.Shown.{sent}
+use Rattle.transmission.specs.Layout.{dxPhasing, rxPhasing, formatTwice, endOf, dx, rx, inTurn, sent, transmission}
 
 all-in-turn : (m : ℕ) (xs ys : List ℕ) → allAtMost m xs ≡ true → allAtMost m ys ≡ true → allAtMost m (inTurn xs ys) ≡ true
 all-in-turn m [] ys a b = refl

@@ -6,16 +6,12 @@ use mathlib.Core.Bool.{true}
 use mathlib.Core.List.{List, _++_}
 use lib.ListN.{length, getD, replicate}
 use Rattle.characters.specs.Code.{none}
-use Rattle.transmission.specs.Layout.{dx, rx, inTurn}
+use Rattle.transmission.specs.Layout.{sent}
 use Rattle.transmission.specs.Phasing.{mostLost, heardAt}
 use Rattle.transmission.specs.Reading.{startIn, phasingIn}
 use Rattle.transmission_theorems.specs.Statement.{Accepted}
 
--- the symbols of a transmission in the order sent
-abbrev pub sent : List ℕ → List ℕ
-sent s = inTurn (dx s) (rx s)
-
--- behind the eleven places of `heard`
+-- what is sent, behind the eleven places of `heard`
 abbrev pub sentBehind : List ℕ → List ℕ
 sentBehind s = replicate mostLost none ++ sent s
 
@@ -26,10 +22,16 @@ ShownAt s lost t q = (heardAt t q ≡ none) ⊎ (heardAt t q ≡ getD (sentBehin
 abbrev pub Shown : List ℕ → ℕ → List ℕ → Type 0
 Shown s lost t = (q : ℕ) → ShownAt s lost t q
 
+-- a place stands outside of some in a row, or among them
+abbrev pub Outside : ℕ → ℕ → ℕ → Type 0
+Outside place count p = (p < place) ⊎ (place + count ≤ p)
+
+abbrev pub Inside : ℕ → ℕ → ℕ → Type 0
+Inside place count p = (place ≤ p) × (p < place + count)
+
 -- t holds what was sent, from a start on, but for `count` places in a row
 abbrev pub KeptBut : List ℕ → List ℕ → ℕ → ℕ → ℕ → Type 0
-KeptBut s t start place count =
-    (p : ℕ) → (p < place) ⊎ (place + count ≤ p) → heardAt t (start + p) ≡ getD (sent s) p none
+KeptBut s t start place count = (p : ℕ) → Outside place count p → heardAt t (start + p) ≡ getD (sent s) p none
 
 -- the transmission is found at a start
 abbrev pub Found : List ℕ → ℕ → Type 0

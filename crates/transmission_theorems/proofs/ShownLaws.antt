@@ -10,15 +10,9 @@ use lib.Seq.{getD-append-add}
 use borrow.Author.Tests.{leb-true, leb-false, ltb-true, ltb-false}
 use Rattle.sequence.proofs.Tests.{Either, yes!, no!, which}
 use Rattle.characters.specs.Code.{none}
+use Rattle.transmission.specs.Layout.{sent}
 use Rattle.transmission.specs.Phasing.{mostLost, heardAt}
-use Rattle.transmission_theorems.proofs.Shown.{sent, sentBehind, ShownAt, Shown, KeptBut}
-
--- a place stands outside of some in a row, or among them
-abbrev pub Outside : ℕ → ℕ → ℕ → Type 0
-Outside place count p = (p < place) ⊎ (place + count ≤ p)
-
-abbrev pub Inside : ℕ → ℕ → ℕ → Type 0
-Inside place count p = (place ≤ p) × (p < place + count)
+use Rattle.transmission_theorems.proofs.Shown.{sentBehind, ShownAt, Shown, Outside, Inside, KeptBut}
 
 pub out-or-in : (place count p : ℕ) → Outside place count p ⊎ Inside place count p
 out-or-in place count p = go (which (ltb p place)) (which (leb (place + count) p))

@@ -1,6 +1,7 @@
 use native.Mathlib.Omega.{arith}
 use Rattle.transmission.specs.Phasing.{charactersOf, heard}
-use Rattle.receiving.proofs.AnswerLaws.{heard-length, start-most, count-fits, all-good, all-bad, one-missing}
+use Rattle.transmission.proofs.HeardLaws.{length-heard-bytes}
+use Rattle.receiving.proofs.AnswerLaws.{start-most, count-fits, all-good, all-bad, one-missing}
 use borrow.Author.Needs.{needs}
 use Rattle.receiving.proofs.answer_to_copies.Statement.{statement}
 use Rattle.receiving.proofs.answer_to_copies.Tie as tie
@@ -32,14 +33,14 @@ add-if2-3 c = search needs
 returns-2 : tie.Need-returns-2
 returns-2 c = let s = c .before .before .before .before in
     let t = heard (charactersOf (s .args .characters .now)) in
-    let l = heard-length (s .args .characters .now) in
+    let l = length-heard-bytes (s .args .characters .now) in
     let f = c .before .before .first-unread .ensures in
     all-bad t _ _ _ (s .pre .0) (s .pre .1) (s .pre .2) _ f (c .before .if1 .left) _ l (c .if2 .taken)
 
 returns-3 : tie.Need-returns-3
 returns-3 c = let s = c .before .before .before .before in
     let t = heard (charactersOf (s .args .characters .now)) in
-    let l = heard-length (s .args .characters .now) in
+    let l = length-heard-bytes (s .args .characters .now) in
     let f = c .before .before .first-unread .ensures in
     one-missing t _ _ _ (s .pre .0) (s .pre .1) (s .pre .2) _ f (c .before .if1 .left) _ l (c .if2 .left)
 
