@@ -69,17 +69,18 @@ class Air:
         row, words = ask('write', symbols)
         answer, *written = numbers_of(row)
         if answer:
-            return [str(answer), BELOW + words]
+            self.symbols, self.received = [], []
+            return [str(answer), f'{BELOW}{words}; nothing is on the air']
         self.symbols, sent = symbols, zip(places(len(symbols)), symbols_of(written), written)
         self.received = [Character(*place, symbol, number) for place, symbol, number in sent]
         return [f'{answer} {len(written)}', f'{BELOW}{words}: {len(symbols)} symbols in {len(written)} characters']
 
     def again(self):
-        self.check_sent()
+        self.check_on_the_air()
         return self.send(*self.symbols)
 
     def stray(self, *symbols):
-        self.check_sent()
+        self.check_on_the_air()
         characters = zip(symbols, numbers_of(ask('characters', symbols)[0]))
         return self.receive([Character(STRAY, 'stray', *each) for each in characters] + self.received)
 
@@ -90,24 +91,27 @@ class Air:
         return self.receive(self.received[:len(self.received) - self.count_of(count)])
 
     def spoil(self, *given):
-        for place in given:
-            self.change(place, lambda number: NO_CHARACTER)
-        return self.show(*given) if given else []
+        for index in [self.index_of(place) for place in given]:   # nothing is spoiled where one of them is not there
+            self.change(index, NO_CHARACTER)
+        return self.show(*given)
 
     def flip(self, place, *units):
-        if self.received[self.index_of(place)].number == NO_CHARACTER:
+        index = self.index_of(place)
+        number = self.received[index].number
+        if number == NO_CHARACTER:
             raise NotUnderstood(f'{place} is lost, and has no units')
         for unit in units:
-            self.change(place, lambda number: number ^ 1 << unit - 1)
+            number ^= 1 << unit - 1
+        self.change(index, number)
         return self.show(place)
 
     def show(self, *given):
-        self.check_sent()
+        self.check_on_the_air()
         chosen = [self.received[self.index_of(place)] for place in given] if given else self.received
         return [row_of(*each) for each in zip(chosen, symbols_of([character.number for character in chosen]))]
 
     def read(self):
-        self.check_sent()
+        self.check_on_the_air()
         row, words, *said = ask('read', [character.number for character in self.received])
         answer, *symbols = numbers_of(row)
         counted = f': {len(symbols)} symbols' + ', as sent' * (symbols == [*self.symbols]) if symbols else ''
@@ -116,30 +120,29 @@ class Air:
 
     # ── what is received ──────────────────────────────────────────────────────
 
-    def check_sent(self):
+    def check_on_the_air(self):
         if not self.symbols:
-            raise NotUnderstood('nothing was sent yet')
+            raise NotUnderstood('nothing is on the air')
 
     def receive(self, characters):
         self.received = characters
         return [f'{BELOW}{len(characters)} characters are received']
 
     def count_of(self, count):
-        self.check_sent()
+        self.check_on_the_air()
         if count > len(self.received):
             raise NotUnderstood(f'only {len(self.received)} characters are received')
         return count
 
     def index_of(self, place):
-        self.check_sent()
+        self.check_on_the_air()
         found = [index for index, character in enumerate(self.received) if character.place == place]
         if not found:
             raise NotUnderstood(f'{place} is not among what is received')
         return found[0]
 
-    def change(self, place, changed):
-        index = self.index_of(place)
-        self.received[index] = self.received[index]._replace(number=changed(self.received[index].number))
+    def change(self, index, number):
+        self.received[index] = self.received[index]._replace(number=number)
 
     # ── what is read of it ────────────────────────────────────────────────────
 

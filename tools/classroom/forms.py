@@ -5,7 +5,7 @@ from plainly import NotUnderstood
 
 
 class Forms:
-    """A form is a line of the page: `    name WORD WORD..    what it does`, where `..` stands for any count of words, [] for none or one.
+    """A form is a line of the page: `    name WORD WORD..    what it does`, where `..` stands for one or more, [] for none as well.
     What a word must be goes by its name: a pattern, and the same in words."""
 
     def __init__(self, page, words, more):
@@ -25,14 +25,13 @@ class Forms:
         if form not in self.named:
             raise self.not_understood(f'there is no form {form}')
         names, told = self.named[form].split(), form + self.named[form]
-        if names and names[-1].endswith('..'):
-            last = names.pop().strip('.')
-            names += [last] * (len(words) - len(names))
+        if names and '..' in names[-1]:
+            names += names[-1:] * (len(words) - len(names))
+        optional, names = [name.startswith('[') for name in names], [name.strip('[].') for name in names]
         if len(words) > len(names):
             raise self.not_understood(f'{told} has no place for {words[len(names)]}')
-        if len(words) < len(names) and not names[len(words)].startswith('['):
+        if len(words) < len(names) and not optional[len(words)]:
             raise self.not_understood(f'{told}: there is no {names[len(words)]}')
-        names = [name.strip('[]') for name in names]
         for name, word in zip(names, words):
             self.check(name, word)
         return names
