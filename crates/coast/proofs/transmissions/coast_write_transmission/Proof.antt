@@ -16,16 +16,22 @@ cast-result : tie.Need-cast-result
 cast-result c = search needs
 
 cast-result-2 : tie.Need-cast-result-2
-cast-result-2 c = let e = c .before .before .before .write-transmission .ensures .0 in
-    let most = rw (← e) at (characters-at-most _ _) in omega arith
+cast-result-2 c =
+    let e = c .before .before .before .write-transmission .ensures .0 in
+    let most : c .before .before .before .write-transmission .result .count ≤ 74 = rw e (characters-at-most _ _) in
+    omega arith
 
 mul-result : tie.Need-mul-result
-mul-result c = let e = c .before .before .before .write-transmission .ensures .0 in
-    let most = rw (← e) at (characters-at-most _ _) in omega arith
+mul-result c =
+    let e = c .before .before .before .write-transmission .ensures .0 in
+    let most : c .before .before .before .write-transmission .result .count ≤ 74 = rw e (characters-at-most _ _) in
+    omega arith
 
 add-result : tie.Need-add-result
-add-result c = let e = c .before .before .before .write-transmission .ensures .0 in
-    let most = rw (← e) at (characters-at-most _ _) in omega arith
+add-result c =
+    let e = c .before .before .before .write-transmission .ensures .0 in
+    let most : c .before .before .before .write-transmission .result .count ≤ 74 = rw e (characters-at-most _ _) in
+    omega arith
 
 same-length : tie.Need-same-length
 same-length c = search needs
