@@ -34,7 +34,7 @@ use Rattle.host_theorems.specs.Transmissions.{Withstood, spoiled, cut, C
 use Rattle.host_theorems.proofs.Sequences.{was-written, c-reads-what-was-written, lives, slice}
 
 -- of all answers Done alone has the number 0
-done-is : (a : Answer) (count : ℕ) → (answerNumber a + 256 * count) % 256 ≡ 0 → a ≡ Done
+pub done-is : (a : Answer) (count : ℕ) → (answerNumber a + 256 * count) % 256 ≡ 0 → a ≡ Done
 done-is Done n e = refl
 done-is BadLength n e = absurd (omega (arith, e))
 done-is BadSymbol n e = absurd (omega (arith, e))

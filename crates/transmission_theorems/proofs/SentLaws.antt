@@ -40,7 +40,7 @@ module _ (s : List ℕ) (small : allAtMost 127 s ≡ true) where
   unfolding rx rxPhasing
   rx-small = all-append 127 rxPhasing (formatTwice s) refl formats-small
 
-  sent-small : allAtMost 127 (sent s) ≡ true
+  pub sent-small : allAtMost 127 (sent s) ≡ true
   sent-small = all-in-turn 127 (dx s) (rx s) dx-small rx-small
 
 symbols-back : (l : List ℕ) → allAtMost 127 l ≡ true → map symbolOf (map characterOf l) ≡ l

@@ -3,6 +3,7 @@ pub mod Events
 pub mod Hosted
 pub mod Entries
 pub mod Sequences
+pub mod Transmissions
 pub mod SetUps
 pub mod Dues
 pub mod Feeds

@@ -39,14 +39,14 @@ use Rattle.useless_versions.proofs.ShutOut.{one, shut-out}
 use Rattle.useless_versions.proofs.Events.{blank-behind}
 
 -- what P1 says
-abbrev asked : Meaning
+abbrev pub asked : Meaning
 asked = record { address = 2001234; sender = 200056789; first = 101; second = 126; field = Blank; number = numberOf usual; end = 117 }
 
 asked-valid : valid asked ≡ true
 unfolding valid identitiesOk isShip isCoast telecommandsOk isCall unableSecond fieldOk numberOk endOk padded
 asked-valid = refl
 
-read-asked : readingOf (layout asked) ≡ doneWith asked
+pub read-asked : readingOf (layout asked) ≡ doneWith asked
 read-asked = reads-back asked asked-valid
 
 -- ── the reader ───────────────────────────────────────────────────────────────
@@ -94,11 +94,11 @@ unfolding roomAfter layout body front
 first-written room h = rw (write-done (length room) h) refl
 
 -- symbols, and behind them invalid bytes
-no-symbols : (size : ℕ) → symbolsIn (replicate size 255) ≡ 0
+pub no-symbols : (size : ℕ) → symbolsIn (replicate size 255) ≡ 0
 no-symbols zero = refl
 no-symbols (suc size) = refl
 
-symbols-laid : (l : List ℕ) (size : ℕ) → allAtMost 127 l ≡ true → symbolsIn (l ++ replicate size 255) ≡ length l
+pub symbols-laid : (l : List ℕ) (size : ℕ) → allAtMost 127 l ≡ true → symbolsIn (l ++ replicate size 255) ≡ length l
 symbols-laid [] size e = no-symbols size
 symbols-laid (x ∷ l) size e = let p = both-true (leb x 127) (allAtMost 127 l) e in rw (p .0) (ap suc (symbols-laid l size (p .1)))
 
@@ -117,7 +117,7 @@ write-counted m room size e = go (which (isDone (writingAnswer m (length room)))
         rw (d, rest) (sym (symbols-laid (layout m) (more .0) (small m (written m (length room) d .0))))
     go (no! d) = rw d (sym (ap symbolsIn e ∙ no-symbols size))
 
-long : longest ≤ length (replicate {A = ℕ} longest 0)
+pub long : longest ≤ length (replicate {A = ℕ} longest 0)
 long = rw (length-replicate {A = ℕ} longest 0) (omega arith)
 
 short : (m : Meaning) → writingAnswer m 0 ≡ ShortRoom
@@ -125,7 +125,7 @@ unfolding writingAnswer
 short m = refl
 
 -- the first byte of a room of zeros is not a sequence's
-not-zeros : (left : List ℕ) → getD left 0 0 ≡ 123 → left ≡ replicate longest 0 → ⊥
+pub not-zeros : (left : List ℕ) → getD left 0 0 ≡ 123 → left ≡ replicate longest 0 → ⊥
 not-zeros left f e = let q : _≡_ {A = ℕ} 123 0 = sym f ∙ ap (λ (l : List ℕ). getD l 0 0) e in omega (arith, q)
 
 pub no-useless-writer : NoUselessWriter

@@ -48,17 +48,17 @@ abbrev pub symbolsIn : List ℕ → ℕ
 symbolsIn [] = 0
 symbolsIn (b ∷ l) = cond (leb b 127) (suc (symbolsIn l)) 0
 
--- lent a room of bytes that are no symbols, it tells another count than that of the symbols it laid
-pub record Miscounted (room : List ℕ) (count : ℕ) (left : List ℕ) : Type 0 where
+-- lent a room of 255s, which are no symbols and no characters, it tells another count than that of what it laid
+pub record Miscounted (laidIn : List ℕ → ℕ) (room : List ℕ) (count : ℕ) (left : List ℕ) : Type 0 where
   pub size : ℕ
   pub none : room ≡ replicate size 255
-  pub other : count ≡ symbolsIn left → ⊥
+  pub other : count ≡ laidIn left → ⊥
 
 abbrev pub writerSigns : Signs ToWrite Wrote
 writerSigns = record {
   answer = λ y. answerNumber (y .written .answer);
   idle = λ x y. y .left ≡ x .room;
-  miscounted = λ x y. Miscounted (x .room) (y .written .length) (y .left);
+  miscounted = λ x y. Miscounted symbolsIn (x .room) (y .written .length) (y .left);
 }
 
 unfoldable pub NoUselessWriter : Type 0
@@ -93,7 +93,7 @@ abbrev pub writeSigns : Signs Lent Left
 writeSigns = record {
   answer = λ y. y .number % 256;
   idle = λ x y. y .left ≡ x .room;
-  miscounted = λ x y. Miscounted (x .room) (y .number / 256) (y .left);
+  miscounted = λ x y. Miscounted symbolsIn (x .room) (y .number / 256) (y .left);
 }
 
 unfoldable pub NoUselessWriteInC : Type 0
