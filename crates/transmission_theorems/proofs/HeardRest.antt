@@ -1,12 +1,12 @@
--- What is heard of a transmission of which places in a row were spoiled, or the beginning lost.
+-- What is heard of a transmission of which places in a row were spoiled, or the beginning lost; and of one amid other characters.
 use Prim.Native.Nat.{ℕ, zero, suc, _+_, _-_, _≤_}
 use mathlib.Core.Path.{_≡_, refl, sym, ap, _∙_}
 use mathlib.Core.Logic.{inl, inr}
 use mathlib.Core.Bool.{true}
-use mathlib.Core.List.{List}
+use mathlib.Core.List.{List, _++_}
 use native.Mathlib.Omega.{arith}
-use lib.ListN.{length, getD, drop}
-use lib.Seq.{getD-drop}
+use lib.ListN.{length, getD, drop, length-append, List·getD-append, List·getD-eq-default}
+use lib.Seq.{getD-drop, getD-append-add}
 use Rattle.sequence.specs.Symbols.{allAtMost}
 use Rattle.characters.specs.Code.{none, noCharacter, symbolOf}
 use Rattle.characters.proofs.CodeLaws.{over-is-none}
@@ -14,7 +14,7 @@ use Rattle.transmission.specs.Layout.{transmission}
 use Rattle.transmission.specs.Phasing.{mostLost, heard, heardAt}
 use Rattle.transmission.proofs.HeardLaws.{heard-lost, heard-there}
 use Rattle.transmission_theorems.specs.Statement.{AllNone, no-more, one-more, replaced}
-use Rattle.transmission_theorems.proofs.Shown.{Shown, Inside, KeptBut}
+use Rattle.transmission_theorems.proofs.Shown.{Shown, Outside, Inside, KeptBut}
 use Rattle.transmission_theorems.proofs.ShownLaws.{all-shown, none-or-sent}
 use Rattle.transmission_theorems.proofs.ReplacedLaws.{replaced-inside, replaced-outside}
 use Rattle.transmission_theorems.proofs.SentLaws.{heard-as-sent}
@@ -34,8 +34,9 @@ module _ (s : List ℕ) (small : allAtMost 127 s ≡ true) where
         ∙ ap symbolOf (replaced-outside (transmission s) place spoiled fits p noCharacter h)
         ∙ heard-as-sent s small p
 
-    inside : (p : ℕ) → Inside place (length spoiled) p → heardAt (heard (replaced (transmission s) place spoiled)) (mostLost + p) ≡ none
-    inside p i =
+    pub spoiled-inside : (p : ℕ) → Inside place (length spoiled) p
+        → heardAt (heard (replaced (transmission s) place spoiled)) (mostLost + p) ≡ none
+    spoiled-inside p i =
         let e : p ≡ place + (p - place) = omega arith in
         heard-there (replaced (transmission s) place spoiled) p
         ∙ ap symbolOf
@@ -46,7 +47,7 @@ module _ (s : List ℕ) (small : allAtMost 127 s ≡ true) where
     pub spoiled-shown : Shown s 0 (heard (replaced (transmission s) place spoiled))
     spoiled-shown =
         all-shown s (heard (replaced (transmission s) place spoiled)) 0 mostLost refl (heard-lost (replaced (transmission s) place spoiled))
-        (none-or-sent s (heard (replaced (transmission s) place spoiled)) mostLost place (length spoiled) spoiled-kept inside)
+        (none-or-sent s (heard (replaced (transmission s) place spoiled)) mostLost place (length spoiled) spoiled-kept spoiled-inside)
 
   -- ── lost ───────────────────────────────────────────────────────────────────
 
@@ -67,3 +68,23 @@ module _ (s : List ℕ) (small : allAtMost 127 s ≡ true) where
         (λ q h. heard-lost (drop lost (transmission s)) q (omega arith))
         (none-or-sent s (heard (drop lost (transmission s))) (mostLost - lost) 0 lost cut-kept
         (λ p i. heard-lost (drop lost (transmission s)) (mostLost - lost + p) (omega arith)))
+
+  -- ── amid others ────────────────────────────────────────────────────────────
+
+  module _ (before after : List ℕ) where
+    -- all but the places of those behind it
+    pub amid-kept : KeptBut s (heard (before ++ (transmission s ++ after)))
+        (mostLost + length before) (length (transmission s)) (length after)
+    amid-kept p o =
+        let e : mostLost + length before + p ≡ mostLost + (length before + p) = omega arith in
+        rw e
+        (heard-there (before ++ (transmission s ++ after)) (length before + p)
+        ∙ ap symbolOf (getD-append-add before (transmission s ++ after) p noCharacter ∙ go o)
+        ∙ heard-as-sent s small p)
+      where
+        go : Outside (length (transmission s)) (length after) p
+            → getD (transmission s ++ after) p noCharacter ≡ getD (transmission s) p noCharacter
+        go (inl h) = List·getD-append (transmission s) after noCharacter p h
+        go (inr h) =
+            List·getD-eq-default (transmission s ++ after) noCharacter (omega (arith, length-append (transmission s) after))
+            ∙ sym (List·getD-eq-default (transmission s) noCharacter (omega arith))

@@ -7,12 +7,13 @@ use native.Mathlib.Omega.{arith}
 use lib.ListN.{length, getD}
 use borrow.Author.Tests.{ne-eqb}
 use Rattle.characters.specs.Code.{none}
-use Rattle.transmission.specs.Layout.{sent}
-use Rattle.transmission.specs.Phasing.{mostLost, heardAt}
+use Rattle.transmission.specs.Layout.{sent, transmission}
+use Rattle.transmission.specs.Phasing.{heardAt}
 use Rattle.transmission.specs.Copies.{copiesOf, firstGood, symbolAt}
 use Rattle.transmission.proofs.LayoutLaws.{any-default, dx-format, dx-symbol, rx-format, rx-symbol, sent-dx, sent-rx}
-use Rattle.transmission_theorems.proofs.Shown.{Shown, Outside, Inside, KeptBut}
-use Rattle.transmission_theorems.proofs.ShownLaws.{out-or-in, NoneOrSent, shown-at}
+use Rattle.transmission.proofs.LayoutLaws.{transmission-length}
+use Rattle.transmission_theorems.proofs.Shown.{Outside, Inside, KeptBut, RepeatsKept}
+use Rattle.transmission_theorems.proofs.ShownLaws.{out-or-in}
 
 -- of some places, the first that is not none holds this symbol
 data Given (t : List ℕ) (symbol : ℕ) : List ℕ → Type 0 where
@@ -41,31 +42,31 @@ module _ (s : List ℕ) where
   repeated-format : getD (sent s) 17 none ≡ getD s 0 0
   repeated-format = sent-rx s 8 none (omega arith) ∙ rx-format s none
 
--- what was sent stands in t, but for places in a row: few enough that a copy and its repeat, five places on, are not both among them
-module _ (s t : List ℕ) (lost start place count : ℕ) (begins : lost + start ≡ mostLost) (shown : Shown s lost t)
-    (kept : KeptBut s t start place count) (few : (p : ℕ) → 12 ≤ p → place ≤ p → place + count ≤ p + 5) where
-  -- a copy outside is good; one inside may be none, and then the others count
-  copy : (p symbol : ℕ) {places : List ℕ} → getD (sent s) p none ≡ symbol → (Inside place count p → Given t symbol places)
-      → Given t symbol ((start + p) ∷ places)
-  copy p symbol {places} e others = go (out-or-in place count p) (shown-at s t lost start begins shown p)
+-- what was sent stands in t, but for places in a row that leave each copy its repeat
+module _ (s t : List ℕ) (start place count : ℕ) (kept : KeptBut s t start place count) (repeats : RepeatsKept s t start place count) where
+  -- a copy outside is good; one inside is none, and then the others count
+  copy : (p symbol : ℕ) {places : List ℕ} → 12 ≤ p → p < length (transmission s) → getD (sent s) p none ≡ symbol
+      → (place + count ≤ p + 5 → Given t symbol places) → Given t symbol ((start + p) ∷ places)
+  copy p symbol {places} least most e others = go (out-or-in place count p)
     where
-      go : Outside place count p ⊎ Inside place count p → NoneOrSent s t start p → Given t symbol ((start + p) ∷ places)
-      go (inl o) h = good (kept p o ∙ e)
-      go (inr i) (inl n) = repeated n (others i)
-      go (inr i) (inr h) = good (h ∙ e)
+      go : Outside place count p ⊎ Inside place count p → Given t symbol ((start + p) ∷ places)
+      go (inl o) = good (kept p o ∙ e)
+      go (inr i) = let r = repeats p least most i in repeated (r .0) (others (r .1))
 
   format-given : 1 ≤ length s → Given t (getD s 0 0) (copiesOf start 0)
   format-given h =
-      copy 12 _ (first-format s)
-      (λ i. copy 14 _ (first-copy s 0 h) (λ j. good (kept 17 (inr (few 12 (omega arith) (i .0))) ∙ repeated-format s)))
+      let l = transmission-length s in
+      copy 12 _ (omega arith) (omega arith) (first-format s)
+      (λ f. copy 14 _ (omega arith) (omega arith) (first-copy s 0 h) (λ g. good (kept 17 (inr f) ∙ repeated-format s)))
 
   symbol-given : (k : ℕ) → suc k < length s → Given t (getD s (suc k) 0) (copiesOf start (suc k))
   symbol-given k h =
       let e : start + 14 + 2 * suc k ≡ start + (14 + 2 * suc k) = omega arith in
       let f : start + 19 + 2 * suc k ≡ start + (19 + 2 * suc k) = omega arith in
+      let l = transmission-length s in
       rw (e, f)
-      (copy (14 + 2 * suc k) _ (first-copy s (suc k) h)
-      (λ i. good (kept (19 + 2 * suc k) (inr (omega (arith, few (14 + 2 * suc k) (omega arith) (i .0)))) ∙ repeat s (suc k) h)))
+      (copy (14 + 2 * suc k) _ (omega arith) (omega arith) (first-copy s (suc k) h)
+      (λ g. good (kept (19 + 2 * suc k) (inr (omega arith)) ∙ repeat s (suc k) h)))
 
   pub symbol-kept : (k : ℕ) → k < length s → getD s k 0 ≤ 127 → symbolAt t start k ≡ getD s k 0
   unfolding symbolAt

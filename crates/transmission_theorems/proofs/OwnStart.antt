@@ -14,6 +14,7 @@ use Rattle.transmission.specs.Layout.{dxPhasing, rxPhasing, dx, rx, sent}
 use Rattle.transmission.specs.Phasing.{heardAt, isPhasing, phasingAt}
 use Rattle.transmission.specs.Reading.{allInRow}
 use Rattle.transmission.proofs.RowTests.{in-row}
+use Rattle.transmission.proofs.PhasingLaws.{at-most-14}
 use Rattle.transmission_theorems.proofs.Shown.{Outside, KeptBut}
 use Rattle.transmission_theorems.proofs.InPlaceLaws.{ofPhasing, passing, at-least}
 use Rattle.transmission_theorems.proofs.EnoughPhasing.{needs, starts}
@@ -56,14 +57,24 @@ some-left s t start place count kept e =
     let n = needs (dxLeft s place count) (rxLeft s place count) e in
     omega arith
 
--- computed: five in a row among the phasing characters, none of them, and some at the beginning
+-- where the places come behind the phasing it is whole
+pub whole-starts : (s t : List ℕ) (start place count : ℕ) → 1 ≤ length s → 16 ≤ place → KeptBut s t start place count
+    → phasingAt t start ≡ 14
+unfolding left dxLeft rxLeft isPhasing dxPhasing rxPhasing dx rx
+whole-starts [] t start place count long behind kept = absurd (omega arith)
+whole-starts (a ∷ l) t start place count long behind kept =
+    let least : 14 ≤ phasingAt t start = counts (a ∷ l) t start 16 (place + count) (λ q h. kept q (later q h)) refl in
+    let most = at-most-14 t start in
+    omega arith
+  where
+    later : (q : ℕ) → Outside 16 (place + count) q → Outside place count q
+    later q (inl h) = inl (omega arith)
+    later q (inr h) = inr (omega arith)
+
+-- computed: five in a row among the phasing characters, and some at the beginning
 five-left : (a : ℕ) (l : List ℕ) → allInRow (λ place. left (a ∷ l) place 5) 0 16 ≡ true
 unfolding left dxLeft rxLeft isPhasing dxPhasing rxPhasing dx rx
 five-left a l = refl
-
-all-left : (a : ℕ) (l : List ℕ) (count : ℕ) → left (a ∷ l) 16 count ≡ true
-unfolding left dxLeft rxLeft isPhasing dxPhasing rxPhasing dx rx
-all-left a l count = refl
 
 cut-left : (a : ℕ) (l : List ℕ) → allInRow (λ lost. left (a ∷ l) 0 lost) 0 12 ≡ true
 unfolding left dxLeft rxLeft isPhasing dxPhasing rxPhasing dx rx
@@ -83,21 +94,9 @@ spoiled-starts (a ∷ l) t start place count long few kept = go (which (ltb plac
         wider : (q : ℕ) → Outside place 5 q → Outside place count q
         wider q (inl h) = inl h
         wider q (inr h) = inr (omega arith)
-    go (no! p) =
-        let far = ltb-false place 16 p in
-        some-left (a ∷ l) t start 16 (place + count) (λ q h. kept q (later far q h)) (all-left a l (place + count))
-      where
-        later : 16 ≤ place → (q : ℕ) → Outside 16 (place + count) q → Outside place count q
-        later far q (inl h) = inl (omega arith)
-        later far q (inr h) = inr (omega arith)
+    go (no! p) = omega (arith, whole-starts (a ∷ l) t start place count long (ltb-false place 16 p) kept)
 
 pub cut-starts : (s t : List ℕ) (start lost : ℕ) → 1 ≤ length s → lost ≤ 11 → KeptBut s t start 0 lost → 1 ≤ phasingAt t start
 cut-starts [] t start lost long few kept = absurd (omega arith)
 cut-starts (a ∷ l) t start lost long few kept =
     some-left (a ∷ l) t start 0 lost kept (in-row (λ lost. left (a ∷ l) 0 lost) 0 12 lost (cut-left a l) (omega arith) (omega arith))
-
--- with nothing lost it is whole
-pub whole-starts : (s t : List ℕ) (start : ℕ) → 1 ≤ length s → KeptBut s t start 0 0 → 14 ≤ phasingAt t start
-unfolding left dxLeft rxLeft isPhasing dxPhasing rxPhasing dx rx
-whole-starts [] t start long kept = absurd (omega arith)
-whole-starts (a ∷ l) t start long kept = counts (a ∷ l) t start 0 0 kept refl

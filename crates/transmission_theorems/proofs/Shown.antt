@@ -6,8 +6,8 @@ use mathlib.Core.Bool.{true}
 use mathlib.Core.List.{List, _++_}
 use lib.ListN.{length, getD, replicate}
 use Rattle.characters.specs.Code.{none}
-use Rattle.transmission.specs.Layout.{sent}
-use Rattle.transmission.specs.Phasing.{mostLost, heardAt}
+use Rattle.transmission.specs.Layout.{sent, transmission}
+use Rattle.transmission.specs.Phasing.{mostLost, heardAt, phasingAt}
 use Rattle.transmission.specs.Reading.{startIn, phasingIn}
 use Rattle.transmission_theorems.specs.Statement.{Accepted}
 
@@ -33,9 +33,18 @@ Inside place count p = (place ≤ p) × (p < place + count)
 abbrev pub KeptBut : List ℕ → List ℕ → ℕ → ℕ → ℕ → Type 0
 KeptBut s t start place count = (p : ℕ) → Outside place count p → heardAt t (start + p) ≡ getD (sent s) p none
 
+-- a copy among these places is none, and its repeat, five places on, stands behind them
+abbrev pub RepeatsKept : List ℕ → List ℕ → ℕ → ℕ → ℕ → Type 0
+RepeatsKept s t start place count =
+    (p : ℕ) → 12 ≤ p → p < length (transmission s) → Inside place count p → (heardAt t (start + p) ≡ none) × (place + count ≤ p + 5)
+
 -- the transmission is found at a start
 abbrev pub Found : List ℕ → ℕ → Type 0
 Found t start = (startIn t ≡ start) × (phasingIn t ≡ true)
+
+-- or an earlier one is, and is whole
+abbrev pub FoundEarlier : List ℕ → ℕ → Type 0
+FoundEarlier t start = (startIn t < start) × (phasingAt t (startIn t) ≡ 14)
 
 -- What `Starts` proves:
 
@@ -50,7 +59,7 @@ FoundCut =
     (s t : List ℕ) → Accepted s → (lost : ℕ) → lost ≤ mostLost → Shown s lost t → KeptBut s t (mostLost - lost) 0 lost
     → Found t (mostLost - lost)
 
--- a transmission of any symbols with nothing before it
-abbrev pub FoundAlone : Type 0
-FoundAlone =
-    (s t : List ℕ) → 1 ≤ length s → KeptBut s t mostLost 0 0 → ((q : ℕ) → q < mostLost → heardAt t q ≡ none) → Found t mostLost
+-- one that is whole
+abbrev pub FoundWhole : Type 0
+FoundWhole =
+    (t : List ℕ) (start : ℕ) → phasingAt t start ≡ 14 → (phasingIn t ≡ true) × ((startIn t ≡ start) ⊎ FoundEarlier t start)

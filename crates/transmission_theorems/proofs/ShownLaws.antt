@@ -33,9 +33,6 @@ module _ (s t : List ℕ) (lost start : ℕ) (begins : lost + start ≡ mostLost
       let e : lost + (start + p) ≡ mostLost + p = omega arith in
       rw e (getD-append-add (replicate mostLost none) (sent s) p none)
 
-  pub shown-at : Shown s lost t → (p : ℕ) → NoneOrSent s t start p
-  shown-at shown p = rw (at-start p) at (shown (start + p))
-
   pub all-shown : ((q : ℕ) → q < start → heardAt t q ≡ none) → ((p : ℕ) → NoneOrSent s t start p) → Shown s lost t
   all-shown before each q = go (which (ltb q start))
     where

@@ -19,9 +19,9 @@ use Rattle.transmission.specs.Reading.{startIn, phasingIn}
 use Rattle.transmission.proofs.PhasingLaws.{in-place-most, rx-most, phasing-most, at-most-14}
 use Rattle.transmission.proofs.BestLaws.{best-start}
 use Rattle.transmission_theorems.specs.Statement.{Accepted}
-use Rattle.transmission_theorems.proofs.Shown.{Found, FoundSpoiled, FoundCut, FoundAlone}
+use Rattle.transmission_theorems.proofs.Shown.{Found, FoundEarlier, FoundSpoiled, FoundCut, FoundWhole}
 use Rattle.transmission_theorems.proofs.NoOtherStart.{no-other-start}
-use Rattle.transmission_theorems.proofs.OwnStart.{spoiled-starts, cut-starts, whole-starts}
+use Rattle.transmission_theorems.proofs.OwnStart.{spoiled-starts, cut-starts}
 
 -- some phasing is found where some start has any
 some-found : (t : List ℕ) (start : ℕ) → 1 ≤ phasingAt t start
@@ -68,47 +68,30 @@ found-cut s t e lost few shown kept =
 -- ── a whole phasing ──────────────────────────────────────────────────────────
 
 -- found, or an earlier whole one is
-module _ (t : List ℕ) (start : ℕ) (whole : phasingAt t start ≡ 14) where
-  best-whole : phasingAt t (startIn t) ≡ 14
-  best-whole =
-      let f = some-found t start (omega arith) in
-      let m = at-most-14 t (startIn t) in
-      omega arith
+pub whole-found : FoundWhole
+whole-found t start whole = (some-found t start (omega arith) .1, go (which (eqb (startIn t) start)) (which (ltb (startIn t) start)))
+  where
+    best-whole : phasingAt t (startIn t) ≡ 14
+    best-whole =
+        let f = some-found t start (omega arith) in
+        let m = at-most-14 t (startIn t) in
+        omega arith
 
-  pub whole-found : (phasingIn t ≡ true) × ((startIn t ≡ start) ⊎ ((startIn t < start) × (phasingAt t (startIn t) ≡ 14)))
-  whole-found = (some-found t start (omega arith) .1, go (which (eqb (startIn t) start)) (which (ltb (startIn t) start)))
-    where
-      go : Either (eqb (startIn t) start) → Either (ltb (startIn t) start)
-          → (startIn t ≡ start) ⊎ ((startIn t < start) × (phasingAt t (startIn t) ≡ 14))
-      go (yes! p) q = inl (eqb-true _ _ p)
-      go (no! p) (yes! q) = inr (ltb-true _ _ q, best-whole)
-      go (no! p) (no! q) =
-          let n = eqb-false (startIn t) start p in
-          let l = ltb-false (startIn t) start q in
-          let w = best-whole in
-          let b = before-best t start (omega arith) in
-          absurd (omega arith)
+    go : Either (eqb (startIn t) start) → Either (ltb (startIn t) start) → (startIn t ≡ start) ⊎ FoundEarlier t start
+    go (yes! p) q = inl (eqb-true _ _ p)
+    go (no! p) (yes! q) = inr (ltb-true _ _ q, best-whole)
+    go (no! p) (no! q) =
+        let n = eqb-false (startIn t) start p in
+        let l = ltb-false (startIn t) start q in
+        let w = best-whole in
+        let b = before-best t start (omega arith) in
+        absurd (omega arith)
 
 -- a start at which nothing was heard is not whole
-begins-whole : (t : List ℕ) (start : ℕ) → phasingAt t start ≡ 14 → heardAt t start ≡ none → ⊥
+pub begins-whole : (t : List ℕ) (start : ℕ) → phasingAt t start ≡ 14 → heardAt t start ≡ none → ⊥
 unfolding dxGood dxPhasing
 begins-whole t start whole e =
     let m = phasing-most t start in
     let r = rx-most t start in
     let d : dxGood t start ≤ 5 = rw (e, zero-add) (in-place-most t (125 ∷ 125 ∷ 125 ∷ 125 ∷ 125 ∷ []) (start + 2)) in
     omega arith
-
-pub found-alone : FoundAlone
-found-alone s t long kept before =
-    let f = whole-found t mostLost whole in
-    (at (f .1), f .0)
-  where
-    whole : phasingAt t mostLost ≡ 14
-    whole =
-        let l = whole-starts s t mostLost long kept in
-        let m = at-most-14 t mostLost in
-        omega arith
-
-    at : (startIn t ≡ mostLost) ⊎ ((startIn t < mostLost) × (phasingAt t (startIn t) ≡ 14)) → startIn t ≡ mostLost
-    at (inl p) = p
-    at (inr p) = absurd (begins-whole t (startIn t) (p .1) (before (startIn t) (p .0)))

@@ -1,8 +1,9 @@
 -- The statements on a transmission, proved; those on one character stand in Characters.
 use Prim.Native.Nat.{ℕ, _+_, _-_, _*_, _/_, _%_}
 use mathlib.Core.Path.{_≡_, refl}
+use mathlib.Core.Logic.{_⊎_, inl, inr}
 use mathlib.Core.Bool.{true}
-use mathlib.Core.List.{List, [], _∷_}
+use mathlib.Core.List.{List, [], _∷_, append-nil}
 use native.Mathlib.Omega.{arith}
 use lib.ListN.{length}
 use Rattle.sequence.specs.Symbols.{allAtMost}
@@ -14,12 +15,12 @@ use Rattle.transmission.specs.Phasing.{charactersOf, mostLost, heard}
 use Rattle.transmission.specs.Copies.{countOf}
 use Rattle.transmission.proofs.HeardLaws.{heard-lost}
 use Rattle.transmission_theorems.specs.Statement.{BytesReadBack, Accepted, ReadAs, ReadsBack, SequencesReadBack}
-use Rattle.transmission_theorems.specs.Statement.{FiveMadeGood, ElevenLost, WholePhasingFound, NothingElse}
+use Rattle.transmission_theorems.specs.Statement.{FiveMadeGood, ElevenLost, EarlierWhole, WholePhasingFound, WholeRead, NothingElse}
 use Rattle.transmission_theorems.proofs.AcceptedEnds.{accepted-ends}
-use Rattle.transmission_theorems.proofs.HeardRest.{spoiled-kept, spoiled-shown, cut-kept, cut-shown}
-use Rattle.transmission_theorems.proofs.Starts.{found-spoiled, found-cut, found-alone, whole-found}
+use Rattle.transmission_theorems.proofs.HeardRest.{spoiled-kept, spoiled-inside, spoiled-shown, cut-kept, cut-shown, amid-kept}
+use Rattle.transmission_theorems.proofs.Starts.{found-spoiled, found-cut, whole-found, begins-whole}
 use Rattle.transmission_theorems.proofs.ReadBack.{read-ends}
-use Rattle.transmission_theorems.proofs.MadeGood.{found-read}
+use Rattle.transmission_theorems.proofs.MadeGood.{found-read, whole-there}
 use Rattle.transmission_theorems.proofs.NothingElse.{only-what-stood}
 
 -- ── what was written ─────────────────────────────────────────────────────────
@@ -34,15 +35,20 @@ characters-back (c ∷ cs) =
 pub bytes-read-back : BytesReadBack
 bytes-read-back s = characters-back (transmission s)
 
+-- amid any other characters
+pub whole-read : WholeRead
+whole-read s size small ends before after = whole-there s size small ends _ _ _ (amid-kept s small before after)
+
+-- with nothing before it no other is found
 pub reads-back : ReadsBack
 reads-back s size small = (λ h. read-ends s (heard (transmission s)) (long s size .0) (h .1), there)
   where
+    go : ReadAs (transmission s) s ⊎ EarlierWhole (transmission s) mostLost → ReadAs (transmission s) s
+    go (inl h) = h
+    go (inr h) = absurd (begins-whole _ _ (h .1) (heard-lost (transmission s) _ (h .0)))
+
     there : countOf s ≡ length s → ReadAs (transmission s) s
-    there ends =
-        let l = long s size in
-        let kept = cut-kept s small 0 (omega arith) in
-        found-read s size small ends (heard (transmission s)) 0 mostLost 0 0 refl (cut-shown s small 0 (omega arith)) kept
-        (λ p h k. omega arith) (found-alone s (heard (transmission s)) (omega arith) kept (heard-lost (transmission s)))
+    there ends = go (rw (append-nil (transmission s)) at (whole-read s size small ends [] []))
 
 -- a sequence that the reader accepts
 module _ (s : List ℕ) (ok : Accepted s) where
@@ -64,14 +70,15 @@ pub five-made-good : FiveMadeGood
 five-made-good s ok place spoiled nones most fits =
     let shown = spoiled-shown s (small s ok) place spoiled nones fits in
     let kept = spoiled-kept s (small s ok) place spoiled nones fits in
-    found-read s (size s ok) (small s ok) (ends s ok) _ 0 mostLost place (length spoiled) refl shown kept (λ p h k. omega arith)
+    found-read s (size s ok) (small s ok) (ends s ok) _ mostLost place (length spoiled) kept
+    (λ p h k i. (spoiled-inside s (small s ok) place spoiled nones fits p i, omega arith))
     (found-spoiled s _ ok shown place (length spoiled) most kept)
 
 pub eleven-lost : ElevenLost
 eleven-lost s ok lost most =
     let shown = cut-shown s (small s ok) lost most in
     let kept = cut-kept s (small s ok) lost most in
-    found-read s (size s ok) (small s ok) (ends s ok) _ lost (mostLost - lost) 0 lost (omega arith) shown kept (λ p h k. omega arith)
+    found-read s (size s ok) (small s ok) (ends s ok) _ (mostLost - lost) 0 lost kept (λ p h k i. absurd (omega arith))
     (found-cut s _ ok lost most shown kept)
 
 -- ── whatever was handed in ───────────────────────────────────────────────────

@@ -79,12 +79,22 @@ ElevenLost = (s : List ℕ) → Accepted s → (lost : ℕ) → lost ≤ mostLos
 abbrev pub Whole : List ℕ → ℕ → Type 0
 Whole characters start = phasingAt (heard characters) start ≡ 14
 
+-- the start found is an earlier one, and whole
+abbrev pub EarlierWhole : List ℕ → ℕ → Type 0
+EarlierWhole characters start = (startIn (heard characters) < start) × Whole characters (startIn (heard characters))
+
 -- "a whole phasing is found whatever stands before it, unless another whole one does"
 abbrev pub WholePhasingFound : Type 0
 WholePhasingFound =
     (characters : List ℕ) (start : ℕ) → Whole characters start
-    → (phasingIn (heard characters) ≡ true)
-    × ((startIn (heard characters) ≡ start) ⊎ ((startIn (heard characters) < start) × Whole characters (startIn (heard characters))))
+    → (phasingIn (heard characters) ≡ true) × ((startIn (heard characters) ≡ start) ⊎ EarlierWhole characters start)
+
+-- and so a transmission that stands whole in what was handed in is read, whatever stands before and behind it, unless another whole
+-- phasing stands before it
+abbrev pub WholeRead : Type 0
+WholeRead =
+    (s : List ℕ) → lengthIn s ≡ true → allAtMost lastSymbol s ≡ true → countOf s ≡ length s → (before after : List ℕ)
+    → ReadAs (before ++ (transmission s ++ after)) s ⊎ EarlierWhole (before ++ (transmission s ++ after)) (mostLost + length before)
 
 pub data Among (place : ℕ) : List ℕ → Type 0 where
   here : {places : List ℕ} → Among place (place ∷ places)
