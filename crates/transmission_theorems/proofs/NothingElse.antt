@@ -2,13 +2,13 @@
 use Prim.Native.Nat.{ℕ, _+_, _-_, _≤_, _<_}
 use mathlib.Core.Path.{_≡_, refl, sym, ap, _∙_}
 use mathlib.Core.Logic.{inl, inr}
-use mathlib.Core.Bool.{Bool, true, false, cond, not, _&&_}
+use mathlib.Core.Bool.{Bool, true, false, not, _&&_}
 use mathlib.Core.List.{List, [], _∷_}
 use native.Mathlib.Omega.{arith}
 use lib.Dec.{eqb, leb}
 use lib.ListN.{length, getD, length-take}
 use lib.Seq.{getD-take}
-use borrow.Author.Tests.{eqb-false, leb-true, leb-false}
+use borrow.Author.Tests.{eqb-true, eqb-false, leb-true, leb-false}
 use Rattle.sequence.specs.Figures.{longest}
 use Rattle.sequence.proofs.Tests.{both-true, Either, yes!, no!, which}
 use Rattle.sequence.proofs.RefusalLaws.{kind-held}
@@ -24,23 +24,24 @@ use Rattle.transmission.proofs.HeardLaws.{good-is-there, length-heard, heard-lo
 use Rattle.transmission.proofs.LayoutLaws.{any-default}
 use Rattle.transmission.proofs.SymbolLaws.{symbols-length, symbol-there}
 use Rattle.transmission.proofs.RowTests.{in-row}
-use Rattle.transmission_theorems.specs.Statement.{Among, here, behind, StoodIn, NothingElse}
+use Rattle.transmission_theorems.specs.Statement.{FirstOf, here, behind, StoodIn, NothingElse}
 
--- the first good one of some places stands in one of them
+-- the first good one of some places stands in one of them, behind none alone
 record StandsAt (t places : List ℕ) (symbol : ℕ) : Type 0 where
   pub place : ℕ
-  pub among : Among place places
+  pub first : FirstOf t place places
   pub holds : heardAt t place ≡ symbol
 
 stands : (t places : List ℕ) → (firstGood t places ≡ none → ⊥) → StandsAt t places (firstGood t places)
 stands t [] bad = absurd (bad refl)
-stands t (place ∷ places) bad = go (eqb (heardAt t place) none) bad (stands t places)
+stands t (place ∷ places) bad = go (which (eqb (heardAt t place) none)) (stands t places)
   where
-    go : (b : Bool) → (cond b (firstGood t places) (heardAt t place) ≡ none → ⊥)
-        → ((firstGood t places ≡ none → ⊥) → StandsAt t places (firstGood t places))
-        → StandsAt t (place ∷ places) (cond b (firstGood t places) (heardAt t place))
-    go true bad later = let l = later bad in record { place = l .place; among = behind (l .among); holds = l .holds }
-    go false bad later = record { place = place; among = here; holds = refl }
+    go : Either (eqb (heardAt t place) none) → ((firstGood t places ≡ none → ⊥) → StandsAt t places (firstGood t places))
+        → StandsAt t (place ∷ places) (firstGood t (place ∷ places))
+    go (yes! e) later =
+        let l = later (rw e at bad) in
+        rw e (record { place = l .place; first = behind (eqb-true _ _ e) (l .first); holds = l .holds })
+    go (no! e) later = rw e (record { place = place; first = here; holds = refl })
 
 -- a place that holds a symbol is there, and not among the eleven before the first character
 module _ (characters : List ℕ) (place : ℕ) (good : heardAt (heard characters) place ≡ none → ⊥) where
@@ -57,9 +58,9 @@ module _ (characters : List ℕ) (place : ℕ) (good : heardAt (heard characters
   its-symbol : symbolOf (getD characters (place - mostLost) noCharacter) ≡ heardAt (heard characters) place
   its-symbol = sym (heard-there characters (place - mostLost)) ∙ ap (heardAt (heard characters)) its-place
 
-  stood : (k : ℕ) → Among place (copiesOf (startIn (heard characters)) k)
+  stood : (k : ℕ) → FirstOf (heard characters) place (copiesOf (startIn (heard characters)) k)
       → StoodIn characters k (heardAt (heard characters) place)
-  stood k among = go (none-or-good (getD characters (place - mostLost) noCharacter))
+  stood k first = go (none-or-good (getD characters (place - mostLost) noCharacter))
     where
       go : NoneOrGood (getD characters (place - mostLost) noCharacter) → StoodIn characters k (heardAt (heard characters) place)
       go (inl e) = absurd (good (sym its-symbol ∙ e))
@@ -67,7 +68,7 @@ module _ (characters : List ℕ) (place : ℕ) (good : heardAt (heard characters
           record {
             place = place - mostLost;
             there = omega (arith, not-lost, good-is-there (heard characters) place good, length-heard characters);
-            a-copy = rw its-place among;
+            first-good = rw its-place first;
             its-character = sym (h .1) ∙ ap characterOf its-symbol;
             is-symbol = rw its-symbol at (h .0);
           }
@@ -110,4 +111,4 @@ only-what-stood characters done k h =
     let t : List ℕ = heard characters in
     let bad = readable t done k (counted t k h .0) in
     let at = stands t (copiesOf (startIn t) k) bad in
-    rw (read-at t k h, ← at .holds) (stood characters (at .place) (λ e. bad (sym (at .holds) ∙ e)) k (at .among))
+    rw (read-at t k h, ← at .holds) (stood characters (at .place) (λ e. bad (sym (at .holds) ∙ e)) k (at .first))

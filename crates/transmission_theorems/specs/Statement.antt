@@ -13,7 +13,7 @@ use Rattle.sequence.specs.Reading.{lengthIn, readingOf}
 use Rattle.characters.specs.Code.{characterOf, symbolOf, none, noCharacter}
 use Rattle.transmission.specs.declared.Answer.the-variants.{Done}
 use Rattle.transmission.specs.Layout.{transmission, bytesOf}
-use Rattle.transmission.specs.Phasing.{charactersOf, heard, mostLost, phasingAt}
+use Rattle.transmission.specs.Phasing.{charactersOf, heard, heardAt, mostLost, phasingAt}
 use Rattle.transmission.specs.Copies.{copiesOf, countOf}
 use Rattle.transmission.specs.Reading.{startIn, symbolsIn, phasingIn, readingAnswer}
 
@@ -96,15 +96,16 @@ WholeRead =
     (s : List ℕ) → lengthIn s ≡ true → allAtMost lastSymbol s ≡ true → countOf s ≡ length s → (before after : List ℕ)
     → ReadAs (before ++ (transmission s ++ after)) s ⊎ EarlierWhole (before ++ (transmission s ++ after)) (mostLost + length before)
 
-pub data Among (place : ℕ) : List ℕ → Type 0 where
-  here : {places : List ℕ} → Among place (place ∷ places)
-  behind : {other : ℕ} {places : List ℕ} → Among place places → Among place (other ∷ places)
+-- one of some places, and those before it hold none
+pub data FirstOf (t : List ℕ) (place : ℕ) : List ℕ → Type 0 where
+  here : {places : List ℕ} → FirstOf t place (place ∷ places)
+  behind : {other : ℕ} {places : List ℕ} → heardAt t other ≡ none → FirstOf t place places → FirstOf t place (other ∷ places)
 
--- the character that symbol k was read from: one of its copies, in its place among those handed in
+-- the character that symbol k was read from: the first good one of its copies, in its place among those handed in
 pub record StoodIn (characters : List ℕ) (k symbol : ℕ) : Type 0 where
   pub place : ℕ
   pub there : place < length characters
-  pub a-copy : Among (mostLost + place) (copiesOf (startIn (heard characters)) k)
+  pub first-good : FirstOf (heard characters) (mostLost + place) (copiesOf (startIn (heard characters)) k)
   pub its-character : getD characters place noCharacter ≡ characterOf symbol
   pub is-symbol : symbol ≤ lastSymbol
 
