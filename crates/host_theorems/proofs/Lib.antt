@@ -4,4 +4,5 @@ pub mod Theorems
 pub mod Refusals
 pub mod Scripted
 pub mod Sequences
+pub mod Characters
 pub mod Transmissions

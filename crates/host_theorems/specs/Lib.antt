@@ -1,5 +1,6 @@
 pub mod Calls
 pub mod Statement
 pub mod Sequences
+pub mod Characters
 pub mod Transmissions
 pub mod Scripts
