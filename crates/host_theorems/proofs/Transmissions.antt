@@ -1,6 +1,7 @@
 -- The sender and the receiver of a transmission that C calls: what an answer of 0 says of the bytes, and what comes over the air.
 use Prim.Native.Nat.{ℕ, _+_, _*_, _%_, _≤_, _<_}
 use mathlib.Core.Path.{_≡_, refl, sym, ap, _∙_}
+use mathlib.Core.Logic.{_⊎_, inl, inr}
 use mathlib.Core.List.{List, _++_}
 use native.Mathlib.Omega.{arith}
 use native.Mathlib.Nat.{zero-add}
@@ -17,20 +18,20 @@ use Rattle.transmission.specs.declared.Answer.the-variants.{Done, BadLength, Ba
 use Rattle.transmission.specs.declared.Counted.{Counted}
 use Rattle.transmission.specs.Answers.{answerNumber}
 use Rattle.transmission.specs.Layout.{transmission, bytesOf}
-use Rattle.transmission.specs.Phasing.{heard}
+use Rattle.transmission.specs.Phasing.{mostLost, heard}
 use Rattle.transmission.specs.Writing.{transmissionWritten}
 use Rattle.transmission.specs.Reading.{symbolsIn, readingAnswer, transmissionRead}
 use Rattle.transmission.proofs.LayoutLaws.{bytes-length, transmission-length}
-use Rattle.transmission_theorems.specs.Statement.{Accepted, ReadAs, replaced}
+use Rattle.transmission_theorems.specs.Statement.{Accepted, ReadAs, replaced, EarlierWhole}
 use Rattle.transmission_theorems.proofs.InRoom.{Writable, done-writable, written-in-room}
 use Rattle.transmission_theorems.proofs.InRoom.{symbols-at-most, answer-in-room, done-in-longest, read-in-room}
 use Rattle.transmission_theorems.proofs.Theorems.{bytes-read-back, reads-back, sequences-read-back}
-use Rattle.transmission_theorems.proofs.Theorems.{five-made-good, eleven-lost, nothing-else}
+use Rattle.transmission_theorems.proofs.Theorems.{five-made-good, eleven-lost, whole-read, nothing-else}
 use Rattle.coast.specs.Transmissions.{answerWithCount}
 use Rattle.host_theorems.specs.Sequences.{Passage, answerOf, countOf, written, ByWriter, CReadsWhatWasWritten}
 use Rattle.host_theorems.specs.Transmissions.{BySender, by-send, ByReceiver, by-receive, onAir, offAir, Sent, Received, ReadOff}
-use Rattle.host_theorems.specs.Transmissions.{CSendsAll, CReadsBack, CSequencesReadBack, CFiveMadeGood, CElevenLost, CNothingElse}
-use Rattle.host_theorems.specs.Transmissions.{Withstood, spoiled, cut, CMeaningOnAir, CAnswersOnAir}
+use Rattle.host_theorems.specs.Transmissions.{CSendsAll, CReadsBack, CSequencesReadBack, CFiveMadeGood, CElevenLost}
+use Rattle.host_theorems.specs.Transmissions.{CWholeRead, CNothingElse, Withstood, spoiled, cut, amid, CMeaningOnAir, CAnswersOnAir}
 use Rattle.host_theorems.proofs.Sequences.{was-written, c-reads-what-was-written, lives, slice}
 
 -- of all answers Done alone has the number 0
@@ -143,6 +144,21 @@ pub c-eleven-lost : CElevenLost
 unfolding CElevenLost
 c-eleven-lost w r x t lost most = comes-over x t (drop lost) (eleven-lost (w .given) (x .accepted) lost most)
 
+pub c-whole-read : CWholeRead
+unfolding CWholeRead
+c-whole-read w r x t before after e =
+    let y = was-sent (x .by) (x .answered) in
+    let ends = reads-back (w .given) (y .size) (y .small) .0 (sequences-read-back (w .given) (x .accepted)) in
+    go (whole-read (w .given) (y .size) (y .small) ends before after)
+  where
+    amidst : List ℕ → List ℕ
+    amidst c = before ++ (c ++ after)
+
+    go : ReadAs (amidst (transmission (w .given))) (w .given) ⊎ EarlierWhole (amidst (transmission (w .given))) (mostLost + length before)
+        → ReadOff r (w .given) ⊎ EarlierWhole (offAir r) (mostLost + length before)
+    go (inl h) = inl (comes-over x t amidst h e)
+    go (inr h) = inr (rw (e ∙ ap amidst (sent-is (x .by) (x .answered))) h)
+
 pub c-nothing-else : CNothingElse
 unfolding CNothingElse
 c-nothing-else r by e k h =
@@ -162,9 +178,14 @@ written-accepted by e =
     rw (x .symbols) (ap (λ (d : Reading). d .answer) (reads-exactly (layout (x .meaning)) (x .meaning) .1 (x .is-valid, refl)))
 
 withstood : {w r : Passage} {air : List ℕ} → Sent w → Received r → Withstood (onAir w) air → offAir r ≡ air → ReadOff r (w .given)
-unfolding CFiveMadeGood CElevenLost
+unfolding CFiveMadeGood CElevenLost CWholeRead
 withstood {w} {r} x t (spoiled place others nones most fits) e = c-five-made-good w r x t place others nones most fits e
 withstood {w} {r} x t (cut lost most) e = c-eleven-lost w r x t lost most e
+withstood {w} {r} x t (amid before after alone) e = go (c-whole-read w r x t before after e)
+  where
+    go : ReadOff r (w .given) ⊎ EarlierWhole (offAir r) (mostLost + length before) → ReadOff r (w .given)
+    go (inl h) = h
+    go (inr h) = let earlier = rw e at h in absurd (alone _ (earlier .0) (earlier .1))
 
 pub c-meaning-on-air : CMeaningOnAir
 unfolding CMeaningOnAir CReadsWhatWasWritten

@@ -1,7 +1,7 @@
 -- What was put on the air is read off it: of the writer and the reader of a transmission that C calls, from the bytes alone.
 use Prim.Native.Nat.{ℕ, _+_, _*_, _≤_, _<_}
 use mathlib.Core.Path.{_≡_}
-use mathlib.Core.Logic.{_↔_}
+use mathlib.Core.Logic.{_↔_, _⊎_}
 use mathlib.Core.Bool.{true}
 use mathlib.Core.List.{List, _++_}
 use lib.ListN.{length, getD, take, drop}
@@ -15,7 +15,7 @@ use Rattle.transmission.specs.Layout.{transmission, bytesOf}
 use Rattle.transmission.specs.Writing.{longestTransmission}
 use Rattle.transmission.specs.Phasing.{charactersOf, mostLost}
 use Rattle.transmission.specs.Copies as Copies
-use Rattle.transmission_theorems.specs.Statement.{Accepted, AllNone, replaced, StoodIn}
+use Rattle.transmission_theorems.specs.Statement.{Accepted, AllNone, replaced, Whole, EarlierWhole, StoodIn}
 use Rattle.coast.proofs.transmissions.coast_write_transmission.Reads as write-transmission
 use Rattle.coast.proofs.transmissions.coast_read_transmission.Reads as read-transmission
 use Rattle.host_theorems.specs.Sequences.{Passage, passage, answerOf, countOf, written, telling, InBytes, ByReader, ByWriter, Passes}
@@ -83,6 +83,13 @@ unfoldable pub CElevenLost : Type 0
 CElevenLost = (w r : Passage) → Sent w → Received r
     → (lost : ℕ) → lost ≤ mostLost → offAir r ≡ drop lost (onAir w) → ReadOff r (w .given)
 
+-- one that stands whole in what was received is read, whatever stands before and behind it, unless another whole phasing stands before
+-- it
+unfoldable pub CWholeRead : Type 0
+CWholeRead = (w r : Passage) → Sent w → Received r
+    → (before after : List ℕ) → offAir r ≡ before ++ (onAir w ++ after)
+    → ReadOff r (w .given) ⊎ EarlierWhole (offAir r) (mostLost + length before)
+
 -- "reading gives nothing but what stood in good characters"
 unfoldable pub CNothingElse : Type 0
 CNothingElse = (r : Passage) → ByReceiver r → answerOf r ≡ 0
@@ -95,6 +102,9 @@ pub data Withstood (sent : List ℕ) : List ℕ → Type 0 where
   spoiled : (place : ℕ) (others : List ℕ) → AllNone others → length others ≤ 5 → place + length others ≤ length sent
       → Withstood sent (replaced sent place others)
   cut : (lost : ℕ) → lost ≤ mostLost → Withstood sent (drop lost sent)
+  amid : (before after : List ℕ)
+      → ((start : ℕ) → start < mostLost + length before → Whole (before ++ (sent ++ after)) start → ⊥)
+      → Withstood sent (before ++ (sent ++ after))
 
 -- by all four entries: a meaning that is written, sent, received and read has the same bytes
 unfoldable pub CMeaningOnAir : Type 0
