@@ -152,7 +152,8 @@ uint32_t coast_write_transmission(const uint8_t *symbols, size_t count, uint8_t 
  * by the event that they are handed to. After 51 or 53, while the modem still receives, a host may hand over all once more with what
  * has come since.
  * Proved of every sequence that coast_read_sequence accepts: what was written is read back; so it is with up to five characters in
- * a row turned to none, anywhere, and with up to eleven lost at the beginning. And nothing is read but what stood in good characters. */
+ * a row turned to none, anywhere, and with up to eleven lost at the beginning; a whole one is read with any other characters before
+ * and behind it, unless another whole phasing stands before it. And nothing is read but what stood in good characters. */
 uint32_t coast_read_transmission(const uint8_t *characters, size_t size, uint8_t *room, size_t room_size);
 
 /* A station lives in 1723 bytes that the host lends; nobody but the library needs to look inside. Numbers stand low byte
