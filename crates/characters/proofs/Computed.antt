@@ -5,6 +5,6 @@ use lib.Count.{ones, onesIn}
 use Rattle.characters.specs.Code.{zeros, tenUnits, characterOf, symbolOf}
 use Rattle.characters.specs.Cases.{cases}
 
-pub cases-computed : map (λ c. c .computed) cases ≡ map (λ c. c .expected) cases
+pub characters-computed : map (λ c. c .computed) cases ≡ map (λ c. c .expected) cases
 unfolding zeros tenUnits characterOf symbolOf ones onesIn
-cases-computed = refl
+characters-computed = refl
