@@ -90,17 +90,22 @@ phasingCases =
     -- eleven of the beginning lost, and twelve
     ∷ starts (106 ∷ 123 ∷ 105 ∷ 123 ∷ 104 ∷ []) 0 3
     ∷ starts (123 ∷ 105 ∷ 123 ∷ 104 ∷ []) 0 0
-    -- a whole one, behind one of three; of two equal ones the first
+    -- behind one of three characters a whole one, and one of four; of two equal ones the first
     ∷ starts (111 ∷ none ∷ 110 ∷ none ∷ 109 ∷ take 16 p1Sent) 16 14
+    ∷ starts (125 ∷ 111 ∷ 125 ∷ 125 ∷ 111 ∷ 125 ∷ 110 ∷ []) 14 4
     ∷ starts (125 ∷ 111 ∷ 125 ∷ 125 ∷ 111 ∷ 125 ∷ []) 11 3
     ∷ []
 
 -- ── reading ──────────────────────────────────────────────────────────────────
 
--- P1's transmission with some of its characters lost
-abbrev pub without : List ℕ → List ℕ
-without [] = p1Sent
-without (place ∷ places) = set (without places) place none
+-- with some of its characters lost
+abbrev pub without : List ℕ → List ℕ → List ℕ
+without symbols [] = symbols
+without symbols (place ∷ places) = set (without symbols places) place none
+
+-- P1's transmission with another symbol in each of the format's four places
+abbrev pub formats : List ℕ
+formats = set (set (set (set p1Sent 12 1) 14 2) 17 3) 19 4
 
 -- the symbols of the places before 18
 abbrev pub eighteen : List ℕ
@@ -137,28 +142,36 @@ refuses symbols start answer =
 abbrev pub readingCases : List ReadCase
 readingCases =
     reads p1Sent 11 24 p1
-    -- a first copy lost, and both
-    ∷ reads (without (16 ∷ [])) 11 24 p1
-    ∷ refuses (without (16 ∷ 21 ∷ [])) 11 52
-    -- the format from the last of its four places, and from none
-    ∷ reads (without (12 ∷ 14 ∷ 17 ∷ [])) 11 24 p1
-    ∷ refuses (without (12 ∷ 14 ∷ 17 ∷ 19 ∷ [])) 11 52
-    -- the check's second copy not there, its first good, spoiled and not there; both spoiled
-    ∷ reads (take 65 p1Sent) 11 24 p1
-    ∷ refuses (take 65 (without (60 ∷ []))) 11 53
+    -- a first copy lost, and both; a good one counts, whatever its repeat is
+    ∷ reads (without p1Sent (16 ∷ [])) 11 24 p1
+    ∷ refuses (without p1Sent (16 ∷ 21 ∷ [])) 11 52
+    ∷ reads (set p1Sent 16 99) 11 24 (123 ∷ 99 ∷ drop 2 p1)
+    -- the format: "the first good one of its four places in the order sent", and bad only if all are
+    ∷ reads formats 11 24 (1 ∷ drop 1 p1)
+    ∷ reads (without formats (12 ∷ [])) 11 24 (2 ∷ drop 1 p1)
+    ∷ reads (without formats (12 ∷ 14 ∷ [])) 11 24 (3 ∷ drop 1 p1)
+    ∷ reads (without formats (12 ∷ 14 ∷ 17 ∷ [])) 11 24 (4 ∷ drop 1 p1)
+    ∷ refuses (without formats (12 ∷ 14 ∷ 17 ∷ 19 ∷ [])) 11 52
+    -- the check's first copy is the last there, it is not there, or spoiled; both spoiled
+    ∷ reads (take 61 p1Sent) 11 24 p1
     ∷ refuses (take 60 p1Sent) 11 53
-    ∷ refuses (without (60 ∷ 65 ∷ [])) 11 52
+    ∷ refuses (take 65 (without p1Sent (60 ∷ []))) 11 53
+    ∷ refuses (without p1Sent (60 ∷ 65 ∷ [])) 11 52
     -- 52 before 53
-    ∷ refuses (take 60 (without (16 ∷ 21 ∷ []))) 11 52
+    ∷ refuses (take 60 (without p1Sent (16 ∷ 21 ∷ []))) 11 52
     -- both copies of the end lost: "an unreadable symbol is no end"
-    ∷ refuses (without (58 ∷ 63 ∷ [])) 11 52
+    ∷ refuses (without p1Sent (58 ∷ 63 ∷ [])) 11 52
     -- behind two others, with eleven lost, and with twelve
     ∷ reads (0 ∷ 1 ∷ p1Sent) 13 24 p1
     ∷ reads (drop 11 p1Sent) 0 24 p1
     ∷ refuses (drop 12 p1Sent) 0 51
-    -- 117 at place 18 is no end, 122 at 19 and 127 at 20 are, and none is needed at 27
+    -- 51 before 53 and before 52
+    ∷ refuses [] 0 51
+    ∷ refuses (replicate 66 none) 0 51
+    -- 117 at place 18 is no end, 122 at 19, 127 at 20 and 117 at 25 are, and none is needed at 26
     ∷ reads (sent (eighteen ++ (117 ∷ 122 ∷ 5 ∷ []))) 11 21 (eighteen ++ (117 ∷ 122 ∷ 5 ∷ []))
     ∷ reads (sent (eighteen ++ (18 ∷ 19 ∷ 127 ∷ 5 ∷ []))) 11 22 (eighteen ++ (18 ∷ 19 ∷ 127 ∷ 5 ∷ []))
+    ∷ reads (sent (eighteen ++ replicate 7 6 ++ (117 ∷ 5 ∷ []))) 11 27 (eighteen ++ replicate 7 6 ++ (117 ∷ 5 ∷ []))
     ∷ reads (sent (eighteen ++ replicate 10 6)) 11 28 (eighteen ++ replicate 10 6)
     -- a room of 27, before all else
     ∷ record { symbols = []; lent = nines 27; start = 0; answer = 21; count = 0; room = nines 27 }
