@@ -4,4 +4,5 @@ pub mod Writing
 pub mod Phasing
 pub mod Copies
 pub mod Reading
+-- transmissions worked out by hand: cases
 pub mod Cases
