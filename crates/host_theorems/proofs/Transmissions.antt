@@ -16,15 +16,15 @@ use Rattle.characters.specs.Code.{none}
 use Rattle.transmission.specs.declared.Answer.{Answer}
 use Rattle.transmission.specs.declared.Answer.the-variants.{Done, BadLength, BadSymbol, ShortRoom, NoPhasing, CopiesBad, EndsEarly}
 use Rattle.transmission.specs.declared.Counted.{Counted}
-use Rattle.transmission.specs.Answers.{answerNumber}
+use Rattle.transmission.specs.Answers.{answerNumber, isDone}
 use Rattle.transmission.specs.Layout.{transmission, bytesOf}
 use Rattle.transmission.specs.Phasing.{mostLost, heard}
 use Rattle.transmission.specs.Writing.{transmissionWritten}
 use Rattle.transmission.specs.Reading.{symbolsIn, readingAnswer, transmissionRead}
 use Rattle.transmission.proofs.LayoutLaws.{bytes-length, transmission-length}
+use Rattle.transmission.proofs.WritingLaws.{Writable, done-writable}
 use Rattle.transmission_theorems.specs.Statement.{Accepted, ReadAs, replaced, EarlierWhole}
-use Rattle.transmission_theorems.proofs.InRoom.{Writable, done-writable, written-in-room}
-use Rattle.transmission_theorems.proofs.InRoom.{symbols-at-most, answer-in-room, done-in-longest, read-in-room}
+use Rattle.transmission_theorems.proofs.InRoom.{written-in-room, symbols-at-most, answer-in-room, done-in-longest, read-in-room}
 use Rattle.transmission_theorems.proofs.Theorems.{bytes-read-back, reads-back, sequences-read-back}
 use Rattle.transmission_theorems.proofs.Theorems.{five-made-good, eleven-lost, whole-read, nothing-else}
 use Rattle.coast.specs.Transmissions.{answerWithCount}
@@ -62,7 +62,7 @@ c-sends-all _ (by-send κs a r s p) size small wide =
 
 was-sent : {w : Passage} → BySender w → answerOf w ≡ 0 → Writable (w .given) (w .lent)
 unfolding transmissionWritten
-was-sent (by-send κs a r s p) e = done-writable (a .0 .now) (a .1 .0 .now) (answered _ (rw (p .0) at e))
+was-sent (by-send κs a r s p) e = done-writable (a .0 .now) (a .1 .0 .now) (ap isDone (answered _ (rw (p .0) at e)))
 
 module _ {w : Passage} (by : BySender w) (e : answerOf w ≡ 0) where
   sent-as : (w .number ≡ 256 * length (transmission (w .given)))

@@ -1,4 +1,5 @@
 pub mod LayoutLaws
+pub mod WritingLaws
 pub mod HeardLaws
 pub mod PhasingLaws
 pub mod BestLaws

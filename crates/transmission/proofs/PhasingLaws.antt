@@ -1,4 +1,4 @@
--- What makes a start: how many of its phasing characters are needed, and the RX character that every start has.
+-- What makes a start: how many phasing characters it needs, the RX character that every start has, and that none has more than fourteen.
 use Prim.Native.Nat.{ℕ, suc, _+_, _-_, _*_, _≤_, _<_}
 use mathlib.Core.Path.{_≡_, _∙_}
 use mathlib.Core.Bool.{Bool, true, false, cond, _||_, and-true, and-false, or-true, or-false}

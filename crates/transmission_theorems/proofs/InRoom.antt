@@ -1,56 +1,34 @@
--- What is written and read in room enough, and what the answer Done says of the room.
+-- What is written and read in room enough, and what the answer Done says of the room of a reading.
 use Prim.Native.Nat.{ℕ, _*_, _≤_}
 use mathlib.Core.Path.{_≡_, refl, sym, ap, _∙_}
-use mathlib.Core.Bool.{true}
 use mathlib.Core.List.{List, _++_}
 use native.Mathlib.Omega.{arith}
 use lib.Dec.{leb}
 use lib.ListN.{length, drop}
 use lib.Seq.{length-take-le}
 use borrow.Author.Tests.{le-leb, leb-true}
-use Rattle.sequence.specs.Figures.{lastSymbol, longest}
-use Rattle.sequence.specs.Symbols.{allAtMost}
-use Rattle.sequence.specs.Reading.{lengthIn}
+use Rattle.sequence.specs.Figures.{longest}
 use Rattle.sequence.proofs.Tests.{both-true}
-use Rattle.sequence.proofs.RefusalLaws.{all-held, kind-held}
+use Rattle.sequence.proofs.RefusalLaws.{kind-held}
 use Rattle.transmission.specs.declared.Answer.the-variants.{Done}
 use Rattle.transmission.specs.Answers.{isDone}
 use Rattle.transmission.specs.Layout.{transmission, bytesOf}
-use Rattle.transmission.specs.Writing.{longestTransmission, writingRefusals, writingAnswer}
 use Rattle.transmission.specs.Writing.{transmissionWritten, transmissionLaid, roomAfterWriting}
 use Rattle.transmission.specs.Phasing.{charactersOf, heard}
 use Rattle.transmission.specs.Copies.{symbolsFrom}
 use Rattle.transmission.specs.Reading.{startIn, countIn, symbolsIn, readingRefusals, readingAnswer, transmissionRead, roomAfterReading}
 use Rattle.transmission.proofs.LayoutLaws.{bytes-length}
+use Rattle.transmission.proofs.WritingLaws.{Writable, writable-done}
 use Rattle.transmission.proofs.SymbolLaws.{symbols-length, count-most}
 
 -- ── writing ──────────────────────────────────────────────────────────────────
 
-pub record Writable (s room : List ℕ) : Type 0 where
-  pub size : lengthIn s ≡ true
-  pub small : allAtMost lastSymbol s ≡ true
-  pub wide : 2 * longestTransmission ≤ length room
-
 module _ (s room : List ℕ) where
-  pub done-writable : writingAnswer s (length room) ≡ Done → Writable s room
-  unfolding writingAnswer writingRefusals
-  done-writable e =
-      let a = both-true (leb (2 * longestTransmission) (length room)) _
-      (kind-held isDone (writingRefusals s (length room)) Done refl (ap isDone e)) in
-      let b = both-true (lengthIn s) _ (a .1) in
-      let c = both-true (allAtMost lastSymbol s) true (b .1) in
-      record { size = b .0; small = c .0; wide = leb-true _ _ (a .0) }
-
-  writable-done : Writable s room → writingAnswer s (length room) ≡ Done
-  unfolding writingAnswer writingRefusals
-  writable-done w =
-      all-held (writingRefusals s (length room)) Done (rw (le-leb (2 * longestTransmission) (length room) (w .wide), w .size, w .small))
-
   pub written-in-room : Writable s room
       → (transmissionWritten s (length room) ≡ record { answer = Done; count = length (transmission s) })
       × (roomAfterWriting s room ≡ bytesOf (transmission s) ++ drop (2 * length (transmission s)) room)
   unfolding transmissionWritten transmissionLaid roomAfterWriting
-  written-in-room w = (rw (writable-done w), rw (writable-done w, bytes-length (transmission s)))
+  written-in-room w = (rw (writable-done s room w), rw (writable-done s room w, bytes-length (transmission s)))
 
 -- ── reading ──────────────────────────────────────────────────────────────────
 

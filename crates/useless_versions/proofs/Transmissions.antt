@@ -28,9 +28,10 @@ use Rattle.transmission.specs.Phasing.{charactersOf, heard}
 use Rattle.transmission.specs.Reading as Reader
 use Rattle.transmission.specs.Reading.{readingRefusals, readingAnswer, transmissionRead, roomAfterReading}
 use Rattle.transmission.proofs.LayoutLaws.{any-default}
+use Rattle.transmission.proofs.WritingLaws.{Writable, done-writable}
 use Rattle.transmission_theorems.specs.Statement.{Accepted}
 use Rattle.transmission_theorems.proofs.SentLaws.{sent-small}
-use Rattle.transmission_theorems.proofs.InRoom.{Writable, done-writable, written-in-room, answer-in-room, done-in-longest, read-in-room}
+use Rattle.transmission_theorems.proofs.InRoom.{written-in-room, answer-in-room, done-in-longest, read-in-room}
 use Rattle.transmission_theorems.proofs.Theorems.{bytes-read-back, sequences-read-back, nothing-else}
 use Rattle.coast.specs.Transmissions.{answerWithCount}
 use Rattle.host_theorems.proofs.Transmissions.{done-is}
@@ -165,7 +166,7 @@ sending-counts s room size e = go (which (isDone (writingAnswer s (length room))
     go : Either (isDone (writingAnswer s (length room)))
         → transmissionWritten s (length room) .count ≡ charactersIn (roomAfterWriting s room)
     go (yes! d) =
-        let w = done-writable s room (done-told _ d) in
+        let w = done-writable s room d in
         let x = written-in-room s room w in
         let rest = behind room size (2 * length (transmission s)) e in
         let laid = x .1 ∙ ap (_++_ (bytesOf (transmission s))) (rest .1) in
