@@ -15,7 +15,7 @@ use Rattle.rules.specs.Rules.Waits.{Wait, loss, main, Due, running, queu
 use Rattle.rules.specs.Rules.Station.{Slot, shipOf, Waiting, Station, dueAfter, lossDue, mainDue, slotTable, table, queueWait}
 use Rattle.rules.specs.Rules.Sound.{configKeeps, oneSlotEach, slotKeeps, waitingKeeps, limit, queueRoom, listed, owners, noShipTwice, slotFits, placeFits, storedKeeps, timesFit, sound}
 use Rattle.rules.specs.Rules.Requests.{owns, waitsFor}
-use Rattle.rules.specs.Rules.Verdict.{roomNeeded, overtaken, slotThere, readIn, barred, namesShip, namesMode, namesNumber, namesEngaged, refusals, verdict}
+use Rattle.rules.specs.Rules.Verdict.{roomNeeded, overtaken, slotThere, readIn, barred, namesShip, namesMode, namesNumber, namesEngaged, slotToBeHad, refusals, verdict}
 use Rattle.rules.proofs.PlaceLaws.{or-false, and-true}
 use Rattle.rules.proofs.Asked.{owned, rest-distinct}
 use Rattle.rules.proofs.Base.{begunBy, fitting}
@@ -50,6 +50,7 @@ pub record Accepted (cfg : Config) (st : Station) (e : Event) : Type 0 where
   pub mode : namesMode (ashoreIn (e .what)) ≡ true
   pub number : namesNumber (ashoreIn (e .what)) ≡ true
   pub not-engaged : namesEngaged cfg st (ashoreIn (e .what)) ≡ false
+  pub a-slot : slotToBeHad st (ashoreIn (e .what)) ≡ true
 
 pub accepted : (cfg : Config) (st : Station) (e : Event) → verdict cfg st e ≡ none → Accepted cfg st e
 unfolding verdict refusals
@@ -67,7 +68,8 @@ accepted cfg st e h =
     let m = and-true (namesMode (ashoreIn (e .what))) _ (p .1) in
     let n = and-true (namesNumber (ashoreIn (e .what))) _ (m .1) in
     let g = and-true (not (namesEngaged cfg st (ashoreIn (e .what)))) _ (n .1) in
-    record { is-sound = a .0; in-limit = l .0; in-time = b .0; none-due = not-true _ (d .0); there = s .0; readable = u .0; ship = p .0; mode = m .0; number = n .0; not-engaged = not-true _ (g .0) }
+    let f = and-true (slotToBeHad st (ashoreIn (e .what))) _ (g .1) in
+    record { is-sound = a .0; in-limit = l .0; in-time = b .0; none-due = not-true _ (d .0); there = s .0; readable = u .0; ship = p .0; mode = m .0; number = n .0; not-engaged = not-true _ (g .0); a-slot = f .0 }
 
 -- ── what soundness gives ─────────────────────────────────────────────────────
 

@@ -3,26 +3,26 @@ use mathlib.Core.Path.{_≡_, refl, ap, _∙_}
 use mathlib.Core.List.{List, [], _∷_, map, append-nil}
 use mathlib.Core.Bool.{Bool, true, false, cond, not}
 use mathlib.Core.Option.{Option, none, some}
-use Prim.Native.Nat.{ℕ, zero, suc, _+_}
+use Prim.Native.Nat.{ℕ, zero, suc, _+_, _<_}
 use native.Mathlib.Nat.{zero-add, add-zero, add-suc, suc-add}
 use native.Mathlib.Omega.{arith}
 use borrow.Author.Tests.{not-true}
-use lib.ListN.{getD}
+use lib.ListN.{getD, length}
 use Rattle.rules.specs.Rules.Places.{modAt, shift, lowest, elem, distinct}
 use Rattle.rules.specs.Rules.Words.{Party, is, Request}
-use Rattle.rules.specs.Rules.Station.{Dealing, Stage, answeredAt, Slot, pending, busy, shipOf, Waiting, Station, theSlot, setSlot, setQueue, lossDue, offerOf}
+use Rattle.rules.specs.Rules.Station.{Dealing, Stage, answeredAt, Slot, pending, busy, shipOf, Waiting, Station, theSlot, setSlot, setQueue, nextCall, newCall, lossDue, offerOf}
 use Rattle.rules.specs.Rules.Sound.{listed, owner, owners}
-use Rattle.rules.specs.Rules.Requests.{Out, rungBack, freedFor, freed, coastEnd, isOf, owns, slotOf, placeOf, standsAt, repeated, afresh, dToG, redial, requested}
+use Rattle.rules.specs.Rules.Requests.{Out, toRingBack, rungBack, freedFor, freed, coastEnd, isOf, owns, slotOf, placeOf, standsAt, noNumber, repeated, afresh, dToG, redial, requested}
 use Rattle.rules.specs.ListAlone.Book.{Stop, Column, Book, blank, atColumn, Call}
 use Rattle.rules.specs.ListAlone.Reading.{again, tell, letGo, hush, reads, stopOf, askedAgain, stopsAgain}
-use Rattle.rules.proofs.PlaceLaws.{or-false, and-true, shift-none}
-use Rattle.rules.proofs.Base.{by-kind, by-stage, lineOf, a-caller, callIn, view, seen, is-true, atLine², stay, moves, Calling, no-call, a-call, calling, slot-mapped, slot-lowest}
-use Rattle.rules.proofs.Ruling.{againOf, Ruling, passes, repeats, renews, redials, bOrC-ruling}
-use Rattle.rules.proofs.Pieces.{Good, good-also, coastEnd-good, newcomer-good, ruleD-good}
+use Rattle.rules.proofs.PlaceLaws.{or-false, and-true, shift-none, lowest-there}
+use Rattle.rules.proofs.Base.{by-kind, by-stage, lineOf, a-caller, callIn, view, seen, is-true, counts, stay, stands, Calling, no-call, a-call, calling, slot-mapped, slot-lowest}
+use Rattle.rules.proofs.Ruling.{againOf, Ruling, passes, repeats, renews, runs-out, redials, bOrC-ruling}
+use Rattle.rules.proofs.Pieces.{Good, good-also, coastEnd-good, dToG-good}
 
 -- ── no ship twice ────────────────────────────────────────────────────────────
 
-asked-other : (x : Party) (r : Request) (g : Stage) (c : Option ℕ) → is x (r .who) ≡ false → askedAgain x (callIn r g) c ≡ false
+asked-other : (x : Party) (r : Dealing) (g : Stage) (c : Option ℕ) → is x (r .request .who) ≡ false → askedAgain x (callIn r g) c ≡ false
 asked-other x r g c h = by-stage (λ s. askedAgain x (callIn r s) c ≡ false) (λ d. refl) (λ d. refl) (λ b. rw h refl) g
 
 -- a slot that is not the ship's is not stopped by its request
@@ -31,8 +31,8 @@ others x s h = go s (view s .call) (calling s) h
   where
     go : (s : Slot) (k : Call) → Calling s k → owns x s ≡ false → askedAgain x k (lossDue s) ≡ false
     go _ _ (no-call s n) h = refl
-    go _ _ (a-caller k r d) h = by-kind (λ z. askedAgain x (lineOf z (r .request)) none ≡ false) refl refl refl refl refl refl refl k
-    go _ _ (a-call r g c) h = asked-other x (r .request) g c h
+    go _ _ (a-caller k r d) h = by-kind (λ z. askedAgain x (lineOf z r) none ≡ false) refl refl refl refl refl refl refl k
+    go _ _ (a-call r g c) h = asked-other x r g c h
 
 pub elem-none : (x : Party) (ss : List Slot) (q : List Party) → elem is x (owners ss q) ≡ false → lowest (owns x) ss ≡ none
 elem-none x [] q h = refl
@@ -88,11 +88,6 @@ touched t x k i (s ∷ ss) q d h = go (owns x s) refl (lowest (owns x) ss) refl 
     go false e (some m) eo zero z ih = let y : suc m ≡ zero = cc in absurd (omega arith)
     go false e (some m) eo (suc j) z ih = let y : suc m ≡ suc j = cc in next e (ih j (eo ∙ ap some (omega arith)))
 
-dToG-good : (st : Station) (r : Request) (k : Option ℕ) → placeOf (r .who) st ≡ k → Good (st .clock) (seen st) [] (dToG st r k)
-unfolding dToG
-dToG-good st r none h = newcomer-good st r h
-dToG-good st r (some k) h = ruleD-good k st r h
-
 -- ── rule b, and rule c ───────────────────────────────────────────────────────
 
 module _ (i : ℕ) (st : Station) (r : Request) where
@@ -100,35 +95,36 @@ module _ (i : ℕ) (st : Station) (r : Request) where
   B = atColumn i (again (r .who)) (seen st)
 
   freedFor-clock : (q : List Waiting) → freedFor i st q .next .clock ≡ st .clock
-  unfolding freedFor rungBack setSlot setQueue
+  unfolding freedFor rungBack setSlot setQueue newCall
   freedFor-clock [] = refl
   freedFor-clock (w ∷ q) = refl
 
-  coastEnd-clock : (o : Request) (b : Option ℕ) → coastEnd i o b st .next .clock ≡ st .clock
+  coastEnd-clock : (o : Dealing) (b : Option ℕ) → coastEnd i o b st .next .clock ≡ st .clock
   unfolding coastEnd freed
-  coastEnd-clock o b = freedFor-clock (st .queue)
+  coastEnd-clock o b = freedFor-clock (toRingBack st)
 
-  redial-good : (o : Dealing) (g : Stage) (c : Option ℕ) → theSlot st i ≡ busy o g c → hush (letGo (again (r .who) (view (busy o g c)))) ≡ blank
-      → Good (st .clock) B (stopOf (st .clock) i (callIn (o .request) g)) (redial i (o .request) (answeredAt g) st r)
+  redial-good : (o : Dealing) (g : Stage) (c : Option ℕ) → theSlot st i ≡ busy o g c → i < length (st .slots) → hush (letGo (again (r .who) (view (busy o g c)))) ≡ blank
+      → Good (st .clock) B (stopOf (st .clock) i (callIn o g)) (redial i o (answeredAt g) st r)
   unfolding B redial
-  redial-good o g c e h =
-      let w = coastEnd-good i (o .request) g st (busy o g c) e (again (r .who)) h in
-      let n = coastEnd i (o .request) (answeredAt g) st .next in
+  redial-good o g c e there h =
+      let w = coastEnd-good i o g st (busy o g c) e there (again (r .who)) h in
+      let n = coastEnd i o (answeredAt g) st .next in
       let y = placeOf (r .who) n in
-      let a : Good (st .clock) (seen n) [] (dToG n r y) = rw (coastEnd-clock (o .request) (answeredAt g)) at (dToG-good n r y refl) in
-      rw (← (append-nil (stopOf (st .clock) i (callIn (o .request) g)))) (good-also (st .clock) (atColumn i (again (r .who)) (seen st)) (seen n) (stopOf (st .clock) i (callIn (o .request) g)) [] (coastEnd i (o .request) (answeredAt g) st .acts) (dToG n r y) (w .reading) (w .charging) a)
+      let a : Good (st .clock) (seen n) [] (dToG n r y) = rw (coastEnd-clock o (answeredAt g)) at (dToG-good n r y refl) in
+      rw (← (append-nil (stopOf (st .clock) i (callIn o g)))) (good-also (st .clock) (atColumn i (again (r .who)) (seen st)) (seen n) (stopOf (st .clock) i (callIn o g)) [] (coastEnd i o (answeredAt g) st .acts) (dToG n r y) (w .reading) (w .charging) a)
 
-  ruling-good : (cs : List Stop) (p : Slot) (x : Out) → Ruling i st r cs p x → theSlot st i ≡ p → owns (r .who) p ≡ true → Good (st .clock) B cs x
-  unfolding B repeated afresh reads
-  ruling-good cs _ _ (passes p a) e h = record { reading = stay i st p e (again (r .who)) (a h .0); charging = a h .1 }
-  ruling-good cs _ _ (repeats k o d a b) e h = record { reading = atLine² i (again (r .who)) (tell (st .clock) r) (seen st) ∙ stay i st (pending k o d) e (λ l. tell (st .clock) r (again (r .who) l)) a; charging = b }
-  ruling-good cs _ _ (renews k o d z a b) e h = record { reading = atLine² i (again (r .who)) (tell (st .clock) r) (seen st) ∙ moves i st (pending k o d) e (λ l. tell (st .clock) r (again (r .who) l)) (offerOf r st) a; charging = b }
-  ruling-good cs _ _ (redials o g c a) e h = rw (a h .1) (redial-good o g c e (a h .0))
+  ruling-good : (cs : List Stop) (p : Slot) (x : Out) → Ruling i st r cs p x → theSlot st i ≡ p → i < length (st .slots) → owns (r .who) p ≡ true → Good (st .clock) B cs x
+  unfolding B repeated afresh noNumber reads newCall seen
+  ruling-good cs _ _ (passes p a) e there h = record { reading = stay i st p e (again (r .who)) (a h .0); charging = a h .1 }
+  ruling-good cs _ _ (repeats k o d a b) e there h = record { reading = counts i st (pending k o d) e there (again (r .who)) (tell (st .clock) r) (pending k o d) (st .lastCall) a ∙ stands i st (pending k o d) e; charging = b }
+  ruling-good cs _ _ (renews k o d z u a b) e there h = record { reading = counts i st (pending k o d) e there (again (r .who)) (tell (st .clock) r) (offerOf r st) (nextCall st) a; charging = b }
+  ruling-good cs _ _ (runs-out k o d z u a b) e there h = record { reading = stay i st (pending k o d) e (again (r .who)) a; charging = b }
+  ruling-good cs _ _ (redials o g c a) e there h = rw (a h .1) (redial-good o g c e there (a h .0))
 
 -- the whole request
 pub request-good : (st : Station) (r : Request) (q : List Party) → distinct is (owners (st .slots) q) ≡ true → (o k : Option ℕ) → slotOf (r .who) st ≡ o → placeOf (r .who) st ≡ k
-    → Good (st .clock) (record { now = st .clock; columns = map (again (r .who)) (seen st .columns); places = seen st .places }) (stopsAgain (st .clock) (r .who) 0 (seen st .columns)) (requested st r (standsAt o k))
+    → Good (st .clock) (record { now = st .clock; columns = map (again (r .who)) (seen st .columns); places = seen st .places; given = seen st .given }) (stopsAgain (st .clock) (r .who) 0 (seen st .columns)) (requested st r (standsAt o k))
 unfolding requested seen B
-request-good st r q d none none h w = let u = untouched (st .clock) (r .who) 0 (st .slots) h in rw (u .columns-same, u .no-stop) (newcomer-good st r w)
-request-good st r q d none (some k) h w = let u = untouched (st .clock) (r .who) 0 (st .slots) h in rw (u .columns-same, u .no-stop) (ruleD-good k st r w)
-request-good st r q d (some i) k h w = let u = touched (st .clock) (r .who) 0 i (st .slots) q d h in rw (u .one-column, u .one-stop, zero-add i, slot-mapped st view i) (ruling-good i st r _ (theSlot st i) _ (bOrC-ruling i st r (theSlot st i)) refl (slot-lowest st (owns (r .who)) i h))
+request-good st r q d none none h w = let u = untouched (st .clock) (r .who) 0 (st .slots) h in rw (u .columns-same, u .no-stop) (dToG-good st r none w)
+request-good st r q d none (some k) h w = let u = untouched (st .clock) (r .who) 0 (st .slots) h in rw (u .columns-same, u .no-stop) (dToG-good st r (some k) w)
+request-good st r q d (some i) k h w = let u = touched (st .clock) (r .who) 0 i (st .slots) q d h in rw (u .one-column, u .one-stop, zero-add i, slot-mapped st view i) (ruling-good i st r _ (theSlot st i) _ (bOrC-ruling i st r (theSlot st i)) refl (lowest-there (owns (r .who)) (st .slots) i h) (slot-lowest st (owns (r .who)) i h))

@@ -10,14 +10,15 @@ use borrow.Author.Tests.{eq-eqb, eqb-true, leb-true, le-leb}
 use Rattle.units.specs.declared.Lasted.{Lasted}
 use Rattle.rules.specs.Rules.Words.{Party, is, Mode, simplex, duplex, Request, Ashore, Deed, Config}
 use Rattle.rules.specs.Rules.Actions.{Action, does, over, charge}
-use Rattle.rules.specs.Rules.Station.{bySlot, shipOf, Kind, offered, firstRingBack, secondRingBack, acknowledged, firstCall, secondCall, ringing, Slot, free, taken, pending, busy, held, Waiting, Station, theSlot, setSlot, carrierWait, lossDue, stageDue, mainDue, slotTable, table, fires, answeredAt, answeredIn, Dealing, Stage, dialling, dialledOut, answered, fresh, dueAfter, kindWait, diallingWait, replyWait, holdWait, isFree, offerOf, ringBackOf, ringBackAgainOf, agreedAt, calledOf, calledAgain, ringingAt, isCalled}
-use Rattle.rules.specs.Rules.Requests.{sameMode, sameNumber, same}
-use Rattle.rules.specs.ListAlone.Book.{silence, alikeMode, alikeDigits, alike, Said, silent, toldBQ, toldRQ, settled, Call, quiet, called, dialled, talking, Column, Place, Book, atColumn, column, columnTable, falls}
-use Rattle.rules.specs.ListAlone.Reading.{read, reads}
+use Rattle.rules.specs.Rules.Station.{bySlot, shipOf, Kind, offered, firstRingBack, secondRingBack, acknowledged, firstCall, secondCall, ringing, Slot, free, taken, pending, busy, held, Waiting, Station, theSlot, setSlot, usedUp, nextCall, carrierWait, lossDue, stageDue, mainDue, slotTable, table, fires, answeredAt, answeredIn, Dealing, Stage, dialling, dialledOut, answered, fresh, dueAfter, kindWait, diallingWait, replyWait, holdWait, isFree, offerOf, ringBackOf, ringBackAgainOf, agreedAt, calledOf, calledAgain, ringingAt, isCalled}
+use Rattle.rules.specs.Rules.Requests.{toRingBack, sameMode, sameNumber, same}
+use Rattle.rules.specs.Rules.Ashore.{slotToTake}
+use Rattle.rules.specs.ListAlone.Book.{silence, alikeMode, alikeDigits, alike, Begun, begunAs, Said, silent, toldBQ, toldRQ, settled, Call, quiet, called, dialled, talking, Column, Place, Book, blank, atColumn, column, columnTable, falls}
+use Rattle.rules.specs.ListAlone.Reading.{CountedColumn, goesOn, atCountedColumn, read, reads}
 use Rattle.rules.specs.Statement.{deedsOf, chargesOf}
 use Rattle.rules.specs.Rules.Places.{lowest, all, Each, modAt}
 use Rattle.rules.specs.Rules.Sound.{fits, stageFits, lossFits, slotFits}
-use Rattle.rules.proofs.PlaceLaws.{modAt-modAt, modAt-map, modAt-same, and-true, all-at, each-at, lowest-is}
+use Rattle.rules.proofs.PlaceLaws.{modAt-modAt, modAt-map, modAt-same, modAt-none, and-true, all-at, each-at, lowest-is}
 use native.Mathlib.Omega.{arith}
 
 -- ── a law on every slot, on every kind before the dialling, on every stage of a call ──
@@ -46,46 +47,49 @@ by-stage P f g h (answered b) = h b
 
 -- ── what the list shows of a slot ────────────────────────────────────────────
 
-abbrev pub saidOf : Kind → Request → Said
-saidOf offered r = toldBQ r
-saidOf firstRingBack r = toldRQ r
-saidOf secondRingBack r = toldRQ r
-saidOf acknowledged r = settled r
+abbrev pub begunOf : Dealing → Begun
+begunOf r = begunAs (r .callNumber) (r .request)
+
+abbrev pub saidOf : Kind → Dealing → Said
+saidOf offered r = toldBQ (begunOf r)
+saidOf firstRingBack r = toldRQ (begunOf r)
+saidOf secondRingBack r = toldRQ (begunOf r)
+saidOf acknowledged r = settled (begunOf r)
 saidOf firstCall r = silent
 saidOf secondCall r = silent
 saidOf ringing r = silent
 
 -- the line that a caller ashore has taken
-abbrev pub lineOf : Kind → Request → Call
+abbrev pub lineOf : Kind → Dealing → Call
 lineOf offered r = quiet
 lineOf firstRingBack r = quiet
 lineOf secondRingBack r = quiet
 lineOf acknowledged r = quiet
-lineOf firstCall r = called r false
-lineOf secondCall r = called r false
-lineOf ringing r = called r true
+lineOf firstCall r = called (begunOf r) false
+lineOf secondCall r = called (begunOf r) false
+lineOf ringing r = called (begunOf r) true
 
-pub no-caller : (k : Kind) (r : Request) → isCalled k ≡ false → lineOf k r ≡ quiet
+pub no-caller : (k : Kind) (r : Dealing) → isCalled k ≡ false → lineOf k r ≡ quiet
 no-caller k r = by-kind (λ z. isCalled z ≡ false → lineOf z r ≡ quiet) (λ h. refl) (λ h. refl) (λ h. refl) (λ h. refl) (λ h. cc) (λ h. cc) (λ h. cc) k
 
-abbrev pub callIn : Request → Stage → Call
-callIn r (dialling d) = dialled (r .who) (r .mode) false
-callIn r (dialledOut d) = dialled (r .who) (r .mode) true
-callIn r (answered b) = talking (r .who) (r .mode) b
+abbrev pub callIn : Dealing → Stage → Call
+callIn r (dialling d) = dialled (begunOf r) false
+callIn r (dialledOut d) = dialled (begunOf r) true
+callIn r (answered b) = talking (begunOf r) b
 
 abbrev pub view : Slot → Column
 view s = record {
-  said = bySlot silent (λ k r. saidOf k (r .request)) (λ r g c. silent) s;
+  said = bySlot silent saidOf (λ r g c. silent) s;
   wait = mainDue s;
-  call = bySlot quiet (λ k r. lineOf k (r .request)) (λ r g c. callIn (r .request) g) s;
+  call = bySlot quiet lineOf (λ r g c. callIn r g) s;
   gone = lossDue s;
 }
 
 -- the call of a slot: none, one from ashore, or that of its request
 pub data Calling : Slot → Call → Type 0 where
   no-call : (s : Slot) → answeredIn s ≡ none → Calling s quiet
-  a-caller : (k : Kind) (r : Dealing) (d : ℕ) → Calling (pending k r d) (lineOf k (r .request))
-  a-call : (r : Dealing) (g : Stage) (c : Option ℕ) → Calling (busy r g c) (callIn (r .request) g)
+  a-caller : (k : Kind) (r : Dealing) (d : ℕ) → Calling (pending k r d) (lineOf k r)
+  a-call : (r : Dealing) (g : Stage) (c : Option ℕ) → Calling (busy r g c) (callIn r g)
 
 pub calling : (s : Slot) → Calling s (view s .call)
 calling = by-slot (λ s. Calling s (view s .call)) (no-call _ refl) (no-call _ refl) a-caller a-call (λ r n d. no-call _ refl)
@@ -110,7 +114,7 @@ abbrev pub place : Waiting → Place
 place w = record { who = w .request .who; due = w .due }
 
 unfoldable pub seen : Station → Book
-seen st = record { now = st .clock; columns = map view (st .slots); places = map place (st .queue) }
+seen st = record { now = st .clock; columns = map view (st .slots); places = map place (st .queue); given = st .lastCall }
 
 -- ── the same ship: the two laws ──────────────────────────────────────────────
 
@@ -169,23 +173,74 @@ unfolding reads
 reads-append q t [] b k = refl
 reads-append q t (d ∷ a) b k = reads-append q t a b (read q t d k)
 
+-- ── call numbers ─────────────────────────────────────────────────────────────
+
+pub next-left : (st : Station) → usedUp st ≡ false → nextCall st ≡ st .lastCall + 1
+unfolding usedUp
+next-left st u = rw u refl
+
+-- a ship that is rung back is the oldest, and a number is left for it
+pub rung-first : (st : Station) (w : Waiting) (q : List Waiting) → toRingBack st ≡ w ∷ q → (usedUp st ≡ false) × (st .queue ≡ w ∷ q)
+rung-first st w q h = go (usedUp st) refl
+  where
+    go : (b : Bool) → usedUp st ≡ b → (usedUp st ≡ false) × (st .queue ≡ w ∷ q)
+    go true e = let k : _≡_ {A = List Waiting} [] (w ∷ q) = rw e at h in absurd (nothing-first k)
+      where
+        nothing-first : _≡_ {A = List Waiting} [] (w ∷ q) → ⊥
+        nothing-first k = let y : _≡_ {A = ℕ} 0 (suc (length q)) = ap length k in omega (arith, y)
+    go false e = (e, rw e at h)
+
+-- a slot that a caller ashore takes is the lowest free one, and a number is left for it
+pub slot-taken : (st : Station) (i : ℕ) → slotToTake st ≡ some i → (usedUp st ≡ false) × (lowest isFree (st .slots) ≡ some i)
+slot-taken st i h = go (usedUp st) refl
+  where
+    go : (b : Bool) → usedUp st ≡ b → (usedUp st ≡ false) × (lowest isFree (st .slots) ≡ some i)
+    go true e = let k : _≡_ {A = Option ℕ} none (some i) = rw e at h in (cc, cc)
+    go false e = (e, rw e at h)
+
 -- ── one slot of the book ─────────────────────────────────────────────────────
 
 module _ (i : ℕ) (st : Station) (p : Slot) (e : theSlot st i ≡ p) where
   pub stay : (f : Column → Column) → f (view p) ≡ view p → atColumn i f (seen st) ≡ seen st
   unfolding seen
-  stay f h = ap (λ (x : List Column). record { now = st .clock; columns = x; places = map place (st .queue) }) (modAt-same view f free i (st .slots) (rw e h))
+  stay f h = ap (λ (x : List Column). record { now = st .clock; columns = x; places = map place (st .queue); given = st .lastCall }) (modAt-same view f free i (st .slots) (rw e h))
 
   pub moves : (f : Column → Column) (q : Slot) → f (view p) ≡ view q → atColumn i f (seen st) ≡ seen (setSlot i q st)
   unfolding seen setSlot
-  moves f q h = ap (λ (x : List Column). record { now = st .clock; columns = x; places = map place (st .queue) }) (modAt-map view f q free i (st .slots) (rw e h))
+  moves f q h = ap (λ (x : List Column). record { now = st .clock; columns = x; places = map place (st .queue); given = st .lastCall }) (modAt-map view f q free i (st .slots) (rw e h))
 
   pub column-is : column (seen st) i ≡ view p
   unfolding seen
   column-is = List·getD-map view (st .slots) i free ∙ ap view e
 
+module _ (i : ℕ) (st : Station) (p : Slot) (e : theSlot st i ≡ p) (there : i < length (st .slots)) where
+  column-read : (f : Column → Column) → column (atColumn i f (seen st)) i ≡ f (view p)
+  unfolding seen
+  column-read f = go i (st .slots) there ∙ ap (λ s. f (view s)) e
+    where
+      go : (i : ℕ) (ss : List Slot) → i < length ss → getD (modAt f i (map view ss)) i blank ≡ f (view (getD ss i free))
+      go i [] h = absurd (omega (arith, h))
+      go zero (s ∷ ss) h = refl
+      go (suc i) (s ∷ ss) h = go i ss (omega (arith, h))
+
+  -- a deed that may begin a call, read on the slot's column after something else
+  pub counts : (f : Column → Column) (g : Column → ℕ → CountedColumn) (q : Slot) (n : ℕ) → g (f (view p)) (st .lastCall) ≡ goesOn (view q) n
+      → atCountedColumn i g (atColumn i f (seen st)) ≡ record { now = st .clock; columns = map view (modAt (λ x. q) i (st .slots)); places = map place (st .queue); given = n }
+  unfolding seen
+  counts f g q n h = λ k. record {
+    now = st .clock;
+    columns = (modAt-modAt f (λ l. g l (st .lastCall) .line) i (map view (st .slots)) ∙ modAt-map view (λ l. g (f l) (st .lastCall) .line) q free i (st .slots) (rw e (ap (λ (z : CountedColumn). z .line) h))) k;
+    places = map place (st .queue);
+    given = (ap (λ l. g l (st .lastCall) .given) (column-read f) ∙ ap (λ (z : CountedColumn). z .given) h) k;
+  }
+
+-- a slot laid over itself
+pub stands : (i : ℕ) (st : Station) (p : Slot) → theSlot st i ≡ p → record { now = st .clock; columns = map view (modAt (λ x. p) i (st .slots)); places = map place (st .queue); given = st .lastCall } ≡ seen st
+unfolding seen
+stands i st p e = ap (λ (x : List Column). record { now = st .clock; columns = x; places = map place (st .queue); given = st .lastCall }) (sym (modAt-map view (λ l. l) p free i (st .slots) (ap view e)) ∙ sym (modAt-none i (map view (st .slots))))
+
 pub atLine² : (i : ℕ) (f g : Column → Column) (b : Book) → atColumn i g (atColumn i f b) ≡ atColumn i (λ l. g (f l)) b
-atLine² i f g b = ap (λ (x : List Column). record { now = b .now; columns = x; places = b .places }) (modAt-modAt f g i (b .columns))
+atLine² i f g b = ap (λ (x : List Column). record { now = b .now; columns = x; places = b .places; given = b .given }) (modAt-modAt f g i (b .columns))
 
 -- ── the waits ────────────────────────────────────────────────────────────────
 

@@ -15,6 +15,7 @@ use Rattle.rules.specs.Tables.Cases.{cases, sample, sampleShows}
 use Rattle.rules.specs.Tables.RequestCases.{requestCases}
 use Rattle.rules.specs.Tables.CallCases.{callCases}
 use Rattle.rules.specs.Tables.AshoreCases.{ashoreCases}
+use Rattle.rules.specs.Tables.NumberCases.{numberCases}
 use Rattle.rules.specs.Tables.RefusalCases.{refusalCases}
 use Rattle.rules.specs.Tables.Phases.{rowOf, phases}
 use Rattle.rules.specs.Tables.SoundCases.{from, setUpCases, storedCases, countCases, timeCases}
@@ -26,9 +27,9 @@ unfolding runsOpen
 cases-computed = as-expected cases refl
 
 -- a case for each rule, and for each refusal
-pub rules-computed : map (λ r. r .computed) (requestCases ++ callCases ++ ashoreCases ++ refusalCases) ≡ map (λ r. r .expected) (requestCases ++ callCases ++ ashoreCases ++ refusalCases)
+pub rules-computed : map (λ r. r .computed) (requestCases ++ callCases ++ ashoreCases ++ numberCases ++ refusalCases) ≡ map (λ r. r .expected) (requestCases ++ callCases ++ ashoreCases ++ numberCases ++ refusalCases)
 unfolding runsOpen
-rules-computed = as-expected (requestCases ++ callCases ++ ashoreCases ++ refusalCases) refl
+rules-computed = as-expected (requestCases ++ callCases ++ ashoreCases ++ numberCases ++ refusalCases) refl
 
 -- a case for each part of soundness, and for set-up
 pub sound-computed : map (λ j. j .given) (setUpCases ++ storedCases ++ countCases ++ timeCases) ≡ map (λ j. j .expected) (setUpCases ++ storedCases ++ countCases ++ timeCases)

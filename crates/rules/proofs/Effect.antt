@@ -9,13 +9,13 @@ use lib.ListN.{getD, length}
 use lib.Dec.{eqb}
 use Rattle.sequence.specs.Answers.{isDone}
 use Rattle.sequence.specs.Reading.{readingOf}
-use Rattle.rules.specs.Rules.Places.{modAt, dropAt, isSome, lowest}
+use Rattle.rules.specs.Rules.Places.{modAt, dropAt, isSome}
 use Rattle.rules.specs.Rules.Words.{Party, Request, Config, Ashore, What, tick, onChannel70, onSlot, fromAshore, ashoreIn, Event, isAnswering, isTransmitting}
 use Rattle.rules.specs.Rules.Waits.{Wait, ofQueue, loss, main, Due}
 use Rattle.rules.specs.Rules.Heard.{Heard, callRequest, dataRequest, bq, workingCall, endOfCall, declined, nothing, meaning}
-use Rattle.rules.specs.Rules.Station.{Station, theSlot, setClock, setQueue, fires, isFree}
+use Rattle.rules.specs.Rules.Station.{Station, theSlot, setClock, setQueue, usedUp, fires}
 use Rattle.rules.specs.Rules.Requests.{Out, done, Standing, nowhere, holds, waits, standing, beingCalled, ruleA, requested, ignored}
-use Rattle.rules.specs.Rules.Ashore.{ashoreRequest, calledFrom}
+use Rattle.rules.specs.Rules.Ashore.{ashoreRequest, slotToTake, calledFrom}
 use Rattle.rules.specs.Rules.Calls.{declinedAt, fire, ticked, heardOn70, actAt}
 use Rattle.rules.specs.Rules.Verdict.{overtaken, readIn, verdict}
 use Rattle.rules.specs.ListAlone.Book.{Stop, Column, Book, atColumn, atPlaces}
@@ -43,7 +43,7 @@ pub data Effect (cfg : Config) (st : Station) : Option Ashore → Book → List 
   to-slot : (m : Heard) (i : ℕ) {f : Column → Column} {w : Word → Word} {ws : List Word} {cs : List Stop} {o : Out} → Outcome i st f w cs (theSlot st i) o → ws ≡ modAt w i (words st)
       → Effect cfg st none (atColumn i f (seen st)) ws cs m o
   -- a call from ashore
-  called-ashore : (a : Ashore) (i : ℕ) → lowest isFree (st .slots) ≡ some i → Effect cfg st (some a) (seen st) (words st) [] nothing (calledFrom st (ashoreRequest cfg a) (some i))
+  called-ashore : (a : Ashore) (i : ℕ) → slotToTake st ≡ some i → Effect cfg st (some a) (seen st) (words st) [] nothing (calledFrom st (ashoreRequest cfg a) (some i))
 
 -- ── an event of each kind ────────────────────────────────────────────────────
 
@@ -53,7 +53,7 @@ data-effect cfg st x n false = data-asked x n
 
 -- nothing is read of it but what is then done
 unread : (i : ℕ) (b : Book) → atColumn i (λ l. l) b ≡ b
-unread i b = ap (λ (ls : List Column). record { now = b .now; columns = ls; places = b .places }) (sym (modAt-none i (b .columns)))
+unread i b = ap (λ (ls : List Column). record { now = b .now; columns = ls; places = b .places; given = b .given }) (sym (modAt-none i (b .columns)))
 
 declined-effect : (cfg : Config) (st : Station) (x : Party) (s : Standing) → Effect cfg st none (seen st) (words st) [] (declined x) (declinedAt st s)
 unfolding declinedAt
@@ -94,16 +94,16 @@ heardBy t (fromAshore a) ws = ws
 abbrev pub EffectOf : Config → Station → ℕ → What → ℕ → Option Due → Type 0
 EffectOf cfg st t w u f = Effect cfg (setClock u st) (ashoreIn w) (hear cfg u f w (setNow u (seen st))) (heardBy t w (words st)) (stopsAt cfg u (seen st) f w) (heardAt cfg w) (actAt cfg st t w)
 
-ashore-effect : (cfg : Config) (st : Station) (a : Ashore) (o : Option ℕ) → lowest isFree (st .slots) ≡ o → Effect cfg st (some a) (seen st) (words st) [] nothing (calledFrom st (ashoreRequest cfg a) o)
+ashore-effect : (cfg : Config) (st : Station) (a : Ashore) (o : Option ℕ) → slotToTake st ≡ o → Effect cfg st (some a) (seen st) (words st) [] nothing (calledFrom st (ashoreRequest cfg a) o)
 unfolding calledFrom
 ashore-effect cfg st a none h = rests nothing 1 (omega arith)
 ashore-effect cfg st a (some i) h = called-ashore a i h
 
 pub act-effect : (cfg : Config) (st : Station) (t : ℕ) (w : What) → EffectOf cfg st t w (momentOf t (fallsAt (seen st) t w)) (fallsAt (seen st) t w)
-unfolding actAt seen setClock
+unfolding actAt seen setClock usedUp
 act-effect cfg st t tick = rw (falls-fires t st) (tick-effect cfg st t (fires t st))
 act-effect cfg st t (onChannel70 m) = heard-effect cfg (setClock t st) (meaning cfg m)
-act-effect cfg st t (fromAshore a) = ashore-effect cfg (setClock t st) a (lowest isFree (st .slots)) refl
+act-effect cfg st t (fromAshore a) = ashore-effect cfg (setClock t st) a (slotToTake st) refl
 act-effect cfg st t (onSlot i h) = rw (column-is i st (theSlot st i) refl) (to-slot nothing i (happened-outcome i (setClock t st) cfg (theSlot st i) h) refl)
 
 -- ── what else is told of an event by its kind ────────────────────────────────

@@ -11,9 +11,9 @@ use Rattle.rules.specs.Rules.Places.{lowest, all, Each}
 use Rattle.rules.specs.Rules.Words.{Request, Config, Ashore, What, Event, carrierOn}
 use Rattle.rules.specs.Rules.Heard.{Heard}
 use Rattle.rules.specs.Rules.Actions.{Ender, theShip, theCoast, Action, does}
-use Rattle.rules.specs.Rules.Station.{Slot, Waiting, Station, theSlot, setClock, answeredAt, isFree, rings}
+use Rattle.rules.specs.Rules.Station.{Slot, Waiting, Station, theSlot, setClock, answeredAt, isFree, rings, Dealing, usedUp}
 use Rattle.rules.specs.Rules.Sound.{slotKeeps, sound}
-use Rattle.rules.specs.Rules.Requests.{Out, also, rungBack, freedFor, freed, bill, lasted, endActs, coastEnd, Standing, nowhere, holds, waits, placeOf, standing, ruleA, repeated, afresh, ruleD, offer, ruleF, ruleG, eToG, newcomer, dToG, redial, requested}
+use Rattle.rules.specs.Rules.Requests.{Out, also, rungBack, freedFor, freed, bill, lasted, endActs, coastEnd, Standing, nowhere, holds, waits, placeOf, standing, ruleA, repeated, afresh, ruleD, offer, ruleF, ruleG, eToG, newcomer, dToG, redial, requested, toRingBack, noNumber, waitingOrNew}
 use Rattle.rules.specs.Rules.Ashore.{ashoreRequest, calledFrom}
 use Rattle.rules.specs.Rules.Calls.{dropActs, actAt, act}
 use Rattle.rules.specs.ListAlone.Book.{Stop, Column, Book}
@@ -21,7 +21,7 @@ use Rattle.rules.specs.ListAlone.LineWords.{Word}
 use Rattle.rules.specs.Statement.{AtMostEight}
 use Rattle.rules.proofs.PlaceLaws.{each-append}
 use Rattle.rules.proofs.Outcome.{Next, stays, becomes, frees, Move, to-dial, to-agree, to-ring, to-drop, to-call, to-rings, to-answer, to-let-go, to-stage, to-lose, to-regain, to-hold, to-end, to-repeat, to-run-out, to-take, to-give, played, Outcome, passed, moved}
-use Rattle.rules.proofs.Ruling.{Ruling, passes, repeats, renews, redials, bOrC-ruling}
+use Rattle.rules.proofs.Ruling.{Ruling, passes, repeats, renews, runs-out, redials, bOrC-ruling}
 use Rattle.rules.proofs.Accepted.{sounds}
 use Rattle.rules.proofs.Payloads.{Slim, on-slim, off-slim, release-slim, ringing-slim, silenced-slim, tone-slim, acknowledge-slim, callShip-slim, unable-slim, over-slim, bill-slim, dial-slim}
 use Rattle.rules.proofs.Effect.{Effect, rests, drops, data-asked, call-asked, to-slot, called-ashore, act-effect}
@@ -64,16 +64,16 @@ module _ (cfg : Config) where
 
   freed-few : (i : ℕ) (st : Station) → Few cfg 2 (freed i st)
   unfolding freed
-  freed-few i st = freedFor-few i st (st .queue)
+  freed-few i st = freedFor-few i st (toRingBack st)
 
-  end-slim : (i : ℕ) (a : Ender) (r : Request) (g : Option ℕ) (t : ℕ) → Each (Slim cfg) (endActs i a r g t)
-  end-slim i a r g t = each-append (Slim cfg) (bill i (r .who) g t) _ (bill-slim cfg i (r .who) g t) (release-slim cfg i, (over-slim cfg i a (r .who) (r .number) (lasted g t), (off-slim cfg i, tt)))
+  end-slim : (i : ℕ) (a : Ender) (r : Dealing) (g : Option ℕ) (t : ℕ) → Each (Slim cfg) (endActs i a r g t)
+  end-slim i a r g t = each-append (Slim cfg) (bill i r g t) _ (bill-slim cfg i r g t) (release-slim cfg i, (over-slim cfg i a (r .request .who) (r .request .number) (lasted g t), (off-slim cfg i, tt)))
 
-  end-few : (i : ℕ) (a : Ender) (r : Request) (g : Option ℕ) (t : ℕ) → length (endActs i a r g t) ≤ 4
+  end-few : (i : ℕ) (a : Ender) (r : Dealing) (g : Option ℕ) (t : ℕ) → length (endActs i a r g t) ≤ 4
   end-few i a r none t = omega arith
   end-few i a r (some b) t = omega arith
 
-  coastEnd-few : (i : ℕ) (r : Request) (g : Option ℕ) (st : Station) → Few cfg 6 (coastEnd i r g st)
+  coastEnd-few : (i : ℕ) (r : Dealing) (g : Option ℕ) (st : Station) → Few cfg 6 (coastEnd i r g st)
   unfolding coastEnd
   coastEnd-few i r g st = also-few 4 2 (endActs i theCoast r g (st .clock)) (freed i st) (end-few i theCoast r g (st .clock)) (end-slim i theCoast r g (st .clock)) (freed-few i st)
 
@@ -96,12 +96,20 @@ module _ (cfg : Config) where
   unfolding ruleD
   ruleD-few k st r = one-few 2 _ _ (unable-slim cfg 103 (r .who) (r .number)) (omega arith)
 
+  waitingOrNew-few : (st : Station) (r : Request) (k : Option ℕ) → Few cfg 2 (waitingOrNew st r k)
+  unfolding waitingOrNew
+  waitingOrNew-few st r none = newcomer-few st r
+  waitingOrNew-few st r (some k) = ruleD-few k st r
+
+  noNumber-few : (n : ℕ) (st : Station) (r : Request) → 1 ≤ n → Few cfg n (noNumber st r)
+  unfolding noNumber
+  noNumber-few n st r h = one-few n _ _ (unable-slim cfg 107 (r .who) (r .number)) h
+
   dToG-few : (st : Station) (r : Request) (k : Option ℕ) → Few cfg 2 (dToG st r k)
   unfolding dToG
-  dToG-few st r none = newcomer-few st r
-  dToG-few st r (some k) = ruleD-few k st r
+  dToG-few st r k = few-if 2 (usedUp st) (noNumber st r) (waitingOrNew st r k) (noNumber-few 2 st r (omega arith)) (waitingOrNew-few st r k)
 
-  redial-few : (i : ℕ) (o : Request) (g : Option ℕ) (st : Station) (r : Request) → Few cfg 8 (redial i o g st r)
+  redial-few : (i : ℕ) (o : Dealing) (g : Option ℕ) (st : Station) (r : Request) → Few cfg 8 (redial i o g st r)
   unfolding redial
   redial-few i o g st r = let w = coastEnd-few i o g st in also-few 6 2 (coastEnd i o g st .acts) (dToG (coastEnd i o g st .next) r (placeOf (r .who) (coastEnd i o g st .next))) (w .many) (w .slim) (dToG-few (coastEnd i o g st .next) r (placeOf (r .who) (coastEnd i o g st .next)))
 
@@ -109,13 +117,14 @@ module _ (cfg : Config) where
   unfolding repeated
   ruling-few i st r cs _ _ (passes p a) = none-few 8 st
   ruling-few i st r cs _ _ (repeats k o d a b) = one-few 8 st _ (acknowledge-slim cfg i r) (omega arith)
-  ruling-few i st r cs _ _ (renews k o d z a b) = afresh-few 8 i st r (omega arith)
-  ruling-few i st r cs _ _ (redials o g c a) = redial-few i (o .request) (answeredAt g) st r
+  ruling-few i st r cs _ _ (renews k o d z u a b) = afresh-few 8 i st r (omega arith)
+  ruling-few i st r cs _ _ (runs-out k o d z u a b) = noNumber-few 8 st r (omega arith)
+  ruling-few i st r cs _ _ (redials o g c a) = redial-few i o (answeredAt g) st r
 
   request-few : (st : Station) (r : Request) (o : Standing) → Few cfg 8 (requested st r o)
   unfolding requested
-  request-few st r nowhere = up-to 2 8 (omega arith) (newcomer st r) (newcomer-few st r)
-  request-few st r (waits k) = up-to 2 8 (omega arith) (ruleD k st r) (ruleD-few k st r)
+  request-few st r nowhere = up-to 2 8 (omega arith) (dToG st r none) (dToG-few st r none)
+  request-few st r (waits k) = up-to 2 8 (omega arith) (dToG st r (some k)) (dToG-few st r (some k))
   request-few st r (holds i) = ruling-few i st r _ (theSlot st i) _ (bOrC-ruling i st r (theSlot st i))
 
   -- ── on a slot ──────────────────────────────────────────────────────────────
@@ -138,8 +147,8 @@ module _ (cfg : Config) where
   move-slim i t _ _ _ (to-stage r n q c z) h = (omega arith, tt)
   move-slim i t _ _ _ (to-lose r g c) h = (omega arith, tt)
   move-slim i t _ _ _ (to-regain r g c) h = (omega arith, tt)
-  move-slim i t _ _ _ (to-hold r g c) h = (end-few i theShip (r .request) (answeredAt g) t, end-slim i theShip (r .request) (answeredAt g) t)
-  move-slim i t _ _ _ (to-end r g c) h = (end-few i theCoast (r .request) (answeredAt g) t, end-slim i theCoast (r .request) (answeredAt g) t)
+  move-slim i t _ _ _ (to-hold r g c) h = (end-few i theShip r (answeredAt g) t, end-slim i theShip r (answeredAt g) t)
+  move-slim i t _ _ _ (to-end r g c) h = (end-few i theCoast r (answeredAt g) t, end-slim i theCoast r (answeredAt g) t)
   move-slim i t _ _ _ (to-repeat r n d) h = (omega arith, (on-slim cfg i, (over-slim cfg i theShip (r .request .who) (r .request .number) n, (off-slim cfg i, tt))))
   move-slim i t _ _ _ (to-run-out r n d) h = (omega arith, tt)
   move-slim i t _ _ _ to-take h = (omega arith, tt)

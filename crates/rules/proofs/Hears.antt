@@ -8,8 +8,8 @@ use lib.Dec.{eqb}
 use Rattle.rules.specs.Rules.Places.{modAt, dropAt}
 use Rattle.rules.specs.Rules.Words.{Party, is, Mode, Request, Config, Ashore, lineDialledOut, lineLifted, lineHung, carrierHeard, carrierLost, Happened, heard, signal, operator, answeringOn, What, onSlot, Deed, carrierOn, carrierOff, acknowledge, callShip, unable, dial, releaseLine, ringingOn, ringingOff, busyTone, tick, onChannel70, fromAshore, transmittingOn}
 use Rattle.rules.specs.Rules.Heard.{Heard, callRequest, dataRequest, bq, workingCall, endOfCall, declined, nothing, meaning}
-use Rattle.rules.specs.ListAlone.Book.{Stop, after, offerTime, ringingTime, alike, Said, silent, toldBQ, toldRQ, settled, Call, quiet, called, dialled, talking, Column, Book, atPlaces, Place, column}
-use Rattle.rules.specs.ListAlone.Reading.{close, withGone, dialOut, pickUp, lose, signOff, hearSaid, hearColumn, settle, settleSaid, beginRinging, beginRingingCall, comeUp, callUp, takeUp, summon, told, tell, beginCall, dialUp, letGo, hush, join, queued, read, withWait, again, hearHeard, hearDue, hear, setNow, stopOf, callOf, stopsSaid, stopsOn, stopsDue, stopsAgain, stopsHeard, stopsAt}
+use Rattle.rules.specs.ListAlone.Book.{Stop, after, offerTime, ringingTime, alike, Begun, Said, silent, toldBQ, toldRQ, settled, Call, quiet, called, dialled, talking, Column, Book, atPlaces, Place, column}
+use Rattle.rules.specs.ListAlone.Reading.{close, withGone, dialOut, pickUp, lose, signOff, hearSaid, hearColumn, settle, settleSaid, beginRinging, beginRingingCall, comeUp, takeUp, ringsBack, summon, firstCallUp, CountedColumn, goesOn, begins, told, tell, beginCall, dialUp, letGo, hush, join, queued, read, withWait, again, hearHeard, hearDue, hear, setNow, stopOf, callOf, stopsSaid, stopsOn, stopsDue, stopsAgain, stopsHeard, stopsAt}
 use Rattle.rules.specs.Rules.Waits.{Wait, ofQueue, loss, main, Due}
 
 abbrev pub column-of : Said → Option ℕ → Call → Option ℕ → Column
@@ -19,14 +19,14 @@ column-of s w c g = record { said = s; wait = w; call = c; gone = g }
 abbrev pub talk : Call → Call
 talk quiet = quiet
 talk (called r b) = quiet
-talk (dialled x m o) = quiet
-talk (talking x m b) = talking x m b
+talk (dialled x o) = quiet
+talk (talking x b) = talking x b
 
-pub talk-is : (c : Call) (x : Party) (m : Mode) (t : ℕ) → talk c ≡ talking x m t → c ≡ talking x m t
-talk-is quiet x m t h = cc
-talk-is (called r b) x m t h = cc
-talk-is (dialled y k o) x m t h = cc
-talk-is (talking y k b) x m t h = h
+pub talk-is : (c : Call) (x : Begun) (t : ℕ) → talk c ≡ talking x t → c ≡ talking x t
+talk-is quiet x t h = cc
+talk-is (called r b) x t h = cc
+talk-is (dialled y o) x t h = cc
+talk-is (talking y b) x t h = h
 
 -- ── what leaves the answered part alone ──────────────────────────────────────
 
@@ -37,20 +37,24 @@ cond-same : (c : Call) (b : Bool) (x y : Column) → talk (x .call) ≡ c → ta
 cond-same c true x y p q = p
 cond-same c false x y p q = q
 
-tell-same : (u : ℕ) (r : Request) → Same (tell u r)
-tell-same u r l = go (l .said)
+counted-same : (c : Call) (b : Bool) (x y : CountedColumn) → talk (x .line .call) ≡ c → talk (y .line .call) ≡ c → talk (cond b x y .line .call) ≡ c
+counted-same c true x y p q = p
+counted-same c false x y p q = q
+
+tell-same : (u : ℕ) (r : Request) (n : ℕ) → Same (λ l. tell u r l n .line)
+tell-same u r n l = go (l .said)
   where
-    go : (s : Said) → talk (tell u r (column-of s (l .wait) (l .call) (l .gone)) .call) ≡ talk (l .call)
+    go : (s : Said) → talk (tell u r (column-of s (l .wait) (l .call) (l .gone)) n .line .call) ≡ talk (l .call)
     go silent = refl
-    go (toldBQ o) = cond-same _ (alike r o) (column-of (toldBQ o) (l .wait) (l .call) (l .gone)) (told u r (column-of (toldBQ o) (l .wait) (l .call) (l .gone))) refl refl
+    go (toldBQ o) = counted-same _ (alike r (o .request)) (goesOn (column-of (toldBQ o) (l .wait) (l .call) (l .gone)) n) (begins (told u (column-of (toldBQ o) (l .wait) (l .call) (l .gone))) r n) refl refl
     go (toldRQ o) = refl
     go (settled o) = refl
 
-begin-same : (r : Request) (c : Call) → talk (beginCall r c) ≡ talk c
+begin-same : (r : Begun) (c : Call) → talk (beginCall r c) ≡ talk c
 begin-same r quiet = refl
 begin-same r (called q b) = refl
-begin-same r (dialled x m o) = refl
-begin-same r (talking x m b) = refl
+begin-same r (dialled x o) = refl
+begin-same r (talking x b) = refl
 
 dial-same : (u : ℕ) → Same (dialUp u)
 dial-same u l = go (l .said)
@@ -67,8 +71,8 @@ release-same l = go (l .call)
     go : (c : Call) → talk (letGo (column-of (l .said) (l .wait) c (l .gone)) .call) ≡ talk c
     go quiet = refl
     go (called r b) = refl
-    go (dialled x m o) = refl
-    go (talking x m b) = refl
+    go (dialled x o) = refl
+    go (talking x b) = refl
 
 lose-same : (u : ℕ) → Same (lose u)
 lose-same u l = go (l .call)
@@ -76,8 +80,8 @@ lose-same u l = go (l .call)
     go : (c : Call) → talk (lose u (column-of (l .said) (l .wait) c (l .gone)) .call) ≡ talk c
     go quiet = refl
     go (called r b) = refl
-    go (dialled x m o) = refl
-    go (talking x m b) = refl
+    go (dialled x o) = refl
+    go (talking x b) = refl
 
 dial-out-same : (u : ℕ) → Same (dialOut u)
 dial-out-same u l = go (l .call)
@@ -85,34 +89,40 @@ dial-out-same u l = go (l .call)
     go : (c : Call) → talk (dialOut u (column-of (l .said) (l .wait) c (l .gone)) .call) ≡ talk c
     go quiet = refl
     go (called r b) = refl
-    go (dialled x m false) = refl
-    go (dialled x m true) = refl
-    go (talking x m b) = refl
+    go (dialled x false) = refl
+    go (dialled x true) = refl
+    go (talking x b) = refl
 
-take-same : (r : Request) (c : Call) → talk (takeUp r c) ≡ talk c
+take-same : (r : Begun) (c : Call) → talk (takeUp r c) ≡ talk c
 take-same r quiet = refl
 take-same r (called q b) = refl
-take-same r (dialled x m o) = refl
-take-same r (talking x m b) = refl
+take-same r (dialled x o) = refl
+take-same r (talking x b) = refl
 
-summon-same : (u : ℕ) (r : Request) → Same (summon u r)
-summon-same u r l = go (l .call)
+ring-back-same : (u : ℕ) (r : Request) (n : ℕ) (s : Said) (l : Column) → talk (ringsBack u r s l n .line .call) ≡ talk (l .call)
+ring-back-same u r n silent l = refl
+ring-back-same u r n (toldBQ o) l = refl
+ring-back-same u r n (toldRQ o) l = refl
+ring-back-same u r n (settled o) l = refl
+
+summon-same : (u : ℕ) (r : Request) (n : ℕ) → Same (λ l. summon u r l n .line)
+summon-same u r n l = go (l .call)
   where
-    go : (c : Call) → talk (summon u r (column-of (l .said) (l .wait) c (l .gone)) .call) ≡ talk c
-    go quiet = refl
+    go : (c : Call) → talk (summon u r (column-of (l .said) (l .wait) c (l .gone)) n .line .call) ≡ talk c
+    go quiet = ring-back-same u r n (l .said) _
     go (called q b) = refl
-    go (dialled x m o) = refl
-    go (talking x m b) = refl
+    go (dialled x o) = ring-back-same u r n (l .said) _
+    go (talking x b) = ring-back-same u r n (l .said) _
 
 ring-same : (u : ℕ) (x : Party) → Same (beginRinging u x)
 ring-same u x l = go (l .call)
   where
     go : (c : Call) → talk (beginRingingCall u x c (column-of (l .said) (l .wait) c (l .gone)) .call) ≡ talk c
     go quiet = refl
-    go (called r false) = cond-same _ (is x (r .who)) (column-of (l .said) (some (after u ringingTime)) (called r true) (l .gone)) (column-of (l .said) (l .wait) (called r false) (l .gone)) refl refl
+    go (called r false) = cond-same _ (is x (r .request .who)) (column-of (l .said) (some (after u ringingTime)) (called r true) (l .gone)) (column-of (l .said) (l .wait) (called r false) (l .gone)) refl refl
     go (called r true) = refl
-    go (dialled y m o) = refl
-    go (talking y m b) = refl
+    go (dialled y o) = refl
+    go (talking y b) = refl
 
 settle-same : (u : ℕ) (x : Party) → Same (settle u x)
 settle-same u x l = go (l .said) (beginRinging u x l) ∙ ring-same u x l
@@ -120,7 +130,7 @@ settle-same u x l = go (l .said) (beginRinging u x l) ∙ ring-same u x l
     go : (s : Said) (k : Column) → talk (settleSaid u x s k .call) ≡ talk (k .call)
     go silent k = refl
     go (toldBQ r) k = refl
-    go (toldRQ r) k = cond-same _ (is x (r .who)) (column-of (settled r) (some (after u offerTime)) (k .call) (k .gone)) k refl refl
+    go (toldRQ r) k = cond-same _ (is x (r .request .who)) (column-of (settled r) (some (after u offerTime)) (k .call) (k .gone)) k refl refl
     go (settled r) k = refl
 
 -- ── what a deed says ─────────────────────────────────────────────────────────
@@ -140,9 +150,9 @@ pub data Leaves (ls : List Column) : List Column → Type 0 where
 pub read-leaves : (q : Option Ashore) (u : ℕ) (d : Deed) (b : Book) → Leaves (b .columns) (read q u d b .columns)
 read-leaves q u (carrierOn i) b = elsewhere
 read-leaves q u (carrierOff i) b = at-column i hush (λ l. refl)
-read-leaves q u (acknowledge i r) b = at-column i (tell u r) (tell-same u r)
-read-leaves none u (callShip i r) b = at-column i (summon u r) (summon-same u r)
-read-leaves (some q) u (callShip i r) b = at-column i (callUp u r) (λ l. take-same r (l .call))
+read-leaves q u (acknowledge i r) b = at-column i (λ l. tell u r l (b .given) .line) (tell-same u r (b .given))
+read-leaves none u (callShip i r) b = at-column i (λ l. summon u r l (b .given) .line) (summon-same u r (b .given))
+read-leaves (some q) u (callShip i r) b = at-column i (λ l. firstCallUp u r l (b .given) .line) (λ l. take-same _ (l .call))
 read-leaves q u (unable n x digits) b = rw (queued-columns u n x b) elsewhere
 read-leaves q u (dial i n) b = at-column i (dialUp u) (dial-same u)
 read-leaves q u (releaseLine i) b = at-column i letGo release-same
@@ -182,9 +192,9 @@ column-hears cfg u i (operator h) = says-nothing (λ l. l) (λ l. refl)
 
 -- the book that it is read into, and the calls that it stops: no column is concerned, or one, or all are asked whether a call of x is over
 pub data Hearing (u : ℕ) (e : What) (b : Book) : Book → List Stop → Type 0 where
-  no-column : (ps : List Place) → Hearing u e b (record { now = u; columns = b .columns; places = ps }) []
-  one-column : (i : ℕ) (f : Column → Column) (s : Call → List Stop) → Hears u i e f s → Hearing u e b (record { now = u; columns = modAt f i (b .columns); places = b .places }) (s (column b i .call))
-  all-columns : (x : Party) → Hearing u e b (record { now = u; columns = map (again x) (b .columns); places = b .places }) (stopsAgain u x 0 (b .columns))
+  no-column : (ps : List Place) → Hearing u e b (record { now = u; columns = b .columns; places = ps; given = b .given }) []
+  one-column : (i : ℕ) (f : Column → Column) (s : Call → List Stop) → Hears u i e f s → Hearing u e b (record { now = u; columns = modAt f i (b .columns); places = b .places; given = b .given }) (s (column b i .call))
+  all-columns : (x : Party) → Hearing u e b (record { now = u; columns = map (again x) (b .columns); places = b .places; given = b .given }) (stopsAgain u x 0 (b .columns))
 
 module _ (u : ℕ) (e : What) (b : Book) where
   wait-hearing : (w : Wait) (d : ℕ) → Hearing u e b (hearDue (setNow u b) (some record { what = w; at = d })) (stopsDue u b (some record { what = w; at = d }))

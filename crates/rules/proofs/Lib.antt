@@ -1,7 +1,8 @@
 -- The laws of document 01's definitions, from what they rest on to what they claim; each file begins with what it says.
 
--- places, kinds of sequences, what is heard
+-- places, what stands twice, kinds of sequences, what is heard
 pub mod PlaceLaws
+pub mod Occurs
 pub mod KindLaws
 pub mod Readable
 -- what an event does, said once: to a slot (Outcome), by rules b and c (Ruling), at all (Effect)

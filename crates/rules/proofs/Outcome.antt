@@ -13,7 +13,7 @@ use Rattle.rules.specs.Rules.Station.{Kind, firstRingBack, firstCall, se
 use Rattle.rules.specs.Rules.Requests.{Out, ignored, also, freed, lasted, endActs, coastEnd}
 use Rattle.rules.specs.Rules.Calls.{dialNow, workingKind, workingOn, agreed, startsRinging, bqKind, bqFor, dialledOutStage, dialledOutOn, offHookStage, offHookOn, startLoss, downOn, transmitted, upKind, upOn, dropActs, dropped, declinedKind, declinedOn, hungKind, hungOn, callAgain, shipEnd, sayAgain, shipEndOn, endOn, takeOn, giveOn, offerDue, rungBackAgain, pendingDue, replyDue, mainOn, heardOn, happenedOn}
 use Rattle.rules.specs.ListAlone.Book.{Stop, Column, Place}
-use Rattle.rules.specs.ListAlone.Reading.{close, withWait, withGone, dialOut, pickUp, comeUp, lose, signOff, hearSaid, hearColumn, settle, tell, summon, dialUp, letGo, hush, leave, stopOf, callOf, stopsSaid, stopsOn}
+use Rattle.rules.specs.ListAlone.Reading.{CountedColumn, goesOn, close, withWait, withGone, dialOut, pickUp, comeUp, lose, signOff, hearSaid, hearColumn, settle, tell, summon, dialUp, letGo, hush, leave, stopOf, callOf, stopsSaid, stopsOn}
 use Rattle.rules.specs.ListAlone.Repeated.{Dials}
 use Rattle.rules.specs.ListAlone.LineWords.{Word, worded, idle, outward, answer, transmit, wordOf}
 use Rattle.rules.specs.Statement.{deedsOf, chargesOf, owed}
@@ -33,7 +33,7 @@ pub data Next : Type 0 where
 
 pub data Move (i t : ℕ) : Slot → Next → List Action → Type 0 where
   -- before its line is dialled: the number is the one named on channel 70
-  to-dial : (k : Kind) (r : Dealing) (d : ℕ) → Dials (r .request .number) (saidOf k (r .request))
+  to-dial : (k : Kind) (r : Dealing) (d : ℕ) → Dials (r .request .number) (saidOf k r)
       → Move i t (pending k r d) (becomes (busy r (dialling (dueAfter t diallingWait)) none)) (does (dial i (r .request .number)) ∷ [])
   to-agree : (k : Kind) (r : Dealing) (d : ℕ) → isCalled k ≡ false
       → Move i t (pending k r d) (becomes (agreedAt r t)) []
@@ -52,8 +52,8 @@ pub data Move (i t : ℕ) : Slot → Next → List Action → Type 0 where
   to-lose : (r : Dealing) (g : Stage) (c : Option ℕ) → Move i t (busy r g c) (becomes (busy r g (startLoss t (r .request .mode) c))) []
   to-regain : (r : Dealing) (g : Stage) (c : Option ℕ) → Move i t (busy r g c) (becomes (busy r g none)) []
   to-hold : (r : Dealing) (g : Stage) (c : Option ℕ)
-      → Move i t (busy r g c) (becomes (held r (lasted (answeredAt g) t) (dueAfter t holdWait))) (endActs i theShip (r .request) (answeredAt g) t)
-  to-end : (r : Dealing) (g : Stage) (c : Option ℕ) → Move i t (busy r g c) frees (endActs i theCoast (r .request) (answeredAt g) t)
+      → Move i t (busy r g c) (becomes (held r (lasted (answeredAt g) t) (dueAfter t holdWait))) (endActs i theShip r (answeredAt g) t)
+  to-end : (r : Dealing) (g : Stage) (c : Option ℕ) → Move i t (busy r g c) frees (endActs i theCoast r (answeredAt g) t)
   -- in its hold
   to-repeat : (r : Dealing) (n : Lasted) (d : ℕ)
       → Move i t (held r n d) stays (does (carrierOn i) ∷ over i theShip (r .request .who) (r .request .number) n ∷ does (carrierOff i) ∷ [])
@@ -85,22 +85,22 @@ leaves p frees = free
 abbrev pub word : Slot → Word
 word s = wordOf (view s .call)
 
--- a deed about the slot itself
-abbrev pub columnDone : ℕ → Deed → Column → Column
-columnDone t (carrierOn i) l = l
-columnDone t (carrierOff i) l = hush l
-columnDone t (acknowledge i r) l = tell t r l
-columnDone t (callShip i r) l = summon t r l
-columnDone t (unable n x digits) l = l
-columnDone t (dial i digits) l = dialUp t l
-columnDone t (releaseLine i) l = letGo l
-columnDone t (ringingOn i) l = l
-columnDone t (ringingOff i) l = l
-columnDone t (busyTone i) l = l
+-- a deed about the slot itself, with the last call number given
+abbrev pub columnDone : ℕ → Deed → Column → ℕ → CountedColumn
+columnDone t (carrierOn i) l n = goesOn l n
+columnDone t (carrierOff i) l n = goesOn (hush l) n
+columnDone t (acknowledge i r) l n = tell t r l n
+columnDone t (callShip i r) l n = summon t r l n
+columnDone t (unable k x digits) l n = goesOn l n
+columnDone t (dial i digits) l n = goesOn (dialUp t l) n
+columnDone t (releaseLine i) l n = goesOn (letGo l) n
+columnDone t (ringingOn i) l n = goesOn l n
+columnDone t (ringingOff i) l n = goesOn l n
+columnDone t (busyTone i) l n = goesOn l n
 
-abbrev pub columnsDone : ℕ → List Deed → Column → Column
-columnsDone t [] l = l
-columnsDone t (d ∷ ds) l = columnsDone t ds (columnDone t d l)
+abbrev pub columnsDone : ℕ → List Deed → Column → ℕ → CountedColumn
+columnsDone t [] l n = goesOn l n
+columnsDone t (d ∷ ds) l n = columnsDone t ds (columnDone t d l n .line) (columnDone t d l n .given)
 
 abbrev pub oneDone : Deed → Word → Word
 oneDone (carrierOn i) w = w
@@ -135,7 +135,7 @@ About i ps (busyTone j) = i ≡ j
 abbrev pub Apart : List Place → Slot → Type 0
 Apart ps p = (k : Kind) (r : Dealing) (d : ℕ) → p ≡ pending k r d → leave (r .request .who) ps ≡ ps
 
-end-about : (i : ℕ) (ps : List Place) (e : Ender) (r : Request) (b : Option ℕ) (t : ℕ) → Each (About i ps) (deedsOf (endActs i e r b t))
+end-about : (i : ℕ) (ps : List Place) (e : Ender) (r : Dealing) (b : Option ℕ) (t : ℕ) → Each (About i ps) (deedsOf (endActs i e r b t))
 end-about i ps e r none t = (refl, (refl, tt))
 end-about i ps e r (some b) t = (refl, (refl, tt))
 
@@ -158,8 +158,8 @@ move-about ps i t _ _ _ (to-let-go k r d tone) h = drop-about i ps (rings k) ton
 move-about ps i t _ _ _ (to-stage r n q c z) h = tt
 move-about ps i t _ _ _ (to-lose r g c) h = tt
 move-about ps i t _ _ _ (to-regain r g c) h = tt
-move-about ps i t _ _ _ (to-hold r g c) h = end-about i ps theShip (r .request) (answeredAt g) t
-move-about ps i t _ _ _ (to-end r g c) h = end-about i ps theCoast (r .request) (answeredAt g) t
+move-about ps i t _ _ _ (to-hold r g c) h = end-about i ps theShip r (answeredAt g) t
+move-about ps i t _ _ _ (to-end r g c) h = end-about i ps theCoast r (answeredAt g) t
 move-about ps i t _ _ _ (to-repeat r n d) h = (refl, (refl, tt))
 move-about ps i t _ _ _ (to-run-out r n d) h = tt
 move-about ps i t _ _ _ to-take h = tt
@@ -189,7 +189,7 @@ turned-fits i t _ _ _ to-take h = refl
 pub data Outcome (i : ℕ) (st : Station) (f : Column → Column) (w : Word → Word) (cs : List Stop) (p : Slot) : Out → Type 0 where
   passed : f (view p) ≡ view p → w (word p) ≡ word p → [] ≡ map owed cs → Outcome i st f w cs p (ignored st)
   moved : {n : Next} {acts : List Action} → Move i (st .clock) p n acts
-      → columnsDone (st .clock) (deedsOf acts) (f (view p)) ≡ view (leaves p n)
+      → columnsDone (st .clock) (deedsOf acts) (f (view p)) (st .lastCall) ≡ goesOn (view (leaves p n)) (st .lastCall)
       → allDone (deedsOf acts) (w (word p)) ≡ word (leaves p n) → chargesOf acts ≡ map owed cs
       → Outcome i st f w cs p (played i st n acts)
 

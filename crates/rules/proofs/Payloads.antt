@@ -18,6 +18,7 @@ use Rattle.rules.specs.Rules.Places.{Each}
 use Rattle.rules.specs.Rules.Words.{Party, Request, Config, carrierOn, carrierOff, acknowledge, callShip, unable, dial, releaseLine, ringingOn, ringingOff, busyTone, ours}
 use Rattle.rules.specs.Rules.Actions.{Ender, Action, does, over}
 use Rattle.rules.specs.Rules.Sound.{numberKeeps, requestKeeps}
+use Rattle.rules.specs.Rules.Station.{Dealing}
 use Rattle.rules.specs.Rules.Requests.{bill}
 use Rattle.rules.specs.Rules.Bytes.{padded, numberOf, answerTo, ableSaid, unableSaid, overSaid, block, channelAt, payloadOf, blockOf, blocks, blockSize}
 use Rattle.rules.proofs.PlaceLaws.{and-true}
@@ -107,7 +108,7 @@ module _ (cfg : Config) where
   unfolding payloadOf overSaid answerTo
   over-slim i a x digits n = sent-length (overSaid a x digits n) digits refl
 
-  pub bill-slim : (i : ℕ) (x : Party) (g : Option ℕ) (t : ℕ) → Each (Slim cfg) (bill i x g t)
+  pub bill-slim : (i : ℕ) (x : Dealing) (g : Option ℕ) (t : ℕ) → Each (Slim cfg) (bill i x g t)
   unfolding payloadOf
   bill-slim i x none t = tt
   bill-slim i x (some b) t = (omega arith, tt)

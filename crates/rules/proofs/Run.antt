@@ -8,18 +8,18 @@ use Rattle.rules.specs.Rules.Places.{dropAt, distinct}
 use Rattle.rules.specs.Rules.Words.{is, Config, Ashore, What, ashoreIn, Event}
 use Rattle.rules.specs.Rules.Heard.{Heard}
 use Rattle.rules.specs.Rules.Actions.{Action}
-use Rattle.rules.specs.Rules.Station.{Waiting, Station, theSlot, fresh, setClock, setQueue, isFree, calledOf}
+use Rattle.rules.specs.Rules.Station.{Waiting, Station, theSlot, fresh, setClock, setQueue, calledOf}
 use Rattle.rules.specs.Rules.Sound.{owners}
 use Rattle.rules.specs.Rules.Requests.{Out, slotOf, placeOf, standing, ruleA, owns}
 use Rattle.rules.specs.Rules.Ashore.{ashoreRequest, calledFrom}
 use Rattle.rules.specs.Rules.Calls.{actAt, act}
 use Rattle.rules.specs.Rules.Verdict.{verdict, step, play, final}
 use Rattle.rules.specs.ListAlone.Book.{Note, Stop, Column, Place, atColumn, blankBook, Book}
-use Rattle.rules.specs.ListAlone.Reading.{hear, reads, setNow, turn, stopsIn, Numbered, numbered, stops, fallsAt, momentOf, stopsAt, callUp}
+use Rattle.rules.specs.ListAlone.Reading.{hear, reads, setNow, turn, stopsIn, Numbered, numbered, stops, fallsAt, momentOf, stopsAt, firstCallUp}
 use Rattle.rules.specs.ListAlone.LineWords.{Word}
 use Rattle.rules.specs.Statement.{deedsOf, chargesOf, notes, charged, owed, owedFor, ChargesAreStops, RefusedLeavesAll, Accepts, eventsOf, AllPlayed}
-use Rattle.rules.proofs.Base.{view, place, seen, is-same, fresh-mapped, moves, free-is, slot-lowest}
-use Rattle.rules.proofs.Pieces.{GoodBy, Good, good-done}
+use Rattle.rules.proofs.Base.{view, place, seen, is-same, fresh-mapped, next-left, slot-taken}
+use Rattle.rules.proofs.Pieces.{GoodBy, Good, good-done, first-read}
 use Rattle.rules.proofs.Outcome.{Apart, Outcome}
 use Rattle.rules.proofs.OneSlot.{leave-none, outcome-good}
 use Rattle.rules.proofs.Asked.{request-good}
@@ -48,11 +48,14 @@ dropAt-map (suc k) (w ∷ q) = ap (λ z. place w ∷ z) (dropAt-map k q)
 effect-good : (cfg : Config) (st : Station) → distinct is (owners (st .slots) (map (λ w. w .request .who) (st .queue))) ≡ true → (q : Option Ashore) (b : Book) (ws : List Word) (cs : List Stop) (m : Heard) (o : Out) → Effect cfg st q b ws cs m o → GoodBy q (st .clock) b cs o
 unfolding ruleA standing seen setQueue reads calledFrom
 effect-good cfg st s _ _ _ _ _ _ (rests m n h) = record { reading = refl; charging = refl }
-effect-good cfg st s _ _ _ _ _ _ (drops k) = good-done (setQueue (dropAt k (st .queue)) st) _ (ap (λ (z : List Place). record { now = st .clock; columns = map view (st .slots); places = z }) (dropAt-map k (st .queue)))
+effect-good cfg st s _ _ _ _ _ _ (drops k) = good-done (setQueue (dropAt k (st .queue)) st) _ (ap (λ (z : List Place). record { now = st .clock; columns = map view (st .slots); places = z; given = st .lastCall }) (dropAt-map k (st .queue)))
 effect-good cfg st s _ _ _ _ _ _ (data-asked x n) = record { reading = refl; charging = refl }
 effect-good cfg st s _ _ _ _ _ _ (call-asked r) = request-good st r (map (λ w. w .request .who) (st .queue)) s (slotOf (r .who) st) (placeOf (r .who) st) refl refl
 effect-good cfg st s _ _ _ _ _ _ (to-slot m i u e) = slot-good st s i u
-effect-good cfg st s _ _ _ _ _ _ (called-ashore a i h) = let r = ashoreRequest cfg a in record { reading = moves i st _ (free-is _ (slot-lowest st isFree i h)) (callUp (st .clock) r) (calledOf r st) refl; charging = refl }
+effect-good cfg st s _ _ _ _ _ _ (called-ashore a i h) =
+    let r = ashoreRequest cfg a in
+    let k = slot-taken st i h in
+    record { reading = first-read i st (k .1) (k .0) (firstCallUp (st .clock) r) (calledOf r st) (rw (next-left st (k .0)) refl); charging = refl }
 
 pub event-good : (cfg : Config) (st : Station) → Sound cfg st → (t : ℕ) (w : What)
     → GoodBy (ashoreIn w) (momentOf t (fallsAt (seen st) t w)) (hear cfg (momentOf t (fallsAt (seen st) t w)) (fallsAt (seen st) t w) w (setNow (momentOf t (fallsAt (seen st) t w)) (seen st))) (stopsAt cfg (momentOf t (fallsAt (seen st) t w)) (seen st) (fallsAt (seen st) t w) w) (actAt cfg st t w)
@@ -103,7 +106,7 @@ run-charges cfg (e ∷ es) k st = go (verdict cfg st e) refl (λ k s. run-charge
 
 pub fresh-seen : (cfg : Config) → seen (fresh cfg) ≡ blankBook cfg
 unfolding seen fresh blankBook
-fresh-seen cfg = ap (λ (z : List Column). record { now = 0; columns = z; places = [] }) (fresh-mapped cfg view)
+fresh-seen cfg = ap (λ (z : List Column). record { now = 0; columns = z; places = []; given = 0 }) (fresh-mapped cfg view)
 
 -- the charges given are the stops that the list shows, in order, each in its entry
 pub charges-are-stops : ChargesAreStops

@@ -10,8 +10,8 @@ use lib.Dec.{eqb}
 use Rattle.rules.specs.Rules.Places.{modAt, Each}
 use Rattle.rules.specs.Rules.Words.{Request, Ashore, Deed, carrierOn, carrierOff, acknowledge, callShip, unable, dial, releaseLine, ringingOn, ringingOff, busyTone}
 use Rattle.rules.specs.Rules.Actions.{theCoast, Action}
-use Rattle.rules.specs.Rules.Station.{Slot, Waiting, Station, theSlot, setSlot, setQueue, ringBackOf}
-use Rattle.rules.specs.Rules.Requests.{Out, ignored, also, rungBack, freedFor, freed, endActs, coastEnd}
+use Rattle.rules.specs.Rules.Station.{Dealing, Slot, Waiting, Station, theSlot, setSlot, setQueue, newCall, ringBackOf}
+use Rattle.rules.specs.Rules.Requests.{Out, ignored, also, toRingBack, rungBack, freedFor, freed, endActs, coastEnd}
 use Rattle.rules.specs.ListAlone.Book.{Stop, Column}
 use Rattle.rules.specs.ListAlone.LineWords.{Word, worded, unused, idle, outward, lineCalled}
 use Rattle.rules.specs.Statement.{deedsOf}
@@ -115,16 +115,16 @@ module _ (i : ℕ) (st : Station) where
   rests f h = slot-stays st word f i h
 
   freedFor-told : (ws : List Word) → ws ≡ words (setSlot i (leaves (theSlot st i) frees) st) → (q : List Waiting) → Spoken ws (freedFor i st q)
-  unfolding freedFor rungBack spoken setSlot setQueue
+  unfolding freedFor rungBack spoken setSlot setQueue newCall
   freedFor-told ws h [] = record { telling = h }
   freedFor-told ws h (w ∷ q) = record { telling = sym (modAt-none i ws) ∙ h ∙ same-word (leaves (theSlot st i) frees) (ringBackOf (w .request) st) i (st .slots) refl }
 
   freed-told : (ws : List Word) → ws ≡ words (setSlot i (leaves (theSlot st i) frees) st) → Spoken ws (freed i st)
   unfolding freed
-  freed-told ws h = freedFor-told ws h (st .queue)
+  freed-told ws h = freedFor-told ws h (toRingBack st)
 
   -- the line is released
-  pub coastEnd-told : (r : Request) (g : Option ℕ) → word (theSlot st i) .rings ≡ false → Spoken (words st) (coastEnd i r g st)
+  pub coastEnd-told : (r : Dealing) (g : Option ℕ) → word (theSlot st i) .rings ≡ false → Spoken (words st) (coastEnd i r g st)
   unfolding coastEnd spoken
   coastEnd-told r none h = told-also (words st) (modAt freesLine i (words st)) (endActs i theCoast r none (st .clock)) (freed i st) refl (freed-told (modAt freesLine i (words st)) (turns-to freesLine _ (ap (worded idle) h)))
   coastEnd-told r (some b) h = told-also (words st) (modAt freesLine i (words st)) (endActs i theCoast r (some b) (st .clock)) (freed i st) refl (freed-told (modAt freesLine i (words st)) (turns-to freesLine _ (ap (worded idle) h)))

@@ -15,13 +15,13 @@ use Rattle.sequence.specs.Field.{durationOk}
 use Rattle.rules.specs.Rules.Places.{modAt, dropAt, all}
 use Rattle.rules.specs.Rules.Words.{Request, Config}
 use Rattle.rules.specs.Rules.Actions.{Action}
-use Rattle.rules.specs.Rules.Station.{Slot, Waiting, Station, theSlot, setSlot, setClock, setQueue, answeredAt, ringBackOf, offerOf, calledOf}
+use Rattle.rules.specs.Rules.Station.{Slot, Waiting, Station, theSlot, setSlot, setClock, setQueue, answeredAt, ringBackOf, offerOf, calledOf, newCall}
 use Rattle.rules.specs.Rules.Sound.{requestKeeps, durationKeeps, slotKeeps, waitingKeeps}
-use Rattle.rules.specs.Rules.Requests.{rungBack, freedFor, freed, lasted, ruleD, ruleF}
+use Rattle.rules.specs.Rules.Requests.{rungBack, freedFor, freed, lasted, ruleD, ruleF, toRingBack}
 use Rattle.rules.proofs.PlaceLaws.{and-true, modAt-length, all-set, all-end, all-dropped}
 use Rattle.rules.proofs.Outcome.{becomes, Move, to-dial, to-agree, to-ring, to-call, to-rings, to-answer, to-stage, to-lose, to-regain, to-hold, to-take}
 use Rattle.rules.proofs.Walk.{Closed}
-use Rattle.rules.proofs.Base.{slot-all}
+use Rattle.rules.proofs.Base.{slot-all, rung-first}
 
 pub record Stored (cfg : Config) (st : Station) : Type 0 where
   pub slots-keep : all (slotKeeps cfg) (st .slots) ≡ true
@@ -79,16 +79,21 @@ module _ (cfg : Config) where
   turned-stored : (i : ℕ) (st : Station) (p q : Slot) (acts : List Action) → theSlot st i ≡ p → Move i (st .clock) p (becomes q) acts → Stored cfg st → Stored cfg (setSlot i q st)
   turned-stored i st p q acts e t s = set-stored i q st (turned-keeps i (st .clock) p q acts t (rw e at (slot-all st (slotKeeps cfg) refl i (s .slots-keep)))) s
 
-  freedFor-stored : (i : ℕ) (st : Station) → Stored cfg st → (q : List Waiting) → st .queue ≡ q → Stored cfg (freedFor i st q .next)
+  -- a call that begins
+  begun-stored : (i : ℕ) (p : Slot) (st : Station) → slotKeeps cfg p ≡ true → Stored cfg st → Stored cfg (newCall i p st)
+  unfolding newCall
+  begun-stored i p st h s = record { slots-keep = all-set (slotKeeps cfg) i p (st .slots) (s .slots-keep) h; queue-keeps = s .queue-keeps; many = modAt-length (λ x. p) i (st .slots) ∙ s .many }
+
+  freedFor-stored : (i : ℕ) (st : Station) → Stored cfg st → (q : List Waiting) → toRingBack st ≡ q → Stored cfg (freedFor i st q .next)
   unfolding freedFor rungBack
   freedFor-stored i st s [] e = set-stored i _ st refl s
   freedFor-stored i st s (w ∷ q) e =
-      let k = and-true (waitingKeeps cfg w) (all (waitingKeeps cfg) q) (rw e at (s .queue-keeps)) in
-      set-stored i (ringBackOf (w .request) st) (setQueue q st) (k .0) (queue-stored q st (k .1) s)
+      let k = and-true (waitingKeeps cfg w) (all (waitingKeeps cfg) q) (rw (rung-first st w q e .1) at (s .queue-keeps)) in
+      begun-stored i (ringBackOf (w .request) st) (setQueue q st) (k .0) (queue-stored q st (k .1) s)
 
   freed-stored : (i : ℕ) (st : Station) → Stored cfg st → Stored cfg (freed i st .next)
   unfolding freed
-  freed-stored i st s = freedFor-stored i st s (st .queue) refl
+  freed-stored i st s = freedFor-stored i st s (toRingBack st) refl
 
   all-renewed : (r : Request) → requestKeeps cfg r ≡ true → (k : ℕ) (q : List Waiting) → all (waitingKeeps cfg) q ≡ true → all (waitingKeeps cfg) (modAt (λ w. record { request = r; due = w .due }) k q) ≡ true
   all-renewed r h k [] a = refl
@@ -107,9 +112,9 @@ module _ (cfg : Config) where
   stored-closed = record {
     turning = turned-stored;
     freeing = freed-stored;
-    renewed = λ i st r h k o d e y s. set-stored i (offerOf r st) st h s;
-    offering = λ i st r h n y s. set-stored i (offerOf r st) st h s;
-    calling = λ i st r h n y s. set-stored i (calledOf r st) st h s;
+    renewed = λ i st r h k o d e y u s. begun-stored i (offerOf r st) st h s;
+    offering = λ i st r h n y u s. begun-stored i (offerOf r st) st h s;
+    calling = λ i st r h n y u s. begun-stored i (calledOf r st) st h s;
     joining = λ st r h n y f q s. ruleF-stored st r h s;
     replacing = λ k st r h y s. ruleD-stored k st r h s;
     dropping = λ k st s. queue-stored (dropAt k (st .queue)) st (all-dropped (waitingKeeps cfg) k (st .queue) (s .queue-keeps)) s;

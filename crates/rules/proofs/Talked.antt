@@ -7,8 +7,8 @@ use Prim.Native.Nat.{ℕ, zero, suc, _+_, _-_}
 use native.Mathlib.Omega.{arith}
 use lib.ListN.{getD}
 use Rattle.rules.specs.Rules.Places.{modAt}
-use Rattle.rules.specs.Rules.Words.{Party, is, Mode, Config, Ashore, What, ashoreIn, Deed}
-use Rattle.rules.specs.ListAlone.Book.{Note, Stop, after, holdTime, Call, quiet, called, dialled, talking, Column, Book, blank}
+use Rattle.rules.specs.Rules.Words.{Party, is, Config, Ashore, What, ashoreIn, Deed}
+use Rattle.rules.specs.ListAlone.Book.{Note, Stop, after, holdTime, Begun, Call, quiet, called, dialled, talking, Column, Book, blank}
 use Rattle.rules.specs.ListAlone.Reading.{closed, close, pickUp, comeUp, signOff, again, hear, read, reads, setNow, turn, stopsIn, talked, talkedBy, falling, moment, stopOf, callOf, askedAgain, stopsAgain}
 use Rattle.rules.proofs.Hears.{column-of, talk, Same, Leaves, elsewhere, at-column, read-leaves, Hears, says-nothing, says-begun, says-answered, says-over, says-end, Hearing, no-column, one-column, all-columns, event-hearing}
 
@@ -21,8 +21,8 @@ sum (c ∷ cs) = (c .stop .0 - c .start .0) + sum cs
 talked-talk : (t : ℕ) (c : Call) → talked t (talk c) ≡ talked t c
 talked-talk t quiet = refl
 talked-talk t (called r b) = refl
-talked-talk t (dialled x m o) = refl
-talked-talk t (talking x m b) = refl
+talked-talk t (dialled x o) = refl
+talked-talk t (talking x b) = refl
 
 -- what leaves every answered call alone leaves what they have talked
 keeps-at : (t : ℕ) (f : Column → Column) → Same f → (i : ℕ) (ls : List Column) → talkedBy t (modAt f i ls) ≡ talkedBy t ls
@@ -53,27 +53,27 @@ close-takes t zero k (l ∷ ls) = go (l .call)
     go : (c : Call) → sum (stopOf t k c) + (talked t (closed c) + talkedBy t ls) ≡ talked t c + talkedBy t ls
     go quiet = omega arith
     go (called r b) = omega arith
-    go (dialled x m o) = omega arith
-    go (talking x m b) = omega arith
+    go (dialled x o) = omega arith
+    go (talking x b) = omega arith
 close-takes t (suc i) k (l ∷ ls) = omega (arith, close-takes t i k ls)
 
 signOff-takes : (t u : ℕ) (x : Party) (i k : ℕ) (ls : List Column) → sum (cond (callOf x (getD ls i blank .call)) (stopOf t k (getD ls i blank .call)) []) + talkedBy t (modAt (signOff u x) i ls) ≡ talkedBy t ls
 signOff-takes t u x i k [] = refl
 signOff-takes t u x zero k (l ∷ ls) = go (l .call)
   where
-    pick : (b : Bool) (y : Party) (m : Mode) (c : ℕ) → sum (cond b (stopOf t k (talking y m c)) []) + (talked t (cond b (column-of (l .said) (some (after u holdTime)) quiet none) (column-of (l .said) (l .wait) (talking y m c) (l .gone)) .call) + talkedBy t ls) ≡ (t - c) + talkedBy t ls
-    pick true y m c = omega arith
-    pick false y m c = omega arith
+    pick : (b : Bool) (y : Begun) (c : ℕ) → sum (cond b (stopOf t k (talking y c)) []) + (talked t (cond b (column-of (l .said) (some (after u holdTime)) quiet none) (column-of (l .said) (l .wait) (talking y c) (l .gone)) .call) + talkedBy t ls) ≡ (t - c) + talkedBy t ls
+    pick true y c = omega arith
+    pick false y c = omega arith
 
-    pick0 : (b : Bool) (y : Party) (m : Mode) (o : Bool) → sum (cond b (stopOf t k (dialled y m o)) []) + (talked t (cond b (column-of (l .said) (some (after u holdTime)) quiet none) (column-of (l .said) (l .wait) (dialled y m o) (l .gone)) .call) + talkedBy t ls) ≡ 0 + talkedBy t ls
-    pick0 true y m o = omega arith
-    pick0 false y m o = omega arith
+    pick0 : (b : Bool) (y : Begun) (o : Bool) → sum (cond b (stopOf t k (dialled y o)) []) + (talked t (cond b (column-of (l .said) (some (after u holdTime)) quiet none) (column-of (l .said) (l .wait) (dialled y o) (l .gone)) .call) + talkedBy t ls) ≡ 0 + talkedBy t ls
+    pick0 true y o = omega arith
+    pick0 false y o = omega arith
 
     go : (c : Call) → sum (cond (callOf x c) (stopOf t k c) []) + (talked t (signOff u x (column-of (l .said) (l .wait) c (l .gone)) .call) + talkedBy t ls) ≡ talked t c + talkedBy t ls
     go quiet = omega arith
     go (called r b) = omega arith
-    go (dialled y m o) = pick0 (is x y) y m o
-    go (talking y m b) = pick (is x y) y m b
+    go (dialled y o) = pick0 (is x (y .request .who)) y o
+    go (talking y b) = pick (is x (y .request .who)) y b
 signOff-takes t u x (suc i) k (l ∷ ls) = omega (arith, signOff-takes t u x i k ls)
 
 again-takes : (t : ℕ) (x : Party) (k : ℕ) (ls : List Column) → sum (stopsAgain t x k ls) + talkedBy t (map (again x) ls) ≡ talkedBy t ls
@@ -87,8 +87,8 @@ again-takes t x k (l ∷ ls) = go (askedAgain x (l .call) (l .gone)) (l .call) (
     pick : (c : Call) → sum (stopOf t k c) + talked t (closed c) ≡ talked t c
     pick quiet = refl
     pick (called r b) = refl
-    pick (dialled y m o) = refl
-    pick (talking y m b) = omega arith
+    pick (dialled y o) = refl
+    pick (talking y b) = omega arith
 
     go : (b : Bool) (c : Call) → sum (stopsAgain t x (suc k) ls) + talkedBy t (map (again x) ls) ≡ talkedBy t ls
         → sum (cond b (stopOf t k c) [] ++ stopsAgain t x (suc k) ls) + (talked t (cond b (close (column-of (l .said) (l .wait) c (l .gone))) (column-of (l .said) (l .wait) c (l .gone)) .call) + talkedBy t (map (again x) ls)) ≡ talked t c + talkedBy t ls
@@ -102,8 +102,8 @@ pickUp-takes t zero (l ∷ ls) = go (l .call)
     go : (c : Call) → talked t (pickUp t (column-of (l .said) (l .wait) c (l .gone)) .call) + talkedBy t ls ≡ talked t c + talkedBy t ls
     go quiet = refl
     go (called r b) = refl
-    go (dialled x m o) = omega arith
-    go (talking x m b) = refl
+    go (dialled x o) = omega arith
+    go (talking x b) = refl
 pickUp-takes t (suc i) (l ∷ ls) = ap (λ n. talked t (l .call) + n) (pickUp-takes t i ls)
 
 comeUp-takes : (t i : ℕ) (ls : List Column) → talkedBy t (modAt (comeUp t) i ls) ≡ talkedBy t ls
@@ -114,8 +114,8 @@ comeUp-takes t zero (l ∷ ls) = go (l .call)
     go quiet = refl
     go (called r false) = refl
     go (called r true) = omega arith
-    go (dialled x m o) = refl
-    go (talking x m b) = refl
+    go (dialled x o) = refl
+    go (talking x b) = refl
 comeUp-takes t (suc i) (l ∷ ls) = ap (λ n. talked t (l .call) + n) (comeUp-takes t i ls)
 
 hears-takes : (t i : ℕ) (e : What) (f : Column → Column) (s : Call → List Stop) → Hears t i e f s → (ls : List Column) → sum (s (getD ls i blank .call)) + talkedBy t (modAt f i ls) ≡ talkedBy t ls

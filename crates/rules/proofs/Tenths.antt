@@ -11,7 +11,7 @@ use borrow.Author.Tests.{leb-true}
 use Rattle.rules.specs.Rules.Places.{all}
 use Rattle.rules.specs.Rules.Words.{Party, Request, Config, Ashore, What, Event, Deed, carrierOn, carrierOff, acknowledge, callShip, unable, dial, releaseLine, ringingOn, ringingOff, busyTone}
 use Rattle.rules.specs.Rules.Actions.{Charge}
-use Rattle.rules.specs.Rules.Station.{Stage, Slot, Station, fresh, answeredAt, answeredIn}
+use Rattle.rules.specs.Rules.Station.{Dealing, Stage, Slot, Station, fresh, answeredAt, answeredIn}
 use Rattle.rules.specs.Rules.Calls.{act}
 use Rattle.rules.specs.Rules.Verdict.{verdict, play, final}
 use Rattle.rules.specs.ListAlone.Book.{Note, Stop, after, Call, quiet, called, dialled, talking, Book, atPlaces, blank}
@@ -31,13 +31,13 @@ use Rattle.rules.proofs.Hears.{Hearing, no-column, one-column, all-colu
 abbrev answeredOf : Call → Option ℕ
 answeredOf quiet = none
 answeredOf (called r b) = none
-answeredOf (dialled x m o) = none
-answeredOf (talking x m b) = some b
+answeredOf (dialled x o) = none
+answeredOf (talking x b) = some b
 
 abbrev pub since : ℕ → Call → Bool
 since t k = begun t (answeredOf k)
 
-call-answered : (r : Request) (g : Stage) → answeredOf (callIn r g) ≡ answeredAt g
+call-answered : (r : Dealing) (g : Stage) → answeredOf (callIn r g) ≡ answeredAt g
 call-answered r = by-stage (λ s. answeredOf (callIn r s) ≡ answeredAt s) (λ d. refl) (λ d. refl) (λ b. refl)
 
 slot-answered : (s : Slot) → answeredOf (view s .call) ≡ answeredIn s
@@ -45,8 +45,8 @@ slot-answered s = go s (view s .call) (calling s)
   where
     go : (s : Slot) (k : Call) → Calling s k → answeredOf k ≡ answeredIn s
     go _ _ (no-call s n) = sym n
-    go _ _ (a-caller k r d) = by-kind (λ z. answeredOf (lineOf z (r .request)) ≡ none) refl refl refl refl refl refl refl k
-    go _ _ (a-call r g c) = call-answered (r .request) g
+    go _ _ (a-caller k r d) = by-kind (λ z. answeredOf (lineOf z r) ≡ none) refl refl refl refl refl refl refl k
+    go _ _ (a-call r g c) = call-answered r g
 
 pub since-slot : (t : ℕ) (s : Slot) → since t (view s .call) ≡ begunBy t s
 since-slot t s = ap (begun t) (slot-answered s)
@@ -54,8 +54,8 @@ since-slot t s = ap (begun t) (slot-answered s)
 talked-from : (t : ℕ) (k : Call) → talked t k ≡ unchargedFrom t (answeredOf k)
 talked-from t quiet = refl
 talked-from t (called r b) = refl
-talked-from t (dialled x m o) = refl
-talked-from t (talking x m b) = refl
+talked-from t (dialled x o) = refl
+talked-from t (talking x b) = refl
 
 uncharged-slot : (t : ℕ) (s : Slot) → talked t (view s .call) ≡ unchargedSlot t s
 uncharged-slot t s = talked-from t (view s .call) ∙ ap (unchargedFrom t) (slot-answered s)
@@ -67,8 +67,8 @@ uncharged-slots t (s ∷ ss) = rw (uncharged-slot t s, uncharged-slots t ss) ref
 advance-one : (c t : ℕ) → c ≤ t → (k : Call) → since c k ≡ true → talked t k ≡ talked c k + (t - c) * isTalking k
 advance-one c t h quiet e = omega arith
 advance-one c t h (called r b) e = omega arith
-advance-one c t h (dialled x m o) e = omega arith
-advance-one c t h (talking x m b) e = omega (arith, leb-true b c e)
+advance-one c t h (dialled x o) e = omega arith
+advance-one c t h (talking x b) e = omega (arith, leb-true b c e)
 
 add-both : (d x y p q a b : ℕ) → a ≡ x + d * p → b ≡ y + d * q → a + b ≡ x + y + d * (p + q)
 add-both d x y p q a b h k = omega arith

@@ -11,13 +11,14 @@ use borrow.Author.Tests.{leb-true, ltb-true}
 use Rattle.rules.specs.Rules.Places.{modAt, dropAt, all}
 use Rattle.rules.specs.Rules.Words.{Party, is, Request, Config}
 use Rattle.rules.specs.Rules.Actions.{Action}
-use Rattle.rules.specs.Rules.Station.{Dealing, Kind, Slot, pending, Waiting, Station, theSlot, setSlot, setQueue, dueAfter, queueWait, ringBackOf, offerOf, calledOf}
+use Rattle.rules.specs.Rules.Station.{Dealing, Kind, Slot, pending, Waiting, Station, theSlot, setSlot, setQueue, newCall, dueAfter, queueWait, ringBackOf, offerOf, calledOf}
 use Rattle.rules.specs.Rules.Sound.{queueRoom, slotFits, placeFits}
-use Rattle.rules.specs.Rules.Requests.{rungBack, freedFor, freed, owns, waitsFor, placeOf, ruleD, ruleF}
+use Rattle.rules.specs.Rules.Requests.{toRingBack, rungBack, freedFor, freed, owns, waitsFor, placeOf, ruleD, ruleF}
 use Rattle.rules.proofs.PlaceLaws.{and-true, lowest-is, all-set, all-end, all-dropped, dropped-length}
-use Rattle.rules.proofs.Base.{is-true, slot-all, offer-fits, call-fits, ring-fits, new-wait}
+use Rattle.rules.proofs.Base.{is-true, rung-first, slot-all, offer-fits, call-fits, ring-fits, new-wait}
 use Rattle.rules.proofs.Accepted.{Sound}
-use Rattle.rules.proofs.Once.{bit, countS, countQ, Once, distinct-once, count-set, waiting-count}
+use Rattle.rules.proofs.Occurs.{bit}
+use Rattle.rules.proofs.Once.{countS, countQ, Once, distinct-once, count-set, waiting-count}
 use Rattle.rules.proofs.Outcome.{becomes, Move, to-dial, to-agree, to-ring, to-call, to-rings, to-answer, to-stage, to-lose, to-regain, to-hold, to-take, turned-fits}
 use Rattle.rules.proofs.Walk.{Closed}
 
@@ -71,14 +72,14 @@ turned-whole i st p q acts e t w = turn-whole i st p e w q (turned-fits i (st .c
 
 -- ── a slot freed ─────────────────────────────────────────────────────────────
 
-freedFor-whole : (i : ℕ) (st : Station) → Whole st → (q : List Waiting) → st .queue ≡ q → Whole (freedFor i st q .next)
-unfolding freedFor rungBack setSlot setQueue
+freedFor-whole : (i : ℕ) (st : Station) → Whole st → (q : List Waiting) → toRingBack st ≡ q → Whole (freedFor i st q .next)
+unfolding freedFor rungBack setSlot setQueue newCall
 freedFor-whole i st w [] e = turn-whole i st (theSlot st i) refl w _ refl (λ x. omega arith)
 freedFor-whole i st w (v ∷ q) e = record {
-  once = λ x. less (countS x (modAt (λ y. ringBackOf (v .request) st) i (st .slots))) (bit (owns x (theSlot st i))) (countS x (st .slots)) (bit (is x (v .request .who))) (countQ x q) (count-set x i (ringBackOf (v .request) st) st) (rw e at (w .once x));
+  once = λ x. less (countS x (modAt (λ y. ringBackOf (v .request) st) i (st .slots))) (bit (owns x (theSlot st i))) (countS x (st .slots)) (bit (is x (v .request .who))) (countQ x q) (count-set x i (ringBackOf (v .request) st) st) (rw (rung-first st v q e .1) at (w .once x));
   fit = all-set (slotFits (st .clock)) i (ringBackOf (v .request) st) (st .slots) (w .fit) (ring-fits (v .request) st);
-  placed = and-true (placeFits (st .clock) v) (all (placeFits (st .clock)) q) (rw e at (w .placed)) .1;
-  room = shorter (length q) (rw e at (w .room));
+  placed = and-true (placeFits (st .clock) v) (all (placeFits (st .clock)) q) (rw (rung-first st v q e .1) at (w .placed)) .1;
+  room = shorter (length q) (rw (rung-first st v q e .1) at (w .room));
 }
   where
     less : (n o s p k : ℕ) → n + o ≤ s + p → s + (p + k) ≤ 1 → n + k ≤ 1
@@ -89,7 +90,7 @@ freedFor-whole i st w (v ∷ q) e = record {
 
 freed-whole : (i : ℕ) (st : Station) → Whole st → Whole (freed i st .next)
 unfolding freed
-freed-whole i st w = freedFor-whole i st w (st .queue) refl
+freed-whole i st w = freedFor-whole i st w (toRingBack st) refl
 
 -- ── a request ────────────────────────────────────────────────────────────────
 
@@ -175,13 +176,18 @@ dropped-whole k st w = record {
     under : (a b : ℕ) → a ≤ b → b ≤ 32 → a ≤ 32
     under a b h k = omega arith
 
+-- a call that begins takes a number, and nothing here asks for it
+numbered-whole : (i : ℕ) (q : Slot) (st : Station) → Whole (setSlot i q st) → Whole (newCall i q st)
+unfolding setSlot newCall
+numbered-whole i q st w = record { once = w .once; fit = w .fit; placed = w .placed; room = w .room }
+
 pub whole-closed : (cfg : Config) → Closed cfg Whole
 whole-closed cfg = record {
   turning = turned-whole;
   freeing = freed-whole;
-  renewed = λ i st r k. renewed-whole i st r;
-  offering = λ i st r k n h w. given-whole st r n h w i (offerOf r st) (offer-fits r st) (λ x. refl);
-  calling = λ i st r k n h w. given-whole st r n h w i (calledOf r st) (call-fits r st) (λ x. refl);
+  renewed = λ i st r k x o d e h u w. numbered-whole i (offerOf r st) st (renewed-whole i st r x o d e h w);
+  offering = λ i st r k n h u w. numbered-whole i (offerOf r st) st (given-whole st r n h w i (offerOf r st) (offer-fits r st) (λ x. refl));
+  calling = λ i st r k n h u w. numbered-whole i (calledOf r st) st (given-whole st r n h w i (calledOf r st) (call-fits r st) (λ x. refl));
   joining = λ st r k n h f q w. join-whole st r n h w q;
   replacing = λ k st r h. ruleD-whole k st r;
   dropping = dropped-whole;

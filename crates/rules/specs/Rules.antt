@@ -9,7 +9,6 @@ pub mod Kinds
 pub mod Actions
 -- the rules: time and the slots, what each event does, actions handed out, answer numbers
 pub mod Station
-pub mod Slots
 pub mod Sound
 pub mod Requests
 pub mod Ashore

@@ -2,23 +2,25 @@
 use mathlib.Core.Path.{_≡_}
 use mathlib.Core.Logic.{_⊎_}
 use mathlib.Core.List.{List, [], _∷_, _++_}
-use mathlib.Core.Bool.{true, false}
+use mathlib.Core.Bool.{true, false, _&&_}
 use mathlib.Core.Option.{Option, none, some}
 use Prim.Native.Nat.{ℕ, suc, _+_, _-_, _/_, _<_, _≤_}
+use lib.Dec.{eqb}
 use lib.ListN.{length}
 use Rattle.units.specs.declared.Seconds.{Seconds}
-use Rattle.rules.specs.Rules.Places.{lowest, Each}
-use Rattle.rules.specs.Rules.Words.{Party, Config, Event, Deed}
+use Rattle.rules.specs.Rules.Places.{lowest, distinct, Each}
+use Rattle.rules.specs.Rules.Words.{Party, Request, Config, ashoreIn, Event, Deed, unable}
 use Rattle.rules.specs.Rules.Heard.{Heard, callRequest, dataRequest, bq, workingCall, endOfCall, declined, nothing}
 use Rattle.rules.specs.Rules.Actions.{Charge, Action, does, over, charge}
-use Rattle.rules.specs.Rules.Station.{Kind, firstRingBack, isCalled, answered, Dealing, Slot, free, taken, pending, busy, held}
-use Rattle.rules.specs.Rules.Station.{ringsIn, Waiting, Station, theSlot, setClock, fresh, answeredIn, isFree}
+use Rattle.rules.specs.Rules.Station.{Kind, firstRingBack, isOffer, isCalled, answered, Dealing, Slot, free, taken, pending, busy, held}
+use Rattle.rules.specs.Rules.Station.{ringsIn, callNumberIn, Waiting, Station, theSlot, setClock, fresh, answeredIn, isFree}
 use Rattle.rules.specs.Rules.Sound.{sound}
-use Rattle.rules.specs.Rules.Requests.{Out, ignored}
+use Rattle.rules.specs.Rules.Requests.{Out, ignored, saying, slotOf, same}
 use Rattle.rules.specs.Rules.Calls.{act}
 use Rattle.rules.specs.Rules.Verdict.{verdict, setUpVerdict, Entry, play, final}
 use Rattle.rules.specs.Rules.Bytes.{payloadOf}
-use Rattle.rules.specs.ListAlone.Book.{Book, Note, Stop, column, blankBook}
+use Rattle.rules.specs.ListAlone.Book.{Book, Note, Stop, Begun, Said, silent, toldBQ, toldRQ, settled, Call, quiet, called, dialled, talking}
+use Rattle.rules.specs.ListAlone.Book.{column, blankBook}
 use Rattle.rules.specs.ListAlone.Reading.{Numbered, numbered, stops, counted, countedByCalls, heardAt, readAll}
 use Rattle.rules.specs.ListAlone.LineWords.{unused, wordAfter, wordOf, ringingAfter, InTurn, releases}
 use Rattle.rules.specs.ListAlone.Repeated.{Answers, SendsSame, DialsNamed, DeedByDeed}
@@ -55,7 +57,15 @@ secondsOf n = record { 0 = n / 10 }
 
 -- the charge that a stop calls for
 abbrev pub owed : Stop → Charge
-owed s = record { slot = s .slot; ship = s .ship; start = s .start; stop = s .stop; seconds = secondsOf (s .stop .0 - s .start .0) }
+owed s =
+    record {
+      slot = s .slot;
+      ship = s .ship;
+      start = s .start;
+      stop = s .stop;
+      seconds = secondsOf (s .stop .0 - s .start .0);
+      callNumber = s .callNumber;
+    }
 
 abbrev pub owedFor : List (Numbered Stop) → List (Numbered Charge)
 owedFor [] = []
@@ -84,9 +94,14 @@ stopsOf c es = stops c 0 (listOf c es) (blankBook c)
 abbrev pub bookOf : Config → List Event → Book
 bookOf c es = readAll c (listOf c es) (blankBook c)
 
--- every stopped call has one charge, given at its stop, with that beginning and end and its whole seconds; and no other charge exists
+-- every stopped call has one charge, given at its stop, with that beginning and end, its whole seconds and its call number; and no other
+-- charge exists
 unfoldable pub ChargesAreStops : Type 0
 ChargesAreStops = OfEveryRun (λ c es. charged 0 (runOf c es) ≡ owedFor (stopsOf c es))
+
+abbrev pub callNumbers : List (Numbered Charge) → List ℕ
+callNumbers [] = []
+callNumbers (h ∷ hs) = h .it .callNumber ∷ callNumbers hs
 
 abbrev pub tenthsIn : List (Numbered Charge) → ℕ
 tenthsIn [] = 0
@@ -244,10 +259,70 @@ unfoldable pub DroppedReleased : Type 0
 DroppedReleased = (c : Config) (st : Station) (e : Event) → verdict c st e ≡ none
     → ReleasedWhenDropped st (act c st e .next) (act c st e .acts)
 
--- while a ship waits no slot is free
+-- while a ship waits no slot is free, unless the last call number has been given
 unfoldable pub NoChannelIdle : Type 0
 NoChannelIdle = OfEveryRun (λ c es.
-    (w : Waiting) (q : List Waiting) → stationAfter c es .queue ≡ w ∷ q → lowest isFree (stationAfter c es .slots) ≡ none)
+    (w : Waiting) (q : List Waiting) → stationAfter c es .queue ≡ w ∷ q
+    → (lowest isFree (stationAfter c es .slots) ≡ none) ⊎ (stationAfter c es .lastCall ≡ 4294967295))
+
+-- ── 02, no. 4: call numbers ──────────────────────────────────────────────────
+
+-- "No two charges of one run from a fresh station carry the same number"
+unfoldable pub ChargesDiffer : Type 0
+ChargesDiffer = OfEveryRun (λ c es. distinct eqb (callNumbers (charged 0 (runOf c es))) ≡ true)
+
+-- the calls that the list shows to begin have just the numbers from 1 to the station's last
+unfoldable pub NumbersCounted : Type 0
+NumbersCounted = OfEveryRun (λ c es. bookOf c es .given ≡ stationAfter c es .lastCall)
+
+-- the call that the list shows on a slot, before its line is dialled and after
+abbrev pub begunIn : Said → Call → Option Begun
+begunIn silent quiet = none
+begunIn (toldBQ o) quiet = some o
+begunIn (toldRQ o) quiet = some o
+begunIn (settled o) quiet = some o
+begunIn s (called o rings) = some o
+begunIn s (dialled o ended) = some o
+begunIn s (talking o b) = some o
+
+-- "The slot's record holds it": the number that the list counts for the call on a slot
+abbrev pub HeldAsCounted : Config → List Note → Station → Type 0
+HeldAsCounted c l st = (i : ℕ) (o : Begun)
+    → begunIn (column (readAll c l (blankBook c)) i .said) (column (readAll c l (blankBook c)) i .call) ≡ some o
+    → callNumberIn (theSlot st i) ≡ o .callNumber
+
+unfoldable pub NumbersHeld : Type 0
+NumbersHeld = OfEveryRun (λ c es. HeldAsCounted c (listOf c es) (stationAfter c es))
+
+-- every call number that the station holds has been given, and none is past the last
+unfoldable pub NumbersGiven : Type 0
+NumbersGiven = OfEveryRun (λ c es. (stationAfter c es .lastCall ≤ 4294967295)
+    × Each (λ s. callNumberIn s ≤ stationAfter c es .lastCall) (stationAfter c es .slots))
+
+-- numbers never go back
+unfoldable pub NumbersGoOn : Type 0
+NumbersGoOn = (c : Config) (st : Station) (e : Event) → verdict c st e ≡ none → st .lastCall ≤ act c st e .next .lastCall
+
+-- "answer 104/107 and change nothing else"
+abbrev pub Told107 : Station → ℕ → Request → Out → Type 0
+Told107 st t r o = o ≡ saying (unable 107 (r .who) (r .number)) (setClock t st)
+
+-- "once 4,294,967,295 has been given": a ship that has no slot, waiting or not; one whose slot is offered for another request, in
+-- ring-back or acknowledged
+abbrev pub ToldWhenUsedUp : Config → Station → Event → Out → Type 0
+ToldWhenUsedUp c st e o = (r : Request) → st .lastCall ≡ 4294967295 → heardAt c (e .what) ≡ callRequest r
+    → (slotOf (r .who) st ≡ none → Told107 st (e .time) r o)
+    × ((i : ℕ) (k : Kind) (p : Dealing) (d : ℕ) → slotOf (r .who) st ≡ some i → theSlot st i ≡ pending k p d → isCalled k ≡ false
+    → (isOffer k && same r (p .request)) ≡ false → Told107 st (e .time) r o)
+
+-- of every station and every event that it accepts
+unfoldable pub UsedUpTold : Type 0
+UsedUpTold = (c : Config) (st : Station) (e : Event) → verdict c st e ≡ none → ToldWhenUsedUp c st e (act c st e)
+
+-- no number is given any more, and no caller ashore is accepted
+unfoldable pub UsedUpStays : Type 0
+UsedUpStays = (c : Config) (st : Station) (e : Event) → verdict c st e ≡ none → st .lastCall ≡ 4294967295
+    → (act c st e .next .lastCall ≡ 4294967295) × (ashoreIn (e .what) ≡ none)
 
 -- of every sound station: at most 8 actions a step, and every payload within 36 bytes
 unfoldable pub AtMostEight : Type 0
@@ -260,11 +335,18 @@ ZeroOrOne = (c : Config) (st : Station) (e : Event)
     → (verdict c st e ≡ none → act c st e .answer ≤ 1) × ((n : ℕ) → verdict c st e ≡ some n → 11 ≤ n)
 
 abbrev pub FourBytes : Charge → Type 0
-FourBytes h = (h .ship < 4294967296) × ((h .start .0 < 4294967296) × ((h .stop .0 < 4294967296) × (h .seconds .0 < 4294967296)))
+FourBytes h =
+    (h .ship < 4294967296)
+    × ((h .start .0 < 4294967296)
+    × ((h .stop .0 < 4294967296) × ((h .seconds .0 < 4294967296) × (h .callNumber < 4294967296))))
+
+-- every call number held is one of 32 bits: soundness asks nothing of them
+abbrev pub NumbersFit : Station → Type 0
+NumbersFit st = Each (λ s. callNumberIn s < 4294967296) (st .slots)
 
 -- "four bytes each": every number of a charge fits them
 unfoldable pub ChargesFit : Type 0
-ChargesFit = (c : Config) (st : Station) (e : Event) → verdict c st e ≡ none
+ChargesFit = (c : Config) (st : Station) (e : Event) → verdict c st e ≡ none → NumbersFit st
     → Each FourBytes (chargesOf (act c st e .acts))
 
 -- a refused event changes nothing, and leaves no entry

@@ -15,9 +15,9 @@ use Rattle.rules.specs.ListAlone.Reading.{heardAt, readAll}
 -- the call is one from ashore to x
 abbrev pub isFor : Party → Call → Bool
 isFor x quiet = false
-isFor x (called r rings) = is x (r .who)
-isFor x (dialled y m ended) = false
-isFor x (talking y m b) = false
+isFor x (called o rings) = is x (o .request .who)
+isFor x (dialled o ended) = false
+isFor x (talking o b) = false
 
 -- no slot calls x
 abbrev pub Uncalled : Party → List Column → Type 0

@@ -16,12 +16,13 @@ pub record Note : Type 0 where
   pub event : Event
   pub deeds : List Deed
 
--- a call answered at `start` that stopped at `stop`
+-- a call answered at `start` that stopped at `stop`, with its number
 pub record Stop : Type 0 where
   pub slot : ℕ
   pub ship : ℕ
   pub start : Tenths
   pub stop : Tenths
+  pub callNumber : ℕ
 
 -- ── the figures, in seconds, and the comparison of requests ──────────────────
 
@@ -80,19 +81,27 @@ alike a b = is (a .who) (b .who) && (alikeMode (a .mode) (b .mode) && (eqb (a .s
 
 -- ── what the list tells of a slot ────────────────────────────────────────────
 
+-- a call that channel 70 began: for which request, and with which call number, counted from the list
+pub record Begun : Type 0 where
+  pub request : Request
+  pub callNumber : ℕ
+
+abbrev pub begunAs : ℕ → Request → Begun
+begunAs n r = record { request = r; callNumber = n }
+
 -- what channel 70 last carried about it, since its carrier was switched off
 pub data Said : Type 0 where
   silent : Said
-  toldBQ : Request → Said
-  toldRQ : Request → Said
-  settled : Request → Said  -- the ship has answered the ring-back
+  toldBQ : Begun → Said
+  toldRQ : Begun → Said
+  settled : Begun → Said  -- the ship has answered the ring-back
 
 -- the call on it: from ashore or dialled, and not released; answered and not stopped
 pub data Call : Type 0 where
   quiet : Call
-  called : Request → Bool → Call  -- from ashore: whether it rings
-  dialled : Party → Mode → Bool → Call  -- whether its dialling has ended
-  talking : Party → Mode → ℕ → Call  -- since when
+  called : Begun → Bool → Call  -- from ashore: whether it rings
+  dialled : Begun → Bool → Call  -- whether its dialling has ended
+  talking : Begun → ℕ → Call  -- since when
 
 pub record Column : Type 0 where
   pub said : Said
@@ -108,19 +117,20 @@ pub record Book : Type 0 where
   pub now : ℕ
   pub columns : List Column
   pub places : List Place
+  pub given : ℕ  -- how many calls have begun: the last call number
 
 abbrev pub blank : Column
 blank = record { said = silent; wait = none; call = quiet; gone = none }
 
 -- before the first entry
 unfoldable pub blankBook : Config → Book
-blankBook c = record { now = 0; columns = replicate (length (c .channels)) blank; places = [] }
+blankBook c = record { now = 0; columns = replicate (length (c .channels)) blank; places = []; given = 0 }
 
 abbrev pub atColumn : ℕ → (Column → Column) → Book → Book
-atColumn i f b = record { now = b .now; columns = modAt f i (b .columns); places = b .places }
+atColumn i f b = record { now = b .now; columns = modAt f i (b .columns); places = b .places; given = b .given }
 
 abbrev pub atPlaces : (List Place → List Place) → Book → Book
-atPlaces f b = record { now = b .now; columns = b .columns; places = f (b .places) }
+atPlaces f b = record { now = b .now; columns = b .columns; places = f (b .places); given = b .given }
 
 abbrev pub column : Book → ℕ → Column
 column b i = getD (b .columns) i blank

@@ -95,9 +95,9 @@ wordAfter i (n ∷ ns) w =
 -- what the book's column says, in the same words
 abbrev pub wordOf : Call → Word
 wordOf quiet = worded idle false
-wordOf (called r rings) = worded inward rings
-wordOf (dialled x m ended) = worded outward false
-wordOf (talking x m b) = worded (since b) false
+wordOf (called o rings) = worded inward rings
+wordOf (dialled o ended) = worded outward false
+wordOf (talking o b) = worded (since b) false
 
 -- ── 8, 9 and 6 by themselves ─────────────────────────────────────────────────
 

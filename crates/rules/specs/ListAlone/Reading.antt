@@ -5,7 +5,7 @@ use mathlib.Core.Bool.{Bool, true, false, cond, _&&_}
 use mathlib.Core.Option.{Option, none, some}
 use Prim.Native.Nat.{ℕ, suc, _+_, _-_, _*_}
 use lib.Dec.{eqb}
-use Rattle.rules.specs.Rules.Places.{dropAt}
+use Rattle.rules.specs.Rules.Places.{dropAt, modAt}
 use Rattle.rules.specs.Rules.Words.{Party, is, Mode, simplex, duplex, Request, Config}
 use Rattle.rules.specs.Rules.Words.{Signal, lineDialledOut, lineLifted, lineHung, carrierHeard, carrierLost}
 use Rattle.rules.specs.Rules.Words.{Happened, heard, signal, operator, Ashore, What, tick, onChannel70, onSlot, fromAshore}
@@ -16,7 +16,7 @@ use Rattle.rules.specs.Rules.Waits.{ofQueue, loss, main, Due}
 use Rattle.rules.specs.Rules.Heard.{Heard, callRequest, dataRequest, bq, workingCall, endOfCall, declined, nothing, meaning}
 use Rattle.rules.specs.ListAlone.Book.{Note, Stop, after, silence, offerTime, ringBackTime, callTime, ringingTime, diallingTime}
 use Rattle.rules.specs.ListAlone.Book.{replyTime, holdTime}
-use Rattle.rules.specs.ListAlone.Book.{queueTime, Said, silent, toldBQ, toldRQ, settled, Call, quiet, called, dialled, talking}
+use Rattle.rules.specs.ListAlone.Book.{queueTime, Begun, begunAs, Said, silent, toldBQ, toldRQ, settled, Call, quiet, called, dialled, talking}
 use Rattle.rules.specs.ListAlone.Book.{Column, Place, Book, atColumn, atPlaces, column, falls}
 unfoldable use Rattle.rules.specs.ListAlone.Book.{alike}
 
@@ -44,15 +44,23 @@ moment b e = momentOf (e .time) (falling b e)
 
 abbrev pub stopOf : ℕ → ℕ → Call → List Stop
 stopOf t i quiet = []
-stopOf t i (called r rings) = []
-stopOf t i (dialled x m ended) = []
-stopOf t i (talking x m b) = record { slot = i; ship = x .ship; start = record { 0 = b }; stop = record { 0 = t } } ∷ []
+stopOf t i (called o rings) = []
+stopOf t i (dialled o ended) = []
+stopOf t i (talking o b) =
+    record {
+      slot = i;
+      ship = o .request .who .ship;
+      start = record { 0 = b };
+      stop = record { 0 = t };
+      callNumber = o .callNumber;
+    }
+    ∷ []
 
 abbrev pub callOf : Party → Call → Bool
 callOf x quiet = false
-callOf x (called r rings) = false
-callOf x (dialled y m ended) = is x y
-callOf x (talking y m b) = is x y
+callOf x (called o rings) = false
+callOf x (dialled o ended) = is x (o .request .who)
+callOf x (talking o b) = is x (o .request .who)
 
 -- "its ship's end of call on that slot"
 abbrev pub stopsSaid : ℕ → ℕ → Call → Heard → List Stop
@@ -90,9 +98,9 @@ lost duplex g = false
 -- "rule c": the ship of an answered simplex call asks again while its carrier is absent
 abbrev pub askedAgain : Party → Call → Option ℕ → Bool
 askedAgain x quiet g = false
-askedAgain x (called r rings) g = false
-askedAgain x (dialled y m ended) g = false
-askedAgain x (talking y m b) g = is x y && lost m g
+askedAgain x (called o rings) g = false
+askedAgain x (dialled o ended) g = false
+askedAgain x (talking o b) g = is x (o .request .who) && lost (o .request .mode) g
 
 abbrev pub stopsAgain : ℕ → Party → ℕ → List Column → List Stop
 stopsAgain t x i [] = []
@@ -119,15 +127,15 @@ stopsAt c t b f (fromAshore a) = []
 -- an answered call has stopped
 abbrev pub goneAfter : Call → Option ℕ → Option ℕ
 goneAfter quiet g = g
-goneAfter (called r rings) g = g
-goneAfter (dialled x m ended) g = g
-goneAfter (talking x m b) g = none
+goneAfter (called o rings) g = g
+goneAfter (dialled o ended) g = g
+goneAfter (talking o b) g = none
 
 abbrev pub closed : Call → Call
 closed quiet = quiet
-closed (called r rings) = called r rings
-closed (dialled x m ended) = dialled x m ended
-closed (talking x m b) = quiet
+closed (called o rings) = called o rings
+closed (dialled o ended) = dialled o ended
+closed (talking o b) = quiet
 
 abbrev pub close : Column → Column
 close l = record { said = l .said; wait = l .wait; call = closed (l .call); gone = goneAfter (l .call) (l .gone) }
@@ -141,10 +149,10 @@ withGone g l = record { said = l .said; wait = l .wait; call = l .call; gone = g
 -- the exchange has dialled: the called person's minute begins, once in a call
 abbrev pub dialOutCall : ℕ → Call → Column → Column
 dialOutCall t quiet l = l
-dialOutCall t (called r rings) l = l
-dialOutCall t (dialled x m false) l = record { said = l .said; wait = some (after t replyTime); call = dialled x m true; gone = l .gone }
-dialOutCall t (dialled x m true) l = l
-dialOutCall t (talking x m b) l = l
+dialOutCall t (called o rings) l = l
+dialOutCall t (dialled o false) l = record { said = l .said; wait = some (after t replyTime); call = dialled o true; gone = l .gone }
+dialOutCall t (dialled o true) l = l
+dialOutCall t (talking o b) l = l
 
 abbrev pub dialOut : ℕ → Column → Column
 dialOut t l = dialOutCall t (l .call) l
@@ -152,9 +160,9 @@ dialOut t l = dialOutCall t (l .call) l
 -- off-hook on a dialled line: it talks from then on, and its wait ends
 abbrev pub pickUpCall : ℕ → Call → Column → Column
 pickUpCall t quiet l = l
-pickUpCall t (called r rings) l = l
-pickUpCall t (dialled x m ended) l = record { said = l .said; wait = none; call = talking x m t; gone = l .gone }
-pickUpCall t (talking x m b) l = l
+pickUpCall t (called o rings) l = l
+pickUpCall t (dialled o ended) l = record { said = l .said; wait = none; call = talking o t; gone = l .gone }
+pickUpCall t (talking o b) l = l
 
 abbrev pub pickUp : ℕ → Column → Column
 pickUp t l = pickUpCall t (l .call) l
@@ -162,10 +170,10 @@ pickUp t l = pickUpCall t (l .call) l
 -- carrier up: the carrier is there; while a call from ashore rings, it is the ship's answer, and its wait ends
 abbrev pub comeUpCall : ℕ → Call → Column → Column
 comeUpCall t quiet l = withGone none l
-comeUpCall t (called r false) l = withGone none l
-comeUpCall t (called r true) l = record { said = l .said; wait = none; call = talking (r .who) (r .mode) t; gone = none }
-comeUpCall t (dialled x m ended) l = withGone none l
-comeUpCall t (talking x m b) l = withGone none l
+comeUpCall t (called o false) l = withGone none l
+comeUpCall t (called o true) l = record { said = l .said; wait = none; call = talking o t; gone = none }
+comeUpCall t (dialled o ended) l = withGone none l
+comeUpCall t (talking o b) l = withGone none l
 
 abbrev pub comeUp : ℕ → Column → Column
 comeUp t l = comeUpCall t (l .call) l
@@ -177,9 +185,9 @@ absentFrom t m (some d) = some d
 
 abbrev pub loseCall : ℕ → Call → Column → Column
 loseCall t quiet l = l
-loseCall t (called r rings) l = l
-loseCall t (dialled x m ended) l = withGone (absentFrom t m (l .gone)) l
-loseCall t (talking x m b) l = withGone (absentFrom t m (l .gone)) l
+loseCall t (called o rings) l = l
+loseCall t (dialled o ended) l = withGone (absentFrom t (o .request .mode) (l .gone)) l
+loseCall t (talking o b) l = withGone (absentFrom t (o .request .mode) (l .gone)) l
 
 abbrev pub lose : ℕ → Column → Column
 lose t l = loseCall t (l .call) l
@@ -212,21 +220,21 @@ hearColumn c t (operator h) l = l
 -- the ship's BQ to a ring-back
 abbrev pub settleSaid : ℕ → Party → Said → Column → Column
 settleSaid t x silent l = l
-settleSaid t x (toldBQ r) l = l
-settleSaid t x (toldRQ r) l = cond (is x (r .who))
-    (record { said = settled r; wait = some (after t offerTime); call = l .call; gone = l .gone })
+settleSaid t x (toldBQ o) l = l
+settleSaid t x (toldRQ o) l = cond (is x (o .request .who))
+    (record { said = settled o; wait = some (after t offerTime); call = l .call; gone = l .gone })
     l
-settleSaid t x (settled r) l = l
+settleSaid t x (settled o) l = l
 
 -- the ship's BQ to a call from ashore, the first one: it rings
 abbrev pub beginRingingCall : ℕ → Party → Call → Column → Column
 beginRingingCall t x quiet l = l
-beginRingingCall t x (called r false) l = cond (is x (r .who))
-    (record { said = l .said; wait = some (after t ringingTime); call = called r true; gone = l .gone })
+beginRingingCall t x (called o false) l = cond (is x (o .request .who))
+    (record { said = l .said; wait = some (after t ringingTime); call = called o true; gone = l .gone })
     l
-beginRingingCall t x (called r true) l = l
-beginRingingCall t x (dialled y m ended) l = l
-beginRingingCall t x (talking y m b) l = l
+beginRingingCall t x (called o true) l = l
+beginRingingCall t x (dialled o ended) l = l
+beginRingingCall t x (talking o b) l = l
 
 abbrev pub beginRinging : ℕ → Party → Column → Column
 beginRinging t x l = beginRingingCall t x (l .call) l
@@ -239,7 +247,8 @@ abbrev pub again : Party → Column → Column
 again x l = cond (askedAgain x (l .call) (l .gone)) (close l) l
 
 abbrev pub hearHeard : ℕ → Heard → Book → Book
-hearHeard t (callRequest r) b = record { now = b .now; columns = map (again (r .who)) (b .columns); places = b .places }
+hearHeard t (callRequest r) b =
+    record { now = b .now; columns = map (again (r .who)) (b .columns); places = b .places; given = b .given }
 hearHeard t (dataRequest x n) b = b
 hearHeard t (bq i x) b = atColumn i (settle t x) b
 hearHeard t (workingCall x) b = b
@@ -268,76 +277,108 @@ heardAt c (fromAshore a) = nothing
 
 -- ── what a deed says ─────────────────────────────────────────────────────────
 
-abbrev pub told : ℕ → Request → Column → Column
-told t r l = record { said = toldBQ r; wait = some (after t offerTime); call = l .call; gone = l .gone }
+-- a column, and the last call number given: a call that begins on it has the next one (02, no. 4)
+pub record CountedColumn : Type 0 where
+  pub line : Column
+  pub given : ℕ
 
--- an acknowledgement that repeats the one before it leaves the wait as it is
-abbrev pub tellSaid : ℕ → Request → Said → Column → Column
-tellSaid t r silent l = told t r l
-tellSaid t r (toldBQ o) l = cond (alike r o) l (told t r l)
-tellSaid t r (toldRQ o) l = told t r l
-tellSaid t r (settled o) l = told t r l
+abbrev pub begins : (Begun → Column) → Request → ℕ → CountedColumn
+begins f r n = record { line = f (begunAs (n + 1) r); given = n + 1 }
 
-abbrev pub tell : ℕ → Request → Column → Column
-tell t r l = tellSaid t r (l .said) l
+abbrev pub goesOn : Column → ℕ → CountedColumn
+goesOn l n = record { line = l; given = n }
 
-abbrev pub ringsBack : ℕ → Request → Column → Column
-ringsBack t r l = record { said = toldRQ r; wait = some (after t ringBackTime); call = l .call; gone = l .gone }
+-- the column i so read
+abbrev pub atCountedColumn : ℕ → (Column → ℕ → CountedColumn) → Book → Book
+atCountedColumn i f b =
+    record {
+      now = b .now;
+      columns = modAt (λ l. f l (b .given) .line) i (b .columns);
+      places = b .places;
+      given = f (column b i) (b .given) .given;
+    }
+
+abbrev pub told : ℕ → Column → Begun → Column
+told t l o = record { said = toldBQ o; wait = some (after t offerTime); call = l .call; gone = l .gone }
+
+-- an acknowledgement that repeats the one before it leaves the wait as it is, and begins no call
+abbrev pub tellSaid : ℕ → Request → Said → Column → ℕ → CountedColumn
+tellSaid t r silent l n = begins (told t l) r n
+tellSaid t r (toldBQ o) l n = cond (alike r (o .request)) (goesOn l n) (begins (told t l) r n)
+tellSaid t r (toldRQ o) l n = begins (told t l) r n
+tellSaid t r (settled o) l n = begins (told t l) r n
+
+abbrev pub tell : ℕ → Request → Column → ℕ → CountedColumn
+tell t r l n = tellSaid t r (l .said) l n
+
+abbrev pub rung : ℕ → Column → Begun → Column
+rung t l o = record { said = toldRQ o; wait = some (after t ringBackTime); call = l .call; gone = l .gone }
+
+-- a ring-back, or the same once more
+abbrev pub ringsBack : ℕ → Request → Said → Column → ℕ → CountedColumn
+ringsBack t r silent l n = begins (rung t l) r n
+ringsBack t r (toldBQ o) l n = begins (rung t l) r n
+ringsBack t r (toldRQ o) l n = goesOn (rung t l (begunAs (o .callNumber) r)) n
+ringsBack t r (settled o) l n = begins (rung t l) r n
 
 abbrev pub leave : Party → List Place → List Place
 leave x [] = []
 leave x (p ∷ ps) = cond (is x (p .who)) ps (p ∷ leave x ps)
 
 -- a call from ashore, its first sending or its second
-abbrev pub takeUp : Request → Call → Call
-takeUp r quiet = called r false
-takeUp r (called o rings) = called r rings
-takeUp r (dialled x m ended) = called r false
-takeUp r (talking x m b) = talking x m b
+abbrev pub takeUp : Begun → Call → Call
+takeUp n quiet = called n false
+takeUp n (called o rings) = called n rings
+takeUp n (dialled o ended) = called n false
+takeUp n (talking o b) = talking o b
 
-abbrev pub callUp : ℕ → Request → Column → Column
-callUp t r l = record { said = silent; wait = some (after t callTime); call = takeUp r (l .call); gone = none }
+abbrev pub callUp : ℕ → Column → Begun → Column
+callUp t l o = record { said = silent; wait = some (after t callTime); call = takeUp o (l .call); gone = none }
 
 -- a call to a ship in an entry that nobody ashore has asked for: the second sending of a call from ashore, or a ring-back
-abbrev pub summonCall : ℕ → Request → Call → Column → Column
-summonCall t r quiet l = ringsBack t r l
-summonCall t r (called o rings) l = callUp t r l
-summonCall t r (dialled x m ended) l = ringsBack t r l
-summonCall t r (talking x m b) l = ringsBack t r l
+abbrev pub summonCall : ℕ → Request → Call → Column → ℕ → CountedColumn
+summonCall t r quiet l n = ringsBack t r (l .said) l n
+summonCall t r (called o rings) l n = goesOn (callUp t l (begunAs (o .callNumber) r)) n
+summonCall t r (dialled o ended) l n = ringsBack t r (l .said) l n
+summonCall t r (talking o b) l n = ringsBack t r (l .said) l n
 
-abbrev pub summon : ℕ → Request → Column → Column
-summon t r l = summonCall t r (l .call) l
+abbrev pub summon : ℕ → Request → Column → ℕ → CountedColumn
+summon t r l n = summonCall t r (l .call) l n
+
+-- in the entry of a caller ashore: its first sending
+abbrev pub firstCallUp : ℕ → Request → Column → ℕ → CountedColumn
+firstCallUp t r l n = begins (callUp t l) r n
 
 -- by what was asked ashore in the same entry. A ship that is rung back leaves the queue; one that is called has no place in it to leave
 abbrev pub sendCall : Option Ashore → ℕ → ℕ → Request → Book → Book
-sendCall none t i r b = atPlaces (leave (r .who)) (atColumn i (summon t r) b)
-sendCall (some a) t i r b = atColumn i (callUp t r) b
+sendCall none t i r b = atPlaces (leave (r .who)) (atCountedColumn i (summon t r) b)
+sendCall (some a) t i r b = atCountedColumn i (firstCallUp t r) b
 
-abbrev pub beginCall : Request → Call → Call
-beginCall r quiet = dialled (r .who) (r .mode) false
-beginCall r (called q rings) = dialled (r .who) (r .mode) false
-beginCall r (dialled x m ended) = dialled (r .who) (r .mode) false
-beginCall r (talking x m b) = talking x m b
+abbrev pub beginCall : Begun → Call → Call
+beginCall n quiet = dialled n false
+beginCall n (called o rings) = dialled n false
+beginCall n (dialled o ended) = dialled n false
+beginCall n (talking o b) = talking o b
 
 -- "Carrier counts as present"; the exchange has a minute to dial
-abbrev pub dialReq : ℕ → Request → Column → Column
-dialReq t r l = record { said = silent; wait = some (after t diallingTime); call = beginCall r (l .call); gone = none }
+abbrev pub dialReq : ℕ → Begun → Column → Column
+dialReq t o l = record { said = silent; wait = some (after t diallingTime); call = beginCall o (l .call); gone = none }
 
--- dialled for the ship and in the mode that channel 70 last named
+-- dialled for the ship and in the mode that channel 70 last named, with that call's number
 abbrev pub dialSaid : ℕ → Said → Column → Column
 dialSaid t silent l = l
-dialSaid t (toldBQ r) l = dialReq t r l
-dialSaid t (toldRQ r) l = dialReq t r l
-dialSaid t (settled r) l = dialReq t r l
+dialSaid t (toldBQ o) l = dialReq t o l
+dialSaid t (toldRQ o) l = dialReq t o l
+dialSaid t (settled o) l = dialReq t o l
 
 abbrev pub dialUp : ℕ → Column → Column
 dialUp t l = dialSaid t (l .said) l
 
 abbrev pub letGoCall : Call → Column → Column
 letGoCall quiet l = l
-letGoCall (called r rings) l = record { said = l .said; wait = none; call = quiet; gone = none }
-letGoCall (dialled x m ended) l = record { said = l .said; wait = none; call = quiet; gone = none }
-letGoCall (talking x m b) l = l
+letGoCall (called o rings) l = record { said = l .said; wait = none; call = quiet; gone = none }
+letGoCall (dialled o ended) l = record { said = l .said; wait = none; call = quiet; gone = none }
+letGoCall (talking o b) l = l
 
 -- the line is released; a call that is answered goes on to one of its stops
 abbrev pub letGo : Column → Column
@@ -358,7 +399,7 @@ queued t n x b = cond (eqb n 103) (atPlaces (join t x) b) b
 abbrev pub read : Option Ashore → ℕ → Deed → Book → Book
 read q t (carrierOn i) b = b
 read q t (carrierOff i) b = atColumn i hush b
-read q t (acknowledge i r) b = atColumn i (tell t r) b
+read q t (acknowledge i r) b = atCountedColumn i (tell t r) b
 read q t (callShip i r) b = sendCall q t i r b
 read q t (unable n x digits) b = queued t n x b
 read q t (dial i digits) b = atColumn i (dialUp t) b
@@ -374,7 +415,7 @@ reads q t (d ∷ ds) b = reads q t ds (read q t d b)
 -- ── the list read ────────────────────────────────────────────────────────────
 
 abbrev pub setNow : ℕ → Book → Book
-setNow t b = record { now = t; columns = b .columns; places = b .places }
+setNow t b = record { now = t; columns = b .columns; places = b .places; given = b .given }
 
 -- the book after an entry: its event heard, then its deeds read
 unfoldable pub turn : Config → Book → Note → Book
@@ -407,9 +448,9 @@ readAll c (n ∷ ns) b = readAll c ns (turn c b n)
 
 abbrev pub isTalking : Call → ℕ
 isTalking quiet = 0
-isTalking (called r rings) = 0
-isTalking (dialled x m ended) = 0
-isTalking (talking x m b) = 1
+isTalking (called o rings) = 0
+isTalking (dialled o ended) = 0
+isTalking (talking o b) = 1
 
 abbrev pub talkers : List Column → ℕ
 talkers [] = 0
@@ -423,9 +464,9 @@ counted c (n ∷ ns) b = (moment b (n .event) - b .now) * talkers (b .columns) +
 -- by calls: what a call has talked up to t, if it is answered and not stopped
 abbrev pub talked : ℕ → Call → ℕ
 talked t quiet = 0
-talked t (called r rings) = 0
-talked t (dialled x m ended) = 0
-talked t (talking x m b) = t - b
+talked t (called o rings) = 0
+talked t (dialled o ended) = 0
+talked t (talking o b) = t - b
 
 abbrev pub talkedBy : ℕ → List Column → ℕ
 talkedBy t [] = 0

@@ -7,9 +7,9 @@ use mathlib.Core.Bool.{true, false}
 use Prim.Native.Nat.{ℕ, _≤_, _<_}
 use lib.ListN.{getD, length}
 use Rattle.rules.specs.Rules.Places.{Each}
-use Rattle.rules.specs.Rules.Words.{Party, Mode, Request, Config, answeringOn, transmittingOn, Deed}
+use Rattle.rules.specs.Rules.Words.{Config, answeringOn, transmittingOn, Deed}
 use Rattle.rules.specs.Rules.Waits.{ofQueue, Due, queueTable}
-use Rattle.rules.specs.ListAlone.Book.{Note, Stop, Call, called, dialled, talking, Book, column, waitsIn, falls}
+use Rattle.rules.specs.ListAlone.Book.{Note, Stop, Begun, Call, called, dialled, talking, Book, column, waitsIn, falls}
 use Rattle.rules.specs.ListAlone.Reading.{turn, stopsIn, moment}
 
 -- ── 01's order of waits, without the function that finds the earliest ─────────
@@ -41,38 +41,42 @@ abbrev pub In : Stop → List Stop → Type 0
 In s [] = ⊥
 In s (r ∷ l) = (s ≡ r) ⊎ In s l
 
-abbrev pub stopAt : ℕ → Party → ℕ → ℕ → Stop
-stopAt i x b t = record { slot = i; ship = x .ship; start = record { 0 = b }; stop = record { 0 = t } }
+abbrev pub stopAt : ℕ → Begun → ℕ → ℕ → Stop
+stopAt i o b t =
+    record {
+      slot = i;
+      ship = o .request .who .ship;
+      start = record { 0 = b };
+      stop = record { 0 = t };
+      callNumber = o .callNumber;
+    }
 
 -- dialled and not released, whether its dialling has ended or not
-abbrev pub IsDialled : Party → Mode → Call → Type 0
-IsDialled x m k = (k ≡ dialled x m false) ⊎ (k ≡ dialled x m true)
+abbrev pub IsDialled : Begun → Call → Type 0
+IsDialled o k = (k ≡ dialled o false) ⊎ (k ≡ dialled o true)
 
--- called from ashore for that ship and in that mode, and ringing
-pub record IsRinging (x : Party) (m : Mode) (k : Call) : Type 0 where
-  pub request : Request
-  pub is-ringing : k ≡ called request true
-  pub ship : request .who ≡ x
-  pub mode : request .mode ≡ m
+-- called from ashore, and ringing
+abbrev pub IsRinging : Begun → Call → Type 0
+IsRinging o k = k ≡ called o true
 
 -- a slot talks after an entry only if it talked before, or the entry answers it while it was dialled, or its ship transmits while it rings
 unfoldable pub Begins : Type 0
-Begins = (c : Config) (b : Book) (n : Note) (i : ℕ) (x : Party) (m : Mode) (t : ℕ) → column (turn c b n) i .call ≡ talking x m t
-    → (column b i .call ≡ talking x m t)
-    ⊎ (((n .event .what ≡ answeringOn i) × ((moment b (n .event) ≡ t) × IsDialled x m (column b i .call)))
-    ⊎ ((n .event .what ≡ transmittingOn i) × ((moment b (n .event) ≡ t) × IsRinging x m (column b i .call))))
+Begins = (c : Config) (b : Book) (n : Note) (i : ℕ) (o : Begun) (t : ℕ) → column (turn c b n) i .call ≡ talking o t
+    → (column b i .call ≡ talking o t)
+    ⊎ (((n .event .what ≡ answeringOn i) × ((moment b (n .event) ≡ t) × IsDialled o (column b i .call)))
+    ⊎ ((n .event .what ≡ transmittingOn i) × ((moment b (n .event) ≡ t) × IsRinging o (column b i .call))))
 
 -- a dialled slot that is answered talks since that time
 unfoldable pub Lifts : Type 0
-Lifts = (c : Config) (t room : ℕ) (ds : List Deed) (b : Book) (i : ℕ) (x : Party) (m : Mode) → IsDialled x m (column b i .call)
-    → column (turn c b (record { event = record { time = t; room = room; what = answeringOn i }; deeds = ds })) i .call ≡ talking x m t
+Lifts = (c : Config) (t room : ℕ) (ds : List Deed) (b : Book) (i : ℕ) (o : Begun) → IsDialled o (column b i .call)
+    → column (turn c b (record { event = record { time = t; room = room; what = answeringOn i }; deeds = ds })) i .call ≡ talking o t
 
 -- and a ringing slot whose ship transmits
 unfoldable pub Transmits : Type 0
-Transmits = (c : Config) (t room : ℕ) (ds : List Deed) (b : Book) (i : ℕ) (x : Party) (m : Mode) → IsRinging x m (column b i .call)
-    → column (turn c b (record { event = record { time = t; room = room; what = transmittingOn i }; deeds = ds })) i .call ≡ talking x m t
+Transmits = (c : Config) (t room : ℕ) (ds : List Deed) (b : Book) (i : ℕ) (o : Begun) → IsRinging o (column b i .call)
+    → column (turn c b (record { event = record { time = t; room = room; what = transmittingOn i }; deeds = ds })) i .call ≡ talking o t
 
 -- a slot that talked talks on, or the entry holds its stop, with its beginning and the entry's moment
 unfoldable pub Ends : Type 0
-Ends = (c : Config) (b : Book) (n : Note) (i : ℕ) (x : Party) (m : Mode) (t : ℕ) → column b i .call ≡ talking x m t
-    → (column (turn c b n) i .call ≡ talking x m t) ⊎ In (stopAt i x t (moment b (n .event))) (stopsIn c b n)
+Ends = (c : Config) (b : Book) (n : Note) (i : ℕ) (o : Begun) (t : ℕ) → column b i .call ≡ talking o t
+    → (column (turn c b n) i .call ≡ talking o t) ⊎ In (stopAt i o t (moment b (n .event))) (stopsIn c b n)

@@ -65,9 +65,9 @@ AsksFor c a r =
 abbrev pub CallsAsked : Config → Option Ashore → Heard → Request → Call → Type 0
 CallsAsked c (some a) h r k = AsksFor c a r
 CallsAsked c none h r quiet = h ≡ callRequest r
-CallsAsked c none h r (called o rings) = o ≡ r
-CallsAsked c none h r (dialled x m ended) = h ≡ callRequest r
-CallsAsked c none h r (talking x m b) = h ≡ callRequest r
+CallsAsked c none h r (called o rings) = o .request ≡ r
+CallsAsked c none h r (dialled o ended) = h ≡ callRequest r
+CallsAsked c none h r (talking o b) = h ≡ callRequest r
 
 -- an acknowledgement and a 104 repeat the request h of their own entry, in which q, if anything, was asked ashore
 abbrev pub Repeats : Config → Heard → (Party → Heard) → Option Ashore → Book → Deed → Type 0
@@ -101,7 +101,7 @@ switchedOn (busyTone i) = none
 abbrev pub RingsBack : ℕ → Request → Option ℕ → Said → Type 0
 RingsBack i r on silent = on ≡ some i
 RingsBack i r on (toldBQ o) = ⊥
-RingsBack i r on (toldRQ o) = o ≡ r
+RingsBack i r on (toldRQ o) = o .request ≡ r
 RingsBack i r on (settled o) = ⊥
 
 -- in the entry of a caller ashore a call to a ship comes just behind its slot's carrier, nothing said of that slot and no call on it; in
@@ -109,16 +109,16 @@ RingsBack i r on (settled o) = ⊥
 abbrev pub Sends : Option Ashore → ℕ → Request → Option ℕ → Said → Call → Type 0
 Sends (some a) i r on s k = (s ≡ silent) × ((k ≡ quiet) × (on ≡ some i))
 Sends none i r on s quiet = RingsBack i r on s
-Sends none i r on s (called o rings) = (o ≡ r) × (rings ≡ false)
-Sends none i r on s (dialled x m ended) = ⊥
-Sends none i r on s (talking x m b) = RingsBack i r on s
+Sends none i r on s (called o rings) = (o .request ≡ r) × (rings ≡ false)
+Sends none i r on s (dialled o ended) = ⊥
+Sends none i r on s (talking o b) = RingsBack i r on s
 
 -- the digits are those of the request acknowledged, or rung back and agreed to
 abbrev pub Dials : List ℕ → Said → Type 0
 Dials digits silent = ⊥
-Dials digits (toldBQ r) = r .number ≡ digits
-Dials digits (toldRQ r) = ⊥
-Dials digits (settled r) = r .number ≡ digits
+Dials digits (toldBQ o) = o .request .number ≡ digits
+Dials digits (toldRQ o) = ⊥
+Dials digits (settled o) = o .request .number ≡ digits
 
 -- where q is asked ashore in the entry, b is the book just before the deed, and on the slot whose carrier the deed before it switched on
 abbrev pub SendsSame : Option Ashore → Option ℕ → Book → Deed → Type 0

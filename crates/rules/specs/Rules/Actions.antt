@@ -13,14 +13,16 @@ pub record Charge : Type 0 where
   pub start : Tenths
   pub stop : Tenths
   pub seconds : Seconds
+  pub callNumber : ℕ
 
--- of a slot: its ship, the tenths from which and to which, the seconds
-abbrev pub chargeOf : ℕ → ℕ → ℕ → ℕ → ℕ → Charge
-chargeOf i x b e s = record { slot = i; ship = x; start = record { 0 = b }; stop = record { 0 = e }; seconds = record { 0 = s } }
+-- of a slot: its ship, the tenths from which and to which, the seconds, the call number
+abbrev pub chargeOf : ℕ → ℕ → ℕ → ℕ → ℕ → ℕ → Charge
+chargeOf i x b e s n =
+    record { slot = i; ship = x; start = record { 0 = b }; stop = record { 0 = e }; seconds = record { 0 = s }; callNumber = n }
 
--- "ship, start, stop, seconds"
+-- "ship, start, stop, seconds"; 02, no. 4: "the charge action carries it as a fifth field"
 abbrev pub chargeNumbers : Charge → List ℕ
-chargeNumbers h = h .ship ∷ h .start .0 ∷ h .stop .0 ∷ h .seconds .0 ∷ []
+chargeNumbers h = h .ship ∷ h .start .0 ∷ h .stop .0 ∷ h .seconds .0 ∷ h .callNumber ∷ []
 
 pub data Ender : Type 0 where
   theShip theCoast : Ender

@@ -8,7 +8,7 @@ use Rattle.sequence.specs.Figures.{firstSimplex, firstDuplex, untold}
 use Rattle.rules.specs.Rules.Places.{lowest, isSome}
 use Rattle.rules.specs.Rules.Words.{Party, Mode, simplex, duplex, Request, Config, Ashore, carrierOn, callShip}
 use Rattle.rules.specs.Rules.Actions.{does}
-use Rattle.rules.specs.Rules.Station.{Slot, keptFor, Station, setSlot, calledOf}
+use Rattle.rules.specs.Rules.Station.{Slot, keptFor, isFree, Station, usedUp, newCall, calledOf}
 use Rattle.rules.specs.Rules.Requests.{Out, ignored, isOf, placeOf}
 
 -- "The mode is 100 or 101"
@@ -34,12 +34,16 @@ keepsFor x s = isOf x (keptFor s)
 unfoldable pub engaged : Station → Party → Bool
 engaged st x = isSome (lowest (keepsFor x) (st .slots)) || isSome (placeOf x st)
 
--- "takes the lowest free slot: carrier on, a 123 call .. with the channel and RQ"; where none is free: 37
+-- the slot that a call from ashore takes, if one is to be had; 02, no. 4: none once the last number has been given
+abbrev pub slotToTake : Station → Option ℕ
+slotToTake st = cond (usedUp st) none (lowest isFree (st .slots))
+
+-- "takes the lowest free slot: carrier on, a 123 call .. with the channel and RQ"; where none is to be had: 37
 unfoldable pub calledFrom : Station → Request → Option ℕ → Out
 calledFrom st r none = ignored st
 calledFrom st r (some i) =
     record {
       answer = 0;
-      next = setSlot i (calledOf r st) st;
+      next = newCall i (calledOf r st) st;
       acts = does (carrierOn i) ∷ does (callShip i r) ∷ [];
     }

@@ -5,7 +5,7 @@ use mathlib.Core.Bool.{Bool, true, false, cond, not}
 use mathlib.Core.Option.{Option, none, some}
 use Prim.Native.Nat.{ℕ}
 use Rattle.units.specs.declared.Lasted.{Lasted}
-use Rattle.rules.specs.Rules.Places.{dropAt, lowest}
+use Rattle.rules.specs.Rules.Places.{dropAt}
 use Rattle.rules.specs.Rules.Words.{Party, is, Mode, Request, Config}
 use Rattle.rules.specs.Rules.Words.{Signal, lineDialledOut, lineLifted, lineHung, carrierHeard, carrierLost}
 use Rattle.rules.specs.Rules.Words.{Hand, handTakes, handGives, Happened, heard, signal, operator}
@@ -18,12 +18,14 @@ use Rattle.rules.specs.Rules.Actions.{Action, does, over, theShip}
 use Rattle.rules.specs.Rules.Station.{isFree, isTaken, Kind, offered, firstRingBack, secondRingBack, acknowledged, firstCall}
 use Rattle.rules.specs.Rules.Station.{secondCall, ringing, rings, Stage, dialling, dialledOut, answered, answeredAt, Dealing}
 use Rattle.rules.specs.Rules.Station.{Slot, free, taken, pending, busy, held, Station, theSlot, fresh, setSlot, setClock, setQueue}
+use Rattle.rules.specs.Rules.Station.{usedUp, newCall}
 use Rattle.rules.specs.Rules.Station.{dueAfter, ringBackAgainOf, calledAgain, ringingAt, agreedAt, carrierWait}
 use Rattle.rules.specs.Rules.Station.{diallingWait, replyWait, holdWait, table, fires, nextDue}
 use Rattle.rules.specs.Rules.Requests.{Out, done, ignored, also, rungBack, freedFor, freed, lasted, endActs, coastEnd}
-use Rattle.rules.specs.Rules.Requests.{Standing, nowhere, holds, waits, standing, beingCalled, ruleA, repeated, afresh, same, ruleB}
-use Rattle.rules.specs.Rules.Requests.{ruleD, offer, ruleF, ruleG, eToG, newcomer, dToG, redial, ruleC, bOrC, requested}
-use Rattle.rules.specs.Rules.Ashore.{ashoreRequest, engaged, calledFrom}
+use Rattle.rules.specs.Rules.Requests.{Standing, nowhere, holds, waits, standing, beingCalled, ruleA, noNumber, repeated, afresh, same}
+use Rattle.rules.specs.Rules.Requests.{ruleB, ruleD, offer, ruleF, ruleG, eToG, newcomer, waitingOrNew, dToG, redial, ruleC, bOrC}
+use Rattle.rules.specs.Rules.Requests.{requested}
+use Rattle.rules.specs.Rules.Ashore.{ashoreRequest, engaged, slotToTake, calledFrom}
 
 -- ── working call ─────────────────────────────────────────────────────────────
 
@@ -200,7 +202,7 @@ shipEnd i r b st =
     record {
       answer = 0;
       next = setSlot i (held r (lasted b (st .clock)) (dueAfter (st .clock) holdWait)) st;
-      acts = endActs i theShip (r .request) b (st .clock);
+      acts = endActs i theShip r b (st .clock);
     }
 
 -- "in the hold: carrier on, the same answer sent, carrier off; the wait unchanged"
@@ -226,7 +228,7 @@ unfoldable pub endOn : ℕ → Station → Slot → Out
 endOn i st free = ignored st
 endOn i st taken = ignored st
 endOn i st (pending k r d) = ignored st
-endOn i st (busy r g c) = coastEnd i (r .request) (answeredAt g) st
+endOn i st (busy r g c) = coastEnd i r (answeredAt g) st
 endOn i st (held r n d) = ignored st
 
 -- 02, no. 2: "The caller's on-hook before that drops the call too"
@@ -243,7 +245,7 @@ unfoldable pub hungOn : ℕ → Station → Slot → Out
 hungOn i st free = ignored st
 hungOn i st taken = ignored st
 hungOn i st (pending k r d) = hungKind i k st
-hungOn i st (busy r g c) = coastEnd i (r .request) (answeredAt g) st
+hungOn i st (busy r g c) = coastEnd i r (answeredAt g) st
 hungOn i st (held r n d) = ignored st
 
 -- ── operator ─────────────────────────────────────────────────────────────────
@@ -305,7 +307,7 @@ pendingDue i secondCall r st = dropped i secondCall true st
 pendingDue i ringing r st = dropped i ringing true st
 
 -- no reply, in either wait
-unfoldable pub replyDue : ℕ → Request → Station → Stage → Out
+unfoldable pub replyDue : ℕ → Dealing → Station → Stage → Out
 replyDue i r st (dialling d) = coastEnd i r none st
 replyDue i r st (dialledOut d) = coastEnd i r none st
 replyDue i r st (answered b) = ignored st
@@ -315,7 +317,7 @@ unfoldable pub mainOn : ℕ → Station → Slot → Out
 mainOn i st free = ignored st
 mainOn i st taken = ignored st
 mainOn i st (pending k r d) = pendingDue i k r st
-mainOn i st (busy r g c) = replyDue i (r .request) st g
+mainOn i st (busy r g c) = replyDue i r st g
 mainOn i st (held r n d) = freed i st
 
 -- "A queue entry due is dropped."
@@ -372,15 +374,16 @@ unfoldable pub actAt : Config → Station → ℕ → What → Out
 actAt c st t tick = ticked st t (fires t st)
 actAt c st t (onChannel70 m) = heardOn70 (setClock t st) (meaning c m)
 actAt c st t (onSlot i h) = happenedOn c i (setClock t st) (theSlot st i) h
-actAt c st t (fromAshore a) = calledFrom (setClock t st) (ashoreRequest c a) (lowest isFree (st .slots))
+actAt c st t (fromAshore a) = calledFrom (setClock t st) (ashoreRequest c a) (slotToTake st)
 
 abbrev pub act : Config → Station → Event → Out
 act c st e = actAt c st (e .time) (e .what)
 
 -- every rule open, for what computes a run
 unfoldable pub rulesOpen : Unit {0}
-unfolding is kindOf addressed meaning fresh setSlot setClock setQueue table fires nextDue rungBack freedFor freed coastEnd standing
-    beingCalled ruleA repeated afresh same ruleB ruleD offer ruleF ruleG eToG newcomer dToG redial ruleC bOrC requested dialNow
+unfolding is kindOf addressed meaning fresh setSlot setClock setQueue usedUp newCall table fires nextDue rungBack freedFor freed coastEnd
+    standing beingCalled ruleA noNumber repeated afresh same ruleB ruleD offer ruleF ruleG eToG newcomer waitingOrNew dToG redial ruleC bOrC
+    requested dialNow
     workingKind workingOn agreed startsRinging bqKind bqFor dropped declinedKind declinedOn declinedAt dialledOutStage dialledOutOn
     offHookStage offHookOn downOn transmitted upKind upOn shipEnd sayAgain shipEndOn endOn hungKind hungOn ashoreRequest engaged
     calledFrom takeOn giveOn offerDue rungBackAgain callAgain pendingDue replyDue mainOn fire ticked heardOn70 heardOn happenedOn actAt

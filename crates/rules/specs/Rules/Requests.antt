@@ -13,8 +13,9 @@ use Rattle.rules.specs.Rules.Places.{modAt, lowest}
 use Rattle.rules.specs.Rules.Words.{Party, is, Mode, simplex, duplex, Request}
 use Rattle.rules.specs.Rules.Words.{Deed, carrierOn, carrierOff, acknowledge, callShip, unable, releaseLine}
 use Rattle.rules.specs.Rules.Actions.{Action, does, over, charge, Ender, theCoast, chargeOf}
-use Rattle.rules.specs.Rules.Station.{Kind, isOffer, isCalled, answeredAt, Slot, bySlot, shipOf, isCalledIn, isFree, Waiting}
-use Rattle.rules.specs.Rules.Station.{Station, theSlot, setSlot, emptied, setQueue, dueAfter, offerOf, ringBackOf, queueWait}
+use Rattle.rules.specs.Rules.Station.{Kind, isOffer, isCalled, answeredAt, Dealing, Slot, bySlot, shipOf, isCalledIn, isFree}
+use Rattle.rules.specs.Rules.Station.{Waiting, Station, theSlot, emptied, setQueue, usedUp, newCall, dueAfter, offerOf, ringBackOf}
+use Rattle.rules.specs.Rules.Station.{queueWait}
 use Rattle.rules.specs.Rules.Sound.{queueRoom}
 
 -- what an accepted event gives: its answer, the next station, the actions in order
@@ -41,12 +42,12 @@ also a o = record { answer = o .answer; next = o .next; acts = a ++ o .acts }
 
 -- ── a slot is freed: ring-back ───────────────────────────────────────────────
 
--- "carrier on, the able answer but with RQ; wait 50"
+-- "carrier on, the able answer but with RQ; wait 50"; 02, no. 4: with the next call number
 unfoldable pub rungBack : ℕ → Station → Waiting → List Waiting → Out
 rungBack i st w q =
     record {
       answer = 0;
-      next = setSlot i (ringBackOf (w .request) st) (setQueue q st);
+      next = newCall i (ringBackOf (w .request) st) (setQueue q st);
       acts = does (carrierOn i) ∷ does (callShip i (w .request)) ∷ [];
     }
 
@@ -55,15 +56,19 @@ unfoldable pub freedFor : ℕ → Station → List Waiting → Out
 freedFor i st [] = done (emptied i st)
 freedFor i st (w ∷ q) = rungBack i st w q
 
+-- 02, no. 4: once the last number has been given "no waiting ship is rung back"
+abbrev pub toRingBack : Station → List Waiting
+toRingBack st = cond (usedUp st) [] (st .queue)
+
 unfoldable pub freed : ℕ → Station → Out
-freed i st = freedFor i st (st .queue)
+freed i st = freedFor i st (toRingBack st)
 
 -- ── the end of a call ────────────────────────────────────────────────────────
 
 -- "charge if answered": the one place where a charge is made
-abbrev pub bill : ℕ → Party → Option ℕ → ℕ → List Action
-bill i x none t = []
-bill i x (some b) t = charge (chargeOf i (x .ship) b t (wholeSeconds (record { 0 = t - b }) .0)) ∷ []
+abbrev pub bill : ℕ → Dealing → Option ℕ → ℕ → List Action
+bill i o none t = []
+bill i o (some b) t = charge (chargeOf i (o .request .who .ship) b t (wholeSeconds (record { 0 = t - b }) .0) (o .callNumber)) ∷ []
 
 -- "Duration: whole seconds, rounded down; unanswered, or 100 hours and over: 126s"
 abbrev pub lasted : Option ℕ → ℕ → Lasted
@@ -71,12 +76,13 @@ lasted none t = Nothing
 lasted (some b) t = durationOf (wholeSeconds (record { 0 = t - b }))
 
 -- "charge if answered, release line, send 105/126 with .. and the duration, carrier off"
-abbrev pub endActs : ℕ → Ender → Request → Option ℕ → ℕ → List Action
-endActs i e r b t = bill i (r .who) b t ++ does (releaseLine i) ∷ over i e (r .who) (r .number) (lasted b t) ∷ does (carrierOff i) ∷ []
+abbrev pub endActs : ℕ → Ender → Dealing → Option ℕ → ℕ → List Action
+endActs i e o b t =
+    bill i o b t ++ does (releaseLine i) ∷ over i e (o .request .who) (o .request .number) (lasted b t) ∷ does (carrierOff i) ∷ []
 
 -- coast's end: ".. slot freed at once"
-unfoldable pub coastEnd : ℕ → Request → Option ℕ → Station → Out
-coastEnd i r b st = also (endActs i theCoast r b (st .clock)) (freed i st)
+unfoldable pub coastEnd : ℕ → Dealing → Option ℕ → Station → Out
+coastEnd i o b st = also (endActs i theCoast o b (st .clock)) (freed i st)
 
 -- ── where a ship stands ──────────────────────────────────────────────────────
 
@@ -126,16 +132,21 @@ beingCalled st x = calledAt st (standing st x)
 unfoldable pub ruleA : Station → Party → List ℕ → Out
 ruleA st x n = saying (unable 109 x n) st
 
+-- 02, no. 4: once the last number has been given, "answer 104/107 and change nothing else"
+unfoldable pub noNumber : Station → Request → Out
+noNumber st r = saying (unable 107 (r .who) (r .number)) st
+
 -- b. "repeat the acknowledgement, the wait unchanged" (§2.3.1.2)
 unfoldable pub repeated : ℕ → Station → Request → Out
 repeated i st r = saying (acknowledge i r) st
 
--- b. "that slot is offered afresh: new request stored, acknowledgement sent, no carrier action, wait 160 from now" (house)
+-- b. "that slot is offered afresh: new request stored, acknowledgement sent, no carrier action, wait 160 from now" (house);
+-- 02, no. 4: "an offer made afresh takes a new one"
 unfoldable pub afresh : ℕ → Station → Request → Out
 afresh i st r =
     record {
       answer = 0;
-      next = setSlot i (offerOf r st) st;
+      next = newCall i (offerOf r st) st;
       acts = does (acknowledge i r) ∷ [];
     }
 
@@ -157,7 +168,7 @@ same a b = is (a .who) (b .who) && (sameMode (a .mode) (b .mode) && (eqb (a .sec
 
 -- b. "offered a slot by an identical request .. If it differs, or the slot is in ring-back or acknowledged"
 unfoldable pub ruleB : ℕ → Kind → Request → Station → Request → Out
-ruleB i k o st r = cond (isOffer k && same r o) (repeated i st r) (afresh i st r)
+ruleB i k o st r = cond (isOffer k && same r o) (repeated i st r) (cond (usedUp st) (noNumber st r) (afresh i st r))
 
 -- d. "replace its request, keep place and due time, answer 104/103"
 unfoldable pub ruleD : ℕ → Station → Request → Out
@@ -193,16 +204,20 @@ eToG st r none = cond (ltb (length (st .queue)) queueRoom) (ruleF st r) (ruleG s
 unfoldable pub newcomer : Station → Request → Out
 newcomer st r = eToG st r (lowest isFree (st .slots))
 
+unfoldable pub waitingOrNew : Station → Request → Option ℕ → Out
+waitingOrNew st r none = newcomer st r
+waitingOrNew st r (some k) = ruleD k st r
+
+-- d. "The ship is waiting"; e to g; 02, no. 4: once the last number has been given, "rules d to g .. answer 104/107"
 unfoldable pub dToG : Station → Request → Option ℕ → Out
-dToG st r none = newcomer st r
-dToG st r (some k) = ruleD k st r
+dToG st r k = cond (usedUp st) (noNumber st r) (waitingOrNew st r k)
 
 -- c. "the coast ends that call (§2.4.3), any ring-back follows, then d to g apply"
-unfoldable pub redial : ℕ → Request → Option ℕ → Station → Request → Out
+unfoldable pub redial : ℕ → Dealing → Option ℕ → Station → Request → Out
 redial i o b st r = also (coastEnd i o b st .acts) (dToG (coastEnd i o b st .next) r (placeOf (r .who) (coastEnd i o b st .next)))
 
 -- c. "ignored if duplex or if its carrier is present. If simplex with carrier absent, .."
-unfoldable pub ruleC : ℕ → Request → Option ℕ → Mode → Option ℕ → Station → Request → Out
+unfoldable pub ruleC : ℕ → Dealing → Option ℕ → Mode → Option ℕ → Station → Request → Out
 ruleC i o b duplex c st r = ignored st
 ruleC i o b simplex none st r = ignored st
 ruleC i o b simplex (some d) st r = redial i o b st r
@@ -211,10 +226,10 @@ ruleC i o b simplex (some d) st r = redial i o b st r
 unfoldable pub bOrC : ℕ → Slot → Station → Request → Out
 bOrC i s st r =
     bySlot (ignored st) (λ k o. cond (isCalled k) (ignored st) (ruleB i k (o .request) st r))
-    (λ o g c. ruleC i (o .request) (answeredAt g) (o .request .mode) c st r) s
+    (λ o g c. ruleC i o (answeredAt g) (o .request .mode) c st r) s
 
 -- the first rule that fits, by where the ship stands
 unfoldable pub requested : Station → Request → Standing → Out
-requested st r nowhere = newcomer st r
+requested st r nowhere = dToG st r none
 requested st r (holds i) = bOrC i (theSlot st i) st r
-requested st r (waits k) = ruleD k st r
+requested st r (waits k) = dToG st r (some k)

@@ -1,8 +1,9 @@
 -- Time and the slots: what a station holds, its waits, and which of them a tick fires.
 use mathlib.Core.List.{List, [], _∷_, map}
 use mathlib.Core.Option.{Option, none, some}
-use mathlib.Core.Bool.{Bool, true, false}
+use mathlib.Core.Bool.{Bool, true, false, cond}
 use Prim.Native.Nat.{ℕ, suc, _+_}
+use lib.Dec.{leb}
 use lib.ListN.{length, getD, replicate}
 use Rattle.units.specs.declared.Lasted.{Lasted}
 use Rattle.rules.specs.Rules.Places.{modAt}
@@ -56,12 +57,13 @@ answeredAt (dialling d) = none
 answeredAt (dialledOut d) = none
 answeredAt (answered b) = some b
 
--- what a slot keeps of its call
+-- what a slot keeps of its call; 02, no. 4: its number, "The slot's record holds it"
 pub record Dealing : Type 0 where
   pub request : Request
+  pub callNumber : ℕ
 
-abbrev pub dealing : Request → Dealing
-dealing r = record { request = r }
+abbrev pub dealing : ℕ → Request → Dealing
+dealing n r = record { request = r; callNumber = n }
 
 pub data Slot : Type 0 where
   free : Slot
@@ -89,6 +91,14 @@ keptFor taken = none
 keptFor (pending k r d) = some (r .request .who)
 keptFor (busy r g c) = some (r .request .who)
 keptFor (held r n d) = some (r .request .who)
+
+-- the number of the call that it keeps, 0 where it keeps none
+abbrev pub callNumberIn : Slot → ℕ
+callNumberIn free = 0
+callNumberIn taken = 0
+callNumberIn (pending k r d) = r .callNumber
+callNumberIn (busy r g c) = r .callNumber
+callNumberIn (held r n d) = r .callNumber
 
 -- its ship is being called, and whether it rings
 abbrev pub isCalledIn : Slot → Bool
@@ -124,6 +134,7 @@ pub record Station : Type 0 where
   pub clock : ℕ
   pub slots : List Slot
   pub queue : List Waiting
+  pub lastCall : ℕ  -- the last call number given, 0 before the first
 
 -- the slot i; one that is not there counts as free
 abbrev pub theSlot : Station → ℕ → Slot
@@ -131,20 +142,44 @@ theSlot st i = getD (st .slots) i free
 
 -- "All slots begin free at clock 0."
 unfoldable pub fresh : Config → Station
-fresh c = record { clock = 0; slots = replicate (length (c .channels)) free; queue = [] }
+fresh c = record { clock = 0; slots = replicate (length (c .channels)) free; queue = []; lastCall = 0 }
 
 unfoldable pub setSlot : ℕ → Slot → Station → Station
-setSlot i s st = record { clock = st .clock; slots = modAt (λ x. s) i (st .slots); queue = st .queue }
+setSlot i s st = record { clock = st .clock; slots = modAt (λ x. s) i (st .slots); queue = st .queue; lastCall = st .lastCall }
 
 -- the slot i free
 abbrev pub emptied : ℕ → Station → Station
 emptied i st = setSlot i free st
 
 unfoldable pub setClock : ℕ → Station → Station
-setClock t st = record { clock = t; slots = st .slots; queue = st .queue }
+setClock t st = record { clock = t; slots = st .slots; queue = st .queue; lastCall = st .lastCall }
 
 unfoldable pub setQueue : List Waiting → Station → Station
-setQueue q st = record { clock = st .clock; slots = st .slots; queue = q }
+setQueue q st = record { clock = st .clock; slots = st .slots; queue = q; lastCall = st .lastCall }
+
+-- ── 02, no. 4: call numbers ──────────────────────────────────────────────────
+
+abbrev pub lastNumber : ℕ
+lastNumber = 4294967295
+
+-- "once 4,294,967,295 has been given"
+abbrev pub noneLeft : ℕ → Bool
+noneLeft n = leb lastNumber n
+
+unfoldable pub usedUp : Station → Bool
+usedUp st = noneLeft (st .lastCall)
+
+-- the number behind n; behind the last there is none, and n stays: no rule asks for it then
+abbrev pub numberAfter : ℕ → ℕ
+numberAfter n = cond (noneLeft n) n (n + 1)
+
+-- "the next call number from 1"
+abbrev pub nextCall : Station → ℕ
+nextCall st = numberAfter (st .lastCall)
+
+-- "Each offer, ring-back or call from ashore that takes a slot gets the next call number"
+unfoldable pub newCall : ℕ → Slot → Station → Station
+newCall i s st = record { clock = st .clock; slots = modAt (λ x. s) i (st .slots); queue = st .queue; lastCall = nextCall st }
 
 -- ── the waits ────────────────────────────────────────────────────────────────
 
@@ -164,10 +199,10 @@ kindWait ringing = 600
 
 -- the slot offered, in ring-back, in ring-back once more, acknowledged: from now on
 abbrev pub offerOf : Request → Station → Slot
-offerOf r st = pending offered (dealing r) (dueAfter (st .clock) (kindWait offered))
+offerOf r st = pending offered (dealing (nextCall st) r) (dueAfter (st .clock) (kindWait offered))
 
 abbrev pub ringBackOf : Request → Station → Slot
-ringBackOf r st = pending firstRingBack (dealing r) (dueAfter (st .clock) (kindWait firstRingBack))
+ringBackOf r st = pending firstRingBack (dealing (nextCall st) r) (dueAfter (st .clock) (kindWait firstRingBack))
 
 abbrev pub ringBackAgainOf : Dealing → ℕ → Slot
 ringBackAgainOf r t = pending secondRingBack r (dueAfter t (kindWait secondRingBack))
@@ -177,7 +212,7 @@ agreedAt r t = pending acknowledged r (dueAfter t (kindWait acknowledged))
 
 -- called from ashore, called once more, ringing: from now on
 abbrev pub calledOf : Request → Station → Slot
-calledOf r st = pending firstCall (dealing r) (dueAfter (st .clock) (kindWait firstCall))
+calledOf r st = pending firstCall (dealing (nextCall st) r) (dueAfter (st .clock) (kindWait firstCall))
 
 abbrev pub calledAgain : Dealing → ℕ → Slot
 calledAgain r t = pending secondCall r (dueAfter t (kindWait secondCall))

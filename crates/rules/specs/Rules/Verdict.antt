@@ -11,15 +11,15 @@ use Rattle.sequence.specs.Refusals.{Row, row, firstRefusal}
 use Rattle.sequence.specs.Answers.{answerNumber, isDone}
 use Rattle.sequence.specs.Reading.{readingOf}
 use Rattle.sequence.specs.Identity.{isShip}
-use Rattle.rules.specs.Rules.Places.{isSome, lowest}
+use Rattle.rules.specs.Rules.Places.{isSome}
 use Rattle.rules.specs.Rules.Words.{Config, Hand, Happened, What, happens, slotIn, symbolsOn, symbolsIn, handIn, Ashore}
 use Rattle.rules.specs.Rules.Words.{ashoreIn, Event}
 use Rattle.rules.specs.Rules.Actions.{Action}
 use Rattle.rules.specs.Rules.Bytes.{mostActions, blockSize}
-use Rattle.rules.specs.Rules.Station.{Station, fires, theSlot, isFree}
+use Rattle.rules.specs.Rules.Station.{Station, fires, theSlot}
 use Rattle.rules.specs.Rules.Sound.{configKeeps, numberKeeps, limit, sound}
 use Rattle.rules.specs.Rules.Requests.{Out}
-use Rattle.rules.specs.Rules.Ashore.{isMode, ashoreRequest, engaged}
+use Rattle.rules.specs.Rules.Ashore.{isMode, ashoreRequest, engaged, slotToTake}
 use Rattle.rules.specs.Rules.Calls.{barredHand, act}
 
 -- a test, and the number given where it fails
@@ -66,7 +66,7 @@ abbrev pub barred : Station → What → Bool
 barred st w = barredAt st (slotIn w) (handIn w)
 
 -- 02, no. 2: "15 for a bad ship identity", "17 for another mode", "19 for a bad number", "38 when that ship already has a slot (a hold
--- included) or waits", "37 when no slot is free"
+-- included) or waits", "37 when no slot is free"; no. 4: once the last number has been given, "a caller ashore gets 37"
 abbrev pub namesShip : Option Ashore → Bool
 namesShip none = true
 namesShip (some a) = isShip (a .ship)
@@ -83,9 +83,9 @@ abbrev pub namesEngaged : Config → Station → Option Ashore → Bool
 namesEngaged c st none = false
 namesEngaged c st (some a) = engaged st (ashoreRequest c a .who)
 
-abbrev pub slotIsFree : Station → Option Ashore → Bool
-slotIsFree st none = true
-slotIsFree st (some a) = isSome (lowest isFree (st .slots))
+abbrev pub slotToBeHad : Station → Option Ashore → Bool
+slotToBeHad st none = true
+slotToBeHad st (some a) = isSome (slotToTake st)
 
 -- "Refusals, in this order"
 unfoldable pub refusals : Config → Station → Event → List (Row (Option ℕ))
@@ -102,7 +102,7 @@ refusals c st e =
     ∷ unless (namesMode (ashoreIn (e .what))) 17
     ∷ unless (namesNumber (ashoreIn (e .what))) 19
     ∷ unless (not (namesEngaged c st (ashoreIn (e .what)))) 38
-    ∷ unless (slotIsFree st (ashoreIn (e .what))) 37
+    ∷ unless (slotToBeHad st (ashoreIn (e .what))) 37
     ∷ []
 
 -- the number of the refusal, if the event is refused: the first that fits

@@ -449,7 +449,7 @@ abbrev pub shoreShipEnds : Row
 shoreShipEnds = record {
   computed = gives 1 (answered (ends 4410 0 seven ∷ []));
   expected = (0 ∷ 4410 ∷ 4 ∷ 4451 ∷ [])
-      ∷ (charges 0 seven 300 4410 411) ∷ (6 ∷ 0 ∷ []) ∷ (4 ∷ 0 ∷ overSevenCaller411) ∷ (2 ∷ 0 ∷ []) ∷ [];
+      ∷ (charges 0 seven 300 4410 411 1) ∷ (6 ∷ 0 ∷ []) ∷ (4 ∷ 0 ∷ overSevenCaller411) ∷ (2 ∷ 0 ∷ []) ∷ [];
 }
 
 -- and once more in the hold
@@ -464,7 +464,7 @@ abbrev pub shoreHangs : Row
 shoreHangs = record {
   computed = gives 1 (answered (hangs 4410 0 ∷ []));
   expected = (0 ∷ 4410 ∷ 4 ∷ [])
-      ∷ (charges 0 seven 300 4410 411) ∷ (6 ∷ 0 ∷ []) ∷ (4 ∷ 0 ∷ overSevenCallerByCoast411) ∷ (2 ∷ 0 ∷ []) ∷ [];
+      ∷ (charges 0 seven 300 4410 411 1) ∷ (6 ∷ 0 ∷ []) ∷ (4 ∷ 0 ∷ overSevenCallerByCoast411) ∷ (2 ∷ 0 ∷ []) ∷ [];
 }
 
 -- carrier loss: to the due time
@@ -472,7 +472,7 @@ abbrev pub shoreFades : Row
 shoreFades = record {
   computed = gives 1 (answered (loses 400 0 ∷ ticks 9999 ∷ []));
   expected = (0 ∷ 451 ∷ 4 ∷ [])
-      ∷ (charges 0 seven 300 451 15) ∷ (6 ∷ 0 ∷ []) ∷ (4 ∷ 0 ∷ overSevenCallerByCoast15) ∷ (2 ∷ 0 ∷ []) ∷ [];
+      ∷ (charges 0 seven 300 451 15 1) ∷ (6 ∷ 0 ∷ []) ∷ (4 ∷ 0 ∷ overSevenCallerByCoast15) ∷ (2 ∷ 0 ∷ []) ∷ [];
 }
 
 -- rule c: a simplex ship whose carrier is absent asks again, and is offered the slot for its own number
@@ -480,7 +480,7 @@ abbrev pub shoreRedialled : Row
 shoreRedialled = record {
   computed = gives 1 (shoreCalls 100 seven simplex ∷ accepts 130 26 seven ∷ regains 300 0 ∷ loses 400 0 ∷ calls 450 seven simplex ∷ []);
   expected = (0 ∷ 450 ∷ 6 ∷ 611 ∷ [])
-      ∷ (charges 0 seven 300 450 15) ∷ (6 ∷ 0 ∷ []) ∷ (4 ∷ 0 ∷ overSevenCallerByCoast15) ∷ (2 ∷ 0 ∷ [])
+      ∷ (charges 0 seven 300 450 15 1) ∷ (6 ∷ 0 ∷ []) ∷ (4 ∷ 0 ∷ overSevenCallerByCoast15) ∷ (2 ∷ 0 ∷ [])
       ∷ (1 ∷ 0 ∷ []) ∷ (3 ∷ 0 ∷ ackSeven26Simplex) ∷ [];
 }
 

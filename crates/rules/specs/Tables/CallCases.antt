@@ -163,7 +163,7 @@ shipEndDialledOut = record {
 abbrev pub shipEndAnswered : Row
 shipEndAnswered = record {
   computed = gives 1 (calls 100 seven duplex ∷ works 200 0 seven ∷ picksUp 300 0 ∷ ends 4410 0 seven ∷ []);
-  expected = (0 ∷ 4410 ∷ 4 ∷ 4451 ∷ []) ∷ (charges 0 seven 300 4410 411) ∷ (6 ∷ 0 ∷ []) ∷ (4 ∷ 0 ∷ overSeven411) ∷ (2 ∷ 0 ∷ []) ∷ [];
+  expected = (0 ∷ 4410 ∷ 4 ∷ 4451 ∷ []) ∷ (charges 0 seven 300 4410 411 1) ∷ (6 ∷ 0 ∷ []) ∷ (4 ∷ 0 ∷ overSeven411) ∷ (2 ∷ 0 ∷ []) ∷ [];
 }
 
 -- while dialling: no charge, and 126s
@@ -221,7 +221,7 @@ holdThenFreed = record {
 abbrev pub hangsAnswered : Row
 hangsAnswered = record {
   computed = gives 1 (calls 100 seven duplex ∷ works 200 0 seven ∷ picksUp 300 0 ∷ hangs 4410 0 ∷ []);
-  expected = (0 ∷ 4410 ∷ 4 ∷ []) ∷ (charges 0 seven 300 4410 411) ∷ (6 ∷ 0 ∷ []) ∷ (4 ∷ 0 ∷ overSevenByCoast411) ∷ (2 ∷ 0 ∷ []) ∷ [];
+  expected = (0 ∷ 4410 ∷ 4 ∷ []) ∷ (charges 0 seven 300 4410 411 1) ∷ (6 ∷ 0 ∷ []) ∷ (4 ∷ 0 ∷ overSevenByCoast411) ∷ (2 ∷ 0 ∷ []) ∷ [];
 }
 
 -- on-hook while dialling: no charge, 126s
@@ -242,14 +242,14 @@ noReplyDue = record {
 abbrev pub carrierLossDue : Row
 carrierLossDue = record {
   computed = gives 1 (calls 100 seven duplex ∷ works 200 0 seven ∷ picksUp 300 0 ∷ loses 400 0 ∷ ticks 9999 ∷ []);
-  expected = (0 ∷ 451 ∷ 4 ∷ []) ∷ (charges 0 seven 300 451 15) ∷ (6 ∷ 0 ∷ []) ∷ (4 ∷ 0 ∷ overSevenByCoast15) ∷ (2 ∷ 0 ∷ []) ∷ [];
+  expected = (0 ∷ 451 ∷ 4 ∷ []) ∷ (charges 0 seven 300 451 15 1) ∷ (6 ∷ 0 ∷ []) ∷ (4 ∷ 0 ∷ overSevenByCoast15) ∷ (2 ∷ 0 ∷ []) ∷ [];
 }
 
 -- a call answered for less than a second is charged 0 seconds, and its field is 0 0 0
 abbrev pub secondUnderOne : Row
 secondUnderOne = record {
   computed = gives 1 (calls 100 seven duplex ∷ works 200 0 seven ∷ picksUp 300 0 ∷ hangs 309 0 ∷ []);
-  expected = (0 ∷ 309 ∷ 4 ∷ []) ∷ (charges 0 seven 300 309 0) ∷ (6 ∷ 0 ∷ []) ∷ (4 ∷ 0 ∷ overSevenByCoast0) ∷ (2 ∷ 0 ∷ []) ∷ [];
+  expected = (0 ∷ 309 ∷ 4 ∷ []) ∷ (charges 0 seven 300 309 0 1) ∷ (6 ∷ 0 ∷ []) ∷ (4 ∷ 0 ∷ overSevenByCoast0) ∷ (2 ∷ 0 ∷ []) ∷ [];
 }
 
 -- ── operator ──────────────────────────────────────────────────────────────────
@@ -323,8 +323,8 @@ blockShown = record {
 -- four bytes each, low first
 abbrev pub fourShown : Row
 fourShown = record {
-  computed = payloadOf (station 1) (charge (chargeOf 1 67305985 65536 16777216 4294967295)) ∷ [];
-  expected = (1 ∷ 2 ∷ 3 ∷ 4 ∷ 0 ∷ 0 ∷ 1 ∷ 0 ∷ 0 ∷ 0 ∷ 0 ∷ 1 ∷ 255 ∷ 255 ∷ 255 ∷ 255 ∷ []) ∷ [];
+  computed = payloadOf (station 1) (charge (chargeOf 1 67305985 65536 16777216 4294967295 2309737967)) ∷ [];
+  expected = (1 ∷ 2 ∷ 3 ∷ 4 ∷ 0 ∷ 0 ∷ 1 ∷ 0 ∷ 0 ∷ 0 ∷ 0 ∷ 1 ∷ 255 ∷ 255 ∷ 255 ∷ 255 ∷ 239 ∷ 205 ∷ 171 ∷ 137 ∷ []) ∷ [];
 }
 
 -- ── all of them ──────────────────────────────────────────────────────────────

@@ -9,7 +9,7 @@ use Rattle.rules.specs.Rules.Words.{takes, givesBack, What, tick, onChan
 use Rattle.rules.specs.Rules.Station.{offered, firstRingBack, secondRingBack, acknowledged, firstCall, secondCall, ringing}
 use Rattle.rules.specs.Rules.Station.{dialling, dialledOut, answered}
 use Rattle.rules.specs.Rules.Station.{Slot, free, taken, Waiting, Station}
-use Rattle.rules.specs.Rules.Slots.{pending, busy, held}
+use Rattle.rules.specs.Tables.Slots.{pending, busy, held}
 use Rattle.rules.specs.Rules.Requests.{Out}
 use Rattle.rules.specs.Rules.Verdict.{step}
 use Rattle.rules.specs.Rules.Bytes.{kindNumber}
@@ -30,11 +30,11 @@ simply = from seven simplex
 
 -- the slot alone, at the clock 1000
 abbrev pub alone : Slot → Station
-alone s = record { clock = 1000; slots = s ∷ []; queue = [] }
+alone s = record { clock = 1000; slots = s ∷ []; queue = []; lastCall = 1 }
 
 -- what an event prints in a station whose one slot is taken, at the clock 100, while ships wait
 abbrev pub waitingWith : List Waiting → Event → List (List ℕ)
-waitingWith q e = lines (station 1) (step (station 1) (record { clock = 100; slots = taken ∷ []; queue = q }) e)
+waitingWith q e = lines (station 1) (step (station 1) (record { clock = 100; slots = taken ∷ []; queue = q; lastCall = 1 }) e)
 
 -- what may happen, in the order of a row
 abbrev pub happenings : List What

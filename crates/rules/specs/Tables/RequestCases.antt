@@ -99,7 +99,7 @@ abbrev pub ruleCAbsent : Row
 ruleCAbsent = record {
   computed = gives 1 (calls 100 seven simplex ∷ works 200 0 seven ∷ picksUp 300 0 ∷ loses 400 0 ∷ calls 450 seven simplex ∷ []);
   expected = (0 ∷ 450 ∷ 6 ∷ 611 ∷ [])
-      ∷ (charges 0 seven 300 450 15) ∷ (6 ∷ 0 ∷ []) ∷ (4 ∷ 0 ∷ overSevenByCoast15) ∷ (2 ∷ 0 ∷ [])
+      ∷ (charges 0 seven 300 450 15 1) ∷ (6 ∷ 0 ∷ []) ∷ (4 ∷ 0 ∷ overSevenByCoast15) ∷ (2 ∷ 0 ∷ [])
       ∷ (1 ∷ 0 ∷ []) ∷ (3 ∷ 0 ∷ ackSeven26Simplex) ∷ [];
 }
 
@@ -109,7 +109,7 @@ ruleCRingsBack = record {
   computed = gives 1 (calls 100 seven simplex ∷ works 200 0 seven ∷ calls 210 eight duplex
       ∷ picksUp 300 0 ∷ loses 400 0 ∷ calls 450 seven simplex ∷ []);
   expected = (0 ∷ 450 ∷ 7 ∷ 501 ∷ [])
-      ∷ (charges 0 seven 300 450 15) ∷ (6 ∷ 0 ∷ []) ∷ (4 ∷ 0 ∷ overSevenByCoast15) ∷ (2 ∷ 0 ∷ [])
+      ∷ (charges 0 seven 300 450 15 1) ∷ (6 ∷ 0 ∷ []) ∷ (4 ∷ 0 ∷ overSevenByCoast15) ∷ (2 ∷ 0 ∷ [])
       ∷ (1 ∷ 0 ∷ []) ∷ (3 ∷ 0 ∷ ringBackEight26) ∷ (3 ∷ 255 ∷ unable103Seven) ∷ [];
 }
 
@@ -144,7 +144,7 @@ ruleDSimplexFades = record {
 abbrev pub ruleDSimplexLost : Row
 ruleDSimplexLost = record {
   computed = gives 1 (asksAnew duplex simplex (fades (ticks 9999 ∷ [])));
-  expected = (0 ∷ 1051 ∷ 4 ∷ []) ∷ (charges 0 seven 500 1051 55) ∷ (6 ∷ 0 ∷ []) ∷ (4 ∷ 0 ∷ overSevenByCoast55) ∷ (2 ∷ 0 ∷ []) ∷ [];
+  expected = (0 ∷ 1051 ∷ 4 ∷ []) ∷ (charges 0 seven 500 1051 55 1) ∷ (6 ∷ 0 ∷ []) ∷ (4 ∷ 0 ∷ overSevenByCoast55) ∷ (2 ∷ 0 ∷ []) ∷ [];
 }
 
 -- d. and from simplex to duplex: 5 s
@@ -163,7 +163,7 @@ ruleDDuplexFades = record {
 abbrev pub ruleDDuplexLost : Row
 ruleDDuplexLost = record {
   computed = gives 1 (asksAnew simplex duplex (fades (ticks 9999 ∷ [])));
-  expected = (0 ∷ 651 ∷ 4 ∷ []) ∷ (charges 0 seven 500 651 15) ∷ (6 ∷ 0 ∷ []) ∷ (4 ∷ 0 ∷ overSevenByCoast15) ∷ (2 ∷ 0 ∷ []) ∷ [];
+  expected = (0 ∷ 651 ∷ 4 ∷ []) ∷ (charges 0 seven 500 651 15 1) ∷ (6 ∷ 0 ∷ []) ∷ (4 ∷ 0 ∷ overSevenByCoast15) ∷ (2 ∷ 0 ∷ []) ∷ [];
 }
 
 -- e. the lowest free slot

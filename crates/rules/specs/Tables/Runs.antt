@@ -134,9 +134,9 @@ asksAnew o m es = reserves 50 0 ∷ calls 100 seven o ∷ calls 200 seven m ∷ 
 abbrev pub fades : List Event → List Event
 fades es = accepts 310 26 seven ∷ works 400 0 seven ∷ picksUp 500 0 ∷ loses 600 0 ∷ es
 
--- entry, slot, ship, beginning, end, seconds
-abbrev pub paid : ℕ → ℕ → ℕ → ℕ → ℕ → ℕ → Numbered Charge
-paid k i x b e s = record { entry = k; it = chargeOf i x b e s }
+-- entry, slot, ship, beginning, end, seconds, call number
+abbrev pub paid : ℕ → ℕ → ℕ → ℕ → ℕ → ℕ → ℕ → Numbered Charge
+paid k i x b e s n = record { entry = k; it = chargeOf i x b e s n }
 
 pub record Run : Type 0 where
   pub slots : ℕ
@@ -151,7 +151,7 @@ shipEnded = record {
   slots = 1;
   events = calls 100 seven simplex ∷ works 200 0 seven ∷ picksUp 300 0 ∷ picksUp 310 0 ∷ ends 325 0 eight
       ∷ ends 330 0 seven ∷ ends 340 0 seven ∷ ticks 371 ∷ [];
-  owing = paid 5 0 seven 300 330 3 ∷ [];
+  owing = paid 5 0 seven 300 330 3 1 ∷ [];
 }
 
 -- by on-hook; a duplex call is not ended by another request of its ship
@@ -160,7 +160,7 @@ hungUp = record {
   slots = 1;
   events = calls 100 seven duplex ∷ works 200 0 seven ∷ picksUp 300 0 ∷ loses 400 0 ∷ calls 410 seven duplex
       ∷ regains 420 0 ∷ hangs 500 0 ∷ [];
-  owing = paid 6 0 seven 300 500 20 ∷ [];
+  owing = paid 6 0 seven 300 500 20 1 ∷ [];
 }
 
 -- by carrier loss of a silent simplex ship; a second carrier down does not restart the wait
@@ -168,7 +168,7 @@ abbrev pub silent : Run
 silent = record {
   slots = 1;
   events = calls 100 seven simplex ∷ works 200 0 seven ∷ picksUp 300 0 ∷ loses 400 0 ∷ loses 500 0 ∷ ticks 851 ∷ [];
-  owing = paid 5 0 seven 300 851 55 ∷ [];
+  owing = paid 5 0 seven 300 851 55 1 ∷ [];
 }
 
 -- by rule c on the only slot, with a ship waiting: it is rung back, and the asker joins the queue
@@ -177,7 +177,7 @@ redialled = record {
   slots = 1;
   events = calls 100 seven simplex ∷ works 200 0 seven ∷ calls 210 eight duplex ∷ picksUp 300 0 ∷ loses 400 0
       ∷ calls 450 seven simplex ∷ accepts 460 26 eight ∷ works 470 0 eight ∷ picksUp 480 0 ∷ hangs 600 0 ∷ [];
-  owing = paid 5 0 seven 300 450 15 ∷ paid 9 0 eight 480 600 12 ∷ [];
+  owing = paid 5 0 seven 300 450 15 1 ∷ paid 9 0 eight 480 600 12 2 ∷ [];
 }
 
 -- ── dialling ended (02, no. 1) ───────────────────────────────────────────────
@@ -188,7 +188,7 @@ slowExchange = record {
   slots = 1;
   events = calls 100 seven duplex ∷ works 200 0 seven ∷ dialsOut 790 0 ∷ dialsOut 800 0 ∷ picksUp 1390 0 ∷ dialsOut 1400 0
       ∷ hangs 1500 0 ∷ [];
-  owing = paid 6 0 seven 1390 1500 11 ∷ [];
+  owing = paid 6 0 seven 1390 1500 11 1 ∷ [];
 }
 
 -- ── calls from ashore (02, no. 2) ─────────────────────────────────────────────
@@ -200,7 +200,7 @@ shoreAnswered = record {
   slots = 1;
   events = shoreCalls 100 seven duplex ∷ regains 110 0 ∷ ticks 151 ∷ accepts 170 26 seven ∷ accepts 180 26 seven ∷ picksUp 190 0
       ∷ regains 200 0 ∷ regains 210 0 ∷ picksUp 220 0 ∷ ends 512 0 seven ∷ ends 520 0 seven ∷ ticks 553 ∷ [];
-  owing = paid 9 0 seven 200 512 31 ∷ [];
+  owing = paid 9 0 seven 200 512 31 1 ∷ [];
 }
 
 -- never answered, though a carrier was heard before it rang and the caller's handset is off: dropped; the waiting ship's call is charged
@@ -209,7 +209,7 @@ shoreDropped = record {
   slots = 1;
   events = shoreCalls 100 seven simplex ∷ calls 110 eight duplex ∷ regains 120 0 ∷ accepts 130 26 seven ∷ picksUp 140 0 ∷ ticks 731
       ∷ accepts 740 26 eight ∷ works 750 0 eight ∷ picksUp 760 0 ∷ hangs 863 0 ∷ [];
-  owing = paid 9 0 eight 760 863 10 ∷ [];
+  owing = paid 9 0 eight 760 863 10 2 ∷ [];
 }
 
 -- unable, and a caller who hangs up: nothing is charged
@@ -227,7 +227,7 @@ shoreTwo = record {
   slots = 2;
   events = shoreCalls 100 seven simplex ∷ shoreCalls 110 eight duplex ∷ accepts 120 27 eight ∷ acceptsIn simplex 130 26 seven
       ∷ regains 140 1 ∷ calls 145 seven simplex ∷ regains 150 0 ∷ loses 400 1 ∷ loses 410 0 ∷ ticks 9999 ∷ calls 500 seven simplex ∷ [];
-  owing = paid 9 1 eight 140 451 31 ∷ paid 10 0 seven 150 500 35 ∷ [];
+  owing = paid 9 1 eight 140 451 31 2 ∷ paid 10 0 seven 150 500 35 1 ∷ [];
 }
 
 -- by the caller's on-hook; then a call of the ship itself on that slot
@@ -236,7 +236,7 @@ shoreHung = record {
   slots = 1;
   events = shoreCalls 100 seven duplex ∷ accepts 130 26 seven ∷ regains 200 0 ∷ hangs 309 0 ∷ calls 320 seven duplex ∷ works 330 0 seven
       ∷ regains 340 0 ∷ picksUp 350 0 ∷ hangs 450 0 ∷ [];
-  owing = paid 3 0 seven 200 309 10 ∷ paid 8 0 seven 350 450 10 ∷ [];
+  owing = paid 3 0 seven 200 309 10 1 ∷ paid 8 0 seven 350 450 10 2 ∷ [];
 }
 
 -- ── late ticks, and waits due together ────────────────────────────────────────
@@ -246,7 +246,7 @@ abbrev pub late : Run
 late = record {
   slots = 2;
   events = calls 100 seven duplex ∷ works 200 0 seven ∷ picksUp 700 0 ∷ loses 2000 0 ∷ ticks 9999 ∷ ticks 9999 ∷ [];
-  owing = paid 4 0 seven 700 2051 135 ∷ [];
+  owing = paid 4 0 seven 700 2051 135 1 ∷ [];
 }
 
 -- a waiting ship asked in duplex and then in simplex: it has its 45 s; the other way round, 5 s
@@ -254,14 +254,14 @@ abbrev pub anewSimplex : Run
 anewSimplex = record {
   slots = 1;
   events = asksAnew duplex simplex (fades (ticks 9999 ∷ []));
-  owing = paid 8 0 seven 500 1051 55 ∷ [];
+  owing = paid 8 0 seven 500 1051 55 1 ∷ [];
 }
 
 abbrev pub anewDuplex : Run
 anewDuplex = record {
   slots = 1;
   events = asksAnew simplex duplex (fades (ticks 9999 ∷ []));
-  owing = paid 8 0 seven 500 651 15 ∷ [];
+  owing = paid 8 0 seven 500 651 15 1 ∷ [];
 }
 
 -- two carriers lost with one due time: the lower slot by the first tick, the other by the second
@@ -270,7 +270,7 @@ together = record {
   slots = 2;
   events = calls 100 seven duplex ∷ calls 101 eight duplex ∷ works 200 0 seven ∷ works 200 1 eight ∷ picksUp 300 1
       ∷ picksUp 310 0 ∷ loses 400 1 ∷ loses 400 0 ∷ ticks 500 ∷ ticks 500 ∷ [];
-  owing = paid 8 0 seven 310 451 14 ∷ paid 9 1 eight 300 451 15 ∷ [];
+  owing = paid 8 0 seven 310 451 14 1 ∷ paid 9 1 eight 300 451 15 2 ∷ [];
 }
 
 -- carrier loss and no reply due together, of an unanswered call
@@ -300,7 +300,7 @@ repeated = record {
   slots = 3;
   events = calls 100 seven duplex ∷ calls 110 eight duplex ∷ works 115 1 eight ∷ picksUp 120 1
       ∷ calls 150 seven duplex ∷ loses 210 1 ∷ ticks 300 ∷ ticks 300 ∷ [];
-  owing = paid 7 1 eight 120 261 14 ∷ [];
+  owing = paid 7 1 eight 120 261 14 2 ∷ [];
 }
 
 -- with another number the slot is offered afresh, so the first tick stops the call
@@ -309,7 +309,7 @@ renumbered = record {
   slots = 3;
   events = calls 100 seven duplex ∷ calls 110 eight duplex ∷ works 115 1 eight ∷ picksUp 120 1
       ∷ callsFor (4 ∷ 2 ∷ []) 150 seven duplex ∷ loses 210 1 ∷ ticks 300 ∷ ticks 300 ∷ [];
-  owing = paid 6 1 eight 120 261 14 ∷ [];
+  owing = paid 6 1 eight 120 261 14 2 ∷ [];
 }
 
 -- the hold
@@ -318,7 +318,7 @@ holding = record {
   slots = 2;
   events = calls 100 seven duplex ∷ calls 101 eight duplex ∷ works 110 0 seven ∷ works 111 1 eight ∷ picksUp 120 1
       ∷ picksUp 121 0 ∷ loses 195 1 ∷ ends 200 0 seven ∷ ticks 300 ∷ ticks 300 ∷ [];
-  owing = paid 7 0 seven 121 200 7 ∷ paid 9 1 eight 120 246 12 ∷ [];
+  owing = paid 7 0 seven 121 200 7 1 ∷ paid 9 1 eight 120 246 12 2 ∷ [];
 }
 
 -- the reply, its dialling never ended
@@ -327,7 +327,7 @@ replying = record {
   slots = 2;
   events = calls 100 seven duplex ∷ calls 101 eight duplex ∷ works 200 0 seven ∷ works 201 1 eight ∷ picksUp 210 1
       ∷ loses 755 1 ∷ ticks 900 ∷ ticks 900 ∷ [];
-  owing = paid 7 1 eight 210 806 59 ∷ [];
+  owing = paid 7 1 eight 210 806 59 2 ∷ [];
 }
 
 -- the reply, 600 from the first end of dialling and not from the second
@@ -336,7 +336,7 @@ dialledReplying = record {
   slots = 2;
   events = calls 100 seven duplex ∷ calls 101 eight duplex ∷ works 200 0 seven ∷ works 201 1 eight ∷ picksUp 210 1
       ∷ dialsOut 300 0 ∷ dialsOut 310 0 ∷ loses 855 1 ∷ ticks 1000 ∷ ticks 1000 ∷ [];
-  owing = paid 9 1 eight 210 906 69 ∷ [];
+  owing = paid 9 1 eight 210 906 69 2 ∷ [];
 }
 
 -- the quarter hour
@@ -345,7 +345,7 @@ queueing = record {
   slots = 1;
   events = calls 100 seven duplex ∷ works 110 0 seven ∷ picksUp 120 0 ∷ calls 200 eight duplex ∷ loses 9155 0
       ∷ ticks 9300 ∷ ticks 9300 ∷ [];
-  owing = paid 6 0 seven 120 9206 908 ∷ [];
+  owing = paid 6 0 seven 120 9206 908 1 ∷ [];
 }
 
 -- the ring-back
@@ -354,7 +354,7 @@ ringingBack = record {
   slots = 2;
   events = calls 100 seven duplex ∷ calls 101 eight duplex ∷ works 110 0 seven ∷ works 111 1 eight ∷ picksUp 120 0
       ∷ picksUp 121 1 ∷ calls 130 nine duplex ∷ hangs 300 0 ∷ loses 305 1 ∷ ticks 400 ∷ ticks 400 ∷ [];
-  owing = paid 7 0 seven 120 300 18 ∷ paid 10 1 eight 121 356 23 ∷ [];
+  owing = paid 7 0 seven 120 300 18 1 ∷ paid 10 1 eight 121 356 23 2 ∷ [];
 }
 
 -- the call from ashore: its repeat, by the first of two late ticks, and its drop
@@ -363,7 +363,7 @@ calling = record {
   slots = 2;
   events = calls 100 eight duplex ∷ works 110 0 eight ∷ picksUp 120 0 ∷ shoreCalls 200 seven duplex ∷ loses 205 0 ∷ ticks 300
       ∷ ticks 300 ∷ [];
-  owing = paid 6 0 eight 120 256 13 ∷ [];
+  owing = paid 6 0 eight 120 256 13 1 ∷ [];
 }
 
 abbrev pub callingAgain : Run
@@ -371,7 +371,7 @@ callingAgain = record {
   slots = 2;
   events = calls 100 eight duplex ∷ works 110 0 eight ∷ picksUp 120 0 ∷ shoreCalls 200 seven duplex ∷ ticks 251 ∷ loses 256 0 ∷ ticks 400
       ∷ ticks 400 ∷ [];
-  owing = paid 7 0 eight 120 307 18 ∷ [];
+  owing = paid 7 0 eight 120 307 18 1 ∷ [];
 }
 
 -- its minute of ringing, from the first BQ and not from the second
@@ -380,7 +380,7 @@ ringingUp = record {
   slots = 2;
   events = calls 100 eight duplex ∷ works 110 0 eight ∷ picksUp 120 0 ∷ shoreCalls 200 seven duplex ∷ accepts 210 27 seven
       ∷ accepts 220 27 seven ∷ loses 765 0 ∷ ticks 900 ∷ ticks 900 ∷ [];
-  owing = paid 8 0 eight 120 816 69 ∷ [];
+  owing = paid 8 0 eight 120 816 69 1 ∷ [];
 }
 
 -- ── a long call ──────────────────────────────────────────────────────────────
@@ -390,7 +390,7 @@ abbrev pub hundredHours : Run
 hundredHours = record {
   slots = 1;
   events = calls 100 seven duplex ∷ works 200 0 seven ∷ picksUp 300 0 ∷ ends 3600300 0 seven ∷ [];
-  owing = paid 3 0 seven 300 3600300 360000 ∷ [];
+  owing = paid 3 0 seven 300 3600300 360000 1 ∷ [];
 }
 
 abbrev pub runs : List Run

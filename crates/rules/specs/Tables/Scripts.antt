@@ -44,9 +44,9 @@ call7 = sends seven 101 117 Blank usual
 abbrev pub rechecked : List ℕ → List ℕ
 rechecked s = take (length s - 1) s ++ exclusiveOr 0 (take (length s - 1) s) ∷ []
 
--- a charge as it is printed: slot, ship, start, stop, seconds
-abbrev pub charges : ℕ → ℕ → ℕ → ℕ → ℕ → List ℕ
-charges i x b e s = 7 ∷ i ∷ fours (chargeNumbers (chargeOf i x b e s))
+-- a charge as it is printed: slot, ship, start, stop, seconds, call number
+abbrev pub charges : ℕ → ℕ → ℕ → ℕ → ℕ → ℕ → List ℕ
+charges i x b e s n = 7 ∷ i ∷ fours (chargeNumbers (chargeOf i x b e s n))
 
 -- an end of call with 90 0 26 in its channel field
 abbrev pub ninety : List ℕ
@@ -198,3 +198,19 @@ overSevenCallerByCoast15 =
 abbrev pub unable109Eight : List ℕ
 unable109Eight =
     123 ∷ 20 ∷ 0 ∷ 0 ∷ 0 ∷ 80 ∷ 100 ∷ 0 ∷ 20 ∷ 1 ∷ 23 ∷ 40 ∷ 104 ∷ 109 ∷ 126 ∷ 126 ∷ 126 ∷ 105 ∷ 5 ∷ 55 ∷ 12 ∷ 34 ∷ 122 ∷ 5 ∷ []
+
+-- ── the sequences sent once the last number has been given (02, no. 4) ───────
+
+-- 104/107 to seven
+abbrev pub unable107Seven : List ℕ
+unable107Seven =
+    123 ∷ 20 ∷ 0 ∷ 0 ∷ 0 ∷ 70 ∷ 100 ∷ 0 ∷ 20 ∷ 1 ∷ 23 ∷ 40 ∷ 104 ∷ 107 ∷ 126 ∷ 126 ∷ 126 ∷ 105 ∷ 5 ∷ 55 ∷ 12 ∷ 34 ∷ 122 ∷ 21 ∷ []
+
+-- 104/107 to eight
+abbrev pub unable107Eight : List ℕ
+unable107Eight =
+    123 ∷ 20 ∷ 0 ∷ 0 ∷ 0 ∷ 80 ∷ 100 ∷ 0 ∷ 20 ∷ 1 ∷ 23 ∷ 40 ∷ 104 ∷ 107 ∷ 126 ∷ 126 ∷ 126 ∷ 105 ∷ 5 ∷ 55 ∷ 12 ∷ 34 ∷ 122 ∷ 3 ∷ []
+
+-- 104/107 to seven, with the number 42
+abbrev pub unable107SevenOf42 : List ℕ
+unable107SevenOf42 = 123 ∷ 20 ∷ 0 ∷ 0 ∷ 0 ∷ 70 ∷ 100 ∷ 0 ∷ 20 ∷ 1 ∷ 23 ∷ 40 ∷ 104 ∷ 107 ∷ 126 ∷ 126 ∷ 126 ∷ 106 ∷ 42 ∷ 122 ∷ 32 ∷ []

@@ -9,7 +9,7 @@ use Rattle.rules.specs.Rules.Words.{Mode, simplex, duplex, Request, Conf
 use Rattle.rules.specs.Rules.Station.{Kind, offered, firstRingBack, secondRingBack, acknowledged, firstCall, secondCall, ringing}
 use Rattle.rules.specs.Rules.Station.{dialling, dialledOut, answered}
 use Rattle.rules.specs.Rules.Station.{Slot, free, Waiting, Station}
-use Rattle.rules.specs.Rules.Slots.{pending, busy, held}
+use Rattle.rules.specs.Tables.Slots.{pending, busy, held}
 use Rattle.rules.specs.Rules.Verdict.{verdict, setUpVerdict}
 use Rattle.rules.specs.Tables.Runs.{station, seven, eight, usual, ticks, stationOf}
 use Rattle.rules.specs.Tables.Scripts.{waits, waitingShips}
@@ -32,7 +32,7 @@ kinds = offered ∷ firstRingBack ∷ secondRingBack ∷ acknowledged ∷ firstC
 
 -- at the clock 1000, on two channels
 abbrev pub holding : List Slot → List Waiting → Station
-holding slots queue = record { clock = 1000; slots = slots; queue = queue }
+holding slots queue = record { clock = 1000; slots = slots; queue = queue; lastCall = 1 }
 
 -- the verdict on a tick then
 abbrev pub asked : Config → Station → Option ℕ
@@ -139,9 +139,9 @@ storedCases =
 abbrev pub countCases : List Judged
 countCases =
     -- the clock at the limit
-    sounds (asked (station 2) (record { clock = 4000000000; slots = free ∷ free ∷ []; queue = [] }))
+    sounds (asked (station 2) (record { clock = 4000000000; slots = free ∷ free ∷ []; queue = []; lastCall = 1 }))
     -- past it
-    ∷ unsound (asked (station 2) (record { clock = 4000000001; slots = free ∷ free ∷ []; queue = [] }))
+    ∷ unsound (asked (station 2) (record { clock = 4000000001; slots = free ∷ free ∷ []; queue = []; lastCall = 1 }))
     -- 32 ships wait
     ∷ sounds (queued (waitingShips 32))
     -- 33
