@@ -8,8 +8,8 @@ use Rattle.rules.specs.Rules.Places.{modAt, dropAt, Each}
 use Rattle.rules.specs.Rules.Words.{Party, Request, Config, Ashore, Deed}
 use Rattle.rules.specs.Rules.Heard.{Heard, callRequest}
 use Rattle.rules.specs.Rules.Actions.{Ender, theShip, theCoast, Action}
-use Rattle.rules.specs.Rules.Station.{Dealing, dealing, Slot, Waiting, Station, theSlot, setSlot, setClock, setQueue, answeredAt, ringBackOf, rings}
-use Rattle.rules.specs.Rules.Requests.{Out, also, rungBack, freedFor, freed, endActs, coastEnd, done}
+use Rattle.rules.specs.Rules.Station.{Dealing, dealing, Slot, Waiting, Station, theSlot, setSlot, setClock, setQueue, nextCall, newCall, answeredAt, ringBackOf, rings}
+use Rattle.rules.specs.Rules.Requests.{Out, also, toRingBack, rungBack, freedFor, freed, endActs, coastEnd, done}
 use Rattle.rules.specs.Rules.Calls.{dropActs}
 use Rattle.rules.specs.ListAlone.Book.{Said, silent, Call, quiet, called, dialled, talking, Stop, Column, Book, atColumn, column}
 use Rattle.rules.specs.ListAlone.Reading.{letGo, hush, read, reads}
@@ -17,7 +17,7 @@ use Rattle.rules.specs.ListAlone.Repeated.{putsOff, toldToWait, CallsAsked, Sen
 use Rattle.rules.specs.ListAlone.LineWords.{Word}
 use Rattle.rules.specs.Statement.{deedsOf}
 use Rattle.rules.proofs.PlaceLaws.{each-set, each-dropped}
-use Rattle.rules.proofs.Base.{rungOnce, no-caller, view, deeds-append, slot-each, slot-mapped}
+use Rattle.rules.proofs.Base.{rungOnce, no-caller, view, deeds-append, rung-first, slot-each, slot-mapped}
 use Rattle.rules.proofs.Outcome.{Next, stays, becomes, frees, Move, to-dial, to-agree, to-ring, to-drop, to-call, to-rings, to-answer, to-let-go, to-stage, to-lose, to-regain, to-hold, to-end, to-repeat, to-run-out, to-take, to-give, played, Outcome, passed, moved}
 use Rattle.rules.proofs.Hears.{column-of}
 use Rattle.rules_theorems.proofs.Laws.{there}
@@ -55,6 +55,10 @@ module _ (a : Party → Heard) where
   unfolding setSlot
   set-known i q st p k = record { waiting = k .waiting; ringing = each-set (Rung a) i q (st .slots) p (k .ringing) }
 
+  pub begun-known : (i : ℕ) (q : Slot) (st : Station) → Rung a q → Known a st → Known a (newCall i q st)
+  unfolding newCall
+  begun-known i q st p k = record { waiting = k .waiting; ringing = each-set (Rung a) i q (st .slots) p (k .ringing) }
+
   queue-known : (q : List Waiting) (st : Station) → Each (Asked a) q → Known a st → Known a (setQueue q st)
   unfolding setQueue
   queue-known q st p k = record { waiting = p; ringing = k .ringing }
@@ -82,8 +86,8 @@ fits-append P t on b (d ∷ ds) es p q = (p .0, fits-append P t (switchedOn d) (
 abbrev NoLine : Call → Type 0
 NoLine quiet = Unit {0}
 NoLine (called r b) = ⊥
-NoLine (dialled x m o) = ⊥
-NoLine (talking x m b) = Unit {0}
+NoLine (dialled r o) = ⊥
+NoLine (talking r b) = Unit {0}
 
 abbrev Silent : Column → Type 0
 Silent l = (l .said ≡ silent) × NoLine (l .call)
@@ -92,14 +96,14 @@ Silent l = (l .said ≡ silent) × NoLine (l .call)
 rung-asked : (cfg : Config) (h : Heard) (r : Request) (k : Call) → NoLine k → h ≡ callRequest r → CallsAsked cfg none h r k
 rung-asked cfg h r quiet z e = e
 rung-asked cfg h r (called o b) z e = absurd z
-rung-asked cfg h r (dialled x m o) z e = absurd z
-rung-asked cfg h r (talking x m b) z e = e
+rung-asked cfg h r (dialled x o) z e = absurd z
+rung-asked cfg h r (talking x b) z e = e
 
 rung-behind : (i : ℕ) (r : Request) (s : Said) (k : Call) → s ≡ silent → NoLine k → Sends none i r (some i) s k
 rung-behind i r s quiet e z = rw e refl
 rung-behind i r s (called o b) e z = absurd z
-rung-behind i r s (dialled x m o) e z = absurd z
-rung-behind i r s (talking x m b) e z = rw e refl
+rung-behind i r s (dialled x o) e z = absurd z
+rung-behind i r s (talking x b) e z = rw e refl
 
 -- the line is released, then the carrier off; or the other way round
 released : (l : Column) → NoLine (letGo l .call)
@@ -108,8 +112,8 @@ released l = go (l .call)
     go : (c : Call) → NoLine (letGo (column-of (l .said) (l .wait) c (l .gone)) .call)
     go quiet = tt
     go (called r b) = tt
-    go (dialled x m o) = tt
-    go (talking x m b) = tt
+    go (dialled r o) = tt
+    go (talking r b) = tt
 
 ended-silent : (i : ℕ) (b : Book) → Silent (column (atColumn i hush (atColumn i letGo b)) i)
 ended-silent i b = rw (there hush refl i (modAt letGo i (b .columns)), there letGo refl i (b .columns)) (refl, released (column b i))
@@ -120,8 +124,8 @@ let-go-said l = go (l .call)
     go : (c : Call) → letGo (column-of (l .said) (l .wait) c (l .gone)) .said ≡ l .said
     go quiet = refl
     go (called r b) = refl
-    go (dialled x m o) = refl
-    go (talking x m b) = refl
+    go (dialled r o) = refl
+    go (talking r b) = refl
 
 dropped-silent : (i : ℕ) (b : Book) → Silent (column (atColumn i letGo (atColumn i hush b)) i)
 dropped-silent i b = rw (there letGo refl i (modAt hush i (b .columns)), there hush refl i (b .columns)) (let-go-said (hush (column b i)), released (hush (column b i)))
@@ -137,19 +141,19 @@ module _ (cfg : Config) (h : Heard) (a : Party → Heard) where
   }
 
   -- the oldest is rung back with its request
-  freedFor-calm : (b : Book) (i : ℕ) (st : Station) → Silent (column b i) → Known a st → (q : List Waiting) → st .queue ≡ q → Calm cfg h a b (freedFor i st q)
+  freedFor-calm : (b : Book) (i : ℕ) (st : Station) → Silent (column b i) → Known a st → (q : List Waiting) → toRingBack st ≡ q → Calm cfg h a b (freedFor i st q)
   unfolding freedFor rungBack
   freedFor-calm b i st z k [] e = record { mild = record { fits = λ t on. tt; untold = λ x. refl }; known = set-known a i _ st (λ r h. cc) k }
   freedFor-calm b i st z k (w ∷ q) e =
-      let p : Each (Asked a) (w ∷ q) = rw e at (k .waiting) in
+      let p : Each (Asked a) (w ∷ q) = rw (rung-first st w q e .1) at (k .waiting) in
       record {
         mild = record { fits = λ t on. ((tt, (tt, tt)), ((rung-asked cfg _ _ (column b i .call) (z .1) (p .0), (rung-behind i _ _ (column b i .call) (z .0) (z .1), tt)), tt)); untold = λ x. refl };
-        known = set-known a i (ringBackOf (w .request) st) (setQueue q st) (λ r h. let y : dealing (w .request) ≡ r = cc in rw (← y) (p .0)) (queue-known a q st (p .1) k);
+        known = begun-known a i (ringBackOf (w .request) st) (setQueue q st) (λ r h. let y : dealing (nextCall st) (w .request) ≡ r = cc in rw (← y) (p .0)) (queue-known a q st (p .1) k);
       }
 
   freed-calm : (b : Book) (i : ℕ) (st : Station) → Silent (column b i) → Known a st → Calm cfg h a b (freed i st)
   unfolding freed
-  freed-calm b i st z k = freedFor-calm b i st z k (st .queue) refl
+  freed-calm b i st z k = freedFor-calm b i st z k (toRingBack st) refl
 
   module _ (b : Book) where
     no-deed : Mild cfg h a b []
@@ -164,11 +168,11 @@ module _ (cfg : Config) (h : Heard) (a : Party → Heard) where
     still n st k = record { mild = no-deed; known = k }
 
     -- the line is released, and the carrier off
-    end-mild : (i : ℕ) (e : Ender) (r : Request) (g : Option ℕ) (t : ℕ) → Mild cfg h a b (deedsOf (endActs i e r g t))
+    end-mild : (i : ℕ) (e : Ender) (r : Dealing) (g : Option ℕ) (t : ℕ) → Mild cfg h a b (deedsOf (endActs i e r g t))
     end-mild i e r none t = record { fits = λ t on. ((tt, (tt, tt)), ((tt, (tt, tt)), tt)); untold = λ x. refl }
     end-mild i e r (some s) t = record { fits = λ t on. ((tt, (tt, tt)), ((tt, (tt, tt)), tt)); untold = λ x. refl }
 
-    end-quiet : (i : ℕ) (e : Ender) (r : Request) (g : Option ℕ) (t u : ℕ) → Silent (column (reads none u (deedsOf (endActs i e r g t)) b) i)
+    end-quiet : (i : ℕ) (e : Ender) (r : Dealing) (g : Option ℕ) (t u : ℕ) → Silent (column (reads none u (deedsOf (endActs i e r g t)) b) i)
     unfolding reads
     end-quiet i e r none t u = ended-silent i b
     end-quiet i e r (some s) t u = ended-silent i b
@@ -187,7 +191,7 @@ module _ (cfg : Config) (h : Heard) (a : Party → Heard) where
     drop-quiet i true false u = dropped-silent i b
     drop-quiet i true true u = dropped-silent i b
 
-    pub coastEnd-calm : (i : ℕ) (st : Station) → Known a st → (r : Request) (g : Option ℕ) → Calm cfg h a b (coastEnd i r g st)
+    pub coastEnd-calm : (i : ℕ) (st : Station) → Known a st → (r : Dealing) (g : Option ℕ) → Calm cfg h a b (coastEnd i r g st)
     unfolding coastEnd
     coastEnd-calm i st k r g = also-calm b (endActs i theCoast r g (st .clock)) (freed i st) (end-mild i theCoast r g (st .clock)) (λ t. freed-calm _ i st (end-quiet i theCoast r g (st .clock) t) k)
 
@@ -204,7 +208,7 @@ module _ (cfg : Config) (h : Heard) (a : Party → Heard) where
     move-calm i t _ _ _ (to-dial k r d z) g s = (one-deed _ (λ u on. (tt, (tt, rw s z))) (λ x. refl), λ u o x. cc)
     move-calm i t _ _ _ (to-agree k r d z) g s = (no-deed, λ u o x. cc)
     move-calm i t _ _ _ (to-ring r d) g s = (one-deed _ (λ u on. (rw s (g r refl), (rw s refl, tt))) (λ x. refl), λ u o x. cc)
-    move-calm i t _ _ _ (to-drop k r d z) g s = (one-deed _ (λ u on. (tt, (tt, tt))) (λ x. refl), λ u. rw (there hush refl i (b .columns), s, no-caller k (r .request) z) (refl, tt))
+    move-calm i t _ _ _ (to-drop k r d z) g s = (one-deed _ (λ u on. (tt, (tt, tt))) (λ x. refl), λ u. rw (there hush refl i (b .columns), s, no-caller k r z) (refl, tt))
     move-calm i t _ _ _ (to-call r d) g s = (one-deed _ (λ u on. (rw s refl, (rw s (refl, refl), tt))) (λ x. refl), λ u o x. cc)
     move-calm i t _ _ _ (to-rings k r d z) g s = (one-deed _ (λ u on. (tt, (tt, tt))) (λ x. refl), λ u o x. cc)
     move-calm i t _ _ _ (to-answer r d) g s = (one-deed _ (λ u on. (tt, (tt, tt))) (λ x. refl), λ u o x. cc)
@@ -212,8 +216,8 @@ module _ (cfg : Config) (h : Heard) (a : Party → Heard) where
     move-calm i t _ _ _ (to-stage r n q c z) g s = (no-deed, λ u o x. cc)
     move-calm i t _ _ _ (to-lose r g c) k s = (no-deed, λ u o x. cc)
     move-calm i t _ _ _ (to-regain r g c) k s = (no-deed, λ u o x. cc)
-    move-calm i t _ _ _ (to-hold r g c) k s = (end-mild i theShip (r .request) (answeredAt g) t, λ u o x. cc)
-    move-calm i t _ _ _ (to-end r g c) k s = (end-mild i theCoast (r .request) (answeredAt g) t, λ u. end-quiet i theCoast (r .request) (answeredAt g) t u)
+    move-calm i t _ _ _ (to-hold r g c) k s = (end-mild i theShip r (answeredAt g) t, λ u o x. cc)
+    move-calm i t _ _ _ (to-end r g c) k s = (end-mild i theCoast r (answeredAt g) t, λ u. end-quiet i theCoast r (answeredAt g) t u)
     move-calm i t _ _ _ (to-repeat r n d) g s = (record { fits = λ u on. ((tt, (tt, tt)), ((tt, (tt, tt)), tt)); untold = λ x. refl }, λ u. tt)
     move-calm i t _ _ _ (to-run-out r n d) g s = (no-deed, λ u. rw s (refl, tt))
     move-calm i t _ _ _ to-take g s = (no-deed, λ u o x. cc)

@@ -14,8 +14,8 @@ use Rattle.rules.specs.Rules.Places.{lowest, Each}
 use Rattle.rules.specs.Rules.Words.{Request, Config, Ashore, What, Deed, carrierOn, carrierOff, acknowledge, callShip, unable, dial, releaseLine, ringingOn, ringingOff, busyTone}
 use Rattle.rules.specs.Rules.Heard.{Heard}
 use Rattle.rules.specs.Rules.Actions.{Ender, theCoast, Action}
-use Rattle.rules.specs.Rules.Station.{isCalledIn, ringsIn, Slot, free, Waiting, Station, theSlot, setSlot, setClock, setQueue, answeredAt, isFree, offerOf, calledOf}
-use Rattle.rules.specs.Rules.Requests.{Out, also, rungBack, freedFor, freed, endActs, coastEnd, Standing, nowhere, holds, waits, placeOf, standing, ruleA, repeated, afresh, ruleD, offer, ruleF, ruleG, eToG, newcomer, dToG, redial, requested}
+use Rattle.rules.specs.Rules.Station.{isCalledIn, ringsIn, Dealing, Slot, free, Waiting, Station, theSlot, setSlot, setClock, setQueue, usedUp, newCall, answeredAt, isFree, offerOf, calledOf}
+use Rattle.rules.specs.Rules.Requests.{Out, also, toRingBack, rungBack, freedFor, freed, endActs, coastEnd, Standing, nowhere, holds, waits, placeOf, standing, ruleA, noNumber, repeated, afresh, ruleD, offer, ruleF, ruleG, eToG, newcomer, waitingOrNew, dToG, redial, requested}
 use Rattle.rules.specs.Rules.Ashore.{ashoreRequest, calledFrom}
 use Rattle.rules.specs.Rules.Calls.{actAt}
 use Rattle.rules.specs.ListAlone.Book.{Stop, Column, Book}
@@ -23,9 +23,9 @@ use Rattle.rules.specs.ListAlone.Reading.{fallsAt, momentOf}
 use Rattle.rules.specs.ListAlone.LineWords.{Word, release, releases}
 use Rattle.rules.specs.Statement.{deedsOf, IsFreed}
 use Rattle.rules.proofs.PlaceLaws.{aside, there-or-not, each-append}
-use Rattle.rules.proofs.Base.{seen, deeds-append, slot-given, slot-lowest, free-is}
+use Rattle.rules.proofs.Base.{seen, deeds-append, slot-taken, slot-given, slot-lowest, free-is}
 use Rattle.rules.proofs.Outcome.{Next, stays, becomes, frees, Move, to-take, to-repeat, played, About, move-about, Outcome, passed, moved}
-use Rattle.rules.proofs.Ruling.{Ruling, passes, repeats, renews, redials, bOrC-ruling}
+use Rattle.rules.proofs.Ruling.{Ruling, passes, repeats, renews, runs-out, redials, bOrC-ruling}
 use Rattle.rules.proofs.Effect.{Effect, rests, drops, data-asked, call-asked, to-slot, called-ashore, act-effect}
 
 -- ── deeds and a slot ─────────────────────────────────────────────────────────
@@ -69,11 +69,11 @@ module _ (i j : ℕ) (other : i ≡ j → ⊥) where
   about-aside [] a = (tt, refl)
   about-aside (d ∷ ds) a = let x = one-aside d (a .0) in let y = about-aside ds (a .1) in ((x .0, y .0), rw (x .1, y .1) refl)
 
-  end-aside : (e : Ender) (r : Request) (g : Option ℕ) (t : ℕ) → Aside i (deedsOf (endActs j e r g t))
+  end-aside : (e : Ender) (r : Dealing) (g : Option ℕ) (t : ℕ) → Aside i (deedsOf (endActs j e r g t))
   end-aside e r none t = about-aside (deedsOf (endActs j e r none t)) (refl, (refl, tt))
   end-aside e r (some b) t = about-aside (deedsOf (endActs j e r (some b) t)) (refl, (refl, tt))
 
-pub end-unrung : (i j : ℕ) (e : Ender) (r : Request) (g : Option ℕ) (t : ℕ) → Each (Unrung i) (deedsOf (endActs j e r g t))
+pub end-unrung : (i j : ℕ) (e : Ender) (r : Dealing) (g : Option ℕ) (t : ℕ) → Each (Unrung i) (deedsOf (endActs j e r g t))
 end-unrung i j e r none t = (tt, (tt, tt))
 end-unrung i j e r (some b) t = (tt, (tt, tt))
 
@@ -128,11 +128,11 @@ module _ (i : ℕ) where
 
   module _ (st : Station) (r : Request) where
     afresh-spared : (j : ℕ) → isCalledIn (theSlot st j) ≡ false → SparedBy st (afresh j st r)
-    unfolding afresh
+    unfolding afresh newCall setSlot
     afresh-spared j h = given-spared j (offerOf r st) st _ h refl ((tt, tt), refl)
 
     eToG-spared : (o : Option ℕ) → lowest isFree (st .slots) ≡ o → SparedBy st (eToG st r o)
-    unfolding eToG offer afresh ruleF ruleG setQueue
+    unfolding eToG offer afresh ruleF ruleG setQueue newCall setSlot
     eToG-spared (some j) e = given-spared j (offerOf r st) st _ (rw (free-is (theSlot st j) (slot-lowest st isFree j e)) refl) refl ((tt, (tt, tt)), refl)
     eToG-spared none e = go (ltb (length (st .queue)) 32)
       where
@@ -148,41 +148,50 @@ module _ (i : ℕ) where
     unfolding ruleD setQueue
     ruleD-spared k = still _ _ ((tt, tt), refl)
 
+    waitingOrNew-spared : (k : Option ℕ) → SparedBy st (waitingOrNew st r k)
+    unfolding waitingOrNew
+    waitingOrNew-spared none = newcomer-spared
+    waitingOrNew-spared (some k) = ruleD-spared k
+
     dToG-spared : (k : Option ℕ) → SparedBy st (dToG st r k)
-    unfolding dToG
-    dToG-spared none = newcomer-spared
-    dToG-spared (some k) = ruleD-spared k
+    unfolding dToG noNumber
+    dToG-spared k = go (usedUp st)
+      where
+        go : (b : Bool) → SparedBy st (cond b (noNumber st r) (waitingOrNew st r k))
+        go true = still _ _ ((tt, tt), refl)
+        go false = waitingOrNew-spared k
 
   -- a slot that is not called is freed
   module _ (j : ℕ) (st : Station) (h : isCalledIn (theSlot st j) ≡ false) where
     freedFor-spared : (q : List Waiting) → SparedBy st (freedFor j st q)
-    unfolding freedFor rungBack setQueue
+    unfolding freedFor rungBack setQueue newCall setSlot
     freedFor-spared [] = given-spared j free st _ h refl (tt, refl)
     freedFor-spared (w ∷ q) = given-spared j _ (setQueue q st) _ h refl ((tt, (tt, tt)), refl)
 
-    coastEnd-spared : (o : Request) (g : Option ℕ) → SparedBy st (coastEnd j o g st)
+    coastEnd-spared : (o : Dealing) (g : Option ℕ) → SparedBy st (coastEnd j o g st)
     unfolding coastEnd freed
     coastEnd-spared o g = spared-also st st (endActs j theCoast o g (st .clock)) (freed j st) (record {
       kept = λ k. (refl, end-aside i j (λ e. let z : isCalledIn (theSlot st i) ≡ false = rw e h in true≢false (sym k ∙ z)) theCoast o g (st .clock) .1);
       uncalled = λ k. k;
       unrung = end-unrung i j theCoast o g (st .clock);
-    }) (freedFor-spared (st .queue))
+    }) (freedFor-spared (toRingBack st))
 
   module _ (j : ℕ) (st : Station) (r : Request) where
     ruling-spared : (cs : List Stop) (p : Slot) (o : Out) → Ruling j st r cs p o → theSlot st j ≡ p → SparedBy st o
-    unfolding repeated redial
+    unfolding repeated redial noNumber
     ruling-spared cs _ _ (passes p a) e = still _ _ (tt, refl)
     ruling-spared cs _ _ (repeats k o d a b) e = still _ _ ((tt, tt), refl)
-    ruling-spared cs _ _ (renews k o d z a b) e = afresh-spared st r j (rw e z)
+    ruling-spared cs _ _ (renews k o d z u a b) e = afresh-spared st r j (rw e z)
+    ruling-spared cs _ _ (runs-out k o d z u a b) e = still _ _ ((tt, tt), refl)
     ruling-spared cs _ _ (redials o g c a) e =
-        let end = coastEnd j (o .request) (answeredAt g) st in
-        spared-also st (end .next) (end .acts) (dToG (end .next) r (placeOf (r .who) (end .next))) (coastEnd-spared j st (rw e refl) (o .request) (answeredAt g)) (dToG-spared (end .next) r (placeOf (r .who) (end .next)))
+        let end = coastEnd j o (answeredAt g) st in
+        spared-also st (end .next) (end .acts) (dToG (end .next) r (placeOf (r .who) (end .next))) (coastEnd-spared j st (rw e refl) o (answeredAt g)) (dToG-spared (end .next) r (placeOf (r .who) (end .next)))
 
   request-spared : (st : Station) (r : Request) (s : Standing) → SparedBy st (requested st r s)
   unfolding requested
-  request-spared st r nowhere = newcomer-spared st r
+  request-spared st r nowhere = dToG-spared st r none
   request-spared st r (holds j) = ruling-spared j st r _ (theSlot st j) _ (bOrC-ruling j st r (theSlot st j)) refl
-  request-spared st r (waits k) = ruleD-spared st r k
+  request-spared st r (waits k) = dToG-spared st r (some k)
 
   -- ── whatever happens to a slot ─────────────────────────────────────────────
 
@@ -206,7 +215,7 @@ module _ (i : ℕ) where
         go (inr e) = rw (e .0, e .1, free-rests (st .clock) (rw (e .0) at u)) (spared (still free [] (tt, refl)))
 
     freedFor-course : (acts : List Action) → Move i (st .clock) (theSlot st i) frees acts → (q : List Waiting) → CourseBy st (also acts (freedFor i st q))
-    unfolding freedFor rungBack setQueue
+    unfolding freedFor rungBack setQueue newCall setSlot
     freedFor-course acts u [] = rw (deeds-append acts []) (let-go [] u (slot-given st IsFreed tt free tt i) (tt, refl))
     freedFor-course acts u (w ∷ q) = rw (deeds-append acts (freedFor i st (w ∷ q) .acts)) (let-go (deedsOf (freedFor i st (w ∷ q) .acts)) u (slot-given (setQueue q st) IsFreed tt _ refl i) ((tt, (tt, tt)), refl))
 
@@ -214,7 +223,7 @@ module _ (i : ℕ) where
     unfolding freed
     played-course stays acts u = spared (still (theSlot st i) (deedsOf acts) (repeat-aside (st .clock) u))
     played-course (becomes q) acts u = turned-course q acts u
-    played-course frees acts u = freedFor-course acts u (st .queue)
+    played-course frees acts u = freedFor-course acts u (toRingBack st)
 
     outcome-course : {f : Column → Column} {w : Word → Word} {cs : List Stop} {o : Out} → Outcome i st f w cs (theSlot st i) o → CourseBy st o
     outcome-course (passed a b c) = spared (still (theSlot st i) [] (tt, refl))
@@ -231,7 +240,7 @@ module _ (i : ℕ) where
         go (inr e) = e
 
     freedFor-elsewhere : (st : Station) (q : List Waiting) → (theSlot (freedFor j st q .next) i ≡ theSlot st i) × Each (About j []) (deedsOf (freedFor j st q .acts))
-    unfolding freedFor rungBack setQueue
+    unfolding freedFor rungBack setQueue newCall setSlot
     freedFor-elsewhere st [] = (unmoved st _, tt)
     freedFor-elsewhere st (w ∷ q) = (unmoved (setQueue q st) _, (refl, ((refl, refl), tt)))
 
@@ -240,8 +249,8 @@ module _ (i : ℕ) where
     played-elsewhere st stays acts a = (refl, a)
     played-elsewhere st (becomes q) acts a = (unmoved st q, a)
     played-elsewhere st frees acts a =
-        let f = freedFor-elsewhere st (st .queue) in
-        (f .0, rw (deeds-append acts (freedFor j st (st .queue) .acts)) (each-append (About j []) (deedsOf acts) _ a (f .1)))
+        let f = freedFor-elsewhere st (toRingBack st) in
+        (f .0, rw (deeds-append acts (freedFor j st (toRingBack st) .acts)) (each-append (About j []) (deedsOf acts) _ a (f .1)))
 
     outcome-elsewhere : (st : Station) {f : Column → Column} {w : Word → Word} {cs : List Stop} (p : Slot) {o : Out} → Outcome j st f w cs p o → SparedBy st o
     outcome-elsewhere st p (passed a b c) = still (theSlot st i) [] (tt, refl)
@@ -260,7 +269,7 @@ module _ (i : ℕ) where
 
   -- a free slot from which a ship is called
   called-course : (st : Station) (j : ℕ) (r : Request) → isFree (theSlot st j) ≡ true → CourseBy st (calledFrom st r (some j))
-  unfolding calledFrom setSlot
+  unfolding calledFrom setSlot newCall
   called-course st j r h = go (aside free (λ x. calledOf r st) j i (st .slots))
     where
       go : (i ≡ j) ⊎ (theSlot (setSlot j (calledOf r st) st) i ≡ theSlot st i) → CourseBy st (calledFrom st r (some j))
@@ -275,7 +284,7 @@ module _ (i : ℕ) where
   effect-course cfg st _ _ _ _ _ _ (drops k) = spared (still (theSlot st i) [] (tt, refl))
   effect-course cfg st _ _ _ _ _ _ (data-asked x n) = spared (still (theSlot st i) (unable 109 x n ∷ []) ((tt, tt), refl))
   effect-course cfg st _ _ _ _ _ _ (call-asked r) = spared (request-spared st r (standing st (r .who)))
-  effect-course cfg st _ _ _ _ _ _ (called-ashore a j h) = called-course st j (ashoreRequest cfg a) (slot-lowest st isFree j h)
+  effect-course cfg st _ _ _ _ _ _ (called-ashore a j h) = called-course st j (ashoreRequest cfg a) (slot-lowest st isFree j (slot-taken st j h .1))
   effect-course cfg st _ _ _ _ _ _ (to-slot m j u e) = slot-course st j u
 
 pub act-course : (cfg : Config) (st : Station) (t : ℕ) (w : What) (i : ℕ) → Course i (momentOf t (fallsAt (seen st) t w)) (theSlot st i) (deedsOf (actAt cfg st t w .acts)) (theSlot (actAt cfg st t w .next) i)

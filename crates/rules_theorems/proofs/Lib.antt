@@ -8,6 +8,7 @@ pub mod Laws
 pub mod Stopped
 pub mod Orderly
 pub mod Charged
+pub mod Numbers
 pub mod Literal
 pub mod Idle
 -- calls from ashore: the ringing, the line, the ship that is called

@@ -14,8 +14,8 @@ use Rattle.rules.specs.Rules.Places.{modAt, dropAt, lowest, Each}
 use Rattle.rules.specs.Rules.Words.{Party, Request, Config, Ashore, What, tick, onChannel70, onSlot, fromAshore, ashoreIn, Event}
 use Rattle.rules.specs.Rules.Heard.{Heard, callRequest, dataRequest, bq, workingCall, endOfCall, declined, nothing, meaning}
 use Rattle.rules.specs.Rules.Actions.{Ender, theShip, theCoast, Action}
-use Rattle.rules.specs.Rules.Station.{Kind, isCalled, rings, isCalledIn, Dealing, Slot, free, pending, Waiting, Station, theSlot, setClock, answeredAt, isFree}
-use Rattle.rules.specs.Rules.Requests.{Out, ignored, also, rungBack, freedFor, freed, endActs, coastEnd, owns, slotOf, placeOf, Standing, nowhere, holds, waits, standsAt, standing, calledAt, beingCalled, ruleA, repeated, afresh, ruleD, offer, ruleF, ruleG, eToG, newcomer, dToG, redial, bOrC, requested}
+use Rattle.rules.specs.Rules.Station.{Kind, isCalled, rings, isCalledIn, Dealing, Slot, free, pending, Waiting, Station, theSlot, setClock, usedUp, answeredAt, isFree}
+use Rattle.rules.specs.Rules.Requests.{Out, ignored, also, toRingBack, rungBack, freedFor, freed, endActs, coastEnd, owns, slotOf, placeOf, Standing, nowhere, holds, waits, standsAt, standing, calledAt, beingCalled, ruleA, noNumber, repeated, afresh, ruleD, offer, ruleF, ruleG, eToG, newcomer, waitingOrNew, dToG, redial, bOrC, requested}
 use Rattle.rules.specs.Rules.Ashore.{ashoreRequest, calledFrom}
 use Rattle.rules.specs.Rules.Calls.{dropActs, heardOn70, actAt}
 use Rattle.rules.specs.Rules.Verdict.{verdict}
@@ -25,11 +25,11 @@ use Rattle.rules.specs.ListAlone.LineWords.{Word}
 use Rattle.rules.specs.ListAlone.BeingCalled.{isFor, Uncalled, SaidToOthers, InVain}
 use Rattle.rules.specs.Statement.{deedsOf, CalledNotOffered, CalledAskInVain, AskedBy, CalledIgnored}
 use Rattle.rules.proofs.PlaceLaws.{each-append, each-at, each-dropped, each-others, each-back}
-use Rattle.rules.proofs.Base.{by-slot, by-kind, by-stage, no-caller, lineOf, callIn, view, seen, is-same, deeds-append, slot-lowest, slot-set, slot-mapped}
+use Rattle.rules.proofs.Base.{by-slot, by-kind, by-stage, no-caller, lineOf, callIn, view, seen, is-same, deeds-append, rung-first, slot-lowest, slot-set, slot-mapped}
 use Rattle.rules.proofs.Once.{countS, countQ, Once, distinct-once, count-set, none-count}
 use Rattle.rules.proofs.Accepted.{accepted, sounds}
 use Rattle.rules.proofs.Outcome.{Next, stays, becomes, frees, Move, to-dial, to-agree, to-ring, to-drop, to-call, to-rings, to-answer, to-let-go, to-stage, to-lose, to-regain, to-hold, to-end, to-repeat, to-run-out, to-take, to-give, played, Outcome, passed, moved}
-use Rattle.rules.proofs.Ruling.{Ruling, passes, repeats, renews, redials, bOrC-ruling}
+use Rattle.rules.proofs.Ruling.{Ruling, passes, repeats, renews, runs-out, redials, bOrC-ruling}
 use Rattle.rules.proofs.Effect.{Effect, rests, drops, data-asked, call-asked, to-slot, called-ashore, act-effect}
 use Rattle.rules.proofs.Walk.{asked-callable}
 use Rattle.rules_theorems.proofs.Entries.{book-entries}
@@ -41,11 +41,11 @@ NotFor x s = isFor x (view s .call) ≡ false
 
 -- a slot that calls nobody
 quiet-slot : (x : Party) (s : Slot) → isCalledIn s ≡ false → NotFor x s
-quiet-slot x = by-slot (λ s. isCalledIn s ≡ false → NotFor x s) (λ h. refl) (λ h. refl) (λ k r d h. rw (no-caller k (r .request) h) refl) (λ r g c h. by-stage (λ z. isFor x (callIn (r .request) z) ≡ false) (λ d. refl) (λ d. refl) (λ b. refl) g) (λ r n d h. refl)
+quiet-slot x = by-slot (λ s. isCalledIn s ≡ false → NotFor x s) (λ h. refl) (λ h. refl) (λ k r d h. rw (no-caller k r h) refl) (λ r g c h. by-stage (λ z. isFor x (callIn r z) ≡ false) (λ d. refl) (λ d. refl) (λ b. refl) g) (λ r n d h. refl)
 
 -- a slot that another ship has, or none
 other-slot : (x : Party) (s : Slot) → owns x s ≡ false → NotFor x s
-other-slot x = by-slot (λ s. owns x s ≡ false → NotFor x s) (λ h. refl) (λ h. refl) (λ k r d h. by-kind (λ z. isFor x (lineOf z (r .request)) ≡ false) refl refl refl refl h h h k) (λ r g c h. by-stage (λ z. isFor x (callIn (r .request) z) ≡ false) (λ d. refl) (λ d. refl) (λ b. refl) g) (λ r n d h. refl)
+other-slot x = by-slot (λ s. owns x s ≡ false → NotFor x s) (λ h. refl) (λ h. refl) (λ k r d h. by-kind (λ z. isFor x (lineOf z r) ≡ false) refl refl refl refl h h h k) (λ r g c h. by-stage (λ z. isFor x (callIn r z) ≡ false) (λ d. refl) (λ d. refl) (λ b. refl) g) (λ r n d h. refl)
 
 -- a ship that has no slot
 slotless : (x : Party) (ss : List Slot) → countS x ss ≡ 0 → Uncalled x (map view ss)
@@ -97,8 +97,8 @@ module _ (st : Station) (once : Once st) where
       x : Party
       x = r .request .who
 
-      for-its-ship : (z : Kind) → isCalled z ≡ true → isFor x (lineOf z (r .request)) ≡ true
-      for-its-ship = by-kind (λ z. isCalled z ≡ true → isFor x (lineOf z (r .request)) ≡ true) (λ h. cc) (λ h. cc) (λ h. cc) (λ h. cc) (λ h. is-same x x refl) (λ h. is-same x x refl) (λ h. is-same x x refl)
+      for-its-ship : (z : Kind) → isCalled z ≡ true → isFor x (lineOf z r) ≡ true
+      for-its-ship = by-kind (λ z. isCalled z ≡ true → isFor x (lineOf z r) ≡ true) (λ h. cc) (λ h. cc) (λ h. cc) (λ h. cc) (λ h. is-same x x refl) (λ h. is-same x x refl) (λ h. is-same x x refl)
 
       go : Either (beingCalled st x) → beingCalled st x ≡ true
       go (yes! b) = b
@@ -143,20 +143,20 @@ module _ (st : Station) (once : Once st) where
   others-also a o p q = rw (deeds-append a (o .acts)) (each-append (SaidToOthers columns) (deedsOf a) (deedsOf (o .acts)) p q)
 
   -- to the oldest that waits
-  freedFor-others : (i : ℕ) (q : List Waiting) → st .queue ≡ q → Others (freedFor i st q .acts)
+  freedFor-others : (i : ℕ) (q : List Waiting) → toRingBack st ≡ q → Others (freedFor i st q .acts)
   unfolding freedFor rungBack
   freedFor-others i [] e = tt
-  freedFor-others i (w ∷ q) e = (tt, (each-dropped _ i columns (waiting-uncalled w q e), tt))
+  freedFor-others i (w ∷ q) e = (tt, (each-dropped _ i columns (waiting-uncalled w q (rung-first st w q e .1)), tt))
 
   freed-others : (i : ℕ) → Others (freed i st .acts)
   unfolding freed
-  freed-others i = freedFor-others i (st .queue) refl
+  freed-others i = freedFor-others i (toRingBack st) refl
 
-  end-others : (i : ℕ) (e : Ender) (r : Request) (g : Option ℕ) (t : ℕ) → Others (endActs i e r g t)
+  end-others : (i : ℕ) (e : Ender) (r : Dealing) (g : Option ℕ) (t : ℕ) → Others (endActs i e r g t)
   end-others i e r none t = (tt, (tt, tt))
   end-others i e r (some b) t = (tt, (tt, tt))
 
-  coastEnd-others : (i : ℕ) (r : Request) (g : Option ℕ) → Others (coastEnd i r g st .acts)
+  coastEnd-others : (i : ℕ) (r : Dealing) (g : Option ℕ) → Others (coastEnd i r g st .acts)
   unfolding coastEnd
   coastEnd-others i r g = others-also (endActs i theCoast r g (st .clock)) (freed i st) (end-others i theCoast r g (st .clock)) (freed-others i)
 
@@ -171,22 +171,31 @@ module _ (st : Station) (once : Once st) where
         go true = (u, tt)
         go false = (u, tt)
 
+    waitingOrNew-others : (s : Station) (k : Option ℕ) → Others (waitingOrNew s r k .acts)
+    unfolding waitingOrNew newcomer ruleD
+    waitingOrNew-others s none = eToG-others s (lowest isFree (s .slots))
+    waitingOrNew-others s (some k) = (u, tt)
+
     dToG-others : (s : Station) (k : Option ℕ) → Others (dToG s r k .acts)
-    unfolding dToG newcomer ruleD
-    dToG-others s none = eToG-others s (lowest isFree (s .slots))
-    dToG-others s (some k) = (u, tt)
+    unfolding dToG noNumber
+    dToG-others s k = go (usedUp s)
+      where
+        go : (b : Bool) → Others (cond b (noNumber s r) (waitingOrNew s r k) .acts)
+        go true = (u, tt)
+        go false = waitingOrNew-others s k
 
     ruling-others : (i : ℕ) (cs : List Stop) (p : Slot) (o : Out) → Ruling i st r cs p o → Others (o .acts)
-    unfolding repeated afresh redial
+    unfolding repeated afresh redial noNumber
     ruling-others i cs _ _ (passes p a) = tt
     ruling-others i cs _ _ (repeats k o d a b) = (u, tt)
-    ruling-others i cs _ _ (renews k o d z a b) = (u, tt)
+    ruling-others i cs _ _ (renews k o d z n a b) = (u, tt)
+    ruling-others i cs _ _ (runs-out k o d z n a b) = (u, tt)
     ruling-others i cs _ _ (redials o g c a) =
-        let end = coastEnd i (o .request) (answeredAt g) st in
-        others-also (end .acts) (dToG (end .next) r (placeOf (r .who) (end .next))) (coastEnd-others i (o .request) (answeredAt g)) (dToG-others (end .next) (placeOf (r .who) (end .next)))
+        let end = coastEnd i o (answeredAt g) st in
+        others-also (end .acts) (dToG (end .next) r (placeOf (r .who) (end .next))) (coastEnd-others i o (answeredAt g)) (dToG-others (end .next) (placeOf (r .who) (end .next)))
 
     request-others : (s : Standing) → Others (requested st r s .acts)
-    unfolding requested newcomer ruleD dToG
+    unfolding requested
     request-others nowhere = dToG-others st none
     request-others (holds i) = ruling-others i _ (theSlot st i) _ (bOrC-ruling i st r (theSlot st i))
     request-others (waits k) = dToG-others st (some k)
@@ -210,8 +219,8 @@ module _ (st : Station) (once : Once st) where
   move-others i t _ _ _ (to-stage r n q c z) h = tt
   move-others i t _ _ _ (to-lose r g c) h = tt
   move-others i t _ _ _ (to-regain r g c) h = tt
-  move-others i t _ _ _ (to-hold r g c) h = end-others i theShip (r .request) (answeredAt g) t
-  move-others i t _ _ _ (to-end r g c) h = end-others i theCoast (r .request) (answeredAt g) t
+  move-others i t _ _ _ (to-hold r g c) h = end-others i theShip r (answeredAt g) t
+  move-others i t _ _ _ (to-end r g c) h = end-others i theCoast r (answeredAt g) t
   move-others i t _ _ _ (to-repeat r n d) h = (tt, (tt, tt))
   move-others i t _ _ _ (to-run-out r n d) h = tt
   move-others i t _ _ _ to-take h = tt

@@ -30,8 +30,8 @@ module _ (cfg : Config) (c t : ℕ) (h : c ≤ t) where
   one-good : (i : ℕ) (k : Call) → since c k ≡ true → Each (λ s. EndsAt t (owed s)) (stopOf t i k)
   one-good i quiet e = tt
   one-good i (called r b) e = tt
-  one-good i (dialled x m o) e = tt
-  one-good i (talking x m b) e = let a = leb-true b c e in ((omega arith, refl), tt)
+  one-good i (dialled r o) e = tt
+  one-good i (talking r b) e = let a = leb-true b c e in ((omega arith, refl), tt)
 
   all-good : (b : Book) → all (λ l. since c (l .call)) (b .columns) ≡ true → (o : Option Due) (w : What)
       → Each (λ s. EndsAt t (owed s)) (stopsAt cfg t b o w)

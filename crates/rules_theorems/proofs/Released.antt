@@ -5,7 +5,7 @@ use mathlib.Core.List.{List, []}
 use mathlib.Core.Bool.{Bool, true, false, true≢false}
 use Prim.Native.Nat.{ℕ}
 use borrow.Author.Tests.{eq-eqb}
-use Rattle.rules.specs.Rules.Words.{Request, Deed}
+use Rattle.rules.specs.Rules.Words.{Deed}
 use Rattle.rules.specs.Rules.Station.{Kind, isCalled, rings, Dealing, Slot, pending, Station}
 use Rattle.rules.specs.Rules.Calls.{dropActs}
 use Rattle.rules.specs.ListAlone.Reading.{moment}
@@ -18,8 +18,8 @@ use Rattle.rules_theorems.proofs.Course.{releases-append, Course, spare
 use Rattle.rules.proofs.Tenths.{clock-is}
 
 -- nobody dials while a ship is being called
-undialled : (k : Kind) (r : Request) → isCalled k ≡ true → Dials (r .number) (saidOf k r) → ⊥
-undialled k r = by-kind (λ z. isCalled z ≡ true → Dials (r .number) (saidOf z r) → ⊥) (λ h n. true≢false (sym h)) (λ h n. n) (λ h n. n) (λ h n. true≢false (sym h)) (λ h n. n) (λ h n. n) (λ h n. n) k
+undialled : (k : Kind) (r : Dealing) → isCalled k ≡ true → Dials (r .request .number) (saidOf k r) → ⊥
+undialled k r = by-kind (λ z. isCalled z ≡ true → Dials (r .request .number) (saidOf z r) → ⊥) (λ h n. true≢false (sym h)) (λ h n. n) (λ h n. n) (λ h n. true≢false (sym h)) (λ h n. n) (λ h n. n) (λ h n. n) k
 
 drop-releases : (i : ℕ) (rung tone : Bool) → releases i (deedsOf (dropActs i rung tone)) ≡ 1
 drop-releases i false false = rw (eq-eqb i i refl) refl
@@ -31,7 +31,7 @@ course-released : (i t : ℕ) (k : Kind) (r : Dealing) (d : ℕ) (ds : List Deed
     → (GoesOn r t q × (releases i ds ≡ 0)) ⊎ (IsFreed q × (releases i ds ≡ 1))
 course-released i t k r d ds q h (spared s) = let e = s .kept h in inl (rw (e .0) (h, refl), e .1)
 course-released i t k r d _ q h (calls o x y) = absurd (true≢false (sym h ∙ x))
-course-released i t _ _ _ _ _ h (turned (to-dial k r d z)) = absurd (undialled k (r .request) h z)
+course-released i t _ _ _ _ _ h (turned (to-dial k r d z)) = absurd (undialled k r h z)
 course-released i t _ _ _ _ _ h (turned (to-agree k r d z)) = absurd (true≢false (sym h ∙ z))
 course-released i t _ _ _ _ _ h (turned (to-ring r d)) = absurd (true≢false (sym h))
 course-released i t _ _ _ _ _ h (turned (to-call r d)) = inl ((refl, refl), refl)

@@ -10,8 +10,8 @@ use lib.ListN.{length}
 use Rattle.rules.specs.Rules.Places.{modAt, shift, lowest, Each}
 use Rattle.rules.specs.Rules.Words.{Party, is, Request, Config, Ashore, What, ashoreIn, Event, Deed}
 use Rattle.rules.specs.Rules.Heard.{Heard, callRequest, nothing}
-use Rattle.rules.specs.Rules.Station.{Slot, Waiting, Station, theSlot, fresh, setSlot, setClock, setQueue, dueAfter, queueWait, answeredAt, isFree, offerOf, calledOf}
-use Rattle.rules.specs.Rules.Requests.{Out, also, rungBack, freedFor, freed, coastEnd, owns, waitsFor, slotOf, placeOf, standsAt, standing, ruleA, repeated, afresh, ruleD, offer, ruleF, ruleG, eToG, newcomer, dToG, redial, requested}
+use Rattle.rules.specs.Rules.Station.{Dealing, Slot, Waiting, Station, theSlot, fresh, setSlot, setClock, setQueue, usedUp, newCall, dueAfter, queueWait, answeredAt, isFree, offerOf, calledOf}
+use Rattle.rules.specs.Rules.Requests.{Out, also, toRingBack, rungBack, freedFor, freed, coastEnd, owns, waitsFor, slotOf, placeOf, standsAt, standing, ruleA, noNumber, repeated, afresh, ruleD, offer, ruleF, ruleG, eToG, newcomer, waitingOrNew, dToG, redial, requested}
 use Rattle.rules.specs.Rules.Ashore.{isMode, ashoreRequest, calledFrom}
 use Rattle.rules.specs.Rules.Kinds.{ModesKept}
 use Rattle.rules.specs.Rules.Calls.{actAt, act}
@@ -23,13 +23,14 @@ use Rattle.rules.specs.Statement.{deedsOf, notes, EveryEntry, AnswersRepeat, Se
 use Rattle.rules.specs.ListAlone.LineWords.{Word}
 use Rattle.rules.proofs.PlaceLaws.{shift-some, each-append}
 use Rattle.rules.proofs.KindLaws.{modes-kept}
-use Rattle.rules.proofs.Base.{rung-owns, view, seen, is-same, deeds-append, slot-lowest, slot-mapped, free-is, fresh-each}
+use Rattle.rules.proofs.Base.{rung-owns, view, seen, is-same, deeds-append, rung-first, slot-taken, slot-lowest, slot-mapped, free-is, fresh-each}
 use Rattle.rules.proofs.Accepted.{accepted, sounds}
 use Rattle.rules.proofs.Run.{turn-is, fresh-seen}
 use Rattle.rules_theorems.proofs.Entries.{Reader, FitsOn, run-entries}
-use Rattle.rules.proofs.Once.{bit, countS, countQ, Once, distinct-once, none-count, waiting-count, coastEnd-gone}
-use Rattle.rules.proofs.Ruling.{Ruling, passes, repeats, renews, redials, bOrC-ruling}
-use Rattle.rules_theorems.proofs.Calm.{Asked, Rung, Known, Fits, Calm, still, set-known, told-append, fits-append, coastEnd-calm, outcome-calm, clock-known, drop-calm}
+use Rattle.rules.proofs.Occurs.{bit}
+use Rattle.rules.proofs.Once.{countS, countQ, Once, distinct-once, none-count, waiting-count, coastEnd-gone}
+use Rattle.rules.proofs.Ruling.{Ruling, passes, repeats, renews, runs-out, redials, bOrC-ruling}
+use Rattle.rules_theorems.proofs.Calm.{Asked, Rung, Known, Fits, Calm, still, begun-known, told-append, fits-append, coastEnd-calm, outcome-calm, clock-known, drop-calm}
 use Rattle.rules.proofs.Effect.{Effect, rests, drops, data-asked, call-asked, to-slot, called-ashore, act-effect}
 
 -- what each ship last asked for, once the deeds are done
@@ -92,6 +93,11 @@ module _ (cfg : Config) (r : Request) (a : Party → Heard) (b : Book) where
           no-shift (some n) h = let y : suc n ≡ zero = cc in omega arith
       go false e (suc k) z ih = let m : 0 + countQ (r .who) q ≤ 1 = rw e at n in (rw e (s .0), ih k (shift-some _ k z) (omega arith))
 
+  -- no number is left
+  noNumber-calm : (st : Station) → Known a st → Calm cfg (callRequest r) a b (noNumber st r)
+  unfolding noNumber
+  noNumber-calm st k = record { mild = record { fits = λ t on. (((refl, refl), (tt, tt)), tt); untold = λ x. refl }; known = k }
+
   -- ── rules d to g ───────────────────────────────────────────────────────────
 
   module _ (st : Station) (k : Known a st) (n : countS (r .who) (st .slots) ≡ 0) where
@@ -105,7 +111,7 @@ module _ (cfg : Config) (r : Request) (a : Party → Heard) (b : Book) where
 
     eToG-said : placeOf (r .who) st ≡ none → (o : Option ℕ) → Said cfg (callRequest r) a b (eToG st r o)
     unfolding eToG offer afresh ruleG
-    eToG-said h (some i) = calm-said cfg _ a b _ (record { mild = record { fits = λ t on. ((tt, (tt, tt)), ((refl, (tt, tt)), tt)); untold = λ x. refl }; known = set-known a i (offerOf r st) st (λ o x. cc) k })
+    eToG-said h (some i) = calm-said cfg _ a b _ (record { mild = record { fits = λ t on. ((tt, (tt, tt)), ((refl, (tt, tt)), tt)); untold = λ x. refl }; known = begun-known a i (offerOf r st) st (λ o x. cc) k })
     eToG-said h none = go (ltb (length (st .queue)) 32)
       where
         go : (t : Bool) → Said cfg (callRequest r) a b (cond t (ruleF st r) (ruleG st r))
@@ -116,16 +122,24 @@ module _ (cfg : Config) (r : Request) (a : Party → Heard) (b : Book) where
     unfolding newcomer
     newcomer-said h = eToG-said h (lowest isFree (st .slots))
 
+    waitingOrNew-said : (o : Option ℕ) → placeOf (r .who) st ≡ o → countQ (r .who) (st .queue) ≤ 1 → Said cfg (callRequest r) a b (waitingOrNew st r o)
+    unfolding waitingOrNew
+    waitingOrNew-said none h m = newcomer-said h
+    waitingOrNew-said (some j) h m = ruleD-said j h m
+
     dToG-said : (o : Option ℕ) → placeOf (r .who) st ≡ o → countQ (r .who) (st .queue) ≤ 1 → Said cfg (callRequest r) a b (dToG st r o)
     unfolding dToG
-    dToG-said none h m = newcomer-said h
-    dToG-said (some j) h m = ruleD-said j h m
+    dToG-said o h m = go (usedUp st)
+      where
+        go : (t : Bool) → Said cfg (callRequest r) a b (cond t (noNumber st r) (waitingOrNew st r o))
+        go true = calm-said cfg _ a b _ (noNumber-calm st k)
+        go false = waitingOrNew-said o h m
 
   -- ── rules b and c ──────────────────────────────────────────────────────────
 
   afresh-calm : (i : ℕ) (st : Station) → Known a st → Calm cfg (callRequest r) a b (afresh i st r)
   unfolding afresh
-  afresh-calm i st k = record { mild = record { fits = λ t on. ((refl, (tt, tt)), tt); untold = λ x. refl }; known = set-known a i (offerOf r st) st (λ o x. cc) k }
+  afresh-calm i st k = record { mild = record { fits = λ t on. ((refl, (tt, tt)), tt); untold = λ x. refl }; known = begun-known a i (offerOf r st) st (λ o x. cc) k }
 
   repeated-calm : (i : ℕ) (st : Station) → Known a st → Calm cfg (callRequest r) a b (repeated i st r)
   unfolding repeated
@@ -141,14 +155,14 @@ also-said cfg h a b p o c s = record {
     same-told : (x : Party) → toldToWait x (deedsOf (p .acts ++ o .acts)) ≡ toldToWait x (deedsOf (o .acts))
     same-told x = ap (toldToWait x) (deeds-append (p .acts) (o .acts)) ∙ told-append x (deedsOf (p .acts)) (deedsOf (o .acts)) (c .mild .untold x)
 
-freedFor-fewer : (i : ℕ) (x : Party) (st : Station) (q : List Waiting) → st .queue ≡ q → countQ x (st .queue) ≤ 1 → countQ x (freedFor i st q .next .queue) ≤ 1
-unfolding freedFor rungBack setSlot setQueue
+freedFor-fewer : (i : ℕ) (x : Party) (st : Station) (q : List Waiting) → toRingBack st ≡ q → countQ x (st .queue) ≤ 1 → countQ x (freedFor i st q .next .queue) ≤ 1
+unfolding freedFor rungBack setSlot setQueue newCall
 freedFor-fewer i x st [] e n = n
-freedFor-fewer i x st (w ∷ q) e n = let m : bit (is x (w .request .who)) + countQ x q ≤ 1 = rw e at n in omega arith
+freedFor-fewer i x st (w ∷ q) e n = let m : bit (is x (w .request .who)) + countQ x q ≤ 1 = rw (rung-first st w q e .1) at n in omega arith
 
-coastEnd-fewer : (i : ℕ) (x : Party) (o : Request) (g : Option ℕ) (st : Station) → countQ x (st .queue) ≤ 1 → countQ x (coastEnd i o g st .next .queue) ≤ 1
+coastEnd-fewer : (i : ℕ) (x : Party) (o : Dealing) (g : Option ℕ) (st : Station) → countQ x (st .queue) ≤ 1 → countQ x (coastEnd i o g st .next .queue) ≤ 1
 unfolding coastEnd freed
-coastEnd-fewer i x o g st n = freedFor-fewer i x st (st .queue) refl n
+coastEnd-fewer i x o g st n = freedFor-fewer i x st (toRingBack st) refl n
 
 module _ (cfg : Config) (r : Request) (a : Party → Heard) (b : Book) (st : Station) (k : Known a st) (once : Once st) where
   waits-once : countQ (r .who) (st .queue) ≤ 1
@@ -158,17 +172,17 @@ module _ (cfg : Config) (r : Request) (a : Party → Heard) (b : Book) (st : Sta
   unfolding redial
   ruling-said i cs _ _ (passes p x) e h = calm-said cfg _ a b _ (still cfg (callRequest r) a b 1 st k)
   ruling-said i cs _ _ (repeats j o d x y) e h = calm-said cfg _ a b _ (repeated-calm cfg r a b i st k)
-  ruling-said i cs _ _ (renews j o d z x y) e h = calm-said cfg _ a b _ (afresh-calm cfg r a b i st k)
+  ruling-said i cs _ _ (renews j o d z u x y) e h = calm-said cfg _ a b _ (afresh-calm cfg r a b i st k)
+  ruling-said i cs _ _ (runs-out j o d z u x y) e h = calm-said cfg _ a b _ (noNumber-calm cfg r a b st k)
   ruling-said i cs _ _ (redials o g c x) e h =
-      let q = o .request in
       let s = answeredAt g in
-      let end = coastEnd-calm cfg (callRequest r) a b i st k q s in
-      also-said cfg (callRequest r) a b (coastEnd i q s st) _ end (λ t. dToG-said cfg r a (reads none t (deedsOf (coastEnd i q s st .acts)) b) (coastEnd i q s st .next) (end .known) (coastEnd-gone i (r .who) q s st once (rw e h)) (placeOf (r .who) (coastEnd i q s st .next)) refl (coastEnd-fewer i (r .who) q s st waits-once))
+      let end = coastEnd-calm cfg (callRequest r) a b i st k o s in
+      also-said cfg (callRequest r) a b (coastEnd i o s st) _ end (λ t. dToG-said cfg r a (reads none t (deedsOf (coastEnd i o s st .acts)) b) (coastEnd i o s st .next) (end .known) (coastEnd-gone i (r .who) o s st once (rw e h)) (placeOf (r .who) (coastEnd i o s st .next)) refl (coastEnd-fewer i (r .who) o s st waits-once))
 
   request-said : (o q : Option ℕ) → slotOf (r .who) st ≡ o → placeOf (r .who) st ≡ q → Said cfg (callRequest r) a b (requested st r (standsAt o q))
   unfolding requested
-  request-said none none e h = newcomer-said cfg r a b st k (none-count (r .who) (st .slots) e) h
-  request-said none (some j) e h = ruleD-said cfg r a b st k (none-count (r .who) (st .slots) e) j h waits-once
+  request-said none none e h = dToG-said cfg r a b st k (none-count (r .who) (st .slots) e) none h waits-once
+  request-said none (some j) e h = dToG-said cfg r a b st k (none-count (r .who) (st .slots) e) (some j) h waits-once
   request-said (some i) q e h = ruling-said i _ (theSlot st i) _ (bOrC-ruling i st r (theSlot st i)) refl (slot-lowest st (owns (r .who)) i e)
 
 -- ── any event ────────────────────────────────────────────────────────────────
@@ -186,8 +200,8 @@ module _ (cfg : Config) (a : Party → Heard) where
   effect-said k st v n once _ _ _ _ _ _ (data-asked x d) f = calm-said cfg _ a k _ (record { mild = record { fits = λ t on. (((refl, refl), (tt, tt)), tt); untold = λ x. refl }; known = n })
   effect-said k st v n once _ _ _ _ _ _ (call-asked r) f = request-said cfg r a k st n once (slotOf (r .who) st) (placeOf (r .who) st) refl refl
   effect-said k st v n once _ _ _ _ _ _ (called-ashore x i h) f =
-      let c : column k i ≡ blank = rw v (slot-mapped st view i ∙ ap view (free-is (theSlot st i) (slot-lowest st isFree i h))) in
-      record { fits = λ t on. ((tt, (tt, tt)), ((asks-for cfg x (f x refl), (rw c (refl, (refl, refl)), tt)), tt)); known = set-known a i (calledOf (ashoreRequest cfg x) st) st (λ o y. cc) n }
+      let c : column k i ≡ blank = rw v (slot-mapped st view i ∙ ap view (free-is (theSlot st i) (slot-lowest st isFree i (slot-taken st i h .1)))) in
+      record { fits = λ t on. ((tt, (tt, tt)), ((asks-for cfg x (f x refl), (rw c (refl, (refl, refl)), tt)), tt)); known = begun-known a i (calledOf (ashoreRequest cfg x) st) st (λ o y. cc) n }
   effect-said k st v n once _ _ _ _ _ _ (to-slot m i u e) f = calm-said cfg _ a k _ (outcome-calm cfg m a k i st n v u)
 
   act-said : (st : Station) → Known a st → Once st → (t : ℕ) (w : What) → ((x : Ashore) → ashoreIn w ≡ some x → isMode (x .mode) ≡ true) → SaidBy cfg (ashoreIn w) (heardAt cfg w) a (seen st) (actAt cfg st t w)

@@ -7,9 +7,9 @@ use lib.Dec.{eqb}
 use borrow.Author.Tests.{eq-eqb, ne-eqb}
 use Rattle.sequence.proofs.Tests.{Either, yes!, no!, which}
 use Rattle.rules.specs.Rules.Places.{Each}
-use Rattle.rules.specs.Rules.Words.{Request, Config, Event, Deed, carrierOn, carrierOff, acknowledge, callShip, unable, dial, releaseLine, ringingOn, ringingOff, busyTone}
+use Rattle.rules.specs.Rules.Words.{Config, Event, Deed, carrierOn, carrierOff, acknowledge, callShip, unable, dial, releaseLine, ringingOn, ringingOff, busyTone}
 use Rattle.rules.specs.Rules.Actions.{theShip, theCoast, Action}
-use Rattle.rules.specs.Rules.Station.{Kind, isCalled, rings, isCalledIn, ringsIn, answeredAt, Slot, Station, theSlot, fresh}
+use Rattle.rules.specs.Rules.Station.{Kind, isCalled, rings, isCalledIn, ringsIn, answeredAt, Dealing, Slot, Station, theSlot, fresh}
 use Rattle.rules.specs.Rules.Calls.{dropActs, act}
 use Rattle.rules.specs.ListAlone.Repeated.{Dials}
 use Rattle.rules.specs.ListAlone.LineWords.{ringingDone, ringingsDone, ringingAfter, ringingSwitch, ringingSwitches, change}
@@ -24,8 +24,8 @@ use Rattle.rules_theorems.proofs.Entries.{Reader, FitsOn, run-final, ru
 kind-unrung : (k : Kind) → isCalled k ≡ false → rings k ≡ false
 kind-unrung = by-kind (λ k. isCalled k ≡ false → rings k ≡ false) (λ h. refl) (λ h. refl) (λ h. refl) (λ h. refl) (λ h. refl) (λ h. refl) (λ h. cc)
 
-dialled-unrung : (k : Kind) (r : Request) → Dials (r .number) (saidOf k r) → rings k ≡ false
-dialled-unrung k r = by-kind (λ z. Dials (r .number) (saidOf z r) → rings z ≡ false) (λ h. refl) (λ h. refl) (λ h. refl) (λ h. refl) (λ h. refl) (λ h. refl) (λ h. absurd h) k
+dialled-unrung : (k : Kind) (r : Dealing) → Dials (r .request .number) (saidOf k r) → rings k ≡ false
+dialled-unrung k r = by-kind (λ z. Dials (r .request .number) (saidOf z r) → rings z ≡ false) (λ h. refl) (λ h. refl) (λ h. refl) (λ h. refl) (λ h. refl) (λ h. refl) (λ h. absurd h) k
 
 slot-unrung : (s : Slot) → isCalledIn s ≡ false → ringsIn s ≡ false
 slot-unrung = by-slot (λ s. isCalledIn s ≡ false → ringsIn s ≡ false) (λ h. refl) (λ h. refl) (λ k r d. kind-unrung k) (λ r g c h. refl) (λ r n d h. refl)
@@ -85,7 +85,7 @@ module _ (i : ℕ) where
   here = eq-eqb i i refl
 
   turned-swung : (t : ℕ) (p q : Slot) (acts : List Action) → Move i t p (becomes q) acts → Swung i (deedsOf acts) (ringsIn p) (ringsIn q)
-  turned-swung t _ _ _ (to-dial k r d z) = unrung _ (tt, tt) _ false (dialled-unrung k (r .request) z)
+  turned-swung t _ _ _ (to-dial k r d z) = unrung _ (tt, tt) _ false (dialled-unrung k r z)
   turned-swung t _ _ _ (to-agree k r d z) = unrung [] tt _ false (kind-unrung k z)
   turned-swung t _ _ _ (to-ring r d) = record { given = refl; tells = refl }
   turned-swung t _ _ _ (to-call r d) = record { given = refl; tells = refl }
@@ -94,7 +94,7 @@ module _ (i : ℕ) where
   turned-swung t _ _ _ (to-stage r g q c z) = record { given = refl; tells = refl }
   turned-swung t _ _ _ (to-lose r g c) = record { given = refl; tells = refl }
   turned-swung t _ _ _ (to-regain r g c) = record { given = refl; tells = refl }
-  turned-swung t _ _ _ (to-hold r g c) = unrung _ (end-unrung i i theShip (r .request) (answeredAt g) t) false false refl
+  turned-swung t _ _ _ (to-hold r g c) = unrung _ (end-unrung i i theShip r (answeredAt g) t) false false refl
   turned-swung t _ _ _ to-take = record { given = refl; tells = refl }
 
   -- "ringing off if it rings"
@@ -107,7 +107,7 @@ module _ (i : ℕ) where
   freed-swung : (t : ℕ) (p : Slot) (acts : List Action) → Move i t p frees acts → Swung i (deedsOf acts) (ringsIn p) false
   freed-swung t _ _ (to-drop k r d z) = unrung _ (tt, tt) _ false (kind-unrung k z)
   freed-swung t _ _ (to-let-go k r d tone) = drop-swung (rings k) tone
-  freed-swung t _ _ (to-end r g c) = unrung _ (end-unrung i i theCoast (r .request) (answeredAt g) t) false false refl
+  freed-swung t _ _ (to-end r g c) = unrung _ (end-unrung i i theCoast r (answeredAt g) t) false false refl
   freed-swung t _ _ (to-run-out r n d) = record { given = refl; tells = refl }
   freed-swung t _ _ to-give = record { given = refl; tells = refl }
 
