@@ -10,8 +10,8 @@ use Rattle.sequence.specs.declared.Field.the-variants.{Blank, Channel}
 use Rattle.sequence.specs.Layout.{valid, layout}
 use Rattle.rules.specs.Rules.Words.{Party, is, Mode, simplex, duplex, modeNumber, Config, Event, carrierOn}
 use Rattle.rules.specs.Rules.Actions.{theShip, does, over, charge}
-use Rattle.rules.specs.Rules.Station.{offered, free, taken, Station, fresh}
-use Rattle.rules.specs.Rules.Slots.{pending, held}
+use Rattle.rules.specs.Rules.Station.{offered, free, taken, callNumberIn, noneLeft, numberAfter, Station, fresh}
+use Rattle.rules.specs.Tables.Slots.{pending, held}
 use Rattle.rules.specs.Rules.Verdict.{step}
 use Rattle.rules.specs.Rules.Bytes.{numberOf, ableSaid, unableSaid, overSaid, blocks}
 use Rattle.rules.specs.Rules.Printed.{lines}
@@ -293,7 +293,7 @@ secondSlot = record {
       (0 ∷ 175 ∷ 0 ∷ []) ∷
       (0 ∷ 180 ∷ 1 ∷ 9181 ∷ []) ∷ (3 ∷ 255 ∷ unable103Eight) ∷
       (0 ∷ 190 ∷ 1 ∷ 9181 ∷ []) ∷ (3 ∷ 255 ∷ unable103Nine) ∷
-      (0 ∷ 200 ∷ 4 ∷ 241 ∷ []) ∷ charges 1 seven 160 200 4 ∷ (6 ∷ 1 ∷ []) ∷ (4 ∷ 1 ∷ overSeven4Of42) ∷ (2 ∷ 1 ∷ []) ∷
+      (0 ∷ 200 ∷ 4 ∷ 241 ∷ []) ∷ charges 1 seven 160 200 4 2 ∷ (6 ∷ 1 ∷ []) ∷ (4 ∷ 1 ∷ overSeven4Of42) ∷ (2 ∷ 1 ∷ []) ∷
       (0 ∷ 210 ∷ 3 ∷ 241 ∷ []) ∷ (1 ∷ 1 ∷ []) ∷ (4 ∷ 1 ∷ overSeven4Of42) ∷ (2 ∷ 1 ∷ []) ∷
       (0 ∷ 241 ∷ 2 ∷ 292 ∷ []) ∷ (1 ∷ 1 ∷ []) ∷ (3 ∷ 1 ∷ ringEight27) ∷
       (0 ∷ 292 ∷ 1 ∷ 343 ∷ []) ∷ (3 ∷ 1 ∷ ringEight27) ∷
@@ -322,7 +322,7 @@ secondSlotAgain = record {
       (0 ∷ 110 ∷ 1 ∷ 711 ∷ []) ∷ (5 ∷ 1 ∷ usual) ∷
       (0 ∷ 120 ∷ 0 ∷ []) ∷
       (0 ∷ 130 ∷ 0 ∷ 581 ∷ []) ∷
-      (0 ∷ 140 ∷ 6 ∷ 301 ∷ []) ∷ charges 1 seven 120 140 2 ∷ (6 ∷ 1 ∷ []) ∷ (4 ∷ 1 ∷ overSevenByCoast2) ∷ (2 ∷ 1 ∷ []) ∷
+      (0 ∷ 140 ∷ 6 ∷ 301 ∷ []) ∷ charges 1 seven 120 140 2 1 ∷ (6 ∷ 1 ∷ []) ∷ (4 ∷ 1 ∷ overSevenByCoast2) ∷ (2 ∷ 1 ∷ []) ∷
       (1 ∷ 1 ∷ []) ∷ (3 ∷ 1 ∷ ackSeven27Simplex) ∷
       (0 ∷ 150 ∷ 1 ∷ 751 ∷ []) ∷ (5 ∷ 1 ∷ usual) ∷
       (0 ∷ 160 ∷ 0 ∷ 611 ∷ []) ∷
@@ -334,7 +334,7 @@ secondSlotAgain = record {
       (0 ∷ 810 ∷ 1 ∷ 1411 ∷ []) ∷ (5 ∷ 1 ∷ usual) ∷
       (0 ∷ 820 ∷ 0 ∷ []) ∷
       (0 ∷ 830 ∷ 0 ∷ 881 ∷ []) ∷
-      (0 ∷ 881 ∷ 4 ∷ []) ∷ charges 1 seven 820 881 6 ∷ (6 ∷ 1 ∷ []) ∷ (4 ∷ 1 ∷ overSevenByCoast6) ∷ (2 ∷ 1 ∷ []) ∷
+      (0 ∷ 881 ∷ 4 ∷ []) ∷ charges 1 seven 820 881 6 4 ∷ (6 ∷ 1 ∷ []) ∷ (4 ∷ 1 ∷ overSevenByCoast6) ∷ (2 ∷ 1 ∷ []) ∷
       (0 ∷ 910 ∷ 0 ∷ []) ∷
       (0 ∷ 920 ∷ 0 ∷ []) ∷ [];
 }
@@ -396,7 +396,7 @@ secondSlotDialled = record {
       (1 ∷ 1335 ∷ 0 ∷ 1776 ∷ []) ∷
       (0 ∷ 1340 ∷ 0 ∷ 1776 ∷ []) ∷
       (1 ∷ 1345 ∷ 0 ∷ 1776 ∷ []) ∷
-      (0 ∷ 1360 ∷ 4 ∷ 1401 ∷ []) ∷ charges 1 seven 1340 1360 2 ∷ (6 ∷ 1 ∷ []) ∷ (4 ∷ 1 ∷ overSeven2) ∷ (2 ∷ 1 ∷ []) ∷
+      (0 ∷ 1360 ∷ 4 ∷ 1401 ∷ []) ∷ charges 1 seven 1340 1360 2 2 ∷ (6 ∷ 1 ∷ []) ∷ (4 ∷ 1 ∷ overSeven2) ∷ (2 ∷ 1 ∷ []) ∷
       (1 ∷ 1370 ∷ 0 ∷ 1401 ∷ []) ∷
       (0 ∷ 1401 ∷ 0 ∷ []) ∷
       (1 ∷ 1410 ∷ 0 ∷ []) ∷ [];
@@ -459,7 +459,7 @@ secondSlotCalled = record {
       (1 ∷ 226 ∷ 0 ∷ 9118 ∷ []) ∷
       (1 ∷ 227 ∷ 0 ∷ 9118 ∷ []) ∷
       (1 ∷ 230 ∷ 0 ∷ 9118 ∷ []) ∷
-      (0 ∷ 240 ∷ 4 ∷ 281 ∷ []) ∷ charges 1 seven 200 240 4 ∷ (6 ∷ 1 ∷ []) ∷ (4 ∷ 1 ∷ overSevenCaller4) ∷ (2 ∷ 1 ∷ []) ∷
+      (0 ∷ 240 ∷ 4 ∷ 281 ∷ []) ∷ charges 1 seven 200 240 4 1 ∷ (6 ∷ 1 ∷ []) ∷ (4 ∷ 1 ∷ overSevenCaller4) ∷ (2 ∷ 1 ∷ []) ∷
       (38 ∷ 240 ∷ 0 ∷ 281 ∷ []) ∷
       (0 ∷ 250 ∷ 3 ∷ 281 ∷ []) ∷ (1 ∷ 1 ∷ []) ∷ (4 ∷ 1 ∷ overSevenCaller4) ∷ (2 ∷ 1 ∷ []) ∷
       (0 ∷ 281 ∷ 2 ∷ 332 ∷ []) ∷ (1 ∷ 1 ∷ []) ∷ (3 ∷ 1 ∷ ringEight27) ∷
@@ -511,7 +511,7 @@ secondSlotCalledAgain = record {
       (0 ∷ 550 ∷ 1 ∷ 1151 ∷ []) ∷ (8 ∷ 1 ∷ []) ∷
       (0 ∷ 560 ∷ 1 ∷ []) ∷ (9 ∷ 1 ∷ []) ∷
       (0 ∷ 570 ∷ 0 ∷ 1021 ∷ []) ∷
-      (0 ∷ 580 ∷ 6 ∷ 741 ∷ []) ∷ charges 1 nine 560 580 2 ∷ (6 ∷ 1 ∷ []) ∷ (4 ∷ 1 ∷ overNineCallerByCoast2) ∷ (2 ∷ 1 ∷ []) ∷
+      (0 ∷ 580 ∷ 6 ∷ 741 ∷ []) ∷ charges 1 nine 560 580 2 7 ∷ (6 ∷ 1 ∷ []) ∷ (4 ∷ 1 ∷ overNineCallerByCoast2) ∷ (2 ∷ 1 ∷ []) ∷
       (1 ∷ 1 ∷ []) ∷ (3 ∷ 1 ∷ ackNine27Simplex) ∷
       (0 ∷ 590 ∷ 1 ∷ 1191 ∷ []) ∷ (5 ∷ 1 ∷ usual) ∷
       (0 ∷ 600 ∷ 3 ∷ []) ∷ (6 ∷ 1 ∷ []) ∷ (4 ∷ 1 ∷ overNineByCoast) ∷ (2 ∷ 1 ∷ []) ∷
@@ -525,11 +525,11 @@ secondSlotCalledAgain = record {
       (0 ∷ 1350 ∷ 1 ∷ 1951 ∷ []) ∷ (8 ∷ 1 ∷ []) ∷
       (0 ∷ 1360 ∷ 1 ∷ []) ∷ (9 ∷ 1 ∷ []) ∷
       (0 ∷ 1370 ∷ 0 ∷ 1421 ∷ []) ∷
-      (0 ∷ 1421 ∷ 4 ∷ []) ∷ charges 1 eight 1360 1421 6 ∷ (6 ∷ 1 ∷ []) ∷ (4 ∷ 1 ∷ overEightCallerByCoast6) ∷ (2 ∷ 1 ∷ []) ∷
+      (0 ∷ 1421 ∷ 4 ∷ []) ∷ charges 1 eight 1360 1421 6 11 ∷ (6 ∷ 1 ∷ []) ∷ (4 ∷ 1 ∷ overEightCallerByCoast6) ∷ (2 ∷ 1 ∷ []) ∷
       (0 ∷ 1430 ∷ 2 ∷ 1481 ∷ []) ∷ (1 ∷ 1 ∷ []) ∷ (3 ∷ 1 ∷ callEight27) ∷
       (0 ∷ 1440 ∷ 1 ∷ 2041 ∷ []) ∷ (8 ∷ 1 ∷ []) ∷
       (0 ∷ 1450 ∷ 1 ∷ []) ∷ (9 ∷ 1 ∷ []) ∷
-      (0 ∷ 1475 ∷ 4 ∷ []) ∷ charges 1 eight 1450 1475 2 ∷ (6 ∷ 1 ∷ []) ∷ (4 ∷ 1 ∷ overEightCallerByCoast2) ∷ (2 ∷ 1 ∷ []) ∷
+      (0 ∷ 1475 ∷ 4 ∷ []) ∷ charges 1 eight 1450 1475 2 12 ∷ (6 ∷ 1 ∷ []) ∷ (4 ∷ 1 ∷ overEightCallerByCoast2) ∷ (2 ∷ 1 ∷ []) ∷
       (0 ∷ 1480 ∷ 2 ∷ 1531 ∷ []) ∷ (1 ∷ 1 ∷ []) ∷ (3 ∷ 1 ∷ callSeven27) ∷
       (0 ∷ 1531 ∷ 1 ∷ 1582 ∷ []) ∷ (3 ∷ 1 ∷ callSeven27) ∷
       (0 ∷ 1540 ∷ 3 ∷ []) ∷ (2 ∷ 1 ∷ []) ∷ (10 ∷ 1 ∷ []) ∷ (6 ∷ 1 ∷ []) ∷
@@ -566,9 +566,9 @@ bothCalled = record {
       (0 ∷ 200 ∷ 1 ∷ []) ∷ (9 ∷ 0 ∷ []) ∷
       (0 ∷ 210 ∷ 0 ∷ 661 ∷ []) ∷
       (0 ∷ 215 ∷ 0 ∷ 266 ∷ []) ∷
-      (0 ∷ 220 ∷ 6 ∷ 266 ∷ []) ∷ charges 0 nine 200 220 2 ∷ (6 ∷ 0 ∷ []) ∷ (4 ∷ 0 ∷ overNineCallerByCoast2) ∷ (2 ∷ 0 ∷ []) ∷
+      (0 ∷ 220 ∷ 6 ∷ 266 ∷ []) ∷ charges 0 nine 200 220 2 3 ∷ (6 ∷ 0 ∷ []) ∷ (4 ∷ 0 ∷ overNineCallerByCoast2) ∷ (2 ∷ 0 ∷ []) ∷
       (1 ∷ 0 ∷ []) ∷ (3 ∷ 0 ∷ ackNine26Simplex) ∷
-      (0 ∷ 266 ∷ 4 ∷ 381 ∷ []) ∷ charges 1 eight 170 266 9 ∷ (6 ∷ 1 ∷ []) ∷ (4 ∷ 1 ∷ overEightCallerByCoast9) ∷ (2 ∷ 1 ∷ []) ∷
+      (0 ∷ 266 ∷ 4 ∷ 381 ∷ []) ∷ charges 1 eight 170 266 9 2 ∷ (6 ∷ 1 ∷ []) ∷ (4 ∷ 1 ∷ overEightCallerByCoast9) ∷ (2 ∷ 1 ∷ []) ∷
       (0 ∷ 381 ∷ 1 ∷ []) ∷ (2 ∷ 0 ∷ []) ∷ [];
 }
 
@@ -588,7 +588,7 @@ thirdSlot = record {
       (0 ∷ 110 ∷ 1 ∷ 711 ∷ []) ∷ (5 ∷ 2 ∷ usual) ∷
       (0 ∷ 120 ∷ 0 ∷ []) ∷
       (0 ∷ 130 ∷ 0 ∷ 181 ∷ []) ∷
-      (0 ∷ 181 ∷ 4 ∷ []) ∷ charges 2 seven 120 181 6 ∷ (6 ∷ 2 ∷ []) ∷ (4 ∷ 2 ∷ overSevenByCoast6) ∷ (2 ∷ 2 ∷ []) ∷
+      (0 ∷ 181 ∷ 4 ∷ []) ∷ charges 2 seven 120 181 6 1 ∷ (6 ∷ 2 ∷ []) ∷ (4 ∷ 2 ∷ overSevenByCoast6) ∷ (2 ∷ 2 ∷ []) ∷
       (0 ∷ 200 ∷ 2 ∷ 361 ∷ []) ∷ (1 ∷ 2 ∷ []) ∷ (3 ∷ 2 ∷ ackEight28) ∷
       (0 ∷ 361 ∷ 1 ∷ []) ∷ (2 ∷ 2 ∷ []) ∷ [];
 }
@@ -684,7 +684,7 @@ otherCalls = record {
       (1 ∷ 111 ∷ 0 ∷ 151 ∷ []) ∷
       (0 ∷ 120 ∷ 1 ∷ 721 ∷ []) ∷ (8 ∷ 0 ∷ []) ∷
       (0 ∷ 130 ∷ 1 ∷ []) ∷ (9 ∷ 0 ∷ []) ∷
-      (0 ∷ 140 ∷ 4 ∷ []) ∷ charges 0 seven 130 140 1 ∷ (6 ∷ 0 ∷ []) ∷ (4 ∷ 0 ∷ overOther) ∷ (2 ∷ 0 ∷ []) ∷
+      (0 ∷ 140 ∷ 4 ∷ []) ∷ charges 0 seven 130 140 1 1 ∷ (6 ∷ 0 ∷ []) ∷ (4 ∷ 0 ∷ overOther) ∷ (2 ∷ 0 ∷ []) ∷
       (0 ∷ 200 ∷ 2 ∷ 251 ∷ []) ∷ (1 ∷ 0 ∷ []) ∷ (3 ∷ 0 ∷ callOther) ∷
       (0 ∷ 210 ∷ 3 ∷ []) ∷ (2 ∷ 0 ∷ []) ∷ (10 ∷ 0 ∷ []) ∷ (6 ∷ 0 ∷ []) ∷ [];
 }
@@ -1013,7 +1013,7 @@ abbrev pub slotBeforeQueue : Row
 slotBeforeQueue = record {
   computed = gives 2 (reserves 10 1 ∷ calls 100 seven duplex ∷ works 110 0 seven ∷ picksUp 120 0 ∷ calls 150 eight duplex ∷
       loses 9099 0 ∷ ticks 9999 ∷ []);
-  expected = (0 ∷ 9150 ∷ 6 ∷ 9201 ∷ []) ∷ charges 0 seven 120 9150 903 ∷ (6 ∷ 0 ∷ []) ∷ (4 ∷ 0 ∷ overSevenByCoast903) ∷ (2 ∷ 0 ∷ []) ∷
+  expected = (0 ∷ 9150 ∷ 6 ∷ 9201 ∷ []) ∷ charges 0 seven 120 9150 903 1 ∷ (6 ∷ 0 ∷ []) ∷ (4 ∷ 0 ∷ overSevenByCoast903) ∷ (2 ∷ 0 ∷ []) ∷
       (1 ∷ 0 ∷ []) ∷ (3 ∷ 0 ∷ ringBackEight26) ∷ [];
 }
 
@@ -1229,16 +1229,33 @@ order29 = record {
   expected = (29 ∷ 1000 ∷ 0 ∷ []) ∷ [];
 }
 
+-- ── call numbers (02, no. 4) ──────────────────────────────────────────────────
+
+-- the number behind the first ones and behind the last three, and whether none is left
+abbrev pub numbersCounted : Row
+numbersCounted = record {
+  computed = map numberAfter (0 ∷ 1 ∷ 4294967293 ∷ 4294967294 ∷ 4294967295 ∷ []) ∷
+      map (λ n. bit (noneLeft n)) (0 ∷ 1 ∷ 4294967293 ∷ 4294967294 ∷ 4294967295 ∷ []) ∷ [];
+  expected = (1 ∷ 2 ∷ 4294967294 ∷ 4294967295 ∷ 4294967295 ∷ []) ∷ (0 ∷ 0 ∷ 0 ∷ 0 ∷ 1 ∷ []) ∷ [];
+}
+
+-- a slot keeps one in every phase but two: free and taken
+abbrev pub numbersKept : Row
+numbersKept = record {
+  computed = map (λ p. callNumberIn (p .slot)) phases ∷ [];
+  expected = (0 ∷ 0 ∷ replicate 16 1) ∷ [];
+}
+
 -- ── actions handed out ────────────────────────────────────────────────────────
 
 -- one block after the other
 abbrev pub blocksShown : Row
 blocksShown = record {
   computed = blocks (station 1) (does (carrierOn 0) ∷ over 1 theShip (from seven duplex .who) usual Nothing ∷
-      charge (paid 0 2 67305985 1 2 3 .it) ∷
+      charge (paid 0 2 67305985 1 2 3 5 .it) ∷
       does (carrierOn 3) ∷ []) ∷ [];
-  expected = ((1 ∷ 0 ∷ 0 ∷ 0 ∷ replicate 36 0) ++ (4 ∷ 1 ∷ 24 ∷ 0 ∷ (overSeven ++ replicate 12 0)) ++ (7 ∷ 2 ∷ 16 ∷ 0 ∷ 1 ∷ 2 ∷ 3 ∷
-      4 ∷ 1 ∷ 0 ∷ 0 ∷ 0 ∷ 2 ∷ 0 ∷ 0 ∷ 0 ∷ 3 ∷ replicate 23 0) ++ (1 ∷ 3 ∷ 0 ∷ 0 ∷ replicate 36 0)) ∷ [];
+  expected = ((1 ∷ 0 ∷ 0 ∷ 0 ∷ replicate 36 0) ++ (4 ∷ 1 ∷ 24 ∷ 0 ∷ (overSeven ++ replicate 12 0)) ++ (7 ∷ 2 ∷ 20 ∷ 0 ∷ 1 ∷ 2 ∷ 3 ∷
+      4 ∷ 1 ∷ 0 ∷ 0 ∷ 0 ∷ 2 ∷ 0 ∷ 0 ∷ 0 ∷ 3 ∷ 0 ∷ 0 ∷ 0 ∷ 5 ∷ replicate 19 0) ++ (1 ∷ 3 ∷ 0 ∷ 0 ∷ replicate 36 0)) ∷ [];
 }
 
 -- what is sent is a sequence
@@ -1267,7 +1284,7 @@ boundCases =
     endAsBq ∷ addressedBelow ∷ replyBeforeLoss ∷ dialledOutBeforeLoss ∷ oneTenthEarlier ∷ slotBeforeQueue ∷ lowestFirst ∷
     thirdDueFirst ∷ firstDueFirst ∷ oneTenthApart ∷ queueOf31 ∷ queueOf32 ∷ refused33Heard ∷ accepted33 ∷
     refused34DialsOut ∷ refused34PicksUp ∷ refused34Regains ∷ refused34Loses ∷ refused34Takes ∷ refused34Restores ∷
-    refused11OnSlot ∷ order29 ∷ blocksShown ∷ sentValid ∷ []
+    refused11OnSlot ∷ order29 ∷ numbersCounted ∷ numbersKept ∷ blocksShown ∷ sentValid ∷ []
 
 -- ── soundness and set-up ─────────────────────────────────────────────────────
 
@@ -1283,6 +1300,7 @@ boundSounds =
       slots = pending offered (asking seven 7999999 duplex 126 usual) 5161 ∷ free ∷
           [];
       queue = [];
+      lastCall = 1;
     }))
     -- to a station one below
     ∷ unsound (with (pending offered (asking seven 2001233 duplex 126 usual) 1161))
@@ -1318,11 +1336,12 @@ boundSounds =
       slots = pending offered (from seven duplex) 5161 ∷
           [];
       queue = waits eight 14001 ∷ [];
+      lastCall = 1;
     }))
     -- an offer one tenth further
-    ∷ unsound (asked (station 1) (record { clock = 5000; slots = pending offered (from seven duplex) 5162 ∷ []; queue = [] }))
+    ∷ unsound (asked (station 1) (record { clock = 5000; slots = pending offered (from seven duplex) 5162 ∷ []; queue = []; lastCall = 1 }))
     -- a queue entry one tenth further
-    ∷ unsound (asked (station 1) (record { clock = 5000; slots = taken ∷ []; queue = waits eight 14002 ∷ [] }))
+    ∷ unsound (asked (station 1) (record { clock = 5000; slots = taken ∷ []; queue = waits eight 14002 ∷ []; lastCall = 1 }))
     -- of each kind: a request to another station
     ∷ map (λ k. unsound (with (pending k (asking seven 2001235 duplex 126 usual) 1051))) kinds
     -- a ship that waits and has a slot, from its offer to its answered call

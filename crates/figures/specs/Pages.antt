@@ -6,19 +6,20 @@ use Prim.Native.Nat.{ℕ, _+_}
 use lib.ListN.{length, getD, take, replicate}
 use Rattle.units.specs.declared.Lasted.the-variants.{Nothing}
 use Rattle.sequence.specs.declared.Field.the-variants.{Blank}
-use Rattle.rules.specs.Rules.Words.{Party, simplex, duplex, modeNumber, Request, Config, Ashore, Event}
+use Rattle.rules.specs.Rules.Words.{Party, Mode, simplex, duplex, modeNumber, Request, Config, Ashore, Event}
 use Rattle.rules.specs.Rules.Words.{Deed, carrierOn, carrierOff, acknowledge, callShip, unable, dial, releaseLine}
 use Rattle.rules.specs.Rules.Words.{ringingOn, ringingOff, busyTone}
 use Rattle.rules.specs.Rules.Heard.{Heard, callRequest, dataRequest, bq, workingCall, endOfCall, declined, nothing}
 use Rattle.rules.specs.Rules.Actions.{theShip, Action, does, over, charge}
-use Rattle.rules.specs.ListAlone.Book.{Note, Said, silent, toldBQ, toldRQ, settled}
+use Rattle.rules.specs.ListAlone.Book.{Note, Begun, begunAs, Said, silent, toldBQ, toldRQ, settled}
 use Rattle.rules.specs.ListAlone.Book.{Call, quiet, called, dialled, talking, Column, Place, Book, blankBook, alike}
 use Rattle.rules.specs.ListAlone.Reading.{turn, numbered, counted, countedByCalls}
 use Rattle.rules.specs.ListAlone.LineWords.{Line, idle, outward, inward, since, Word, worded, unused}
 use Rattle.rules.specs.ListAlone.LineWords.{wordHeard, wordsDone, wordAfter, wordOf, ringingsDone, ringingAfter, ringingSwitches, change}
 use Rattle.rules.specs.ListAlone.LineWords.{release, releases}
 use Rattle.rules.specs.ListAlone.BeingCalled.{isFor, columnsAfter}
-use Rattle.rules.specs.Statement.{deedsOf, chargesOf, charged, runOf, stationAfter, listOf, stopsOf, tenthsIn, unchargedTenths, eventsOf}
+use Rattle.rules.specs.Statement.{deedsOf, chargesOf, charged, runOf, stationAfter, listOf, stopsOf, callNumbers, tenthsIn}
+use Rattle.rules.specs.Statement.{unchargedTenths, eventsOf}
 use Rattle.rules.specs.ListAlone.Repeated.{toldToWait, lastAsked, switchedOn}
 use Rattle.rules.specs.Tables.Runs.{station, seven, eight, nine, sends, usual, callsFor, calls, dataCalls, accepts, acceptsIn, declines}
 use Rattle.rules.specs.Tables.Runs.{caller, shoreCalls, works, ends, ticks, paid}
@@ -40,18 +41,26 @@ due (some d) = 1 ∷ d ∷ []
 abbrev pub request : Request → List ℕ
 request r = r .who .ship ∷ modeNumber (r .mode) ∷ r .second ∷ length (r .number) ∷ []
 
+-- and behind it its call number
+abbrev pub begun : Begun → List ℕ
+begun o = request (o .request) ++ o .callNumber ∷ []
+
 abbrev pub said : Said → List ℕ
 said silent = 0 ∷ []
-said (toldBQ r) = 1 ∷ request r
-said (toldRQ r) = 2 ∷ request r
-said (settled r) = 3 ∷ request r
+said (toldBQ o) = 1 ∷ begun o
+said (toldRQ o) = 2 ∷ begun o
+said (settled o) = 3 ∷ begun o
 
--- a line that is dialled: ship, mode, whether its dialling has ended; a call from ashore: what is asked, whether it rings
+-- of a call that is dialled or answered: ship, mode, call number
+abbrev pub shortly : Begun → List ℕ
+shortly o = o .request .who .ship ∷ modeNumber (o .request .mode) ∷ o .callNumber ∷ []
+
+-- a line that is dialled, and whether its dialling has ended; a call from ashore: what is asked, whether it rings
 abbrev pub call : Call → List ℕ
 call quiet = 0 ∷ []
-call (called r rings) = 3 ∷ (request r ++ bit rings ∷ [])
-call (dialled x m e) = 1 ∷ x .ship ∷ modeNumber m ∷ bit e ∷ []
-call (talking x m b) = 2 ∷ x .ship ∷ modeNumber m ∷ b ∷ []
+call (called o rings) = 3 ∷ (begun o ++ bit rings ∷ [])
+call (dialled o e) = 1 ∷ (shortly o ++ bit e ∷ [])
+call (talking o b) = 2 ∷ (shortly o ++ b ∷ [])
 
 abbrev pub column : Column → List ℕ
 column l = said (l .said) ++ due (l .wait) ++ call (l .call) ++ due (l .gone)
@@ -64,9 +73,9 @@ abbrev pub places : List Place → List ℕ
 places [] = []
 places (p ∷ ps) = p .who .ship ∷ p .due ∷ places ps
 
--- the time, a column for each slot, the queue
+-- the time and the last call number, a column for each slot, the queue
 abbrev pub page : Book → List (List ℕ)
-page b = (b .now ∷ []) ∷ (map column (b .columns) ++ places (b .places) ∷ [])
+page b = (b .now ∷ b .given ∷ []) ∷ (map column (b .columns) ++ places (b .places) ∷ [])
 
 abbrev pub pagesFrom : Config → List Note → Book → List (List ℕ)
 pagesFrom c [] b = []
@@ -132,40 +141,40 @@ abbrev pub onSecondPages : Row
 onSecondPages = record {
   computed = pages 2 onSecond;
   expected =
-      (50 ∷ []) ∷ still ∷ still ∷ [] ∷
-      (100 ∷ []) ∷ still ∷ (1 ∷ seven ∷ 101 ∷ 100 ∷ 7 ∷ 1 ∷ 261 ∷ 0 ∷ 0 ∷ []) ∷ [] ∷
-      (110 ∷ []) ∷ still ∷ (1 ∷ seven ∷ 101 ∷ 100 ∷ 7 ∷ 1 ∷ 261 ∷ 0 ∷ 0 ∷ []) ∷ [] ∷
-      (120 ∷ []) ∷ still ∷ (1 ∷ seven ∷ 101 ∷ 126 ∷ 2 ∷ 1 ∷ 281 ∷ 0 ∷ 0 ∷ []) ∷ [] ∷
-      (125 ∷ []) ∷ still ∷ (1 ∷ seven ∷ 101 ∷ 126 ∷ 2 ∷ 1 ∷ 281 ∷ 0 ∷ 0 ∷ []) ∷ [] ∷
-      (126 ∷ []) ∷ still ∷ (1 ∷ seven ∷ 101 ∷ 126 ∷ 2 ∷ 1 ∷ 281 ∷ 0 ∷ 0 ∷ []) ∷ [] ∷
-      (127 ∷ []) ∷ still ∷ (1 ∷ seven ∷ 101 ∷ 126 ∷ 2 ∷ 1 ∷ 281 ∷ 0 ∷ 0 ∷ []) ∷ [] ∷
-      (130 ∷ []) ∷ still ∷ (0 ∷ 1 ∷ 731 ∷ 1 ∷ seven ∷ 101 ∷ 0 ∷ 0 ∷ []) ∷ [] ∷
-      (135 ∷ []) ∷ still ∷ (0 ∷ 1 ∷ 731 ∷ 1 ∷ seven ∷ 101 ∷ 0 ∷ 0 ∷ []) ∷ [] ∷
-      (140 ∷ []) ∷ still ∷ (0 ∷ 1 ∷ 731 ∷ 1 ∷ seven ∷ 101 ∷ 0 ∷ 1 ∷ 191 ∷ []) ∷ [] ∷
-      (145 ∷ []) ∷ still ∷ (0 ∷ 1 ∷ 731 ∷ 1 ∷ seven ∷ 101 ∷ 0 ∷ 1 ∷ 191 ∷ []) ∷ [] ∷
-      (150 ∷ []) ∷ still ∷ (0 ∷ 1 ∷ 731 ∷ 1 ∷ seven ∷ 101 ∷ 0 ∷ 0 ∷ []) ∷ [] ∷
-      (155 ∷ []) ∷ still ∷ (0 ∷ 1 ∷ 731 ∷ 1 ∷ seven ∷ 101 ∷ 0 ∷ 1 ∷ 206 ∷ []) ∷ [] ∷
-      (160 ∷ []) ∷ still ∷ (0 ∷ 0 ∷ 2 ∷ seven ∷ 101 ∷ 160 ∷ 1 ∷ 206 ∷ []) ∷ [] ∷
-      (165 ∷ []) ∷ still ∷ (0 ∷ 0 ∷ 2 ∷ seven ∷ 101 ∷ 160 ∷ 1 ∷ 206 ∷ []) ∷ [] ∷
-      (168 ∷ []) ∷ still ∷ (0 ∷ 0 ∷ 2 ∷ seven ∷ 101 ∷ 160 ∷ 1 ∷ 206 ∷ []) ∷ [] ∷
-      (170 ∷ []) ∷ still ∷ (0 ∷ 0 ∷ 2 ∷ seven ∷ 101 ∷ 160 ∷ 0 ∷ []) ∷ [] ∷
-      (172 ∷ []) ∷ still ∷ (0 ∷ 0 ∷ 2 ∷ seven ∷ 101 ∷ 160 ∷ 1 ∷ 223 ∷ []) ∷ [] ∷
-      (173 ∷ []) ∷ still ∷ (0 ∷ 0 ∷ 2 ∷ seven ∷ 101 ∷ 160 ∷ 1 ∷ 223 ∷ []) ∷ [] ∷
-      (180 ∷ []) ∷ still ∷ (0 ∷ 0 ∷ 2 ∷ seven ∷ 101 ∷ 160 ∷ 1 ∷ 223 ∷ []) ∷ (eight ∷ 9181 ∷ []) ∷
-      (190 ∷ []) ∷ still ∷ (0 ∷ 0 ∷ 2 ∷ seven ∷ 101 ∷ 160 ∷ 1 ∷ 223 ∷ []) ∷ (eight ∷ 9181 ∷ nine ∷ 9191 ∷ []) ∷
-      (195 ∷ []) ∷ still ∷ (0 ∷ 0 ∷ 2 ∷ seven ∷ 101 ∷ 160 ∷ 1 ∷ 223 ∷ []) ∷ (eight ∷ 9181 ∷ nine ∷ 9191 ∷ []) ∷
-      (196 ∷ []) ∷ still ∷ (0 ∷ 0 ∷ 2 ∷ seven ∷ 101 ∷ 160 ∷ 1 ∷ 223 ∷ []) ∷ (eight ∷ 9181 ∷ nine ∷ 9191 ∷ []) ∷
-      (200 ∷ []) ∷ still ∷ (0 ∷ 1 ∷ 241 ∷ 0 ∷ 0 ∷ []) ∷ (eight ∷ 9181 ∷ nine ∷ 9191 ∷ []) ∷
-      (210 ∷ []) ∷ still ∷ (0 ∷ 1 ∷ 241 ∷ 0 ∷ 0 ∷ []) ∷ (eight ∷ 9181 ∷ nine ∷ 9191 ∷ []) ∷
-      (241 ∷ []) ∷ still ∷ (2 ∷ eight ∷ 100 ∷ 126 ∷ 7 ∷ 1 ∷ 292 ∷ 0 ∷ 0 ∷ []) ∷ (nine ∷ 9191 ∷ []) ∷
-      (292 ∷ []) ∷ still ∷ (2 ∷ eight ∷ 100 ∷ 126 ∷ 7 ∷ 1 ∷ 343 ∷ 0 ∷ 0 ∷ []) ∷ (nine ∷ 9191 ∷ []) ∷
-      (299 ∷ []) ∷ still ∷ (2 ∷ eight ∷ 100 ∷ 126 ∷ 7 ∷ 1 ∷ 343 ∷ 0 ∷ 0 ∷ []) ∷ (nine ∷ 9191 ∷ []) ∷
-      (300 ∷ []) ∷ still ∷ (3 ∷ eight ∷ 100 ∷ 126 ∷ 7 ∷ 1 ∷ 461 ∷ 0 ∷ 0 ∷ []) ∷ (nine ∷ 9191 ∷ []) ∷
-      (301 ∷ []) ∷ still ∷ (3 ∷ eight ∷ 100 ∷ 126 ∷ 7 ∷ 1 ∷ 461 ∷ 0 ∷ 0 ∷ []) ∷ (nine ∷ 9191 ∷ []) ∷
-      (310 ∷ []) ∷ still ∷ (0 ∷ 1 ∷ 911 ∷ 1 ∷ eight ∷ 100 ∷ 0 ∷ 0 ∷ []) ∷ (nine ∷ 9191 ∷ []) ∷
-      (320 ∷ []) ∷ still ∷ (2 ∷ nine ∷ 100 ∷ 126 ∷ 7 ∷ 1 ∷ 371 ∷ 0 ∷ 0 ∷ []) ∷ [] ∷
-      (330 ∷ []) ∷ still ∷ (1 ∷ nine ∷ 100 ∷ 126 ∷ 7 ∷ 1 ∷ 491 ∷ 0 ∷ 0 ∷ []) ∷ [] ∷
-      (491 ∷ []) ∷ still ∷ still ∷ [] ∷ [];
+      (50 ∷ 0 ∷ []) ∷ still ∷ still ∷ [] ∷
+      (100 ∷ 1 ∷ []) ∷ still ∷ (1 ∷ seven ∷ 101 ∷ 100 ∷ 7 ∷ 1 ∷ 1 ∷ 261 ∷ 0 ∷ 0 ∷ []) ∷ [] ∷
+      (110 ∷ 1 ∷ []) ∷ still ∷ (1 ∷ seven ∷ 101 ∷ 100 ∷ 7 ∷ 1 ∷ 1 ∷ 261 ∷ 0 ∷ 0 ∷ []) ∷ [] ∷
+      (120 ∷ 2 ∷ []) ∷ still ∷ (1 ∷ seven ∷ 101 ∷ 126 ∷ 2 ∷ 2 ∷ 1 ∷ 281 ∷ 0 ∷ 0 ∷ []) ∷ [] ∷
+      (125 ∷ 2 ∷ []) ∷ still ∷ (1 ∷ seven ∷ 101 ∷ 126 ∷ 2 ∷ 2 ∷ 1 ∷ 281 ∷ 0 ∷ 0 ∷ []) ∷ [] ∷
+      (126 ∷ 2 ∷ []) ∷ still ∷ (1 ∷ seven ∷ 101 ∷ 126 ∷ 2 ∷ 2 ∷ 1 ∷ 281 ∷ 0 ∷ 0 ∷ []) ∷ [] ∷
+      (127 ∷ 2 ∷ []) ∷ still ∷ (1 ∷ seven ∷ 101 ∷ 126 ∷ 2 ∷ 2 ∷ 1 ∷ 281 ∷ 0 ∷ 0 ∷ []) ∷ [] ∷
+      (130 ∷ 2 ∷ []) ∷ still ∷ (0 ∷ 1 ∷ 731 ∷ 1 ∷ seven ∷ 101 ∷ 2 ∷ 0 ∷ 0 ∷ []) ∷ [] ∷
+      (135 ∷ 2 ∷ []) ∷ still ∷ (0 ∷ 1 ∷ 731 ∷ 1 ∷ seven ∷ 101 ∷ 2 ∷ 0 ∷ 0 ∷ []) ∷ [] ∷
+      (140 ∷ 2 ∷ []) ∷ still ∷ (0 ∷ 1 ∷ 731 ∷ 1 ∷ seven ∷ 101 ∷ 2 ∷ 0 ∷ 1 ∷ 191 ∷ []) ∷ [] ∷
+      (145 ∷ 2 ∷ []) ∷ still ∷ (0 ∷ 1 ∷ 731 ∷ 1 ∷ seven ∷ 101 ∷ 2 ∷ 0 ∷ 1 ∷ 191 ∷ []) ∷ [] ∷
+      (150 ∷ 2 ∷ []) ∷ still ∷ (0 ∷ 1 ∷ 731 ∷ 1 ∷ seven ∷ 101 ∷ 2 ∷ 0 ∷ 0 ∷ []) ∷ [] ∷
+      (155 ∷ 2 ∷ []) ∷ still ∷ (0 ∷ 1 ∷ 731 ∷ 1 ∷ seven ∷ 101 ∷ 2 ∷ 0 ∷ 1 ∷ 206 ∷ []) ∷ [] ∷
+      (160 ∷ 2 ∷ []) ∷ still ∷ (0 ∷ 0 ∷ 2 ∷ seven ∷ 101 ∷ 2 ∷ 160 ∷ 1 ∷ 206 ∷ []) ∷ [] ∷
+      (165 ∷ 2 ∷ []) ∷ still ∷ (0 ∷ 0 ∷ 2 ∷ seven ∷ 101 ∷ 2 ∷ 160 ∷ 1 ∷ 206 ∷ []) ∷ [] ∷
+      (168 ∷ 2 ∷ []) ∷ still ∷ (0 ∷ 0 ∷ 2 ∷ seven ∷ 101 ∷ 2 ∷ 160 ∷ 1 ∷ 206 ∷ []) ∷ [] ∷
+      (170 ∷ 2 ∷ []) ∷ still ∷ (0 ∷ 0 ∷ 2 ∷ seven ∷ 101 ∷ 2 ∷ 160 ∷ 0 ∷ []) ∷ [] ∷
+      (172 ∷ 2 ∷ []) ∷ still ∷ (0 ∷ 0 ∷ 2 ∷ seven ∷ 101 ∷ 2 ∷ 160 ∷ 1 ∷ 223 ∷ []) ∷ [] ∷
+      (173 ∷ 2 ∷ []) ∷ still ∷ (0 ∷ 0 ∷ 2 ∷ seven ∷ 101 ∷ 2 ∷ 160 ∷ 1 ∷ 223 ∷ []) ∷ [] ∷
+      (180 ∷ 2 ∷ []) ∷ still ∷ (0 ∷ 0 ∷ 2 ∷ seven ∷ 101 ∷ 2 ∷ 160 ∷ 1 ∷ 223 ∷ []) ∷ (eight ∷ 9181 ∷ []) ∷
+      (190 ∷ 2 ∷ []) ∷ still ∷ (0 ∷ 0 ∷ 2 ∷ seven ∷ 101 ∷ 2 ∷ 160 ∷ 1 ∷ 223 ∷ []) ∷ (eight ∷ 9181 ∷ nine ∷ 9191 ∷ []) ∷
+      (195 ∷ 2 ∷ []) ∷ still ∷ (0 ∷ 0 ∷ 2 ∷ seven ∷ 101 ∷ 2 ∷ 160 ∷ 1 ∷ 223 ∷ []) ∷ (eight ∷ 9181 ∷ nine ∷ 9191 ∷ []) ∷
+      (196 ∷ 2 ∷ []) ∷ still ∷ (0 ∷ 0 ∷ 2 ∷ seven ∷ 101 ∷ 2 ∷ 160 ∷ 1 ∷ 223 ∷ []) ∷ (eight ∷ 9181 ∷ nine ∷ 9191 ∷ []) ∷
+      (200 ∷ 2 ∷ []) ∷ still ∷ (0 ∷ 1 ∷ 241 ∷ 0 ∷ 0 ∷ []) ∷ (eight ∷ 9181 ∷ nine ∷ 9191 ∷ []) ∷
+      (210 ∷ 2 ∷ []) ∷ still ∷ (0 ∷ 1 ∷ 241 ∷ 0 ∷ 0 ∷ []) ∷ (eight ∷ 9181 ∷ nine ∷ 9191 ∷ []) ∷
+      (241 ∷ 3 ∷ []) ∷ still ∷ (2 ∷ eight ∷ 100 ∷ 126 ∷ 7 ∷ 3 ∷ 1 ∷ 292 ∷ 0 ∷ 0 ∷ []) ∷ (nine ∷ 9191 ∷ []) ∷
+      (292 ∷ 3 ∷ []) ∷ still ∷ (2 ∷ eight ∷ 100 ∷ 126 ∷ 7 ∷ 3 ∷ 1 ∷ 343 ∷ 0 ∷ 0 ∷ []) ∷ (nine ∷ 9191 ∷ []) ∷
+      (299 ∷ 3 ∷ []) ∷ still ∷ (2 ∷ eight ∷ 100 ∷ 126 ∷ 7 ∷ 3 ∷ 1 ∷ 343 ∷ 0 ∷ 0 ∷ []) ∷ (nine ∷ 9191 ∷ []) ∷
+      (300 ∷ 3 ∷ []) ∷ still ∷ (3 ∷ eight ∷ 100 ∷ 126 ∷ 7 ∷ 3 ∷ 1 ∷ 461 ∷ 0 ∷ 0 ∷ []) ∷ (nine ∷ 9191 ∷ []) ∷
+      (301 ∷ 3 ∷ []) ∷ still ∷ (3 ∷ eight ∷ 100 ∷ 126 ∷ 7 ∷ 3 ∷ 1 ∷ 461 ∷ 0 ∷ 0 ∷ []) ∷ (nine ∷ 9191 ∷ []) ∷
+      (310 ∷ 3 ∷ []) ∷ still ∷ (0 ∷ 1 ∷ 911 ∷ 1 ∷ eight ∷ 100 ∷ 3 ∷ 0 ∷ 0 ∷ []) ∷ (nine ∷ 9191 ∷ []) ∷
+      (320 ∷ 4 ∷ []) ∷ still ∷ (2 ∷ nine ∷ 100 ∷ 126 ∷ 7 ∷ 4 ∷ 1 ∷ 371 ∷ 0 ∷ 0 ∷ []) ∷ [] ∷
+      (330 ∷ 5 ∷ []) ∷ still ∷ (1 ∷ nine ∷ 100 ∷ 126 ∷ 7 ∷ 5 ∷ 1 ∷ 491 ∷ 0 ∷ 0 ∷ []) ∷ [] ∷
+      (491 ∷ 5 ∷ []) ∷ still ∷ still ∷ [] ∷ [];
 }
 
 abbrev pub onSecondWords : Row
@@ -187,7 +196,7 @@ abbrev pub onSecondRun : Run
 onSecondRun = record {
   slots = 2;
   events = onSecond;
-  owing = paid 23 1 seven 160 200 4 ∷ [];
+  owing = paid 23 1 seven 160 200 4 2 ∷ [];
 }
 
 -- ── the second slot once more ─────────────────────────────────────────────────
@@ -208,41 +217,41 @@ abbrev pub againPages : Row
 againPages = record {
   computed = pages 2 again;
   expected =
-      (50 ∷ []) ∷ still ∷ still ∷ [] ∷
-      (100 ∷ []) ∷ still ∷ (1 ∷ seven ∷ 100 ∷ 126 ∷ 7 ∷ 1 ∷ 261 ∷ 0 ∷ 0 ∷ []) ∷ [] ∷
-      (110 ∷ []) ∷ still ∷ (0 ∷ 1 ∷ 711 ∷ 1 ∷ seven ∷ 100 ∷ 0 ∷ 0 ∷ []) ∷ [] ∷
-      (120 ∷ []) ∷ still ∷ (0 ∷ 0 ∷ 2 ∷ seven ∷ 100 ∷ 120 ∷ 0 ∷ []) ∷ [] ∷
-      (130 ∷ []) ∷ still ∷ (0 ∷ 0 ∷ 2 ∷ seven ∷ 100 ∷ 120 ∷ 1 ∷ 581 ∷ []) ∷ [] ∷
-      (135 ∷ []) ∷ still ∷ (0 ∷ 0 ∷ 2 ∷ seven ∷ 100 ∷ 120 ∷ 1 ∷ 581 ∷ []) ∷ (eight ∷ 9136 ∷ []) ∷
-      (140 ∷ []) ∷ still ∷ (2 ∷ eight ∷ 100 ∷ 126 ∷ 7 ∷ 1 ∷ 191 ∷ 0 ∷ 0 ∷ []) ∷ (seven ∷ 9141 ∷ []) ∷
-      (191 ∷ []) ∷ still ∷ (2 ∷ eight ∷ 100 ∷ 126 ∷ 7 ∷ 1 ∷ 242 ∷ 0 ∷ 0 ∷ []) ∷ (seven ∷ 9141 ∷ []) ∷
-      (200 ∷ []) ∷ still ∷ (3 ∷ eight ∷ 100 ∷ 126 ∷ 7 ∷ 1 ∷ 361 ∷ 0 ∷ 0 ∷ []) ∷ (seven ∷ 9141 ∷ []) ∷
-      (210 ∷ []) ∷ still ∷ (0 ∷ 1 ∷ 811 ∷ 1 ∷ eight ∷ 100 ∷ 0 ∷ 0 ∷ []) ∷ (seven ∷ 9141 ∷ []) ∷
-      (220 ∷ []) ∷ still ∷ (0 ∷ 1 ∷ 811 ∷ 1 ∷ eight ∷ 100 ∷ 0 ∷ 1 ∷ 671 ∷ []) ∷ (seven ∷ 9141 ∷ []) ∷
-      (230 ∷ []) ∷ still ∷ (2 ∷ seven ∷ 100 ∷ 126 ∷ 7 ∷ 1 ∷ 281 ∷ 0 ∷ 0 ∷ []) ∷ (eight ∷ 9231 ∷ []) ∷
-      (240 ∷ []) ∷ still ∷ (3 ∷ seven ∷ 100 ∷ 126 ∷ 7 ∷ 1 ∷ 401 ∷ 0 ∷ 0 ∷ []) ∷ (eight ∷ 9231 ∷ []) ∷
-      (245 ∷ []) ∷ still ∷ (0 ∷ 1 ∷ 846 ∷ 1 ∷ seven ∷ 100 ∷ 0 ∷ 0 ∷ []) ∷ (eight ∷ 9231 ∷ []) ∷
-      (846 ∷ []) ∷ still ∷ (2 ∷ eight ∷ 100 ∷ 126 ∷ 7 ∷ 1 ∷ 897 ∷ 0 ∷ 0 ∷ []) ∷ [] ∷
-      (897 ∷ []) ∷ still ∷ (2 ∷ eight ∷ 100 ∷ 126 ∷ 7 ∷ 1 ∷ 948 ∷ 0 ∷ 0 ∷ []) ∷ [] ∷
-      (948 ∷ []) ∷ still ∷ still ∷ [] ∷
-      (960 ∷ []) ∷ still ∷ (1 ∷ eight ∷ 101 ∷ 126 ∷ 7 ∷ 1 ∷ 1121 ∷ 0 ∷ 0 ∷ []) ∷ [] ∷
-      (970 ∷ []) ∷ still ∷ (0 ∷ 1 ∷ 1571 ∷ 1 ∷ eight ∷ 101 ∷ 0 ∷ 0 ∷ []) ∷ [] ∷
-      (980 ∷ []) ∷ still ∷ (0 ∷ 0 ∷ 2 ∷ eight ∷ 101 ∷ 980 ∷ 0 ∷ []) ∷ [] ∷
-      (990 ∷ []) ∷ still ∷ (0 ∷ 0 ∷ 2 ∷ eight ∷ 101 ∷ 980 ∷ 1 ∷ 1041 ∷ []) ∷ [] ∷
-      (1000 ∷ []) ∷ still ∷ (0 ∷ 0 ∷ 2 ∷ eight ∷ 101 ∷ 980 ∷ 1 ∷ 1041 ∷ []) ∷ [] ∷
-      (1041 ∷ []) ∷ still ∷ still ∷ [] ∷
-      (1110 ∷ []) ∷ still ∷ (1 ∷ seven ∷ 100 ∷ 126 ∷ 7 ∷ 1 ∷ 1271 ∷ 0 ∷ 0 ∷ []) ∷ [] ∷
-      (1120 ∷ []) ∷ still ∷ (0 ∷ 1 ∷ 1721 ∷ 1 ∷ seven ∷ 100 ∷ 0 ∷ 0 ∷ []) ∷ [] ∷
-      (1125 ∷ []) ∷ still ∷ (0 ∷ 1 ∷ 1721 ∷ 1 ∷ seven ∷ 100 ∷ 0 ∷ 0 ∷ []) ∷ [] ∷
-      (1130 ∷ []) ∷ still ∷ (0 ∷ 0 ∷ 2 ∷ seven ∷ 100 ∷ 1130 ∷ 0 ∷ []) ∷ [] ∷
-      (1135 ∷ []) ∷ still ∷ (0 ∷ 0 ∷ 2 ∷ seven ∷ 100 ∷ 1130 ∷ 0 ∷ []) ∷ [] ∷
-      (1140 ∷ []) ∷ still ∷ (0 ∷ 0 ∷ 2 ∷ seven ∷ 100 ∷ 1130 ∷ 1 ∷ 1591 ∷ []) ∷ [] ∷
-      (1591 ∷ []) ∷ still ∷ still ∷ [] ∷
-      (1610 ∷ []) ∷ still ∷ (1 ∷ nine ∷ 101 ∷ 126 ∷ 7 ∷ 1 ∷ 1771 ∷ 0 ∷ 0 ∷ []) ∷ [] ∷
-      (1620 ∷ []) ∷ still ∷ (0 ∷ 1 ∷ 2221 ∷ 1 ∷ nine ∷ 101 ∷ 0 ∷ 0 ∷ []) ∷ [] ∷
-      (1630 ∷ []) ∷ still ∷ (0 ∷ 1 ∷ 2221 ∷ 1 ∷ nine ∷ 101 ∷ 0 ∷ 1 ∷ 1681 ∷ []) ∷ [] ∷
-      (1640 ∷ []) ∷ still ∷ (0 ∷ 1 ∷ 1681 ∷ 0 ∷ 0 ∷ []) ∷ [] ∷
-      (1681 ∷ []) ∷ still ∷ still ∷ [] ∷ [];
+      (50 ∷ 0 ∷ []) ∷ still ∷ still ∷ [] ∷
+      (100 ∷ 1 ∷ []) ∷ still ∷ (1 ∷ seven ∷ 100 ∷ 126 ∷ 7 ∷ 1 ∷ 1 ∷ 261 ∷ 0 ∷ 0 ∷ []) ∷ [] ∷
+      (110 ∷ 1 ∷ []) ∷ still ∷ (0 ∷ 1 ∷ 711 ∷ 1 ∷ seven ∷ 100 ∷ 1 ∷ 0 ∷ 0 ∷ []) ∷ [] ∷
+      (120 ∷ 1 ∷ []) ∷ still ∷ (0 ∷ 0 ∷ 2 ∷ seven ∷ 100 ∷ 1 ∷ 120 ∷ 0 ∷ []) ∷ [] ∷
+      (130 ∷ 1 ∷ []) ∷ still ∷ (0 ∷ 0 ∷ 2 ∷ seven ∷ 100 ∷ 1 ∷ 120 ∷ 1 ∷ 581 ∷ []) ∷ [] ∷
+      (135 ∷ 1 ∷ []) ∷ still ∷ (0 ∷ 0 ∷ 2 ∷ seven ∷ 100 ∷ 1 ∷ 120 ∷ 1 ∷ 581 ∷ []) ∷ (eight ∷ 9136 ∷ []) ∷
+      (140 ∷ 2 ∷ []) ∷ still ∷ (2 ∷ eight ∷ 100 ∷ 126 ∷ 7 ∷ 2 ∷ 1 ∷ 191 ∷ 0 ∷ 0 ∷ []) ∷ (seven ∷ 9141 ∷ []) ∷
+      (191 ∷ 2 ∷ []) ∷ still ∷ (2 ∷ eight ∷ 100 ∷ 126 ∷ 7 ∷ 2 ∷ 1 ∷ 242 ∷ 0 ∷ 0 ∷ []) ∷ (seven ∷ 9141 ∷ []) ∷
+      (200 ∷ 2 ∷ []) ∷ still ∷ (3 ∷ eight ∷ 100 ∷ 126 ∷ 7 ∷ 2 ∷ 1 ∷ 361 ∷ 0 ∷ 0 ∷ []) ∷ (seven ∷ 9141 ∷ []) ∷
+      (210 ∷ 2 ∷ []) ∷ still ∷ (0 ∷ 1 ∷ 811 ∷ 1 ∷ eight ∷ 100 ∷ 2 ∷ 0 ∷ 0 ∷ []) ∷ (seven ∷ 9141 ∷ []) ∷
+      (220 ∷ 2 ∷ []) ∷ still ∷ (0 ∷ 1 ∷ 811 ∷ 1 ∷ eight ∷ 100 ∷ 2 ∷ 0 ∷ 1 ∷ 671 ∷ []) ∷ (seven ∷ 9141 ∷ []) ∷
+      (230 ∷ 3 ∷ []) ∷ still ∷ (2 ∷ seven ∷ 100 ∷ 126 ∷ 7 ∷ 3 ∷ 1 ∷ 281 ∷ 0 ∷ 0 ∷ []) ∷ (eight ∷ 9231 ∷ []) ∷
+      (240 ∷ 3 ∷ []) ∷ still ∷ (3 ∷ seven ∷ 100 ∷ 126 ∷ 7 ∷ 3 ∷ 1 ∷ 401 ∷ 0 ∷ 0 ∷ []) ∷ (eight ∷ 9231 ∷ []) ∷
+      (245 ∷ 3 ∷ []) ∷ still ∷ (0 ∷ 1 ∷ 846 ∷ 1 ∷ seven ∷ 100 ∷ 3 ∷ 0 ∷ 0 ∷ []) ∷ (eight ∷ 9231 ∷ []) ∷
+      (846 ∷ 4 ∷ []) ∷ still ∷ (2 ∷ eight ∷ 100 ∷ 126 ∷ 7 ∷ 4 ∷ 1 ∷ 897 ∷ 0 ∷ 0 ∷ []) ∷ [] ∷
+      (897 ∷ 4 ∷ []) ∷ still ∷ (2 ∷ eight ∷ 100 ∷ 126 ∷ 7 ∷ 4 ∷ 1 ∷ 948 ∷ 0 ∷ 0 ∷ []) ∷ [] ∷
+      (948 ∷ 4 ∷ []) ∷ still ∷ still ∷ [] ∷
+      (960 ∷ 5 ∷ []) ∷ still ∷ (1 ∷ eight ∷ 101 ∷ 126 ∷ 7 ∷ 5 ∷ 1 ∷ 1121 ∷ 0 ∷ 0 ∷ []) ∷ [] ∷
+      (970 ∷ 5 ∷ []) ∷ still ∷ (0 ∷ 1 ∷ 1571 ∷ 1 ∷ eight ∷ 101 ∷ 5 ∷ 0 ∷ 0 ∷ []) ∷ [] ∷
+      (980 ∷ 5 ∷ []) ∷ still ∷ (0 ∷ 0 ∷ 2 ∷ eight ∷ 101 ∷ 5 ∷ 980 ∷ 0 ∷ []) ∷ [] ∷
+      (990 ∷ 5 ∷ []) ∷ still ∷ (0 ∷ 0 ∷ 2 ∷ eight ∷ 101 ∷ 5 ∷ 980 ∷ 1 ∷ 1041 ∷ []) ∷ [] ∷
+      (1000 ∷ 5 ∷ []) ∷ still ∷ (0 ∷ 0 ∷ 2 ∷ eight ∷ 101 ∷ 5 ∷ 980 ∷ 1 ∷ 1041 ∷ []) ∷ [] ∷
+      (1041 ∷ 5 ∷ []) ∷ still ∷ still ∷ [] ∷
+      (1110 ∷ 6 ∷ []) ∷ still ∷ (1 ∷ seven ∷ 100 ∷ 126 ∷ 7 ∷ 6 ∷ 1 ∷ 1271 ∷ 0 ∷ 0 ∷ []) ∷ [] ∷
+      (1120 ∷ 6 ∷ []) ∷ still ∷ (0 ∷ 1 ∷ 1721 ∷ 1 ∷ seven ∷ 100 ∷ 6 ∷ 0 ∷ 0 ∷ []) ∷ [] ∷
+      (1125 ∷ 6 ∷ []) ∷ still ∷ (0 ∷ 1 ∷ 1721 ∷ 1 ∷ seven ∷ 100 ∷ 6 ∷ 0 ∷ 0 ∷ []) ∷ [] ∷
+      (1130 ∷ 6 ∷ []) ∷ still ∷ (0 ∷ 0 ∷ 2 ∷ seven ∷ 100 ∷ 6 ∷ 1130 ∷ 0 ∷ []) ∷ [] ∷
+      (1135 ∷ 6 ∷ []) ∷ still ∷ (0 ∷ 0 ∷ 2 ∷ seven ∷ 100 ∷ 6 ∷ 1130 ∷ 0 ∷ []) ∷ [] ∷
+      (1140 ∷ 6 ∷ []) ∷ still ∷ (0 ∷ 0 ∷ 2 ∷ seven ∷ 100 ∷ 6 ∷ 1130 ∷ 1 ∷ 1591 ∷ []) ∷ [] ∷
+      (1591 ∷ 6 ∷ []) ∷ still ∷ still ∷ [] ∷
+      (1610 ∷ 7 ∷ []) ∷ still ∷ (1 ∷ nine ∷ 101 ∷ 126 ∷ 7 ∷ 7 ∷ 1 ∷ 1771 ∷ 0 ∷ 0 ∷ []) ∷ [] ∷
+      (1620 ∷ 7 ∷ []) ∷ still ∷ (0 ∷ 1 ∷ 2221 ∷ 1 ∷ nine ∷ 101 ∷ 7 ∷ 0 ∷ 0 ∷ []) ∷ [] ∷
+      (1630 ∷ 7 ∷ []) ∷ still ∷ (0 ∷ 1 ∷ 2221 ∷ 1 ∷ nine ∷ 101 ∷ 7 ∷ 0 ∷ 1 ∷ 1681 ∷ []) ∷ [] ∷
+      (1640 ∷ 7 ∷ []) ∷ still ∷ (0 ∷ 1 ∷ 1681 ∷ 0 ∷ 0 ∷ []) ∷ [] ∷
+      (1681 ∷ 7 ∷ []) ∷ still ∷ still ∷ [] ∷ [];
 }
 
 abbrev pub againWords : Row
@@ -264,7 +273,7 @@ abbrev pub againRun : Run
 againRun = record {
   slots = 2;
   events = again;
-  owing = paid 6 1 seven 120 140 2 ∷ paid 22 1 eight 980 1041 6 ∷ paid 29 1 seven 1130 1591 46 ∷ [];
+  owing = paid 6 1 seven 120 140 2 1 ∷ paid 22 1 eight 980 1041 6 5 ∷ paid 29 1 seven 1130 1591 46 6 ∷ [];
 }
 
 -- ── the second slot, its dialling ended ───────────────────────────────────────
@@ -273,26 +282,26 @@ abbrev pub dialledPages : Row
 dialledPages = record {
   computed = pages 2 secondSlotDialledScript;
   expected =
-      (50 ∷ []) ∷ still ∷ still ∷ [] ∷
-      (100 ∷ []) ∷ still ∷ (1 ∷ seven ∷ 101 ∷ 126 ∷ 7 ∷ 1 ∷ 261 ∷ 0 ∷ 0 ∷ []) ∷ [] ∷
-      (105 ∷ []) ∷ still ∷ (1 ∷ seven ∷ 101 ∷ 126 ∷ 7 ∷ 1 ∷ 261 ∷ 0 ∷ 0 ∷ []) ∷ [] ∷
-      (110 ∷ []) ∷ still ∷ (0 ∷ 1 ∷ 711 ∷ 1 ∷ seven ∷ 101 ∷ 0 ∷ 0 ∷ []) ∷ [] ∷
-      (700 ∷ []) ∷ still ∷ (0 ∷ 1 ∷ 1301 ∷ 1 ∷ seven ∷ 101 ∷ 1 ∷ 0 ∷ []) ∷ [] ∷
-      (705 ∷ []) ∷ still ∷ (0 ∷ 1 ∷ 1301 ∷ 1 ∷ seven ∷ 101 ∷ 1 ∷ 0 ∷ []) ∷ [] ∷
-      (710 ∷ []) ∷ still ∷ (0 ∷ 1 ∷ 1301 ∷ 1 ∷ seven ∷ 101 ∷ 1 ∷ 1 ∷ 761 ∷ []) ∷ [] ∷
-      (720 ∷ []) ∷ still ∷ (0 ∷ 1 ∷ 1301 ∷ 1 ∷ seven ∷ 101 ∷ 1 ∷ 0 ∷ []) ∷ [] ∷
-      (1301 ∷ []) ∷ still ∷ still ∷ [] ∷
-      (1310 ∷ []) ∷ still ∷ (1 ∷ seven ∷ 100 ∷ 126 ∷ 7 ∷ 1 ∷ 1471 ∷ 0 ∷ 0 ∷ []) ∷ [] ∷
-      (1320 ∷ []) ∷ still ∷ (0 ∷ 1 ∷ 1921 ∷ 1 ∷ seven ∷ 100 ∷ 0 ∷ 0 ∷ []) ∷ [] ∷
-      (1325 ∷ []) ∷ still ∷ (0 ∷ 1 ∷ 1921 ∷ 1 ∷ seven ∷ 100 ∷ 0 ∷ 1 ∷ 1776 ∷ []) ∷ [] ∷
-      (1330 ∷ []) ∷ still ∷ (0 ∷ 1 ∷ 1931 ∷ 1 ∷ seven ∷ 100 ∷ 1 ∷ 1 ∷ 1776 ∷ []) ∷ [] ∷
-      (1335 ∷ []) ∷ still ∷ (0 ∷ 1 ∷ 1931 ∷ 1 ∷ seven ∷ 100 ∷ 1 ∷ 1 ∷ 1776 ∷ []) ∷ [] ∷
-      (1340 ∷ []) ∷ still ∷ (0 ∷ 0 ∷ 2 ∷ seven ∷ 100 ∷ 1340 ∷ 1 ∷ 1776 ∷ []) ∷ [] ∷
-      (1345 ∷ []) ∷ still ∷ (0 ∷ 0 ∷ 2 ∷ seven ∷ 100 ∷ 1340 ∷ 1 ∷ 1776 ∷ []) ∷ [] ∷
-      (1360 ∷ []) ∷ still ∷ (0 ∷ 1 ∷ 1401 ∷ 0 ∷ 0 ∷ []) ∷ [] ∷
-      (1370 ∷ []) ∷ still ∷ (0 ∷ 1 ∷ 1401 ∷ 0 ∷ 0 ∷ []) ∷ [] ∷
-      (1401 ∷ []) ∷ still ∷ still ∷ [] ∷
-      (1410 ∷ []) ∷ still ∷ still ∷ [] ∷ [];
+      (50 ∷ 0 ∷ []) ∷ still ∷ still ∷ [] ∷
+      (100 ∷ 1 ∷ []) ∷ still ∷ (1 ∷ seven ∷ 101 ∷ 126 ∷ 7 ∷ 1 ∷ 1 ∷ 261 ∷ 0 ∷ 0 ∷ []) ∷ [] ∷
+      (105 ∷ 1 ∷ []) ∷ still ∷ (1 ∷ seven ∷ 101 ∷ 126 ∷ 7 ∷ 1 ∷ 1 ∷ 261 ∷ 0 ∷ 0 ∷ []) ∷ [] ∷
+      (110 ∷ 1 ∷ []) ∷ still ∷ (0 ∷ 1 ∷ 711 ∷ 1 ∷ seven ∷ 101 ∷ 1 ∷ 0 ∷ 0 ∷ []) ∷ [] ∷
+      (700 ∷ 1 ∷ []) ∷ still ∷ (0 ∷ 1 ∷ 1301 ∷ 1 ∷ seven ∷ 101 ∷ 1 ∷ 1 ∷ 0 ∷ []) ∷ [] ∷
+      (705 ∷ 1 ∷ []) ∷ still ∷ (0 ∷ 1 ∷ 1301 ∷ 1 ∷ seven ∷ 101 ∷ 1 ∷ 1 ∷ 0 ∷ []) ∷ [] ∷
+      (710 ∷ 1 ∷ []) ∷ still ∷ (0 ∷ 1 ∷ 1301 ∷ 1 ∷ seven ∷ 101 ∷ 1 ∷ 1 ∷ 1 ∷ 761 ∷ []) ∷ [] ∷
+      (720 ∷ 1 ∷ []) ∷ still ∷ (0 ∷ 1 ∷ 1301 ∷ 1 ∷ seven ∷ 101 ∷ 1 ∷ 1 ∷ 0 ∷ []) ∷ [] ∷
+      (1301 ∷ 1 ∷ []) ∷ still ∷ still ∷ [] ∷
+      (1310 ∷ 2 ∷ []) ∷ still ∷ (1 ∷ seven ∷ 100 ∷ 126 ∷ 7 ∷ 2 ∷ 1 ∷ 1471 ∷ 0 ∷ 0 ∷ []) ∷ [] ∷
+      (1320 ∷ 2 ∷ []) ∷ still ∷ (0 ∷ 1 ∷ 1921 ∷ 1 ∷ seven ∷ 100 ∷ 2 ∷ 0 ∷ 0 ∷ []) ∷ [] ∷
+      (1325 ∷ 2 ∷ []) ∷ still ∷ (0 ∷ 1 ∷ 1921 ∷ 1 ∷ seven ∷ 100 ∷ 2 ∷ 0 ∷ 1 ∷ 1776 ∷ []) ∷ [] ∷
+      (1330 ∷ 2 ∷ []) ∷ still ∷ (0 ∷ 1 ∷ 1931 ∷ 1 ∷ seven ∷ 100 ∷ 2 ∷ 1 ∷ 1 ∷ 1776 ∷ []) ∷ [] ∷
+      (1335 ∷ 2 ∷ []) ∷ still ∷ (0 ∷ 1 ∷ 1931 ∷ 1 ∷ seven ∷ 100 ∷ 2 ∷ 1 ∷ 1 ∷ 1776 ∷ []) ∷ [] ∷
+      (1340 ∷ 2 ∷ []) ∷ still ∷ (0 ∷ 0 ∷ 2 ∷ seven ∷ 100 ∷ 2 ∷ 1340 ∷ 1 ∷ 1776 ∷ []) ∷ [] ∷
+      (1345 ∷ 2 ∷ []) ∷ still ∷ (0 ∷ 0 ∷ 2 ∷ seven ∷ 100 ∷ 2 ∷ 1340 ∷ 1 ∷ 1776 ∷ []) ∷ [] ∷
+      (1360 ∷ 2 ∷ []) ∷ still ∷ (0 ∷ 1 ∷ 1401 ∷ 0 ∷ 0 ∷ []) ∷ [] ∷
+      (1370 ∷ 2 ∷ []) ∷ still ∷ (0 ∷ 1 ∷ 1401 ∷ 0 ∷ 0 ∷ []) ∷ [] ∷
+      (1401 ∷ 2 ∷ []) ∷ still ∷ still ∷ [] ∷
+      (1410 ∷ 2 ∷ []) ∷ still ∷ still ∷ [] ∷ [];
 }
 
 abbrev pub dialledWords : Row
@@ -313,7 +322,7 @@ abbrev pub dialledRun : Run
 dialledRun = record {
   slots = 2;
   events = secondSlotDialledScript;
-  owing = paid 16 1 seven 1340 1360 2 ∷ [];
+  owing = paid 16 1 seven 1340 1360 2 2 ∷ [];
 }
 
 -- ── the second slot, called from ashore ──────────────────────────────────────
@@ -322,50 +331,50 @@ abbrev pub calledPages : Row
 calledPages = record {
   computed = pages 2 secondSlotCalledScript;
   expected =
-      (50 ∷ []) ∷ still ∷ still ∷ [] ∷
-      (100 ∷ []) ∷ still ∷ (0 ∷ 1 ∷ 151 ∷ 3 ∷ seven ∷ 101 ∷ 126 ∷ 6 ∷ 0 ∷ 0 ∷ []) ∷ [] ∷
-      (105 ∷ []) ∷ still ∷ (0 ∷ 1 ∷ 151 ∷ 3 ∷ seven ∷ 101 ∷ 126 ∷ 6 ∷ 0 ∷ 0 ∷ []) ∷ [] ∷
-      (106 ∷ []) ∷ still ∷ (0 ∷ 1 ∷ 151 ∷ 3 ∷ seven ∷ 101 ∷ 126 ∷ 6 ∷ 0 ∷ 0 ∷ []) ∷ [] ∷
-      (107 ∷ []) ∷ still ∷ (0 ∷ 1 ∷ 151 ∷ 3 ∷ seven ∷ 101 ∷ 126 ∷ 6 ∷ 0 ∷ 0 ∷ []) ∷ [] ∷
-      (108 ∷ []) ∷ still ∷ (0 ∷ 1 ∷ 151 ∷ 3 ∷ seven ∷ 101 ∷ 126 ∷ 6 ∷ 0 ∷ 0 ∷ []) ∷ [] ∷
-      (109 ∷ []) ∷ still ∷ (0 ∷ 1 ∷ 151 ∷ 3 ∷ seven ∷ 101 ∷ 126 ∷ 6 ∷ 0 ∷ 0 ∷ []) ∷ [] ∷
-      (110 ∷ []) ∷ still ∷ (0 ∷ 1 ∷ 151 ∷ 3 ∷ seven ∷ 101 ∷ 126 ∷ 6 ∷ 0 ∷ 0 ∷ []) ∷ [] ∷
-      (111 ∷ []) ∷ still ∷ (0 ∷ 1 ∷ 151 ∷ 3 ∷ seven ∷ 101 ∷ 126 ∷ 6 ∷ 0 ∷ 0 ∷ []) ∷ [] ∷
-      (112 ∷ []) ∷ still ∷ (0 ∷ 1 ∷ 151 ∷ 3 ∷ seven ∷ 101 ∷ 126 ∷ 6 ∷ 0 ∷ 0 ∷ []) ∷ [] ∷
-      (113 ∷ []) ∷ still ∷ (0 ∷ 1 ∷ 151 ∷ 3 ∷ seven ∷ 101 ∷ 126 ∷ 6 ∷ 0 ∷ 0 ∷ []) ∷ [] ∷
-      (114 ∷ []) ∷ still ∷ (0 ∷ 1 ∷ 151 ∷ 3 ∷ seven ∷ 101 ∷ 126 ∷ 6 ∷ 0 ∷ 0 ∷ []) ∷ [] ∷
-      (117 ∷ []) ∷ still ∷ (0 ∷ 1 ∷ 151 ∷ 3 ∷ seven ∷ 101 ∷ 126 ∷ 6 ∷ 0 ∷ 0 ∷ []) ∷ (eight ∷ 9118 ∷ []) ∷
-      (151 ∷ []) ∷ still ∷ (0 ∷ 1 ∷ 202 ∷ 3 ∷ seven ∷ 101 ∷ 126 ∷ 6 ∷ 0 ∷ 0 ∷ []) ∷ (eight ∷ 9118 ∷ []) ∷
-      (155 ∷ []) ∷ still ∷ (0 ∷ 1 ∷ 202 ∷ 3 ∷ seven ∷ 101 ∷ 126 ∷ 6 ∷ 0 ∷ 0 ∷ []) ∷ (eight ∷ 9118 ∷ []) ∷
-      (160 ∷ []) ∷ still ∷ (0 ∷ 1 ∷ 761 ∷ 3 ∷ seven ∷ 101 ∷ 126 ∷ 6 ∷ 1 ∷ 0 ∷ []) ∷ (eight ∷ 9118 ∷ []) ∷
-      (165 ∷ []) ∷ still ∷ (0 ∷ 1 ∷ 761 ∷ 3 ∷ seven ∷ 101 ∷ 126 ∷ 6 ∷ 1 ∷ 0 ∷ []) ∷ (eight ∷ 9118 ∷ []) ∷
-      (166 ∷ []) ∷ still ∷ (0 ∷ 1 ∷ 761 ∷ 3 ∷ seven ∷ 101 ∷ 126 ∷ 6 ∷ 1 ∷ 0 ∷ []) ∷ (eight ∷ 9118 ∷ []) ∷
-      (167 ∷ []) ∷ still ∷ (0 ∷ 1 ∷ 761 ∷ 3 ∷ seven ∷ 101 ∷ 126 ∷ 6 ∷ 1 ∷ 0 ∷ []) ∷ (eight ∷ 9118 ∷ []) ∷
-      (168 ∷ []) ∷ still ∷ (0 ∷ 1 ∷ 761 ∷ 3 ∷ seven ∷ 101 ∷ 126 ∷ 6 ∷ 1 ∷ 0 ∷ []) ∷ (eight ∷ 9118 ∷ []) ∷
-      (169 ∷ []) ∷ still ∷ (0 ∷ 1 ∷ 761 ∷ 3 ∷ seven ∷ 101 ∷ 126 ∷ 6 ∷ 1 ∷ 0 ∷ []) ∷ (eight ∷ 9118 ∷ []) ∷
-      (170 ∷ []) ∷ still ∷ (0 ∷ 1 ∷ 761 ∷ 3 ∷ seven ∷ 101 ∷ 126 ∷ 6 ∷ 1 ∷ 0 ∷ []) ∷ (eight ∷ 9118 ∷ []) ∷
-      (171 ∷ []) ∷ still ∷ (0 ∷ 1 ∷ 761 ∷ 3 ∷ seven ∷ 101 ∷ 126 ∷ 6 ∷ 1 ∷ 0 ∷ []) ∷ (eight ∷ 9118 ∷ []) ∷
-      (172 ∷ []) ∷ still ∷ (0 ∷ 1 ∷ 761 ∷ 3 ∷ seven ∷ 101 ∷ 126 ∷ 6 ∷ 1 ∷ 0 ∷ []) ∷ (eight ∷ 9118 ∷ []) ∷
-      (200 ∷ []) ∷ still ∷ (0 ∷ 0 ∷ 2 ∷ seven ∷ 101 ∷ 200 ∷ 0 ∷ []) ∷ (eight ∷ 9118 ∷ []) ∷
-      (205 ∷ []) ∷ still ∷ (0 ∷ 0 ∷ 2 ∷ seven ∷ 101 ∷ 200 ∷ 0 ∷ []) ∷ (eight ∷ 9118 ∷ []) ∷
-      (206 ∷ []) ∷ still ∷ (0 ∷ 0 ∷ 2 ∷ seven ∷ 101 ∷ 200 ∷ 0 ∷ []) ∷ (eight ∷ 9118 ∷ []) ∷
-      (207 ∷ []) ∷ still ∷ (0 ∷ 0 ∷ 2 ∷ seven ∷ 101 ∷ 200 ∷ 0 ∷ []) ∷ (eight ∷ 9118 ∷ []) ∷
-      (208 ∷ []) ∷ still ∷ (0 ∷ 0 ∷ 2 ∷ seven ∷ 101 ∷ 200 ∷ 0 ∷ []) ∷ (eight ∷ 9118 ∷ []) ∷
-      (210 ∷ []) ∷ still ∷ (0 ∷ 0 ∷ 2 ∷ seven ∷ 101 ∷ 200 ∷ 1 ∷ 261 ∷ []) ∷ (eight ∷ 9118 ∷ []) ∷
-      (215 ∷ []) ∷ still ∷ (0 ∷ 0 ∷ 2 ∷ seven ∷ 101 ∷ 200 ∷ 1 ∷ 261 ∷ []) ∷ (eight ∷ 9118 ∷ []) ∷
-      (220 ∷ []) ∷ still ∷ (0 ∷ 0 ∷ 2 ∷ seven ∷ 101 ∷ 200 ∷ 0 ∷ []) ∷ (eight ∷ 9118 ∷ []) ∷
-      (225 ∷ []) ∷ still ∷ (0 ∷ 0 ∷ 2 ∷ seven ∷ 101 ∷ 200 ∷ 0 ∷ []) ∷ (eight ∷ 9118 ∷ []) ∷
-      (226 ∷ []) ∷ still ∷ (0 ∷ 0 ∷ 2 ∷ seven ∷ 101 ∷ 200 ∷ 0 ∷ []) ∷ (eight ∷ 9118 ∷ []) ∷
-      (227 ∷ []) ∷ still ∷ (0 ∷ 0 ∷ 2 ∷ seven ∷ 101 ∷ 200 ∷ 0 ∷ []) ∷ (eight ∷ 9118 ∷ []) ∷
-      (230 ∷ []) ∷ still ∷ (0 ∷ 0 ∷ 2 ∷ seven ∷ 101 ∷ 200 ∷ 0 ∷ []) ∷ (eight ∷ 9118 ∷ []) ∷
-      (240 ∷ []) ∷ still ∷ (0 ∷ 1 ∷ 281 ∷ 0 ∷ 0 ∷ []) ∷ (eight ∷ 9118 ∷ []) ∷
-      (250 ∷ []) ∷ still ∷ (0 ∷ 1 ∷ 281 ∷ 0 ∷ 0 ∷ []) ∷ (eight ∷ 9118 ∷ []) ∷
-      (281 ∷ []) ∷ still ∷ (2 ∷ eight ∷ 101 ∷ 126 ∷ 7 ∷ 1 ∷ 332 ∷ 0 ∷ 0 ∷ []) ∷ [] ∷
-      (290 ∷ []) ∷ still ∷ (2 ∷ eight ∷ 101 ∷ 126 ∷ 7 ∷ 1 ∷ 332 ∷ 0 ∷ 0 ∷ []) ∷ [] ∷
-      (295 ∷ []) ∷ still ∷ (2 ∷ eight ∷ 101 ∷ 126 ∷ 7 ∷ 1 ∷ 332 ∷ 0 ∷ 0 ∷ []) ∷ [] ∷
-      (296 ∷ []) ∷ still ∷ (2 ∷ eight ∷ 101 ∷ 126 ∷ 7 ∷ 1 ∷ 332 ∷ 0 ∷ 0 ∷ []) ∷ [] ∷
-      (332 ∷ []) ∷ still ∷ (2 ∷ eight ∷ 101 ∷ 126 ∷ 7 ∷ 1 ∷ 383 ∷ 0 ∷ 0 ∷ []) ∷ [] ∷
-      (383 ∷ []) ∷ still ∷ still ∷ [] ∷ [];
+      (50 ∷ 0 ∷ []) ∷ still ∷ still ∷ [] ∷
+      (100 ∷ 1 ∷ []) ∷ still ∷ (0 ∷ 1 ∷ 151 ∷ 3 ∷ seven ∷ 101 ∷ 126 ∷ 6 ∷ 1 ∷ 0 ∷ 0 ∷ []) ∷ [] ∷
+      (105 ∷ 1 ∷ []) ∷ still ∷ (0 ∷ 1 ∷ 151 ∷ 3 ∷ seven ∷ 101 ∷ 126 ∷ 6 ∷ 1 ∷ 0 ∷ 0 ∷ []) ∷ [] ∷
+      (106 ∷ 1 ∷ []) ∷ still ∷ (0 ∷ 1 ∷ 151 ∷ 3 ∷ seven ∷ 101 ∷ 126 ∷ 6 ∷ 1 ∷ 0 ∷ 0 ∷ []) ∷ [] ∷
+      (107 ∷ 1 ∷ []) ∷ still ∷ (0 ∷ 1 ∷ 151 ∷ 3 ∷ seven ∷ 101 ∷ 126 ∷ 6 ∷ 1 ∷ 0 ∷ 0 ∷ []) ∷ [] ∷
+      (108 ∷ 1 ∷ []) ∷ still ∷ (0 ∷ 1 ∷ 151 ∷ 3 ∷ seven ∷ 101 ∷ 126 ∷ 6 ∷ 1 ∷ 0 ∷ 0 ∷ []) ∷ [] ∷
+      (109 ∷ 1 ∷ []) ∷ still ∷ (0 ∷ 1 ∷ 151 ∷ 3 ∷ seven ∷ 101 ∷ 126 ∷ 6 ∷ 1 ∷ 0 ∷ 0 ∷ []) ∷ [] ∷
+      (110 ∷ 1 ∷ []) ∷ still ∷ (0 ∷ 1 ∷ 151 ∷ 3 ∷ seven ∷ 101 ∷ 126 ∷ 6 ∷ 1 ∷ 0 ∷ 0 ∷ []) ∷ [] ∷
+      (111 ∷ 1 ∷ []) ∷ still ∷ (0 ∷ 1 ∷ 151 ∷ 3 ∷ seven ∷ 101 ∷ 126 ∷ 6 ∷ 1 ∷ 0 ∷ 0 ∷ []) ∷ [] ∷
+      (112 ∷ 1 ∷ []) ∷ still ∷ (0 ∷ 1 ∷ 151 ∷ 3 ∷ seven ∷ 101 ∷ 126 ∷ 6 ∷ 1 ∷ 0 ∷ 0 ∷ []) ∷ [] ∷
+      (113 ∷ 1 ∷ []) ∷ still ∷ (0 ∷ 1 ∷ 151 ∷ 3 ∷ seven ∷ 101 ∷ 126 ∷ 6 ∷ 1 ∷ 0 ∷ 0 ∷ []) ∷ [] ∷
+      (114 ∷ 1 ∷ []) ∷ still ∷ (0 ∷ 1 ∷ 151 ∷ 3 ∷ seven ∷ 101 ∷ 126 ∷ 6 ∷ 1 ∷ 0 ∷ 0 ∷ []) ∷ [] ∷
+      (117 ∷ 1 ∷ []) ∷ still ∷ (0 ∷ 1 ∷ 151 ∷ 3 ∷ seven ∷ 101 ∷ 126 ∷ 6 ∷ 1 ∷ 0 ∷ 0 ∷ []) ∷ (eight ∷ 9118 ∷ []) ∷
+      (151 ∷ 1 ∷ []) ∷ still ∷ (0 ∷ 1 ∷ 202 ∷ 3 ∷ seven ∷ 101 ∷ 126 ∷ 6 ∷ 1 ∷ 0 ∷ 0 ∷ []) ∷ (eight ∷ 9118 ∷ []) ∷
+      (155 ∷ 1 ∷ []) ∷ still ∷ (0 ∷ 1 ∷ 202 ∷ 3 ∷ seven ∷ 101 ∷ 126 ∷ 6 ∷ 1 ∷ 0 ∷ 0 ∷ []) ∷ (eight ∷ 9118 ∷ []) ∷
+      (160 ∷ 1 ∷ []) ∷ still ∷ (0 ∷ 1 ∷ 761 ∷ 3 ∷ seven ∷ 101 ∷ 126 ∷ 6 ∷ 1 ∷ 1 ∷ 0 ∷ []) ∷ (eight ∷ 9118 ∷ []) ∷
+      (165 ∷ 1 ∷ []) ∷ still ∷ (0 ∷ 1 ∷ 761 ∷ 3 ∷ seven ∷ 101 ∷ 126 ∷ 6 ∷ 1 ∷ 1 ∷ 0 ∷ []) ∷ (eight ∷ 9118 ∷ []) ∷
+      (166 ∷ 1 ∷ []) ∷ still ∷ (0 ∷ 1 ∷ 761 ∷ 3 ∷ seven ∷ 101 ∷ 126 ∷ 6 ∷ 1 ∷ 1 ∷ 0 ∷ []) ∷ (eight ∷ 9118 ∷ []) ∷
+      (167 ∷ 1 ∷ []) ∷ still ∷ (0 ∷ 1 ∷ 761 ∷ 3 ∷ seven ∷ 101 ∷ 126 ∷ 6 ∷ 1 ∷ 1 ∷ 0 ∷ []) ∷ (eight ∷ 9118 ∷ []) ∷
+      (168 ∷ 1 ∷ []) ∷ still ∷ (0 ∷ 1 ∷ 761 ∷ 3 ∷ seven ∷ 101 ∷ 126 ∷ 6 ∷ 1 ∷ 1 ∷ 0 ∷ []) ∷ (eight ∷ 9118 ∷ []) ∷
+      (169 ∷ 1 ∷ []) ∷ still ∷ (0 ∷ 1 ∷ 761 ∷ 3 ∷ seven ∷ 101 ∷ 126 ∷ 6 ∷ 1 ∷ 1 ∷ 0 ∷ []) ∷ (eight ∷ 9118 ∷ []) ∷
+      (170 ∷ 1 ∷ []) ∷ still ∷ (0 ∷ 1 ∷ 761 ∷ 3 ∷ seven ∷ 101 ∷ 126 ∷ 6 ∷ 1 ∷ 1 ∷ 0 ∷ []) ∷ (eight ∷ 9118 ∷ []) ∷
+      (171 ∷ 1 ∷ []) ∷ still ∷ (0 ∷ 1 ∷ 761 ∷ 3 ∷ seven ∷ 101 ∷ 126 ∷ 6 ∷ 1 ∷ 1 ∷ 0 ∷ []) ∷ (eight ∷ 9118 ∷ []) ∷
+      (172 ∷ 1 ∷ []) ∷ still ∷ (0 ∷ 1 ∷ 761 ∷ 3 ∷ seven ∷ 101 ∷ 126 ∷ 6 ∷ 1 ∷ 1 ∷ 0 ∷ []) ∷ (eight ∷ 9118 ∷ []) ∷
+      (200 ∷ 1 ∷ []) ∷ still ∷ (0 ∷ 0 ∷ 2 ∷ seven ∷ 101 ∷ 1 ∷ 200 ∷ 0 ∷ []) ∷ (eight ∷ 9118 ∷ []) ∷
+      (205 ∷ 1 ∷ []) ∷ still ∷ (0 ∷ 0 ∷ 2 ∷ seven ∷ 101 ∷ 1 ∷ 200 ∷ 0 ∷ []) ∷ (eight ∷ 9118 ∷ []) ∷
+      (206 ∷ 1 ∷ []) ∷ still ∷ (0 ∷ 0 ∷ 2 ∷ seven ∷ 101 ∷ 1 ∷ 200 ∷ 0 ∷ []) ∷ (eight ∷ 9118 ∷ []) ∷
+      (207 ∷ 1 ∷ []) ∷ still ∷ (0 ∷ 0 ∷ 2 ∷ seven ∷ 101 ∷ 1 ∷ 200 ∷ 0 ∷ []) ∷ (eight ∷ 9118 ∷ []) ∷
+      (208 ∷ 1 ∷ []) ∷ still ∷ (0 ∷ 0 ∷ 2 ∷ seven ∷ 101 ∷ 1 ∷ 200 ∷ 0 ∷ []) ∷ (eight ∷ 9118 ∷ []) ∷
+      (210 ∷ 1 ∷ []) ∷ still ∷ (0 ∷ 0 ∷ 2 ∷ seven ∷ 101 ∷ 1 ∷ 200 ∷ 1 ∷ 261 ∷ []) ∷ (eight ∷ 9118 ∷ []) ∷
+      (215 ∷ 1 ∷ []) ∷ still ∷ (0 ∷ 0 ∷ 2 ∷ seven ∷ 101 ∷ 1 ∷ 200 ∷ 1 ∷ 261 ∷ []) ∷ (eight ∷ 9118 ∷ []) ∷
+      (220 ∷ 1 ∷ []) ∷ still ∷ (0 ∷ 0 ∷ 2 ∷ seven ∷ 101 ∷ 1 ∷ 200 ∷ 0 ∷ []) ∷ (eight ∷ 9118 ∷ []) ∷
+      (225 ∷ 1 ∷ []) ∷ still ∷ (0 ∷ 0 ∷ 2 ∷ seven ∷ 101 ∷ 1 ∷ 200 ∷ 0 ∷ []) ∷ (eight ∷ 9118 ∷ []) ∷
+      (226 ∷ 1 ∷ []) ∷ still ∷ (0 ∷ 0 ∷ 2 ∷ seven ∷ 101 ∷ 1 ∷ 200 ∷ 0 ∷ []) ∷ (eight ∷ 9118 ∷ []) ∷
+      (227 ∷ 1 ∷ []) ∷ still ∷ (0 ∷ 0 ∷ 2 ∷ seven ∷ 101 ∷ 1 ∷ 200 ∷ 0 ∷ []) ∷ (eight ∷ 9118 ∷ []) ∷
+      (230 ∷ 1 ∷ []) ∷ still ∷ (0 ∷ 0 ∷ 2 ∷ seven ∷ 101 ∷ 1 ∷ 200 ∷ 0 ∷ []) ∷ (eight ∷ 9118 ∷ []) ∷
+      (240 ∷ 1 ∷ []) ∷ still ∷ (0 ∷ 1 ∷ 281 ∷ 0 ∷ 0 ∷ []) ∷ (eight ∷ 9118 ∷ []) ∷
+      (250 ∷ 1 ∷ []) ∷ still ∷ (0 ∷ 1 ∷ 281 ∷ 0 ∷ 0 ∷ []) ∷ (eight ∷ 9118 ∷ []) ∷
+      (281 ∷ 2 ∷ []) ∷ still ∷ (2 ∷ eight ∷ 101 ∷ 126 ∷ 7 ∷ 2 ∷ 1 ∷ 332 ∷ 0 ∷ 0 ∷ []) ∷ [] ∷
+      (290 ∷ 2 ∷ []) ∷ still ∷ (2 ∷ eight ∷ 101 ∷ 126 ∷ 7 ∷ 2 ∷ 1 ∷ 332 ∷ 0 ∷ 0 ∷ []) ∷ [] ∷
+      (295 ∷ 2 ∷ []) ∷ still ∷ (2 ∷ eight ∷ 101 ∷ 126 ∷ 7 ∷ 2 ∷ 1 ∷ 332 ∷ 0 ∷ 0 ∷ []) ∷ [] ∷
+      (296 ∷ 2 ∷ []) ∷ still ∷ (2 ∷ eight ∷ 101 ∷ 126 ∷ 7 ∷ 2 ∷ 1 ∷ 332 ∷ 0 ∷ 0 ∷ []) ∷ [] ∷
+      (332 ∷ 2 ∷ []) ∷ still ∷ (2 ∷ eight ∷ 101 ∷ 126 ∷ 7 ∷ 2 ∷ 1 ∷ 383 ∷ 0 ∷ 0 ∷ []) ∷ [] ∷
+      (383 ∷ 2 ∷ []) ∷ still ∷ still ∷ [] ∷ [];
 }
 
 abbrev pub calledWords : Row
@@ -389,59 +398,59 @@ abbrev pub calledRun : Run
 calledRun = record {
   slots = 2;
   events = secondSlotCalledScript;
-  owing = paid 36 1 seven 200 240 4 ∷ [];
+  owing = paid 36 1 seven 200 240 4 1 ∷ [];
 }
 
 abbrev pub calledAgainPages : Row
 calledAgainPages = record {
   computed = pages 2 secondSlotCalledAgainScript;
   expected =
-      (50 ∷ []) ∷ still ∷ still ∷ [] ∷
-      (100 ∷ []) ∷ still ∷ (0 ∷ 1 ∷ 151 ∷ 3 ∷ nine ∷ 100 ∷ 126 ∷ 6 ∷ 0 ∷ 0 ∷ []) ∷ [] ∷
-      (110 ∷ []) ∷ still ∷ still ∷ [] ∷
-      (120 ∷ []) ∷ still ∷ (0 ∷ 1 ∷ 171 ∷ 3 ∷ nine ∷ 100 ∷ 126 ∷ 6 ∷ 0 ∷ 0 ∷ []) ∷ [] ∷
-      (171 ∷ []) ∷ still ∷ (0 ∷ 1 ∷ 222 ∷ 3 ∷ nine ∷ 100 ∷ 126 ∷ 6 ∷ 0 ∷ 0 ∷ []) ∷ [] ∷
-      (180 ∷ []) ∷ still ∷ still ∷ [] ∷
-      (200 ∷ []) ∷ still ∷ (0 ∷ 1 ∷ 251 ∷ 3 ∷ nine ∷ 100 ∷ 126 ∷ 6 ∷ 0 ∷ 0 ∷ []) ∷ [] ∷
-      (210 ∷ []) ∷ still ∷ (0 ∷ 1 ∷ 811 ∷ 3 ∷ nine ∷ 100 ∷ 126 ∷ 6 ∷ 1 ∷ 0 ∷ []) ∷ [] ∷
-      (220 ∷ []) ∷ still ∷ (0 ∷ 1 ∷ 811 ∷ 3 ∷ nine ∷ 100 ∷ 126 ∷ 6 ∷ 1 ∷ 0 ∷ []) ∷ (seven ∷ 9221 ∷ []) ∷
-      (230 ∷ []) ∷ still ∷ (2 ∷ seven ∷ 101 ∷ 126 ∷ 7 ∷ 1 ∷ 281 ∷ 0 ∷ 0 ∷ []) ∷ [] ∷
-      (240 ∷ []) ∷ still ∷ (3 ∷ seven ∷ 101 ∷ 126 ∷ 7 ∷ 1 ∷ 401 ∷ 0 ∷ 0 ∷ []) ∷ [] ∷
-      (401 ∷ []) ∷ still ∷ still ∷ [] ∷
-      (410 ∷ []) ∷ still ∷ (0 ∷ 1 ∷ 461 ∷ 3 ∷ nine ∷ 100 ∷ 126 ∷ 6 ∷ 0 ∷ 0 ∷ []) ∷ [] ∷
-      (420 ∷ []) ∷ still ∷ (0 ∷ 1 ∷ 1021 ∷ 3 ∷ nine ∷ 100 ∷ 126 ∷ 6 ∷ 1 ∷ 0 ∷ []) ∷ [] ∷
-      (425 ∷ []) ∷ still ∷ (0 ∷ 1 ∷ 1021 ∷ 3 ∷ nine ∷ 100 ∷ 126 ∷ 6 ∷ 1 ∷ 0 ∷ []) ∷ (seven ∷ 9426 ∷ []) ∷
-      (430 ∷ []) ∷ still ∷ (2 ∷ seven ∷ 101 ∷ 126 ∷ 7 ∷ 1 ∷ 481 ∷ 0 ∷ 0 ∷ []) ∷ [] ∷
-      (435 ∷ []) ∷ still ∷ (2 ∷ seven ∷ 101 ∷ 126 ∷ 7 ∷ 1 ∷ 481 ∷ 0 ∷ 0 ∷ []) ∷ [] ∷
-      (481 ∷ []) ∷ still ∷ (2 ∷ seven ∷ 101 ∷ 126 ∷ 7 ∷ 1 ∷ 532 ∷ 0 ∷ 0 ∷ []) ∷ [] ∷
-      (532 ∷ []) ∷ still ∷ still ∷ [] ∷
-      (540 ∷ []) ∷ still ∷ (0 ∷ 1 ∷ 591 ∷ 3 ∷ nine ∷ 100 ∷ 126 ∷ 6 ∷ 0 ∷ 0 ∷ []) ∷ [] ∷
-      (550 ∷ []) ∷ still ∷ (0 ∷ 1 ∷ 1151 ∷ 3 ∷ nine ∷ 100 ∷ 126 ∷ 6 ∷ 1 ∷ 0 ∷ []) ∷ [] ∷
-      (560 ∷ []) ∷ still ∷ (0 ∷ 0 ∷ 2 ∷ nine ∷ 100 ∷ 560 ∷ 0 ∷ []) ∷ [] ∷
-      (570 ∷ []) ∷ still ∷ (0 ∷ 0 ∷ 2 ∷ nine ∷ 100 ∷ 560 ∷ 1 ∷ 1021 ∷ []) ∷ [] ∷
-      (580 ∷ []) ∷ still ∷ (1 ∷ nine ∷ 100 ∷ 126 ∷ 7 ∷ 1 ∷ 741 ∷ 0 ∷ 0 ∷ []) ∷ [] ∷
-      (590 ∷ []) ∷ still ∷ (0 ∷ 1 ∷ 1191 ∷ 1 ∷ nine ∷ 100 ∷ 0 ∷ 0 ∷ []) ∷ [] ∷
-      (600 ∷ []) ∷ still ∷ still ∷ [] ∷
-      (610 ∷ []) ∷ still ∷ (0 ∷ 1 ∷ 661 ∷ 3 ∷ eight ∷ 101 ∷ 126 ∷ 6 ∷ 0 ∷ 0 ∷ []) ∷ [] ∷
-      (661 ∷ []) ∷ still ∷ (0 ∷ 1 ∷ 712 ∷ 3 ∷ eight ∷ 101 ∷ 126 ∷ 6 ∷ 0 ∷ 0 ∷ []) ∷ [] ∷
-      (712 ∷ []) ∷ still ∷ still ∷ [] ∷
-      (720 ∷ []) ∷ still ∷ (0 ∷ 1 ∷ 771 ∷ 3 ∷ eight ∷ 101 ∷ 126 ∷ 6 ∷ 0 ∷ 0 ∷ []) ∷ [] ∷
-      (730 ∷ []) ∷ still ∷ (0 ∷ 1 ∷ 1331 ∷ 3 ∷ eight ∷ 101 ∷ 126 ∷ 6 ∷ 1 ∷ 0 ∷ []) ∷ [] ∷
-      (1331 ∷ []) ∷ still ∷ still ∷ [] ∷
-      (1340 ∷ []) ∷ still ∷ (0 ∷ 1 ∷ 1391 ∷ 3 ∷ eight ∷ 101 ∷ 126 ∷ 6 ∷ 0 ∷ 0 ∷ []) ∷ [] ∷
-      (1350 ∷ []) ∷ still ∷ (0 ∷ 1 ∷ 1951 ∷ 3 ∷ eight ∷ 101 ∷ 126 ∷ 6 ∷ 1 ∷ 0 ∷ []) ∷ [] ∷
-      (1360 ∷ []) ∷ still ∷ (0 ∷ 0 ∷ 2 ∷ eight ∷ 101 ∷ 1360 ∷ 0 ∷ []) ∷ [] ∷
-      (1370 ∷ []) ∷ still ∷ (0 ∷ 0 ∷ 2 ∷ eight ∷ 101 ∷ 1360 ∷ 1 ∷ 1421 ∷ []) ∷ [] ∷
-      (1421 ∷ []) ∷ still ∷ still ∷ [] ∷
-      (1430 ∷ []) ∷ still ∷ (0 ∷ 1 ∷ 1481 ∷ 3 ∷ eight ∷ 101 ∷ 126 ∷ 6 ∷ 0 ∷ 0 ∷ []) ∷ [] ∷
-      (1440 ∷ []) ∷ still ∷ (0 ∷ 1 ∷ 2041 ∷ 3 ∷ eight ∷ 101 ∷ 126 ∷ 6 ∷ 1 ∷ 0 ∷ []) ∷ [] ∷
-      (1450 ∷ []) ∷ still ∷ (0 ∷ 0 ∷ 2 ∷ eight ∷ 101 ∷ 1450 ∷ 0 ∷ []) ∷ [] ∷
-      (1475 ∷ []) ∷ still ∷ still ∷ [] ∷
-      (1480 ∷ []) ∷ still ∷ (0 ∷ 1 ∷ 1531 ∷ 3 ∷ seven ∷ 101 ∷ 126 ∷ 6 ∷ 0 ∷ 0 ∷ []) ∷ [] ∷
-      (1531 ∷ []) ∷ still ∷ (0 ∷ 1 ∷ 1582 ∷ 3 ∷ seven ∷ 101 ∷ 126 ∷ 6 ∷ 0 ∷ 0 ∷ []) ∷ [] ∷
-      (1540 ∷ []) ∷ still ∷ still ∷ [] ∷
-      (1550 ∷ []) ∷ still ∷ (0 ∷ 1 ∷ 1601 ∷ 3 ∷ seven ∷ 101 ∷ 126 ∷ 6 ∷ 0 ∷ 0 ∷ []) ∷ [] ∷
-      (1560 ∷ []) ∷ still ∷ still ∷ [] ∷ [];
+      (50 ∷ 0 ∷ []) ∷ still ∷ still ∷ [] ∷
+      (100 ∷ 1 ∷ []) ∷ still ∷ (0 ∷ 1 ∷ 151 ∷ 3 ∷ nine ∷ 100 ∷ 126 ∷ 6 ∷ 1 ∷ 0 ∷ 0 ∷ []) ∷ [] ∷
+      (110 ∷ 1 ∷ []) ∷ still ∷ still ∷ [] ∷
+      (120 ∷ 2 ∷ []) ∷ still ∷ (0 ∷ 1 ∷ 171 ∷ 3 ∷ nine ∷ 100 ∷ 126 ∷ 6 ∷ 2 ∷ 0 ∷ 0 ∷ []) ∷ [] ∷
+      (171 ∷ 2 ∷ []) ∷ still ∷ (0 ∷ 1 ∷ 222 ∷ 3 ∷ nine ∷ 100 ∷ 126 ∷ 6 ∷ 2 ∷ 0 ∷ 0 ∷ []) ∷ [] ∷
+      (180 ∷ 2 ∷ []) ∷ still ∷ still ∷ [] ∷
+      (200 ∷ 3 ∷ []) ∷ still ∷ (0 ∷ 1 ∷ 251 ∷ 3 ∷ nine ∷ 100 ∷ 126 ∷ 6 ∷ 3 ∷ 0 ∷ 0 ∷ []) ∷ [] ∷
+      (210 ∷ 3 ∷ []) ∷ still ∷ (0 ∷ 1 ∷ 811 ∷ 3 ∷ nine ∷ 100 ∷ 126 ∷ 6 ∷ 3 ∷ 1 ∷ 0 ∷ []) ∷ [] ∷
+      (220 ∷ 3 ∷ []) ∷ still ∷ (0 ∷ 1 ∷ 811 ∷ 3 ∷ nine ∷ 100 ∷ 126 ∷ 6 ∷ 3 ∷ 1 ∷ 0 ∷ []) ∷ (seven ∷ 9221 ∷ []) ∷
+      (230 ∷ 4 ∷ []) ∷ still ∷ (2 ∷ seven ∷ 101 ∷ 126 ∷ 7 ∷ 4 ∷ 1 ∷ 281 ∷ 0 ∷ 0 ∷ []) ∷ [] ∷
+      (240 ∷ 4 ∷ []) ∷ still ∷ (3 ∷ seven ∷ 101 ∷ 126 ∷ 7 ∷ 4 ∷ 1 ∷ 401 ∷ 0 ∷ 0 ∷ []) ∷ [] ∷
+      (401 ∷ 4 ∷ []) ∷ still ∷ still ∷ [] ∷
+      (410 ∷ 5 ∷ []) ∷ still ∷ (0 ∷ 1 ∷ 461 ∷ 3 ∷ nine ∷ 100 ∷ 126 ∷ 6 ∷ 5 ∷ 0 ∷ 0 ∷ []) ∷ [] ∷
+      (420 ∷ 5 ∷ []) ∷ still ∷ (0 ∷ 1 ∷ 1021 ∷ 3 ∷ nine ∷ 100 ∷ 126 ∷ 6 ∷ 5 ∷ 1 ∷ 0 ∷ []) ∷ [] ∷
+      (425 ∷ 5 ∷ []) ∷ still ∷ (0 ∷ 1 ∷ 1021 ∷ 3 ∷ nine ∷ 100 ∷ 126 ∷ 6 ∷ 5 ∷ 1 ∷ 0 ∷ []) ∷ (seven ∷ 9426 ∷ []) ∷
+      (430 ∷ 6 ∷ []) ∷ still ∷ (2 ∷ seven ∷ 101 ∷ 126 ∷ 7 ∷ 6 ∷ 1 ∷ 481 ∷ 0 ∷ 0 ∷ []) ∷ [] ∷
+      (435 ∷ 6 ∷ []) ∷ still ∷ (2 ∷ seven ∷ 101 ∷ 126 ∷ 7 ∷ 6 ∷ 1 ∷ 481 ∷ 0 ∷ 0 ∷ []) ∷ [] ∷
+      (481 ∷ 6 ∷ []) ∷ still ∷ (2 ∷ seven ∷ 101 ∷ 126 ∷ 7 ∷ 6 ∷ 1 ∷ 532 ∷ 0 ∷ 0 ∷ []) ∷ [] ∷
+      (532 ∷ 6 ∷ []) ∷ still ∷ still ∷ [] ∷
+      (540 ∷ 7 ∷ []) ∷ still ∷ (0 ∷ 1 ∷ 591 ∷ 3 ∷ nine ∷ 100 ∷ 126 ∷ 6 ∷ 7 ∷ 0 ∷ 0 ∷ []) ∷ [] ∷
+      (550 ∷ 7 ∷ []) ∷ still ∷ (0 ∷ 1 ∷ 1151 ∷ 3 ∷ nine ∷ 100 ∷ 126 ∷ 6 ∷ 7 ∷ 1 ∷ 0 ∷ []) ∷ [] ∷
+      (560 ∷ 7 ∷ []) ∷ still ∷ (0 ∷ 0 ∷ 2 ∷ nine ∷ 100 ∷ 7 ∷ 560 ∷ 0 ∷ []) ∷ [] ∷
+      (570 ∷ 7 ∷ []) ∷ still ∷ (0 ∷ 0 ∷ 2 ∷ nine ∷ 100 ∷ 7 ∷ 560 ∷ 1 ∷ 1021 ∷ []) ∷ [] ∷
+      (580 ∷ 8 ∷ []) ∷ still ∷ (1 ∷ nine ∷ 100 ∷ 126 ∷ 7 ∷ 8 ∷ 1 ∷ 741 ∷ 0 ∷ 0 ∷ []) ∷ [] ∷
+      (590 ∷ 8 ∷ []) ∷ still ∷ (0 ∷ 1 ∷ 1191 ∷ 1 ∷ nine ∷ 100 ∷ 8 ∷ 0 ∷ 0 ∷ []) ∷ [] ∷
+      (600 ∷ 8 ∷ []) ∷ still ∷ still ∷ [] ∷
+      (610 ∷ 9 ∷ []) ∷ still ∷ (0 ∷ 1 ∷ 661 ∷ 3 ∷ eight ∷ 101 ∷ 126 ∷ 6 ∷ 9 ∷ 0 ∷ 0 ∷ []) ∷ [] ∷
+      (661 ∷ 9 ∷ []) ∷ still ∷ (0 ∷ 1 ∷ 712 ∷ 3 ∷ eight ∷ 101 ∷ 126 ∷ 6 ∷ 9 ∷ 0 ∷ 0 ∷ []) ∷ [] ∷
+      (712 ∷ 9 ∷ []) ∷ still ∷ still ∷ [] ∷
+      (720 ∷ 10 ∷ []) ∷ still ∷ (0 ∷ 1 ∷ 771 ∷ 3 ∷ eight ∷ 101 ∷ 126 ∷ 6 ∷ 10 ∷ 0 ∷ 0 ∷ []) ∷ [] ∷
+      (730 ∷ 10 ∷ []) ∷ still ∷ (0 ∷ 1 ∷ 1331 ∷ 3 ∷ eight ∷ 101 ∷ 126 ∷ 6 ∷ 10 ∷ 1 ∷ 0 ∷ []) ∷ [] ∷
+      (1331 ∷ 10 ∷ []) ∷ still ∷ still ∷ [] ∷
+      (1340 ∷ 11 ∷ []) ∷ still ∷ (0 ∷ 1 ∷ 1391 ∷ 3 ∷ eight ∷ 101 ∷ 126 ∷ 6 ∷ 11 ∷ 0 ∷ 0 ∷ []) ∷ [] ∷
+      (1350 ∷ 11 ∷ []) ∷ still ∷ (0 ∷ 1 ∷ 1951 ∷ 3 ∷ eight ∷ 101 ∷ 126 ∷ 6 ∷ 11 ∷ 1 ∷ 0 ∷ []) ∷ [] ∷
+      (1360 ∷ 11 ∷ []) ∷ still ∷ (0 ∷ 0 ∷ 2 ∷ eight ∷ 101 ∷ 11 ∷ 1360 ∷ 0 ∷ []) ∷ [] ∷
+      (1370 ∷ 11 ∷ []) ∷ still ∷ (0 ∷ 0 ∷ 2 ∷ eight ∷ 101 ∷ 11 ∷ 1360 ∷ 1 ∷ 1421 ∷ []) ∷ [] ∷
+      (1421 ∷ 11 ∷ []) ∷ still ∷ still ∷ [] ∷
+      (1430 ∷ 12 ∷ []) ∷ still ∷ (0 ∷ 1 ∷ 1481 ∷ 3 ∷ eight ∷ 101 ∷ 126 ∷ 6 ∷ 12 ∷ 0 ∷ 0 ∷ []) ∷ [] ∷
+      (1440 ∷ 12 ∷ []) ∷ still ∷ (0 ∷ 1 ∷ 2041 ∷ 3 ∷ eight ∷ 101 ∷ 126 ∷ 6 ∷ 12 ∷ 1 ∷ 0 ∷ []) ∷ [] ∷
+      (1450 ∷ 12 ∷ []) ∷ still ∷ (0 ∷ 0 ∷ 2 ∷ eight ∷ 101 ∷ 12 ∷ 1450 ∷ 0 ∷ []) ∷ [] ∷
+      (1475 ∷ 12 ∷ []) ∷ still ∷ still ∷ [] ∷
+      (1480 ∷ 13 ∷ []) ∷ still ∷ (0 ∷ 1 ∷ 1531 ∷ 3 ∷ seven ∷ 101 ∷ 126 ∷ 6 ∷ 13 ∷ 0 ∷ 0 ∷ []) ∷ [] ∷
+      (1531 ∷ 13 ∷ []) ∷ still ∷ (0 ∷ 1 ∷ 1582 ∷ 3 ∷ seven ∷ 101 ∷ 126 ∷ 6 ∷ 13 ∷ 0 ∷ 0 ∷ []) ∷ [] ∷
+      (1540 ∷ 13 ∷ []) ∷ still ∷ still ∷ [] ∷
+      (1550 ∷ 14 ∷ []) ∷ still ∷ (0 ∷ 1 ∷ 1601 ∷ 3 ∷ seven ∷ 101 ∷ 126 ∷ 6 ∷ 14 ∷ 0 ∷ 0 ∷ []) ∷ [] ∷
+      (1560 ∷ 14 ∷ []) ∷ still ∷ still ∷ [] ∷ [];
 }
 
 abbrev pub calledAgainWords : Row
@@ -465,33 +474,33 @@ abbrev pub calledAgainRun : Run
 calledAgainRun = record {
   slots = 2;
   events = secondSlotCalledAgainScript;
-  owing = paid 23 1 nine 560 580 2 ∷ paid 36 1 eight 1360 1421 6 ∷ paid 40 1 eight 1450 1475 2 ∷ [];
+  owing = paid 23 1 nine 560 580 2 7 ∷ paid 36 1 eight 1360 1421 6 11 ∷ paid 40 1 eight 1450 1475 2 12 ∷ [];
 }
 
 abbrev pub bothCalledPages : Row
 bothCalledPages = record {
   computed = pages 2 bothCalledScript;
   expected =
-      (100 ∷ []) ∷ (0 ∷ 1 ∷ 151 ∷ 3 ∷ seven ∷ 100 ∷ 126 ∷ 6 ∷ 0 ∷ 0 ∷ []) ∷ still ∷ [] ∷
-      (110 ∷ []) ∷ (0 ∷ 1 ∷ 151 ∷ 3 ∷ seven ∷ 100 ∷ 126 ∷ 6 ∷ 0 ∷ 0 ∷ []) ∷ (0 ∷ 1 ∷ 161 ∷ 3 ∷ eight ∷ 101 ∷ 126 ∷ 6 ∷ 0 ∷ 0 ∷ []) ∷ [] ∷
-      (120 ∷ []) ∷ (0 ∷ 1 ∷ 151 ∷ 3 ∷ seven ∷ 100 ∷ 126 ∷ 6 ∷ 0 ∷ 0 ∷ []) ∷ (0 ∷ 1 ∷ 161 ∷ 3 ∷ eight ∷ 101 ∷ 126 ∷ 6 ∷ 0 ∷ 0 ∷ []) ∷ [] ∷
-      (121 ∷ []) ∷ (0 ∷ 1 ∷ 151 ∷ 3 ∷ seven ∷ 100 ∷ 126 ∷ 6 ∷ 0 ∷ 0 ∷ []) ∷ (0 ∷ 1 ∷ 161 ∷ 3 ∷ eight ∷ 101 ∷ 126 ∷ 6 ∷ 0 ∷ 0 ∷ []) ∷ [] ∷
-      (125 ∷ []) ∷ (0 ∷ 1 ∷ 151 ∷ 3 ∷ seven ∷ 100 ∷ 126 ∷ 6 ∷ 0 ∷ 0 ∷ []) ∷ (0 ∷ 1 ∷ 726 ∷ 3 ∷ eight ∷ 101 ∷ 126 ∷ 6 ∷ 1 ∷ 0 ∷ []) ∷ [] ∷
-      (151 ∷ []) ∷ (0 ∷ 1 ∷ 202 ∷ 3 ∷ seven ∷ 100 ∷ 126 ∷ 6 ∷ 0 ∷ 0 ∷ []) ∷ (0 ∷ 1 ∷ 726 ∷ 3 ∷ eight ∷ 101 ∷ 126 ∷ 6 ∷ 1 ∷ 0 ∷ []) ∷ [] ∷
-      (155 ∷ []) ∷ (0 ∷ 1 ∷ 202 ∷ 3 ∷ seven ∷ 100 ∷ 126 ∷ 6 ∷ 0 ∷ 0 ∷ []) ∷ (0 ∷ 1 ∷ 726 ∷ 3 ∷ eight ∷ 101 ∷ 126 ∷ 6 ∷ 1 ∷ 0 ∷ []) ∷ [] ∷
-      (160 ∷ []) ∷ (0 ∷ 1 ∷ 761 ∷ 3 ∷ seven ∷ 100 ∷ 126 ∷ 6 ∷ 1 ∷ 0 ∷ []) ∷ (0 ∷ 1 ∷ 726 ∷ 3 ∷ eight ∷ 101 ∷ 126 ∷ 6 ∷ 1 ∷ 0 ∷ []) ∷ [] ∷
-      (170 ∷ []) ∷ (0 ∷ 1 ∷ 761 ∷ 3 ∷ seven ∷ 100 ∷ 126 ∷ 6 ∷ 1 ∷ 0 ∷ []) ∷ (0 ∷ 0 ∷ 2 ∷ eight ∷ 101 ∷ 170 ∷ 0 ∷ []) ∷ [] ∷
-      (175 ∷ []) ∷ still ∷ (0 ∷ 0 ∷ 2 ∷ eight ∷ 101 ∷ 170 ∷ 0 ∷ []) ∷ [] ∷
-      (180 ∷ []) ∷ (0 ∷ 1 ∷ 231 ∷ 3 ∷ nine ∷ 100 ∷ 126 ∷ 6 ∷ 0 ∷ 0 ∷ []) ∷ (0 ∷ 0 ∷ 2 ∷ eight ∷ 101 ∷ 170 ∷ 0 ∷ []) ∷ [] ∷
-      (185 ∷ []) ∷ (0 ∷ 1 ∷ 231 ∷ 3 ∷ nine ∷ 100 ∷ 126 ∷ 6 ∷ 0 ∷ 0 ∷ []) ∷ (0 ∷ 0 ∷ 2 ∷ eight ∷ 101 ∷ 170 ∷ 0 ∷ []) ∷ [] ∷
-      (190 ∷ []) ∷ (0 ∷ 1 ∷ 791 ∷ 3 ∷ nine ∷ 100 ∷ 126 ∷ 6 ∷ 1 ∷ 0 ∷ []) ∷ (0 ∷ 0 ∷ 2 ∷ eight ∷ 101 ∷ 170 ∷ 0 ∷ []) ∷ [] ∷
-      (191 ∷ []) ∷ (0 ∷ 1 ∷ 791 ∷ 3 ∷ nine ∷ 100 ∷ 126 ∷ 6 ∷ 1 ∷ 0 ∷ []) ∷ (0 ∷ 0 ∷ 2 ∷ eight ∷ 101 ∷ 170 ∷ 0 ∷ []) ∷ [] ∷
-      (200 ∷ []) ∷ (0 ∷ 0 ∷ 2 ∷ nine ∷ 100 ∷ 200 ∷ 0 ∷ []) ∷ (0 ∷ 0 ∷ 2 ∷ eight ∷ 101 ∷ 170 ∷ 0 ∷ []) ∷ [] ∷
-      (210 ∷ []) ∷ (0 ∷ 0 ∷ 2 ∷ nine ∷ 100 ∷ 200 ∷ 1 ∷ 661 ∷ []) ∷ (0 ∷ 0 ∷ 2 ∷ eight ∷ 101 ∷ 170 ∷ 0 ∷ []) ∷ [] ∷
-      (215 ∷ []) ∷ (0 ∷ 0 ∷ 2 ∷ nine ∷ 100 ∷ 200 ∷ 1 ∷ 661 ∷ []) ∷ (0 ∷ 0 ∷ 2 ∷ eight ∷ 101 ∷ 170 ∷ 1 ∷ 266 ∷ []) ∷ [] ∷
-      (220 ∷ []) ∷ (1 ∷ nine ∷ 100 ∷ 126 ∷ 7 ∷ 1 ∷ 381 ∷ 0 ∷ 0 ∷ []) ∷ (0 ∷ 0 ∷ 2 ∷ eight ∷ 101 ∷ 170 ∷ 1 ∷ 266 ∷ []) ∷ [] ∷
-      (266 ∷ []) ∷ (1 ∷ nine ∷ 100 ∷ 126 ∷ 7 ∷ 1 ∷ 381 ∷ 0 ∷ 0 ∷ []) ∷ still ∷ [] ∷
-      (381 ∷ []) ∷ still ∷ still ∷ [] ∷ [];
+      (100 ∷ 1 ∷ []) ∷ (0 ∷ 1 ∷ 151 ∷ 3 ∷ seven ∷ 100 ∷ 126 ∷ 6 ∷ 1 ∷ 0 ∷ 0 ∷ []) ∷ still ∷ [] ∷
+      (110 ∷ 2 ∷ []) ∷ (0 ∷ 1 ∷ 151 ∷ 3 ∷ seven ∷ 100 ∷ 126 ∷ 6 ∷ 1 ∷ 0 ∷ 0 ∷ []) ∷ (0 ∷ 1 ∷ 161 ∷ 3 ∷ eight ∷ 101 ∷ 126 ∷ 6 ∷ 2 ∷ 0 ∷ 0 ∷ []) ∷ [] ∷
+      (120 ∷ 2 ∷ []) ∷ (0 ∷ 1 ∷ 151 ∷ 3 ∷ seven ∷ 100 ∷ 126 ∷ 6 ∷ 1 ∷ 0 ∷ 0 ∷ []) ∷ (0 ∷ 1 ∷ 161 ∷ 3 ∷ eight ∷ 101 ∷ 126 ∷ 6 ∷ 2 ∷ 0 ∷ 0 ∷ []) ∷ [] ∷
+      (121 ∷ 2 ∷ []) ∷ (0 ∷ 1 ∷ 151 ∷ 3 ∷ seven ∷ 100 ∷ 126 ∷ 6 ∷ 1 ∷ 0 ∷ 0 ∷ []) ∷ (0 ∷ 1 ∷ 161 ∷ 3 ∷ eight ∷ 101 ∷ 126 ∷ 6 ∷ 2 ∷ 0 ∷ 0 ∷ []) ∷ [] ∷
+      (125 ∷ 2 ∷ []) ∷ (0 ∷ 1 ∷ 151 ∷ 3 ∷ seven ∷ 100 ∷ 126 ∷ 6 ∷ 1 ∷ 0 ∷ 0 ∷ []) ∷ (0 ∷ 1 ∷ 726 ∷ 3 ∷ eight ∷ 101 ∷ 126 ∷ 6 ∷ 2 ∷ 1 ∷ 0 ∷ []) ∷ [] ∷
+      (151 ∷ 2 ∷ []) ∷ (0 ∷ 1 ∷ 202 ∷ 3 ∷ seven ∷ 100 ∷ 126 ∷ 6 ∷ 1 ∷ 0 ∷ 0 ∷ []) ∷ (0 ∷ 1 ∷ 726 ∷ 3 ∷ eight ∷ 101 ∷ 126 ∷ 6 ∷ 2 ∷ 1 ∷ 0 ∷ []) ∷ [] ∷
+      (155 ∷ 2 ∷ []) ∷ (0 ∷ 1 ∷ 202 ∷ 3 ∷ seven ∷ 100 ∷ 126 ∷ 6 ∷ 1 ∷ 0 ∷ 0 ∷ []) ∷ (0 ∷ 1 ∷ 726 ∷ 3 ∷ eight ∷ 101 ∷ 126 ∷ 6 ∷ 2 ∷ 1 ∷ 0 ∷ []) ∷ [] ∷
+      (160 ∷ 2 ∷ []) ∷ (0 ∷ 1 ∷ 761 ∷ 3 ∷ seven ∷ 100 ∷ 126 ∷ 6 ∷ 1 ∷ 1 ∷ 0 ∷ []) ∷ (0 ∷ 1 ∷ 726 ∷ 3 ∷ eight ∷ 101 ∷ 126 ∷ 6 ∷ 2 ∷ 1 ∷ 0 ∷ []) ∷ [] ∷
+      (170 ∷ 2 ∷ []) ∷ (0 ∷ 1 ∷ 761 ∷ 3 ∷ seven ∷ 100 ∷ 126 ∷ 6 ∷ 1 ∷ 1 ∷ 0 ∷ []) ∷ (0 ∷ 0 ∷ 2 ∷ eight ∷ 101 ∷ 2 ∷ 170 ∷ 0 ∷ []) ∷ [] ∷
+      (175 ∷ 2 ∷ []) ∷ still ∷ (0 ∷ 0 ∷ 2 ∷ eight ∷ 101 ∷ 2 ∷ 170 ∷ 0 ∷ []) ∷ [] ∷
+      (180 ∷ 3 ∷ []) ∷ (0 ∷ 1 ∷ 231 ∷ 3 ∷ nine ∷ 100 ∷ 126 ∷ 6 ∷ 3 ∷ 0 ∷ 0 ∷ []) ∷ (0 ∷ 0 ∷ 2 ∷ eight ∷ 101 ∷ 2 ∷ 170 ∷ 0 ∷ []) ∷ [] ∷
+      (185 ∷ 3 ∷ []) ∷ (0 ∷ 1 ∷ 231 ∷ 3 ∷ nine ∷ 100 ∷ 126 ∷ 6 ∷ 3 ∷ 0 ∷ 0 ∷ []) ∷ (0 ∷ 0 ∷ 2 ∷ eight ∷ 101 ∷ 2 ∷ 170 ∷ 0 ∷ []) ∷ [] ∷
+      (190 ∷ 3 ∷ []) ∷ (0 ∷ 1 ∷ 791 ∷ 3 ∷ nine ∷ 100 ∷ 126 ∷ 6 ∷ 3 ∷ 1 ∷ 0 ∷ []) ∷ (0 ∷ 0 ∷ 2 ∷ eight ∷ 101 ∷ 2 ∷ 170 ∷ 0 ∷ []) ∷ [] ∷
+      (191 ∷ 3 ∷ []) ∷ (0 ∷ 1 ∷ 791 ∷ 3 ∷ nine ∷ 100 ∷ 126 ∷ 6 ∷ 3 ∷ 1 ∷ 0 ∷ []) ∷ (0 ∷ 0 ∷ 2 ∷ eight ∷ 101 ∷ 2 ∷ 170 ∷ 0 ∷ []) ∷ [] ∷
+      (200 ∷ 3 ∷ []) ∷ (0 ∷ 0 ∷ 2 ∷ nine ∷ 100 ∷ 3 ∷ 200 ∷ 0 ∷ []) ∷ (0 ∷ 0 ∷ 2 ∷ eight ∷ 101 ∷ 2 ∷ 170 ∷ 0 ∷ []) ∷ [] ∷
+      (210 ∷ 3 ∷ []) ∷ (0 ∷ 0 ∷ 2 ∷ nine ∷ 100 ∷ 3 ∷ 200 ∷ 1 ∷ 661 ∷ []) ∷ (0 ∷ 0 ∷ 2 ∷ eight ∷ 101 ∷ 2 ∷ 170 ∷ 0 ∷ []) ∷ [] ∷
+      (215 ∷ 3 ∷ []) ∷ (0 ∷ 0 ∷ 2 ∷ nine ∷ 100 ∷ 3 ∷ 200 ∷ 1 ∷ 661 ∷ []) ∷ (0 ∷ 0 ∷ 2 ∷ eight ∷ 101 ∷ 2 ∷ 170 ∷ 1 ∷ 266 ∷ []) ∷ [] ∷
+      (220 ∷ 4 ∷ []) ∷ (1 ∷ nine ∷ 100 ∷ 126 ∷ 7 ∷ 4 ∷ 1 ∷ 381 ∷ 0 ∷ 0 ∷ []) ∷ (0 ∷ 0 ∷ 2 ∷ eight ∷ 101 ∷ 2 ∷ 170 ∷ 1 ∷ 266 ∷ []) ∷ [] ∷
+      (266 ∷ 4 ∷ []) ∷ (1 ∷ nine ∷ 100 ∷ 126 ∷ 7 ∷ 4 ∷ 1 ∷ 381 ∷ 0 ∷ 0 ∷ []) ∷ still ∷ [] ∷
+      (381 ∷ 4 ∷ []) ∷ still ∷ still ∷ [] ∷ [];
 }
 
 abbrev pub bothCalledWords : Row
@@ -522,7 +531,7 @@ abbrev pub bothCalledRun : Run
 bothCalledRun = record {
   slots = 2;
   events = bothCalledScript;
-  owing = paid 17 0 nine 200 220 2 ∷ paid 18 1 eight 170 266 9 ∷ [];
+  owing = paid 17 0 nine 200 220 2 3 ∷ paid 18 1 eight 170 266 9 2 ∷ [];
 }
 
 -- ── the queue ─────────────────────────────────────────────────────────────────
@@ -538,19 +547,19 @@ abbrev pub inQueuePages : Row
 inQueuePages = record {
   computed = pages 1 inQueue;
   expected =
-      (50 ∷ []) ∷ still ∷ [] ∷
-      (100 ∷ []) ∷ still ∷ (seven ∷ 9101 ∷ []) ∷
-      (110 ∷ []) ∷ still ∷ (seven ∷ 9101 ∷ eight ∷ 9111 ∷ []) ∷
-      (115 ∷ []) ∷ still ∷ (seven ∷ 9101 ∷ eight ∷ 9111 ∷ []) ∷
-      (120 ∷ []) ∷ still ∷ (seven ∷ 9101 ∷ eight ∷ 9111 ∷ nine ∷ 9121 ∷ []) ∷
-      (130 ∷ []) ∷ still ∷ (seven ∷ 9101 ∷ eight ∷ 9111 ∷ nine ∷ 9121 ∷ []) ∷
-      (9101 ∷ []) ∷ still ∷ (eight ∷ 9111 ∷ nine ∷ 9121 ∷ []) ∷
-      (9105 ∷ []) ∷ (2 ∷ eight ∷ 100 ∷ 126 ∷ 7 ∷ 1 ∷ 9156 ∷ 0 ∷ 0 ∷ []) ∷ (nine ∷ 9121 ∷ []) ∷
-      (9121 ∷ []) ∷ (2 ∷ eight ∷ 100 ∷ 126 ∷ 7 ∷ 1 ∷ 9156 ∷ 0 ∷ 0 ∷ []) ∷ [] ∷
-      (9156 ∷ []) ∷ (2 ∷ eight ∷ 100 ∷ 126 ∷ 7 ∷ 1 ∷ 9207 ∷ 0 ∷ 0 ∷ []) ∷ [] ∷
-      (9170 ∷ []) ∷ (2 ∷ eight ∷ 100 ∷ 126 ∷ 7 ∷ 1 ∷ 9207 ∷ 0 ∷ 0 ∷ []) ∷ [] ∷
-      (9207 ∷ []) ∷ still ∷ [] ∷
-      (9300 ∷ []) ∷ still ∷ [] ∷ [];
+      (50 ∷ 0 ∷ []) ∷ still ∷ [] ∷
+      (100 ∷ 0 ∷ []) ∷ still ∷ (seven ∷ 9101 ∷ []) ∷
+      (110 ∷ 0 ∷ []) ∷ still ∷ (seven ∷ 9101 ∷ eight ∷ 9111 ∷ []) ∷
+      (115 ∷ 0 ∷ []) ∷ still ∷ (seven ∷ 9101 ∷ eight ∷ 9111 ∷ []) ∷
+      (120 ∷ 0 ∷ []) ∷ still ∷ (seven ∷ 9101 ∷ eight ∷ 9111 ∷ nine ∷ 9121 ∷ []) ∷
+      (130 ∷ 0 ∷ []) ∷ still ∷ (seven ∷ 9101 ∷ eight ∷ 9111 ∷ nine ∷ 9121 ∷ []) ∷
+      (9101 ∷ 0 ∷ []) ∷ still ∷ (eight ∷ 9111 ∷ nine ∷ 9121 ∷ []) ∷
+      (9105 ∷ 1 ∷ []) ∷ (2 ∷ eight ∷ 100 ∷ 126 ∷ 7 ∷ 1 ∷ 1 ∷ 9156 ∷ 0 ∷ 0 ∷ []) ∷ (nine ∷ 9121 ∷ []) ∷
+      (9121 ∷ 1 ∷ []) ∷ (2 ∷ eight ∷ 100 ∷ 126 ∷ 7 ∷ 1 ∷ 1 ∷ 9156 ∷ 0 ∷ 0 ∷ []) ∷ [] ∷
+      (9156 ∷ 1 ∷ []) ∷ (2 ∷ eight ∷ 100 ∷ 126 ∷ 7 ∷ 1 ∷ 1 ∷ 9207 ∷ 0 ∷ 0 ∷ []) ∷ [] ∷
+      (9170 ∷ 1 ∷ []) ∷ (2 ∷ eight ∷ 100 ∷ 126 ∷ 7 ∷ 1 ∷ 1 ∷ 9207 ∷ 0 ∷ 0 ∷ []) ∷ [] ∷
+      (9207 ∷ 1 ∷ []) ∷ still ∷ [] ∷
+      (9300 ∷ 1 ∷ []) ∷ still ∷ [] ∷ [];
 }
 
 abbrev pub inQueueWords : Row
@@ -586,21 +595,21 @@ abbrev pub twoCallsPages : Row
 twoCallsPages = record {
   computed = pages 2 twoCalls;
   expected =
-      (100 ∷ []) ∷ (1 ∷ seven ∷ 100 ∷ 126 ∷ 7 ∷ 1 ∷ 261 ∷ 0 ∷ 0 ∷ []) ∷ still ∷ [] ∷
-      (101 ∷ []) ∷ (1 ∷ seven ∷ 100 ∷ 126 ∷ 7 ∷ 1 ∷ 261 ∷ 0 ∷ 0 ∷ []) ∷ (1 ∷ eight ∷ 101 ∷ 126 ∷ 7 ∷ 1 ∷ 262 ∷ 0 ∷ 0 ∷ []) ∷ [] ∷
-      (110 ∷ []) ∷ (0 ∷ 1 ∷ 711 ∷ 1 ∷ seven ∷ 100 ∷ 0 ∷ 0 ∷ []) ∷ (1 ∷ eight ∷ 101 ∷ 126 ∷ 7 ∷ 1 ∷ 262 ∷ 0 ∷ 0 ∷ []) ∷ [] ∷
-      (120 ∷ []) ∷ (0 ∷ 1 ∷ 711 ∷ 1 ∷ seven ∷ 100 ∷ 0 ∷ 0 ∷ []) ∷ (0 ∷ 1 ∷ 721 ∷ 1 ∷ eight ∷ 101 ∷ 0 ∷ 0 ∷ []) ∷ [] ∷
-      (130 ∷ []) ∷ (0 ∷ 0 ∷ 2 ∷ seven ∷ 100 ∷ 130 ∷ 0 ∷ []) ∷ (0 ∷ 1 ∷ 721 ∷ 1 ∷ eight ∷ 101 ∷ 0 ∷ 0 ∷ []) ∷ [] ∷
-      (140 ∷ []) ∷ (0 ∷ 0 ∷ 2 ∷ seven ∷ 100 ∷ 130 ∷ 0 ∷ []) ∷ (0 ∷ 0 ∷ 2 ∷ eight ∷ 101 ∷ 140 ∷ 0 ∷ []) ∷ [] ∷
-      (150 ∷ []) ∷ (0 ∷ 0 ∷ 2 ∷ seven ∷ 100 ∷ 130 ∷ 1 ∷ 601 ∷ []) ∷ (0 ∷ 0 ∷ 2 ∷ eight ∷ 101 ∷ 140 ∷ 0 ∷ []) ∷ [] ∷
-      (160 ∷ []) ∷ (0 ∷ 0 ∷ 2 ∷ seven ∷ 100 ∷ 130 ∷ 1 ∷ 601 ∷ []) ∷ (0 ∷ 0 ∷ 2 ∷ eight ∷ 101 ∷ 140 ∷ 1 ∷ 211 ∷ []) ∷ [] ∷
-      (165 ∷ []) ∷ (0 ∷ 0 ∷ 2 ∷ seven ∷ 100 ∷ 130 ∷ 1 ∷ 601 ∷ []) ∷ (0 ∷ 0 ∷ 2 ∷ eight ∷ 101 ∷ 140 ∷ 1 ∷ 211 ∷ []) ∷ [] ∷
-      (211 ∷ []) ∷ (0 ∷ 0 ∷ 2 ∷ seven ∷ 100 ∷ 130 ∷ 1 ∷ 601 ∷ []) ∷ still ∷ [] ∷
-      (310 ∷ []) ∷ (0 ∷ 0 ∷ 2 ∷ seven ∷ 100 ∷ 130 ∷ 1 ∷ 601 ∷ []) ∷ (1 ∷ eight ∷ 101 ∷ 126 ∷ 7 ∷ 1 ∷ 471 ∷ 0 ∷ 0 ∷ []) ∷ [] ∷
-      (320 ∷ []) ∷ (0 ∷ 0 ∷ 2 ∷ seven ∷ 100 ∷ 130 ∷ 1 ∷ 601 ∷ []) ∷ (0 ∷ 1 ∷ 921 ∷ 1 ∷ eight ∷ 101 ∷ 0 ∷ 0 ∷ []) ∷ [] ∷
-      (330 ∷ []) ∷ (0 ∷ 0 ∷ 2 ∷ seven ∷ 100 ∷ 130 ∷ 1 ∷ 601 ∷ []) ∷ (0 ∷ 0 ∷ 2 ∷ eight ∷ 101 ∷ 330 ∷ 0 ∷ []) ∷ [] ∷
-      (340 ∷ []) ∷ still ∷ (0 ∷ 0 ∷ 2 ∷ eight ∷ 101 ∷ 330 ∷ 0 ∷ []) ∷ [] ∷
-      (350 ∷ []) ∷ still ∷ still ∷ [] ∷ [];
+      (100 ∷ 1 ∷ []) ∷ (1 ∷ seven ∷ 100 ∷ 126 ∷ 7 ∷ 1 ∷ 1 ∷ 261 ∷ 0 ∷ 0 ∷ []) ∷ still ∷ [] ∷
+      (101 ∷ 2 ∷ []) ∷ (1 ∷ seven ∷ 100 ∷ 126 ∷ 7 ∷ 1 ∷ 1 ∷ 261 ∷ 0 ∷ 0 ∷ []) ∷ (1 ∷ eight ∷ 101 ∷ 126 ∷ 7 ∷ 2 ∷ 1 ∷ 262 ∷ 0 ∷ 0 ∷ []) ∷ [] ∷
+      (110 ∷ 2 ∷ []) ∷ (0 ∷ 1 ∷ 711 ∷ 1 ∷ seven ∷ 100 ∷ 1 ∷ 0 ∷ 0 ∷ []) ∷ (1 ∷ eight ∷ 101 ∷ 126 ∷ 7 ∷ 2 ∷ 1 ∷ 262 ∷ 0 ∷ 0 ∷ []) ∷ [] ∷
+      (120 ∷ 2 ∷ []) ∷ (0 ∷ 1 ∷ 711 ∷ 1 ∷ seven ∷ 100 ∷ 1 ∷ 0 ∷ 0 ∷ []) ∷ (0 ∷ 1 ∷ 721 ∷ 1 ∷ eight ∷ 101 ∷ 2 ∷ 0 ∷ 0 ∷ []) ∷ [] ∷
+      (130 ∷ 2 ∷ []) ∷ (0 ∷ 0 ∷ 2 ∷ seven ∷ 100 ∷ 1 ∷ 130 ∷ 0 ∷ []) ∷ (0 ∷ 1 ∷ 721 ∷ 1 ∷ eight ∷ 101 ∷ 2 ∷ 0 ∷ 0 ∷ []) ∷ [] ∷
+      (140 ∷ 2 ∷ []) ∷ (0 ∷ 0 ∷ 2 ∷ seven ∷ 100 ∷ 1 ∷ 130 ∷ 0 ∷ []) ∷ (0 ∷ 0 ∷ 2 ∷ eight ∷ 101 ∷ 2 ∷ 140 ∷ 0 ∷ []) ∷ [] ∷
+      (150 ∷ 2 ∷ []) ∷ (0 ∷ 0 ∷ 2 ∷ seven ∷ 100 ∷ 1 ∷ 130 ∷ 1 ∷ 601 ∷ []) ∷ (0 ∷ 0 ∷ 2 ∷ eight ∷ 101 ∷ 2 ∷ 140 ∷ 0 ∷ []) ∷ [] ∷
+      (160 ∷ 2 ∷ []) ∷ (0 ∷ 0 ∷ 2 ∷ seven ∷ 100 ∷ 1 ∷ 130 ∷ 1 ∷ 601 ∷ []) ∷ (0 ∷ 0 ∷ 2 ∷ eight ∷ 101 ∷ 2 ∷ 140 ∷ 1 ∷ 211 ∷ []) ∷ [] ∷
+      (165 ∷ 2 ∷ []) ∷ (0 ∷ 0 ∷ 2 ∷ seven ∷ 100 ∷ 1 ∷ 130 ∷ 1 ∷ 601 ∷ []) ∷ (0 ∷ 0 ∷ 2 ∷ eight ∷ 101 ∷ 2 ∷ 140 ∷ 1 ∷ 211 ∷ []) ∷ [] ∷
+      (211 ∷ 2 ∷ []) ∷ (0 ∷ 0 ∷ 2 ∷ seven ∷ 100 ∷ 1 ∷ 130 ∷ 1 ∷ 601 ∷ []) ∷ still ∷ [] ∷
+      (310 ∷ 3 ∷ []) ∷ (0 ∷ 0 ∷ 2 ∷ seven ∷ 100 ∷ 1 ∷ 130 ∷ 1 ∷ 601 ∷ []) ∷ (1 ∷ eight ∷ 101 ∷ 126 ∷ 7 ∷ 3 ∷ 1 ∷ 471 ∷ 0 ∷ 0 ∷ []) ∷ [] ∷
+      (320 ∷ 3 ∷ []) ∷ (0 ∷ 0 ∷ 2 ∷ seven ∷ 100 ∷ 1 ∷ 130 ∷ 1 ∷ 601 ∷ []) ∷ (0 ∷ 1 ∷ 921 ∷ 1 ∷ eight ∷ 101 ∷ 3 ∷ 0 ∷ 0 ∷ []) ∷ [] ∷
+      (330 ∷ 3 ∷ []) ∷ (0 ∷ 0 ∷ 2 ∷ seven ∷ 100 ∷ 1 ∷ 130 ∷ 1 ∷ 601 ∷ []) ∷ (0 ∷ 0 ∷ 2 ∷ eight ∷ 101 ∷ 3 ∷ 330 ∷ 0 ∷ []) ∷ [] ∷
+      (340 ∷ 3 ∷ []) ∷ still ∷ (0 ∷ 0 ∷ 2 ∷ eight ∷ 101 ∷ 3 ∷ 330 ∷ 0 ∷ []) ∷ [] ∷
+      (350 ∷ 3 ∷ []) ∷ still ∷ still ∷ [] ∷ [];
 }
 
 abbrev pub twoCallsWords : Row
@@ -627,7 +636,7 @@ abbrev pub twoCallsRun : Run
 twoCallsRun = record {
   slots = 2;
   events = twoCalls;
-  owing = paid 9 1 eight 140 211 7 ∷ paid 13 0 seven 130 340 21 ∷ paid 14 1 eight 330 350 2 ∷ [];
+  owing = paid 9 1 eight 140 211 7 2 ∷ paid 13 0 seven 130 340 21 1 ∷ paid 14 1 eight 330 350 2 3 ∷ [];
 }
 
 -- ── the third slot ────────────────────────────────────────────────────────────
@@ -647,36 +656,36 @@ abbrev pub onThirdPages : Row
 onThirdPages = record {
   computed = pages 3 onThird;
   expected =
-      (50 ∷ []) ∷ still ∷ still ∷ still ∷ [] ∷
-      (51 ∷ []) ∷ still ∷ still ∷ still ∷ [] ∷
-      (100 ∷ []) ∷ still ∷ still ∷ (1 ∷ seven ∷ 100 ∷ 126 ∷ 7 ∷ 1 ∷ 261 ∷ 0 ∷ 0 ∷ []) ∷ [] ∷
-      (110 ∷ []) ∷ still ∷ still ∷ (0 ∷ 1 ∷ 711 ∷ 1 ∷ seven ∷ 100 ∷ 0 ∷ 0 ∷ []) ∷ [] ∷
-      (120 ∷ []) ∷ still ∷ still ∷ (0 ∷ 1 ∷ 161 ∷ 0 ∷ 0 ∷ []) ∷ [] ∷
-      (161 ∷ []) ∷ still ∷ still ∷ still ∷ [] ∷
-      (170 ∷ []) ∷ still ∷ still ∷ (1 ∷ seven ∷ 100 ∷ 126 ∷ 7 ∷ 1 ∷ 331 ∷ 0 ∷ 0 ∷ []) ∷ [] ∷
-      (180 ∷ []) ∷ still ∷ still ∷ (0 ∷ 1 ∷ 781 ∷ 1 ∷ seven ∷ 100 ∷ 0 ∷ 0 ∷ []) ∷ [] ∷
-      (190 ∷ []) ∷ still ∷ still ∷ (0 ∷ 0 ∷ 2 ∷ seven ∷ 100 ∷ 190 ∷ 0 ∷ []) ∷ [] ∷
-      (200 ∷ []) ∷ still ∷ still ∷ (0 ∷ 0 ∷ 2 ∷ seven ∷ 100 ∷ 190 ∷ 1 ∷ 651 ∷ []) ∷ [] ∷
-      (210 ∷ []) ∷ still ∷ still ∷ (1 ∷ seven ∷ 100 ∷ 126 ∷ 7 ∷ 1 ∷ 371 ∷ 0 ∷ 0 ∷ []) ∷ [] ∷
-      (220 ∷ []) ∷ still ∷ still ∷ (0 ∷ 1 ∷ 821 ∷ 1 ∷ seven ∷ 100 ∷ 0 ∷ 0 ∷ []) ∷ [] ∷
-      (230 ∷ []) ∷ still ∷ still ∷ (0 ∷ 0 ∷ 2 ∷ seven ∷ 100 ∷ 230 ∷ 0 ∷ []) ∷ [] ∷
-      (250 ∷ []) ∷ still ∷ still ∷ still ∷ [] ∷
-      (260 ∷ []) ∷ still ∷ still ∷ (1 ∷ eight ∷ 101 ∷ 126 ∷ 7 ∷ 1 ∷ 421 ∷ 0 ∷ 0 ∷ []) ∷ [] ∷
-      (270 ∷ []) ∷ still ∷ still ∷ (0 ∷ 1 ∷ 871 ∷ 1 ∷ eight ∷ 101 ∷ 0 ∷ 0 ∷ []) ∷ [] ∷
-      (275 ∷ []) ∷ still ∷ still ∷ (0 ∷ 1 ∷ 871 ∷ 1 ∷ eight ∷ 101 ∷ 0 ∷ 1 ∷ 326 ∷ []) ∷ [] ∷
-      (280 ∷ []) ∷ still ∷ still ∷ still ∷ [] ∷
-      (290 ∷ []) ∷ still ∷ still ∷ (1 ∷ eight ∷ 101 ∷ 126 ∷ 7 ∷ 1 ∷ 451 ∷ 0 ∷ 0 ∷ []) ∷ [] ∷
-      (300 ∷ []) ∷ still ∷ still ∷ (0 ∷ 1 ∷ 901 ∷ 1 ∷ eight ∷ 101 ∷ 0 ∷ 0 ∷ []) ∷ [] ∷
-      (310 ∷ []) ∷ still ∷ still ∷ (0 ∷ 1 ∷ 901 ∷ 1 ∷ eight ∷ 101 ∷ 0 ∷ 1 ∷ 361 ∷ []) ∷ [] ∷
-      (361 ∷ []) ∷ still ∷ still ∷ still ∷ [] ∷
-      (370 ∷ []) ∷ still ∷ still ∷ (1 ∷ nine ∷ 100 ∷ 126 ∷ 7 ∷ 1 ∷ 531 ∷ 0 ∷ 0 ∷ []) ∷ [] ∷
-      (380 ∷ []) ∷ still ∷ still ∷ (0 ∷ 1 ∷ 981 ∷ 1 ∷ nine ∷ 100 ∷ 0 ∷ 0 ∷ []) ∷ [] ∷
-      (900 ∷ []) ∷ still ∷ still ∷ (0 ∷ 1 ∷ 981 ∷ 1 ∷ nine ∷ 100 ∷ 0 ∷ 1 ∷ 1351 ∷ []) ∷ [] ∷
-      (981 ∷ []) ∷ still ∷ still ∷ still ∷ [] ∷
-      (990 ∷ []) ∷ still ∷ still ∷ (1 ∷ nine ∷ 100 ∷ 126 ∷ 7 ∷ 1 ∷ 1151 ∷ 0 ∷ 0 ∷ []) ∷ [] ∷
-      (995 ∷ []) ∷ still ∷ still ∷ (0 ∷ 1 ∷ 1596 ∷ 1 ∷ nine ∷ 100 ∷ 0 ∷ 0 ∷ []) ∷ [] ∷
-      (1000 ∷ []) ∷ still ∷ still ∷ still ∷ [] ∷
-      (1010 ∷ []) ∷ still ∷ still ∷ still ∷ [] ∷ [];
+      (50 ∷ 0 ∷ []) ∷ still ∷ still ∷ still ∷ [] ∷
+      (51 ∷ 0 ∷ []) ∷ still ∷ still ∷ still ∷ [] ∷
+      (100 ∷ 1 ∷ []) ∷ still ∷ still ∷ (1 ∷ seven ∷ 100 ∷ 126 ∷ 7 ∷ 1 ∷ 1 ∷ 261 ∷ 0 ∷ 0 ∷ []) ∷ [] ∷
+      (110 ∷ 1 ∷ []) ∷ still ∷ still ∷ (0 ∷ 1 ∷ 711 ∷ 1 ∷ seven ∷ 100 ∷ 1 ∷ 0 ∷ 0 ∷ []) ∷ [] ∷
+      (120 ∷ 1 ∷ []) ∷ still ∷ still ∷ (0 ∷ 1 ∷ 161 ∷ 0 ∷ 0 ∷ []) ∷ [] ∷
+      (161 ∷ 1 ∷ []) ∷ still ∷ still ∷ still ∷ [] ∷
+      (170 ∷ 2 ∷ []) ∷ still ∷ still ∷ (1 ∷ seven ∷ 100 ∷ 126 ∷ 7 ∷ 2 ∷ 1 ∷ 331 ∷ 0 ∷ 0 ∷ []) ∷ [] ∷
+      (180 ∷ 2 ∷ []) ∷ still ∷ still ∷ (0 ∷ 1 ∷ 781 ∷ 1 ∷ seven ∷ 100 ∷ 2 ∷ 0 ∷ 0 ∷ []) ∷ [] ∷
+      (190 ∷ 2 ∷ []) ∷ still ∷ still ∷ (0 ∷ 0 ∷ 2 ∷ seven ∷ 100 ∷ 2 ∷ 190 ∷ 0 ∷ []) ∷ [] ∷
+      (200 ∷ 2 ∷ []) ∷ still ∷ still ∷ (0 ∷ 0 ∷ 2 ∷ seven ∷ 100 ∷ 2 ∷ 190 ∷ 1 ∷ 651 ∷ []) ∷ [] ∷
+      (210 ∷ 3 ∷ []) ∷ still ∷ still ∷ (1 ∷ seven ∷ 100 ∷ 126 ∷ 7 ∷ 3 ∷ 1 ∷ 371 ∷ 0 ∷ 0 ∷ []) ∷ [] ∷
+      (220 ∷ 3 ∷ []) ∷ still ∷ still ∷ (0 ∷ 1 ∷ 821 ∷ 1 ∷ seven ∷ 100 ∷ 3 ∷ 0 ∷ 0 ∷ []) ∷ [] ∷
+      (230 ∷ 3 ∷ []) ∷ still ∷ still ∷ (0 ∷ 0 ∷ 2 ∷ seven ∷ 100 ∷ 3 ∷ 230 ∷ 0 ∷ []) ∷ [] ∷
+      (250 ∷ 3 ∷ []) ∷ still ∷ still ∷ still ∷ [] ∷
+      (260 ∷ 4 ∷ []) ∷ still ∷ still ∷ (1 ∷ eight ∷ 101 ∷ 126 ∷ 7 ∷ 4 ∷ 1 ∷ 421 ∷ 0 ∷ 0 ∷ []) ∷ [] ∷
+      (270 ∷ 4 ∷ []) ∷ still ∷ still ∷ (0 ∷ 1 ∷ 871 ∷ 1 ∷ eight ∷ 101 ∷ 4 ∷ 0 ∷ 0 ∷ []) ∷ [] ∷
+      (275 ∷ 4 ∷ []) ∷ still ∷ still ∷ (0 ∷ 1 ∷ 871 ∷ 1 ∷ eight ∷ 101 ∷ 4 ∷ 0 ∷ 1 ∷ 326 ∷ []) ∷ [] ∷
+      (280 ∷ 4 ∷ []) ∷ still ∷ still ∷ still ∷ [] ∷
+      (290 ∷ 5 ∷ []) ∷ still ∷ still ∷ (1 ∷ eight ∷ 101 ∷ 126 ∷ 7 ∷ 5 ∷ 1 ∷ 451 ∷ 0 ∷ 0 ∷ []) ∷ [] ∷
+      (300 ∷ 5 ∷ []) ∷ still ∷ still ∷ (0 ∷ 1 ∷ 901 ∷ 1 ∷ eight ∷ 101 ∷ 5 ∷ 0 ∷ 0 ∷ []) ∷ [] ∷
+      (310 ∷ 5 ∷ []) ∷ still ∷ still ∷ (0 ∷ 1 ∷ 901 ∷ 1 ∷ eight ∷ 101 ∷ 5 ∷ 0 ∷ 1 ∷ 361 ∷ []) ∷ [] ∷
+      (361 ∷ 5 ∷ []) ∷ still ∷ still ∷ still ∷ [] ∷
+      (370 ∷ 6 ∷ []) ∷ still ∷ still ∷ (1 ∷ nine ∷ 100 ∷ 126 ∷ 7 ∷ 6 ∷ 1 ∷ 531 ∷ 0 ∷ 0 ∷ []) ∷ [] ∷
+      (380 ∷ 6 ∷ []) ∷ still ∷ still ∷ (0 ∷ 1 ∷ 981 ∷ 1 ∷ nine ∷ 100 ∷ 6 ∷ 0 ∷ 0 ∷ []) ∷ [] ∷
+      (900 ∷ 6 ∷ []) ∷ still ∷ still ∷ (0 ∷ 1 ∷ 981 ∷ 1 ∷ nine ∷ 100 ∷ 6 ∷ 0 ∷ 1 ∷ 1351 ∷ []) ∷ [] ∷
+      (981 ∷ 6 ∷ []) ∷ still ∷ still ∷ still ∷ [] ∷
+      (990 ∷ 7 ∷ []) ∷ still ∷ still ∷ (1 ∷ nine ∷ 100 ∷ 126 ∷ 7 ∷ 7 ∷ 1 ∷ 1151 ∷ 0 ∷ 0 ∷ []) ∷ [] ∷
+      (995 ∷ 7 ∷ []) ∷ still ∷ still ∷ (0 ∷ 1 ∷ 1596 ∷ 1 ∷ nine ∷ 100 ∷ 7 ∷ 0 ∷ 0 ∷ []) ∷ [] ∷
+      (1000 ∷ 7 ∷ []) ∷ still ∷ still ∷ still ∷ [] ∷
+      (1010 ∷ 7 ∷ []) ∷ still ∷ still ∷ still ∷ [] ∷ [];
 }
 
 abbrev pub onThirdWords : Row
@@ -697,7 +706,7 @@ abbrev pub onThirdRun : Run
 onThirdRun = record {
   slots = 3;
   events = onThird;
-  owing = paid 10 2 seven 190 210 2 ∷ paid 13 2 seven 230 250 2 ∷ [];
+  owing = paid 10 2 seven 190 210 2 2 ∷ paid 13 2 seven 230 250 2 3 ∷ [];
 }
 
 -- a duplex request of seven for a number
@@ -706,6 +715,20 @@ calling digits = asking seven 2001234 duplex 126 digits
 
 abbrev pub party : Party
 party = record { ship = seven; station = 2001234 }
+
+-- the fourth call that has begun, said on channel 70, and the fifth, on a line
+abbrev pub fourth : ℕ → Mode → Begun
+fourth x m = begunAs 4 (from x m)
+
+abbrev pub fifth : ℕ → Mode → Begun
+fifth x m = begunAs 5 (from x m)
+
+-- a call from ashore to seven, before it rings and while it rings
+abbrev pub callsSeven : Call
+callsSeven = called (fifth seven simplex) false
+
+abbrev pub ringsSeven : Call
+ringsSeven = called (fifth seven simplex) true
 
 -- ── single things ────────────────────────────────────────────────────────────
 
@@ -719,10 +742,11 @@ talkingOn = record {
 -- what the book says of a call, in the line's words
 abbrev pub wordsOf : Row
 wordsOf = record {
-  computed = word (wordOf quiet) ∷ word (wordOf (dialled party simplex false)) ∷ word (wordOf (dialled party duplex false)) ∷
-      word (wordOf (dialled party simplex true)) ∷ word (wordOf (dialled party duplex true)) ∷
-      word (wordOf (talking party simplex 300)) ∷ word (wordOf (talking party duplex 300)) ∷
-      word (wordOf (called (from seven simplex) false)) ∷ word (wordOf (called (from seven simplex) true)) ∷ [];
+  computed = word (wordOf quiet) ∷ word (wordOf (dialled (fifth seven simplex) false)) ∷
+      word (wordOf (dialled (fifth seven duplex) false)) ∷ word (wordOf (dialled (fifth seven simplex) true)) ∷
+      word (wordOf (dialled (fifth seven duplex) true)) ∷
+      word (wordOf (talking (fifth seven simplex) 300)) ∷ word (wordOf (talking (fifth seven duplex) 300)) ∷
+      word (wordOf callsSeven) ∷ word (wordOf ringsSeven) ∷ [];
   expected = (0 ∷ []) ∷ (1 ∷ []) ∷ (1 ∷ []) ∷ (1 ∷ []) ∷ (1 ∷ []) ∷ (2 ∷ 300 ∷ []) ∷ (2 ∷ 300 ∷ []) ∷ (3 ∷ []) ∷ (3 ∷ 8 ∷ []) ∷ [];
 }
 
@@ -730,7 +754,7 @@ wordsOf = record {
 abbrev pub blankPage : Row
 blankPage = record {
   computed = page (blankBook (station 2));
-  expected = (0 ∷ []) ∷ still ∷ still ∷ [] ∷ [];
+  expected = (0 ∷ 0 ∷ []) ∷ still ∷ still ∷ [] ∷ [];
 }
 
 -- calls that are only dialled are neither held nor counted
@@ -750,7 +774,7 @@ calledOnly = record {
 -- of a station with two slots in every phase the answered calls alone are still to be charged: six, since 900
 abbrev pub unchargedShown : Row
 unchargedShown = record {
-  computed = (unchargedTenths (record { clock = 1010; slots = map (λ p. p .slot) (phases ++ phases); queue = [] }) ∷ []) ∷ [];
+  computed = (unchargedTenths (record { clock = 1010; slots = map (λ p. p .slot) (phases ++ phases); queue = []; lastCall = 1 }) ∷ []) ∷ [];
   expected = (660 ∷ []) ∷ [];
 }
 
@@ -759,6 +783,13 @@ abbrev pub stopsNumbered : Row
 stopsNumbered = record {
   computed = map (λ s. s .entry) (stopsOf (station 2) twoCalls) ∷ map (λ s. s .entry) (numbered 1 (seven ∷ eight ∷ []) []) ∷ [];
   expected = (9 ∷ 13 ∷ 14 ∷ []) ∷ (1 ∷ 1 ∷ []) ∷ [];
+}
+
+-- the call numbers charged in a run, in the order of its charges
+abbrev pub numbersCharged : Row
+numbersCharged = record {
+  computed = callNumbers (charged 0 (runOf (station 2) twoCalls)) ∷ [];
+  expected = (2 ∷ 1 ∷ 3 ∷ []) ∷ [];
 }
 
 -- the events of a run
@@ -890,12 +921,12 @@ releasesShown = record {
 -- for whom a call from ashore is, ringing or not; a dialled line and an answered one are for nobody; and the columns after some entries
 abbrev pub isForShown : Row
 isForShown = record {
-  computed = map (λ k. bit (isFor party k)) (quiet ∷ called (from seven duplex) false ∷ called (from seven simplex) true ∷
-      called (from eight duplex) false ∷ called (from eight duplex) true ∷ dialled party duplex false ∷ dialled party simplex true ∷
-      talking party duplex 300 ∷ talking party simplex 300 ∷ []) ∷
+  computed = map (λ k. bit (isFor party k)) (quiet ∷ called (fifth seven duplex) false ∷ ringsSeven ∷
+      called (fifth eight duplex) false ∷ called (fifth eight duplex) true ∷ dialled (fifth seven duplex) false ∷
+      dialled (fifth seven simplex) true ∷ talking (fifth seven duplex) 300 ∷ talking (fifth seven simplex) 300 ∷ []) ∷
       map column (columnsAfter (station 2) (listOf (station 2) (take 2 bothCalledScript)));
   expected = (0 ∷ 1 ∷ 1 ∷ 0 ∷ 0 ∷ 0 ∷ 0 ∷ 0 ∷ 0 ∷ []) ∷
-      (0 ∷ 1 ∷ 151 ∷ 3 ∷ seven ∷ 100 ∷ 126 ∷ 6 ∷ 0 ∷ 0 ∷ []) ∷ (0 ∷ 1 ∷ 161 ∷ 3 ∷ eight ∷ 101 ∷ 126 ∷ 6 ∷ 0 ∷ 0 ∷ []) ∷ [];
+      (0 ∷ 1 ∷ 151 ∷ 3 ∷ seven ∷ 100 ∷ 126 ∷ 6 ∷ 1 ∷ 0 ∷ 0 ∷ []) ∷ (0 ∷ 1 ∷ 161 ∷ 3 ∷ eight ∷ 101 ∷ 126 ∷ 6 ∷ 2 ∷ 0 ∷ 0 ∷ []) ∷ [];
 }
 
 -- each word of a line, ringing and not, and as numbers
@@ -941,13 +972,13 @@ wordsAtOnce = record {
   expected = (2 ∷ 130 ∷ []) ∷ (2 ∷ 140 ∷ []) ∷ [];
 }
 
--- a book of one column on which everything is set, and that column after an event or a deed alone
+-- a book of one column on which everything is set, nine calls begun, and that column after an event or a deed alone
 abbrev pub filled : Said → Call → Book
-filled s k = record { now = 100; columns = record { said = s; wait = some 5000; call = k; gone = some 6000 } ∷ []; places = [] }
+filled s k = record { now = 100; columns = record { said = s; wait = some 5000; call = k; gone = some 6000 } ∷ []; places = []; given = 9 }
 
 -- the same with its carrier present
 abbrev pub heardWell : Said → Call → Book
-heardWell s k = record { now = 100; columns = record { said = s; wait = some 5000; call = k; gone = none } ∷ []; places = [] }
+heardWell s k = record { now = 100; columns = record { said = s; wait = some 5000; call = k; gone = none } ∷ []; places = []; given = 9 }
 
 abbrev pub afterEvent : Event → Book → List ℕ
 afterEvent e b = getD (map column (turn (station 1) b (record { event = e; deeds = [] }) .columns)) 0 []
@@ -956,95 +987,88 @@ abbrev pub afterDeed : Deed → Book → List ℕ
 afterDeed d b = getD (map column (turn (station 1) b (record { event = ticks 200; deeds = d ∷ [] }) .columns)) 0 []
 
 abbrev pub ringsEight : Call
-ringsEight = dialled (from eight simplex .who) simplex false
+ringsEight = dialled (fifth eight simplex) false
 
 -- once its dialling has ended, in either mode
 abbrev pub ringsOut : Call
-ringsOut = dialled (from eight simplex .who) simplex true
+ringsOut = dialled (fifth eight simplex) true
 
 abbrev pub ringsOutDuplex : Call
-ringsOutDuplex = dialled (from eight duplex .who) duplex true
+ringsOutDuplex = dialled (fifth eight duplex) true
 
 abbrev pub talksEight : Call
-talksEight = talking (from eight duplex .who) duplex 150
+talksEight = talking (fifth eight duplex) 150
 
 -- an event changes what it tells, and nothing else of the column
 abbrev pub eventsAlone : Row
 eventsAlone = record {
   computed =
-      afterEvent (hangs 200 0) (filled (toldBQ (from seven duplex)) ringsEight) ∷
-      afterEvent (hangs 200 0) (filled (toldBQ (from seven duplex)) (dialled (from eight duplex .who) duplex false)) ∷
-      afterEvent (hangs 200 0) (filled (toldBQ (from seven duplex)) talksEight) ∷
-      afterEvent (hangs 200 0) (filled (toldBQ (from seven duplex)) (talking (from eight simplex .who) simplex 150)) ∷
-      afterEvent (picksUp 200 0) (filled (toldBQ (from seven duplex)) ringsEight) ∷
-      afterEvent (ends 200 0 eight) (filled (toldBQ (from seven duplex)) talksEight) ∷
-      afterEvent (reserves 200 0) (heardWell (toldBQ (from seven duplex)) ringsEight) ∷
-      afterEvent (accepts 200 26 seven) (filled (toldRQ (from seven duplex)) talksEight) ∷
-      afterEvent (ticks 5000) (filled (toldBQ (from seven duplex)) ringsEight) ∷ [];
+      afterEvent (hangs 200 0) (filled (toldBQ (fourth seven duplex)) ringsEight) ∷
+      afterEvent (hangs 200 0) (filled (toldBQ (fourth seven duplex)) (dialled (fifth eight duplex) false)) ∷
+      afterEvent (hangs 200 0) (filled (toldBQ (fourth seven duplex)) talksEight) ∷
+      afterEvent (hangs 200 0) (filled (toldBQ (fourth seven duplex)) (talking (fifth eight simplex) 150)) ∷
+      afterEvent (picksUp 200 0) (filled (toldBQ (fourth seven duplex)) ringsEight) ∷
+      afterEvent (ends 200 0 eight) (filled (toldBQ (fourth seven duplex)) talksEight) ∷
+      afterEvent (reserves 200 0) (heardWell (toldBQ (fourth seven duplex)) ringsEight) ∷
+      afterEvent (accepts 200 26 seven) (filled (toldRQ (fourth seven duplex)) talksEight) ∷
+      afterEvent (ticks 5000) (filled (toldBQ (fourth seven duplex)) ringsEight) ∷ [];
   expected =
-      (1 ∷ seven ∷ 101 ∷ 126 ∷ 7 ∷ 1 ∷ 5000 ∷ 1 ∷ eight ∷ 100 ∷ 0 ∷ 1 ∷ 6000 ∷ []) ∷
-      (1 ∷ seven ∷ 101 ∷ 126 ∷ 7 ∷ 1 ∷ 5000 ∷ 1 ∷ eight ∷ 101 ∷ 0 ∷ 1 ∷ 6000 ∷ []) ∷
-      (1 ∷ seven ∷ 101 ∷ 126 ∷ 7 ∷ 1 ∷ 5000 ∷ 0 ∷ 0 ∷ []) ∷
-      (1 ∷ seven ∷ 101 ∷ 126 ∷ 7 ∷ 1 ∷ 5000 ∷ 0 ∷ 0 ∷ []) ∷
-      (1 ∷ seven ∷ 101 ∷ 126 ∷ 7 ∷ 0 ∷ 2 ∷ eight ∷ 100 ∷ 200 ∷ 1 ∷ 6000 ∷ []) ∷
-      (1 ∷ seven ∷ 101 ∷ 126 ∷ 7 ∷ 1 ∷ 241 ∷ 0 ∷ 0 ∷ []) ∷
-      (1 ∷ seven ∷ 101 ∷ 126 ∷ 7 ∷ 1 ∷ 5000 ∷ 1 ∷ eight ∷ 100 ∷ 0 ∷ 0 ∷ []) ∷
-      (3 ∷ seven ∷ 101 ∷ 126 ∷ 7 ∷ 1 ∷ 361 ∷ 2 ∷ eight ∷ 101 ∷ 150 ∷ 1 ∷ 6000 ∷ []) ∷
-      (1 ∷ seven ∷ 101 ∷ 126 ∷ 7 ∷ 0 ∷ 1 ∷ eight ∷ 100 ∷ 0 ∷ 1 ∷ 6000 ∷ []) ∷ [];
+      (1 ∷ seven ∷ 101 ∷ 126 ∷ 7 ∷ 4 ∷ 1 ∷ 5000 ∷ 1 ∷ eight ∷ 100 ∷ 5 ∷ 0 ∷ 1 ∷ 6000 ∷ []) ∷
+      (1 ∷ seven ∷ 101 ∷ 126 ∷ 7 ∷ 4 ∷ 1 ∷ 5000 ∷ 1 ∷ eight ∷ 101 ∷ 5 ∷ 0 ∷ 1 ∷ 6000 ∷ []) ∷
+      (1 ∷ seven ∷ 101 ∷ 126 ∷ 7 ∷ 4 ∷ 1 ∷ 5000 ∷ 0 ∷ 0 ∷ []) ∷
+      (1 ∷ seven ∷ 101 ∷ 126 ∷ 7 ∷ 4 ∷ 1 ∷ 5000 ∷ 0 ∷ 0 ∷ []) ∷
+      (1 ∷ seven ∷ 101 ∷ 126 ∷ 7 ∷ 4 ∷ 0 ∷ 2 ∷ eight ∷ 100 ∷ 5 ∷ 200 ∷ 1 ∷ 6000 ∷ []) ∷
+      (1 ∷ seven ∷ 101 ∷ 126 ∷ 7 ∷ 4 ∷ 1 ∷ 241 ∷ 0 ∷ 0 ∷ []) ∷
+      (1 ∷ seven ∷ 101 ∷ 126 ∷ 7 ∷ 4 ∷ 1 ∷ 5000 ∷ 1 ∷ eight ∷ 100 ∷ 5 ∷ 0 ∷ 0 ∷ []) ∷
+      (3 ∷ seven ∷ 101 ∷ 126 ∷ 7 ∷ 4 ∷ 1 ∷ 361 ∷ 2 ∷ eight ∷ 101 ∷ 5 ∷ 150 ∷ 1 ∷ 6000 ∷ []) ∷
+      (1 ∷ seven ∷ 101 ∷ 126 ∷ 7 ∷ 4 ∷ 0 ∷ 1 ∷ eight ∷ 100 ∷ 5 ∷ 0 ∷ 1 ∷ 6000 ∷ []) ∷ [];
 }
 
 -- an end of dialling begins the minute, the first time and on a line that rings; then what else happens on a line dialled out
 abbrev pub diallingAlone : Row
 diallingAlone = record {
   computed =
-      afterEvent (dialsOut 200 0) (filled (toldBQ (from seven duplex)) ringsEight) ∷
-      afterEvent (dialsOut 200 0) (filled (toldBQ (from seven duplex)) (dialled (from eight duplex .who) duplex false)) ∷
-      afterEvent (dialsOut 200 0) (filled (toldBQ (from seven duplex)) ringsOut) ∷
-      afterEvent (dialsOut 200 0) (filled (toldBQ (from seven duplex)) ringsOutDuplex) ∷
-      afterEvent (dialsOut 200 0) (filled (toldBQ (from seven duplex)) talksEight) ∷
-      afterEvent (dialsOut 200 0) (filled (toldBQ (from seven duplex)) (talking (from eight simplex .who) simplex 150)) ∷
-      afterEvent (dialsOut 200 0) (filled (toldBQ (from seven duplex)) quiet) ∷
-      afterEvent (picksUp 200 0) (filled (toldBQ (from seven duplex)) ringsOut) ∷
-      afterEvent (hangs 200 0) (filled (toldBQ (from seven duplex)) ringsOut) ∷
-      afterEvent (hangs 200 0) (filled (toldBQ (from seven duplex)) ringsOutDuplex) ∷
-      afterEvent (loses 200 0) (heardWell (toldBQ (from seven duplex)) ringsOut) ∷
-      afterEvent (loses 200 0) (heardWell (toldBQ (from seven duplex)) ringsOutDuplex) ∷
-      afterEvent (ends 200 0 eight) (filled (toldBQ (from seven duplex)) ringsOut) ∷
-      afterEvent (ticks 5000) (filled (toldBQ (from seven duplex)) ringsOut) ∷
-      afterDeed (dial 0 usual) (filled (toldBQ (from seven duplex)) ringsOut) ∷
-      afterDeed (releaseLine 0) (filled (toldBQ (from seven duplex)) ringsOut) ∷ [];
+      afterEvent (dialsOut 200 0) (filled (toldBQ (fourth seven duplex)) ringsEight) ∷
+      afterEvent (dialsOut 200 0) (filled (toldBQ (fourth seven duplex)) (dialled (fifth eight duplex) false)) ∷
+      afterEvent (dialsOut 200 0) (filled (toldBQ (fourth seven duplex)) ringsOut) ∷
+      afterEvent (dialsOut 200 0) (filled (toldBQ (fourth seven duplex)) ringsOutDuplex) ∷
+      afterEvent (dialsOut 200 0) (filled (toldBQ (fourth seven duplex)) talksEight) ∷
+      afterEvent (dialsOut 200 0) (filled (toldBQ (fourth seven duplex)) (talking (fifth eight simplex) 150)) ∷
+      afterEvent (dialsOut 200 0) (filled (toldBQ (fourth seven duplex)) quiet) ∷
+      afterEvent (picksUp 200 0) (filled (toldBQ (fourth seven duplex)) ringsOut) ∷
+      afterEvent (hangs 200 0) (filled (toldBQ (fourth seven duplex)) ringsOut) ∷
+      afterEvent (hangs 200 0) (filled (toldBQ (fourth seven duplex)) ringsOutDuplex) ∷
+      afterEvent (loses 200 0) (heardWell (toldBQ (fourth seven duplex)) ringsOut) ∷
+      afterEvent (loses 200 0) (heardWell (toldBQ (fourth seven duplex)) ringsOutDuplex) ∷
+      afterEvent (ends 200 0 eight) (filled (toldBQ (fourth seven duplex)) ringsOut) ∷
+      afterEvent (ticks 5000) (filled (toldBQ (fourth seven duplex)) ringsOut) ∷
+      afterDeed (dial 0 usual) (filled (toldBQ (fourth seven duplex)) ringsOut) ∷
+      afterDeed (releaseLine 0) (filled (toldBQ (fourth seven duplex)) ringsOut) ∷ [];
   expected =
-      (1 ∷ seven ∷ 101 ∷ 126 ∷ 7 ∷ 1 ∷ 801 ∷ 1 ∷ eight ∷ 100 ∷ 1 ∷ 1 ∷ 6000 ∷ []) ∷
-      (1 ∷ seven ∷ 101 ∷ 126 ∷ 7 ∷ 1 ∷ 801 ∷ 1 ∷ eight ∷ 101 ∷ 1 ∷ 1 ∷ 6000 ∷ []) ∷
-      (1 ∷ seven ∷ 101 ∷ 126 ∷ 7 ∷ 1 ∷ 5000 ∷ 1 ∷ eight ∷ 100 ∷ 1 ∷ 1 ∷ 6000 ∷ []) ∷
-      (1 ∷ seven ∷ 101 ∷ 126 ∷ 7 ∷ 1 ∷ 5000 ∷ 1 ∷ eight ∷ 101 ∷ 1 ∷ 1 ∷ 6000 ∷ []) ∷
-      (1 ∷ seven ∷ 101 ∷ 126 ∷ 7 ∷ 1 ∷ 5000 ∷ 2 ∷ eight ∷ 101 ∷ 150 ∷ 1 ∷ 6000 ∷ []) ∷
-      (1 ∷ seven ∷ 101 ∷ 126 ∷ 7 ∷ 1 ∷ 5000 ∷ 2 ∷ eight ∷ 100 ∷ 150 ∷ 1 ∷ 6000 ∷ []) ∷
-      (1 ∷ seven ∷ 101 ∷ 126 ∷ 7 ∷ 1 ∷ 5000 ∷ 0 ∷ 1 ∷ 6000 ∷ []) ∷
-      (1 ∷ seven ∷ 101 ∷ 126 ∷ 7 ∷ 0 ∷ 2 ∷ eight ∷ 100 ∷ 200 ∷ 1 ∷ 6000 ∷ []) ∷
-      (1 ∷ seven ∷ 101 ∷ 126 ∷ 7 ∷ 1 ∷ 5000 ∷ 1 ∷ eight ∷ 100 ∷ 1 ∷ 1 ∷ 6000 ∷ []) ∷
-      (1 ∷ seven ∷ 101 ∷ 126 ∷ 7 ∷ 1 ∷ 5000 ∷ 1 ∷ eight ∷ 101 ∷ 1 ∷ 1 ∷ 6000 ∷ []) ∷
-      (1 ∷ seven ∷ 101 ∷ 126 ∷ 7 ∷ 1 ∷ 5000 ∷ 1 ∷ eight ∷ 100 ∷ 1 ∷ 1 ∷ 651 ∷ []) ∷
-      (1 ∷ seven ∷ 101 ∷ 126 ∷ 7 ∷ 1 ∷ 5000 ∷ 1 ∷ eight ∷ 101 ∷ 1 ∷ 1 ∷ 251 ∷ []) ∷
-      (1 ∷ seven ∷ 101 ∷ 126 ∷ 7 ∷ 1 ∷ 241 ∷ 0 ∷ 0 ∷ []) ∷
-      (1 ∷ seven ∷ 101 ∷ 126 ∷ 7 ∷ 0 ∷ 1 ∷ eight ∷ 100 ∷ 1 ∷ 1 ∷ 6000 ∷ []) ∷
-      (0 ∷ 1 ∷ 801 ∷ 1 ∷ seven ∷ 101 ∷ 0 ∷ 0 ∷ []) ∷
-      (1 ∷ seven ∷ 101 ∷ 126 ∷ 7 ∷ 0 ∷ 0 ∷ 0 ∷ []) ∷ [];
+      (1 ∷ seven ∷ 101 ∷ 126 ∷ 7 ∷ 4 ∷ 1 ∷ 801 ∷ 1 ∷ eight ∷ 100 ∷ 5 ∷ 1 ∷ 1 ∷ 6000 ∷ []) ∷
+      (1 ∷ seven ∷ 101 ∷ 126 ∷ 7 ∷ 4 ∷ 1 ∷ 801 ∷ 1 ∷ eight ∷ 101 ∷ 5 ∷ 1 ∷ 1 ∷ 6000 ∷ []) ∷
+      (1 ∷ seven ∷ 101 ∷ 126 ∷ 7 ∷ 4 ∷ 1 ∷ 5000 ∷ 1 ∷ eight ∷ 100 ∷ 5 ∷ 1 ∷ 1 ∷ 6000 ∷ []) ∷
+      (1 ∷ seven ∷ 101 ∷ 126 ∷ 7 ∷ 4 ∷ 1 ∷ 5000 ∷ 1 ∷ eight ∷ 101 ∷ 5 ∷ 1 ∷ 1 ∷ 6000 ∷ []) ∷
+      (1 ∷ seven ∷ 101 ∷ 126 ∷ 7 ∷ 4 ∷ 1 ∷ 5000 ∷ 2 ∷ eight ∷ 101 ∷ 5 ∷ 150 ∷ 1 ∷ 6000 ∷ []) ∷
+      (1 ∷ seven ∷ 101 ∷ 126 ∷ 7 ∷ 4 ∷ 1 ∷ 5000 ∷ 2 ∷ eight ∷ 100 ∷ 5 ∷ 150 ∷ 1 ∷ 6000 ∷ []) ∷
+      (1 ∷ seven ∷ 101 ∷ 126 ∷ 7 ∷ 4 ∷ 1 ∷ 5000 ∷ 0 ∷ 1 ∷ 6000 ∷ []) ∷
+      (1 ∷ seven ∷ 101 ∷ 126 ∷ 7 ∷ 4 ∷ 0 ∷ 2 ∷ eight ∷ 100 ∷ 5 ∷ 200 ∷ 1 ∷ 6000 ∷ []) ∷
+      (1 ∷ seven ∷ 101 ∷ 126 ∷ 7 ∷ 4 ∷ 1 ∷ 5000 ∷ 1 ∷ eight ∷ 100 ∷ 5 ∷ 1 ∷ 1 ∷ 6000 ∷ []) ∷
+      (1 ∷ seven ∷ 101 ∷ 126 ∷ 7 ∷ 4 ∷ 1 ∷ 5000 ∷ 1 ∷ eight ∷ 101 ∷ 5 ∷ 1 ∷ 1 ∷ 6000 ∷ []) ∷
+      (1 ∷ seven ∷ 101 ∷ 126 ∷ 7 ∷ 4 ∷ 1 ∷ 5000 ∷ 1 ∷ eight ∷ 100 ∷ 5 ∷ 1 ∷ 1 ∷ 651 ∷ []) ∷
+      (1 ∷ seven ∷ 101 ∷ 126 ∷ 7 ∷ 4 ∷ 1 ∷ 5000 ∷ 1 ∷ eight ∷ 101 ∷ 5 ∷ 1 ∷ 1 ∷ 251 ∷ []) ∷
+      (1 ∷ seven ∷ 101 ∷ 126 ∷ 7 ∷ 4 ∷ 1 ∷ 241 ∷ 0 ∷ 0 ∷ []) ∷
+      (1 ∷ seven ∷ 101 ∷ 126 ∷ 7 ∷ 4 ∷ 0 ∷ 1 ∷ eight ∷ 100 ∷ 5 ∷ 1 ∷ 1 ∷ 6000 ∷ []) ∷
+      (0 ∷ 1 ∷ 801 ∷ 1 ∷ seven ∷ 101 ∷ 4 ∷ 0 ∷ 0 ∷ []) ∷
+      (1 ∷ seven ∷ 101 ∷ 126 ∷ 7 ∷ 4 ∷ 0 ∷ 0 ∷ 0 ∷ []) ∷ [];
 }
 
 -- a line from ashore on which nothing has changed
 abbrev pub callsStill : List ℕ
-callsStill = 0 ∷ 1 ∷ 5000 ∷ 3 ∷ seven ∷ 100 ∷ 126 ∷ 7 ∷ 0 ∷ 1 ∷ 6000 ∷ []
+callsStill = 0 ∷ 1 ∷ 5000 ∷ 3 ∷ seven ∷ 100 ∷ 126 ∷ 7 ∷ 5 ∷ 0 ∷ 1 ∷ 6000 ∷ []
 
 abbrev pub ringsStill : List ℕ
-ringsStill = 0 ∷ 1 ∷ 5000 ∷ 3 ∷ seven ∷ 100 ∷ 126 ∷ 7 ∷ 1 ∷ 1 ∷ 6000 ∷ []
-
--- a call from ashore to seven, before it rings and while it rings
-abbrev pub callsSeven : Call
-callsSeven = called (from seven simplex) false
-
-abbrev pub ringsSeven : Call
-ringsSeven = called (from seven simplex) true
+ringsStill = 0 ∷ 1 ∷ 5000 ∷ 3 ∷ seven ∷ 100 ∷ 126 ∷ 7 ∷ 5 ∷ 1 ∷ 1 ∷ 6000 ∷ []
 
 -- the column after a deed of an entry in which somebody asks ashore
 abbrev pub afterShore : Deed → Book → List ℕ
@@ -1066,7 +1090,7 @@ shoreAlone = record {
       afterEvent (acceptsIn simplex 200 26 seven) (filled silent callsSeven) ∷
       afterEvent (accepts 200 26 eight) (filled silent callsSeven) ∷ afterEvent (accepts 200 26 seven) (filled silent ringsSeven) ∷
       afterEvent (regains 200 0) (filled silent callsSeven) ∷ afterEvent (regains 200 0) (filled silent ringsSeven) ∷
-      afterEvent (regains 200 0) (filled (toldBQ (from eight duplex)) ringsSeven) ∷
+      afterEvent (regains 200 0) (filled (toldBQ (fourth eight duplex)) ringsSeven) ∷
       afterEvent (loses 200 0) (heardWell silent callsSeven) ∷ afterEvent (loses 200 0) (heardWell silent ringsSeven) ∷
       afterEvent (picksUp 200 0) (filled silent callsSeven) ∷ afterEvent (picksUp 200 0) (filled silent ringsSeven) ∷
       afterEvent (dialsOut 200 0) (filled silent callsSeven) ∷ afterEvent (dialsOut 200 0) (filled silent ringsSeven) ∷
@@ -1076,18 +1100,18 @@ shoreAlone = record {
       afterEvent (declines 200 seven) (filled silent callsSeven) ∷ afterEvent (declines 200 seven) (filled silent ringsSeven) ∷
       afterEvent (dataCalls 200 seven) (filled silent ringsSeven) ∷ afterEvent (shoreCalls 200 seven duplex) (filled silent ringsSeven) ∷
       afterEvent (ticks 5000) (filled silent callsSeven) ∷ afterEvent (ticks 5000) (filled silent ringsSeven) ∷
-      afterEvent (accepts 200 26 seven) (filled (toldBQ (from eight duplex)) callsSeven) ∷
+      afterEvent (accepts 200 26 seven) (filled (toldBQ (fourth eight duplex)) callsSeven) ∷
       afterEvent (regains 200 0) (filled silent quiet) ∷ afterEvent (accepts 200 26 seven) (filled silent quiet) ∷ [];
   expected =
-      (0 ∷ 1 ∷ 801 ∷ 3 ∷ seven ∷ 100 ∷ 126 ∷ 7 ∷ 1 ∷ 1 ∷ 6000 ∷ []) ∷ (0 ∷ 1 ∷ 801 ∷ 3 ∷ seven ∷ 100 ∷ 126 ∷ 7 ∷ 1 ∷ 1 ∷ 6000 ∷ []) ∷
+      (0 ∷ 1 ∷ 801 ∷ 3 ∷ seven ∷ 100 ∷ 126 ∷ 7 ∷ 5 ∷ 1 ∷ 1 ∷ 6000 ∷ []) ∷ (0 ∷ 1 ∷ 801 ∷ 3 ∷ seven ∷ 100 ∷ 126 ∷ 7 ∷ 5 ∷ 1 ∷ 1 ∷ 6000 ∷ []) ∷
       callsStill ∷ ringsStill ∷
-      (0 ∷ 1 ∷ 5000 ∷ 3 ∷ seven ∷ 100 ∷ 126 ∷ 7 ∷ 0 ∷ 0 ∷ []) ∷ (0 ∷ 0 ∷ 2 ∷ seven ∷ 100 ∷ 200 ∷ 0 ∷ []) ∷
-      (1 ∷ eight ∷ 101 ∷ 126 ∷ 7 ∷ 0 ∷ 2 ∷ seven ∷ 100 ∷ 200 ∷ 0 ∷ []) ∷
-      (0 ∷ 1 ∷ 5000 ∷ 3 ∷ seven ∷ 100 ∷ 126 ∷ 7 ∷ 0 ∷ 0 ∷ []) ∷ (0 ∷ 1 ∷ 5000 ∷ 3 ∷ seven ∷ 100 ∷ 126 ∷ 7 ∷ 1 ∷ 0 ∷ []) ∷
+      (0 ∷ 1 ∷ 5000 ∷ 3 ∷ seven ∷ 100 ∷ 126 ∷ 7 ∷ 5 ∷ 0 ∷ 0 ∷ []) ∷ (0 ∷ 0 ∷ 2 ∷ seven ∷ 100 ∷ 5 ∷ 200 ∷ 0 ∷ []) ∷
+      (1 ∷ eight ∷ 101 ∷ 126 ∷ 7 ∷ 4 ∷ 0 ∷ 2 ∷ seven ∷ 100 ∷ 5 ∷ 200 ∷ 0 ∷ []) ∷
+      (0 ∷ 1 ∷ 5000 ∷ 3 ∷ seven ∷ 100 ∷ 126 ∷ 7 ∷ 5 ∷ 0 ∷ 0 ∷ []) ∷ (0 ∷ 1 ∷ 5000 ∷ 3 ∷ seven ∷ 100 ∷ 126 ∷ 7 ∷ 5 ∷ 1 ∷ 0 ∷ []) ∷
       callsStill ∷ ringsStill ∷ callsStill ∷ ringsStill ∷ callsStill ∷ ringsStill ∷ callsStill ∷ ringsStill ∷ callsStill ∷ ringsStill ∷
       callsStill ∷ ringsStill ∷ ringsStill ∷ ringsStill ∷
-      (0 ∷ 0 ∷ 3 ∷ seven ∷ 100 ∷ 126 ∷ 7 ∷ 0 ∷ 1 ∷ 6000 ∷ []) ∷ (0 ∷ 0 ∷ 3 ∷ seven ∷ 100 ∷ 126 ∷ 7 ∷ 1 ∷ 1 ∷ 6000 ∷ []) ∷
-      (1 ∷ eight ∷ 101 ∷ 126 ∷ 7 ∷ 1 ∷ 801 ∷ 3 ∷ seven ∷ 100 ∷ 126 ∷ 7 ∷ 1 ∷ 1 ∷ 6000 ∷ []) ∷
+      (0 ∷ 0 ∷ 3 ∷ seven ∷ 100 ∷ 126 ∷ 7 ∷ 5 ∷ 0 ∷ 1 ∷ 6000 ∷ []) ∷ (0 ∷ 0 ∷ 3 ∷ seven ∷ 100 ∷ 126 ∷ 7 ∷ 5 ∷ 1 ∷ 1 ∷ 6000 ∷ []) ∷
+      (1 ∷ eight ∷ 101 ∷ 126 ∷ 7 ∷ 4 ∷ 1 ∷ 801 ∷ 3 ∷ seven ∷ 100 ∷ 126 ∷ 7 ∷ 5 ∷ 1 ∷ 1 ∷ 6000 ∷ []) ∷
       (0 ∷ 1 ∷ 5000 ∷ 0 ∷ 0 ∷ []) ∷ (0 ∷ 1 ∷ 5000 ∷ 0 ∷ 1 ∷ 6000 ∷ []) ∷ [];
 }
 
@@ -1096,72 +1120,72 @@ shoreAlone = record {
 abbrev pub shoreDeeds : Row
 shoreDeeds = record {
   computed =
-      afterShore (callShip 0 (from nine duplex)) (filled (toldBQ (from seven duplex)) quiet) ∷
+      afterShore (callShip 0 (from nine duplex)) (filled (toldBQ (fourth seven duplex)) quiet) ∷
       afterShore (callShip 0 (from nine duplex)) (filled silent callsSeven) ∷
       afterShore (callShip 0 (from nine duplex)) (filled silent ringsSeven) ∷
       afterShore (callShip 0 (from nine duplex)) (filled silent ringsEight) ∷
-      afterShore (callShip 0 (from nine duplex)) (filled silent (dialled (from eight duplex .who) duplex false)) ∷
+      afterShore (callShip 0 (from nine duplex)) (filled silent (dialled (fifth eight duplex) false)) ∷
       afterShore (callShip 0 (from nine duplex)) (filled silent ringsOut) ∷
       afterShore (callShip 0 (from nine duplex)) (filled silent ringsOutDuplex) ∷
       afterShore (callShip 0 (from nine duplex)) (filled silent talksEight) ∷
-      afterShore (callShip 0 (from nine duplex)) (filled silent (talking (from eight simplex .who) simplex 150)) ∷
-      afterDeed (callShip 0 (from nine duplex)) (filled (toldBQ (from seven duplex)) quiet) ∷
-      afterDeed (callShip 0 (from nine duplex)) (filled (toldBQ (from seven duplex)) callsSeven) ∷
+      afterShore (callShip 0 (from nine duplex)) (filled silent (talking (fifth eight simplex) 150)) ∷
+      afterDeed (callShip 0 (from nine duplex)) (filled (toldBQ (fourth seven duplex)) quiet) ∷
+      afterDeed (callShip 0 (from nine duplex)) (filled (toldBQ (fourth seven duplex)) callsSeven) ∷
       afterDeed (callShip 0 (from nine duplex)) (filled silent ringsSeven) ∷
-      afterDeed (callShip 0 (from nine duplex)) (filled silent (dialled (from eight duplex .who) duplex false)) ∷
+      afterDeed (callShip 0 (from nine duplex)) (filled silent (dialled (fifth eight duplex) false)) ∷
       afterDeed (callShip 0 (from nine duplex)) (filled silent ringsOut) ∷
       afterDeed (callShip 0 (from nine duplex)) (filled silent ringsOutDuplex) ∷
       afterDeed (callShip 0 (from nine duplex)) (filled silent talksEight) ∷
-      afterDeed (callShip 0 (from nine duplex)) (filled silent (talking (from eight simplex .who) simplex 150)) ∷
+      afterDeed (callShip 0 (from nine duplex)) (filled silent (talking (fifth eight simplex) 150)) ∷
       afterDeed (releaseLine 0) (filled silent callsSeven) ∷ afterDeed (releaseLine 0) (filled silent ringsSeven) ∷
-      afterDeed (releaseLine 0) (filled (toldBQ (from eight duplex)) ringsSeven) ∷
+      afterDeed (releaseLine 0) (filled (toldBQ (fourth eight duplex)) ringsSeven) ∷
       afterDeed (ringingOn 0) (filled silent callsSeven) ∷ afterDeed (ringingOff 0) (filled silent ringsSeven) ∷
       afterDeed (busyTone 0) (filled silent ringsSeven) ∷ afterDeed (carrierOff 0) (filled silent ringsSeven) ∷
       afterDeed (carrierOn 0) (filled silent callsSeven) ∷
-      afterDeed (dial 0 usual) (filled (toldBQ (from eight duplex)) callsSeven) ∷
-      afterDeed (dial 0 usual) (filled (toldBQ (from eight duplex)) ringsSeven) ∷
+      afterDeed (dial 0 usual) (filled (toldBQ (fourth eight duplex)) callsSeven) ∷
+      afterDeed (dial 0 usual) (filled (toldBQ (fourth eight duplex)) ringsSeven) ∷
       afterDeed (acknowledge 0 (from eight duplex)) (filled silent ringsSeven) ∷ [];
   expected =
-      (0 ∷ 1 ∷ 251 ∷ 3 ∷ nine ∷ 101 ∷ 126 ∷ 7 ∷ 0 ∷ 0 ∷ []) ∷ (0 ∷ 1 ∷ 251 ∷ 3 ∷ nine ∷ 101 ∷ 126 ∷ 7 ∷ 0 ∷ 0 ∷ []) ∷
-      (0 ∷ 1 ∷ 251 ∷ 3 ∷ nine ∷ 101 ∷ 126 ∷ 7 ∷ 1 ∷ 0 ∷ []) ∷ (0 ∷ 1 ∷ 251 ∷ 3 ∷ nine ∷ 101 ∷ 126 ∷ 7 ∷ 0 ∷ 0 ∷ []) ∷
-      (0 ∷ 1 ∷ 251 ∷ 3 ∷ nine ∷ 101 ∷ 126 ∷ 7 ∷ 0 ∷ 0 ∷ []) ∷ (0 ∷ 1 ∷ 251 ∷ 3 ∷ nine ∷ 101 ∷ 126 ∷ 7 ∷ 0 ∷ 0 ∷ []) ∷
-      (0 ∷ 1 ∷ 251 ∷ 3 ∷ nine ∷ 101 ∷ 126 ∷ 7 ∷ 0 ∷ 0 ∷ []) ∷
-      (0 ∷ 1 ∷ 251 ∷ 2 ∷ eight ∷ 101 ∷ 150 ∷ 0 ∷ []) ∷ (0 ∷ 1 ∷ 251 ∷ 2 ∷ eight ∷ 100 ∷ 150 ∷ 0 ∷ []) ∷
-      (2 ∷ nine ∷ 101 ∷ 126 ∷ 7 ∷ 1 ∷ 251 ∷ 0 ∷ 1 ∷ 6000 ∷ []) ∷
-      (0 ∷ 1 ∷ 251 ∷ 3 ∷ nine ∷ 101 ∷ 126 ∷ 7 ∷ 0 ∷ 0 ∷ []) ∷ (0 ∷ 1 ∷ 251 ∷ 3 ∷ nine ∷ 101 ∷ 126 ∷ 7 ∷ 1 ∷ 0 ∷ []) ∷
-      (2 ∷ nine ∷ 101 ∷ 126 ∷ 7 ∷ 1 ∷ 251 ∷ 1 ∷ eight ∷ 101 ∷ 0 ∷ 1 ∷ 6000 ∷ []) ∷
-      (2 ∷ nine ∷ 101 ∷ 126 ∷ 7 ∷ 1 ∷ 251 ∷ 1 ∷ eight ∷ 100 ∷ 1 ∷ 1 ∷ 6000 ∷ []) ∷
-      (2 ∷ nine ∷ 101 ∷ 126 ∷ 7 ∷ 1 ∷ 251 ∷ 1 ∷ eight ∷ 101 ∷ 1 ∷ 1 ∷ 6000 ∷ []) ∷
-      (2 ∷ nine ∷ 101 ∷ 126 ∷ 7 ∷ 1 ∷ 251 ∷ 2 ∷ eight ∷ 101 ∷ 150 ∷ 1 ∷ 6000 ∷ []) ∷
-      (2 ∷ nine ∷ 101 ∷ 126 ∷ 7 ∷ 1 ∷ 251 ∷ 2 ∷ eight ∷ 100 ∷ 150 ∷ 1 ∷ 6000 ∷ []) ∷
-      still ∷ still ∷ (1 ∷ eight ∷ 101 ∷ 126 ∷ 7 ∷ 0 ∷ 0 ∷ 0 ∷ []) ∷
+      (0 ∷ 1 ∷ 251 ∷ 3 ∷ nine ∷ 101 ∷ 126 ∷ 7 ∷ 10 ∷ 0 ∷ 0 ∷ []) ∷ (0 ∷ 1 ∷ 251 ∷ 3 ∷ nine ∷ 101 ∷ 126 ∷ 7 ∷ 10 ∷ 0 ∷ 0 ∷ []) ∷
+      (0 ∷ 1 ∷ 251 ∷ 3 ∷ nine ∷ 101 ∷ 126 ∷ 7 ∷ 10 ∷ 1 ∷ 0 ∷ []) ∷ (0 ∷ 1 ∷ 251 ∷ 3 ∷ nine ∷ 101 ∷ 126 ∷ 7 ∷ 10 ∷ 0 ∷ 0 ∷ []) ∷
+      (0 ∷ 1 ∷ 251 ∷ 3 ∷ nine ∷ 101 ∷ 126 ∷ 7 ∷ 10 ∷ 0 ∷ 0 ∷ []) ∷ (0 ∷ 1 ∷ 251 ∷ 3 ∷ nine ∷ 101 ∷ 126 ∷ 7 ∷ 10 ∷ 0 ∷ 0 ∷ []) ∷
+      (0 ∷ 1 ∷ 251 ∷ 3 ∷ nine ∷ 101 ∷ 126 ∷ 7 ∷ 10 ∷ 0 ∷ 0 ∷ []) ∷
+      (0 ∷ 1 ∷ 251 ∷ 2 ∷ eight ∷ 101 ∷ 5 ∷ 150 ∷ 0 ∷ []) ∷ (0 ∷ 1 ∷ 251 ∷ 2 ∷ eight ∷ 100 ∷ 5 ∷ 150 ∷ 0 ∷ []) ∷
+      (2 ∷ nine ∷ 101 ∷ 126 ∷ 7 ∷ 10 ∷ 1 ∷ 251 ∷ 0 ∷ 1 ∷ 6000 ∷ []) ∷
+      (0 ∷ 1 ∷ 251 ∷ 3 ∷ nine ∷ 101 ∷ 126 ∷ 7 ∷ 5 ∷ 0 ∷ 0 ∷ []) ∷ (0 ∷ 1 ∷ 251 ∷ 3 ∷ nine ∷ 101 ∷ 126 ∷ 7 ∷ 5 ∷ 1 ∷ 0 ∷ []) ∷
+      (2 ∷ nine ∷ 101 ∷ 126 ∷ 7 ∷ 10 ∷ 1 ∷ 251 ∷ 1 ∷ eight ∷ 101 ∷ 5 ∷ 0 ∷ 1 ∷ 6000 ∷ []) ∷
+      (2 ∷ nine ∷ 101 ∷ 126 ∷ 7 ∷ 10 ∷ 1 ∷ 251 ∷ 1 ∷ eight ∷ 100 ∷ 5 ∷ 1 ∷ 1 ∷ 6000 ∷ []) ∷
+      (2 ∷ nine ∷ 101 ∷ 126 ∷ 7 ∷ 10 ∷ 1 ∷ 251 ∷ 1 ∷ eight ∷ 101 ∷ 5 ∷ 1 ∷ 1 ∷ 6000 ∷ []) ∷
+      (2 ∷ nine ∷ 101 ∷ 126 ∷ 7 ∷ 10 ∷ 1 ∷ 251 ∷ 2 ∷ eight ∷ 101 ∷ 5 ∷ 150 ∷ 1 ∷ 6000 ∷ []) ∷
+      (2 ∷ nine ∷ 101 ∷ 126 ∷ 7 ∷ 10 ∷ 1 ∷ 251 ∷ 2 ∷ eight ∷ 100 ∷ 5 ∷ 150 ∷ 1 ∷ 6000 ∷ []) ∷
+      still ∷ still ∷ (1 ∷ eight ∷ 101 ∷ 126 ∷ 7 ∷ 4 ∷ 0 ∷ 0 ∷ 0 ∷ []) ∷
       callsStill ∷ ringsStill ∷ ringsStill ∷ ringsStill ∷ callsStill ∷
-      (0 ∷ 1 ∷ 801 ∷ 1 ∷ eight ∷ 101 ∷ 0 ∷ 0 ∷ []) ∷ (0 ∷ 1 ∷ 801 ∷ 1 ∷ eight ∷ 101 ∷ 0 ∷ 0 ∷ []) ∷
-      (1 ∷ eight ∷ 101 ∷ 126 ∷ 7 ∷ 1 ∷ 361 ∷ 3 ∷ seven ∷ 100 ∷ 126 ∷ 7 ∷ 1 ∷ 1 ∷ 6000 ∷ []) ∷ [];
+      (0 ∷ 1 ∷ 801 ∷ 1 ∷ eight ∷ 101 ∷ 4 ∷ 0 ∷ 0 ∷ []) ∷ (0 ∷ 1 ∷ 801 ∷ 1 ∷ eight ∷ 101 ∷ 4 ∷ 0 ∷ 0 ∷ []) ∷
+      (1 ∷ eight ∷ 101 ∷ 126 ∷ 7 ∷ 10 ∷ 1 ∷ 361 ∷ 3 ∷ seven ∷ 100 ∷ 126 ∷ 7 ∷ 5 ∷ 1 ∷ 1 ∷ 6000 ∷ []) ∷ [];
 }
 
 -- every other deed of such an entry says what it says in any; what comes after a ringing deed is read
 abbrev pub shoreOthers : Row
 shoreOthers = record {
   computed =
-      afterShore (carrierOn 0) (filled (toldBQ (from seven duplex)) ringsEight) ∷
-      afterShore (carrierOff 0) (filled (toldBQ (from seven duplex)) ringsEight) ∷
-      afterShore (acknowledge 0 (from nine duplex)) (filled (toldBQ (from seven duplex)) ringsEight) ∷
-      afterShore (dial 0 usual) (filled (toldBQ (from seven duplex)) ringsEight) ∷
-      afterShore (releaseLine 0) (filled (toldBQ (from seven duplex)) ringsEight) ∷
-      afterShore (ringingOn 0) (filled (toldBQ (from seven duplex)) ringsEight) ∷
-      afterShore (ringingOff 0) (filled (toldBQ (from seven duplex)) ringsEight) ∷
-      afterShore (busyTone 0) (filled (toldBQ (from seven duplex)) ringsEight) ∷
+      afterShore (carrierOn 0) (filled (toldBQ (fourth seven duplex)) ringsEight) ∷
+      afterShore (carrierOff 0) (filled (toldBQ (fourth seven duplex)) ringsEight) ∷
+      afterShore (acknowledge 0 (from nine duplex)) (filled (toldBQ (fourth seven duplex)) ringsEight) ∷
+      afterShore (dial 0 usual) (filled (toldBQ (fourth seven duplex)) ringsEight) ∷
+      afterShore (releaseLine 0) (filled (toldBQ (fourth seven duplex)) ringsEight) ∷
+      afterShore (ringingOn 0) (filled (toldBQ (fourth seven duplex)) ringsEight) ∷
+      afterShore (ringingOff 0) (filled (toldBQ (fourth seven duplex)) ringsEight) ∷
+      afterShore (busyTone 0) (filled (toldBQ (fourth seven duplex)) ringsEight) ∷
       afterBehind (ringingOn 0) ∷ afterBehind (ringingOff 0) ∷ afterBehind (busyTone 0) ∷ [];
   expected =
-      (1 ∷ seven ∷ 101 ∷ 126 ∷ 7 ∷ 1 ∷ 5000 ∷ 1 ∷ eight ∷ 100 ∷ 0 ∷ 1 ∷ 6000 ∷ []) ∷
-      (0 ∷ 1 ∷ 5000 ∷ 1 ∷ eight ∷ 100 ∷ 0 ∷ 1 ∷ 6000 ∷ []) ∷
-      (1 ∷ nine ∷ 101 ∷ 126 ∷ 7 ∷ 1 ∷ 361 ∷ 1 ∷ eight ∷ 100 ∷ 0 ∷ 1 ∷ 6000 ∷ []) ∷
-      (0 ∷ 1 ∷ 801 ∷ 1 ∷ seven ∷ 101 ∷ 0 ∷ 0 ∷ []) ∷
-      (1 ∷ seven ∷ 101 ∷ 126 ∷ 7 ∷ 0 ∷ 0 ∷ 0 ∷ []) ∷
-      (1 ∷ seven ∷ 101 ∷ 126 ∷ 7 ∷ 1 ∷ 5000 ∷ 1 ∷ eight ∷ 100 ∷ 0 ∷ 1 ∷ 6000 ∷ []) ∷
-      (1 ∷ seven ∷ 101 ∷ 126 ∷ 7 ∷ 1 ∷ 5000 ∷ 1 ∷ eight ∷ 100 ∷ 0 ∷ 1 ∷ 6000 ∷ []) ∷
-      (1 ∷ seven ∷ 101 ∷ 126 ∷ 7 ∷ 1 ∷ 5000 ∷ 1 ∷ eight ∷ 100 ∷ 0 ∷ 1 ∷ 6000 ∷ []) ∷
+      (1 ∷ seven ∷ 101 ∷ 126 ∷ 7 ∷ 4 ∷ 1 ∷ 5000 ∷ 1 ∷ eight ∷ 100 ∷ 5 ∷ 0 ∷ 1 ∷ 6000 ∷ []) ∷
+      (0 ∷ 1 ∷ 5000 ∷ 1 ∷ eight ∷ 100 ∷ 5 ∷ 0 ∷ 1 ∷ 6000 ∷ []) ∷
+      (1 ∷ nine ∷ 101 ∷ 126 ∷ 7 ∷ 10 ∷ 1 ∷ 361 ∷ 1 ∷ eight ∷ 100 ∷ 5 ∷ 0 ∷ 1 ∷ 6000 ∷ []) ∷
+      (0 ∷ 1 ∷ 801 ∷ 1 ∷ seven ∷ 101 ∷ 4 ∷ 0 ∷ 0 ∷ []) ∷
+      (1 ∷ seven ∷ 101 ∷ 126 ∷ 7 ∷ 4 ∷ 0 ∷ 0 ∷ 0 ∷ []) ∷
+      (1 ∷ seven ∷ 101 ∷ 126 ∷ 7 ∷ 4 ∷ 1 ∷ 5000 ∷ 1 ∷ eight ∷ 100 ∷ 5 ∷ 0 ∷ 1 ∷ 6000 ∷ []) ∷
+      (1 ∷ seven ∷ 101 ∷ 126 ∷ 7 ∷ 4 ∷ 1 ∷ 5000 ∷ 1 ∷ eight ∷ 100 ∷ 5 ∷ 0 ∷ 1 ∷ 6000 ∷ []) ∷
+      (1 ∷ seven ∷ 101 ∷ 126 ∷ 7 ∷ 4 ∷ 1 ∷ 5000 ∷ 1 ∷ eight ∷ 100 ∷ 5 ∷ 0 ∷ 1 ∷ 6000 ∷ []) ∷
       still ∷ still ∷ still ∷ [];
 }
 
@@ -1169,29 +1193,44 @@ shoreOthers = record {
 abbrev pub deedsAlone : Row
 deedsAlone = record {
   computed =
-      afterDeed (acknowledge 0 (from nine duplex)) (filled (toldBQ (from seven duplex)) ringsEight) ∷
-      afterDeed (callShip 0 (from nine duplex)) (filled (toldBQ (from seven duplex)) ringsEight) ∷
-      afterDeed (carrierOff 0) (filled (toldBQ (from seven duplex)) ringsEight) ∷
-      afterDeed (carrierOn 0) (filled (toldBQ (from seven duplex)) ringsEight) ∷
-      afterDeed (dial 0 usual) (filled (toldBQ (from seven duplex)) ringsEight) ∷
-      afterDeed (dial 0 usual) (filled (settled (from seven simplex)) ringsEight) ∷
-      afterDeed (dial 0 usual) (filled (toldBQ (from seven duplex)) talksEight) ∷
-      afterDeed (dial 0 usual) (filled (toldBQ (from seven duplex)) (talking (from eight simplex .who) simplex 150)) ∷
-      afterDeed (releaseLine 0) (filled (toldBQ (from seven duplex)) ringsEight) ∷
-      afterDeed (releaseLine 0) (filled (toldBQ (from seven duplex)) talksEight) ∷
-      afterDeed (releaseLine 0) (filled (toldBQ (from seven duplex)) (talking (from eight simplex .who) simplex 150)) ∷ [];
+      afterDeed (acknowledge 0 (from nine duplex)) (filled (toldBQ (fourth seven duplex)) ringsEight) ∷
+      afterDeed (callShip 0 (from nine duplex)) (filled (toldBQ (fourth seven duplex)) ringsEight) ∷
+      afterDeed (carrierOff 0) (filled (toldBQ (fourth seven duplex)) ringsEight) ∷
+      afterDeed (carrierOn 0) (filled (toldBQ (fourth seven duplex)) ringsEight) ∷
+      afterDeed (dial 0 usual) (filled (toldBQ (fourth seven duplex)) ringsEight) ∷
+      afterDeed (dial 0 usual) (filled (settled (fourth seven simplex)) ringsEight) ∷
+      afterDeed (dial 0 usual) (filled (toldBQ (fourth seven duplex)) talksEight) ∷
+      afterDeed (dial 0 usual) (filled (toldBQ (fourth seven duplex)) (talking (fifth eight simplex) 150)) ∷
+      afterDeed (releaseLine 0) (filled (toldBQ (fourth seven duplex)) ringsEight) ∷
+      afterDeed (releaseLine 0) (filled (toldBQ (fourth seven duplex)) talksEight) ∷
+      afterDeed (releaseLine 0) (filled (toldBQ (fourth seven duplex)) (talking (fifth eight simplex) 150)) ∷ [];
   expected =
-      (1 ∷ nine ∷ 101 ∷ 126 ∷ 7 ∷ 1 ∷ 361 ∷ 1 ∷ eight ∷ 100 ∷ 0 ∷ 1 ∷ 6000 ∷ []) ∷
-      (2 ∷ nine ∷ 101 ∷ 126 ∷ 7 ∷ 1 ∷ 251 ∷ 1 ∷ eight ∷ 100 ∷ 0 ∷ 1 ∷ 6000 ∷ []) ∷
-      (0 ∷ 1 ∷ 5000 ∷ 1 ∷ eight ∷ 100 ∷ 0 ∷ 1 ∷ 6000 ∷ []) ∷
-      (1 ∷ seven ∷ 101 ∷ 126 ∷ 7 ∷ 1 ∷ 5000 ∷ 1 ∷ eight ∷ 100 ∷ 0 ∷ 1 ∷ 6000 ∷ []) ∷
-      (0 ∷ 1 ∷ 801 ∷ 1 ∷ seven ∷ 101 ∷ 0 ∷ 0 ∷ []) ∷
-      (0 ∷ 1 ∷ 801 ∷ 1 ∷ seven ∷ 100 ∷ 0 ∷ 0 ∷ []) ∷
-      (0 ∷ 1 ∷ 801 ∷ 2 ∷ eight ∷ 101 ∷ 150 ∷ 0 ∷ []) ∷
-      (0 ∷ 1 ∷ 801 ∷ 2 ∷ eight ∷ 100 ∷ 150 ∷ 0 ∷ []) ∷
-      (1 ∷ seven ∷ 101 ∷ 126 ∷ 7 ∷ 0 ∷ 0 ∷ 0 ∷ []) ∷
-      (1 ∷ seven ∷ 101 ∷ 126 ∷ 7 ∷ 1 ∷ 5000 ∷ 2 ∷ eight ∷ 101 ∷ 150 ∷ 1 ∷ 6000 ∷ []) ∷
-      (1 ∷ seven ∷ 101 ∷ 126 ∷ 7 ∷ 1 ∷ 5000 ∷ 2 ∷ eight ∷ 100 ∷ 150 ∷ 1 ∷ 6000 ∷ []) ∷ [];
+      (1 ∷ nine ∷ 101 ∷ 126 ∷ 7 ∷ 10 ∷ 1 ∷ 361 ∷ 1 ∷ eight ∷ 100 ∷ 5 ∷ 0 ∷ 1 ∷ 6000 ∷ []) ∷
+      (2 ∷ nine ∷ 101 ∷ 126 ∷ 7 ∷ 10 ∷ 1 ∷ 251 ∷ 1 ∷ eight ∷ 100 ∷ 5 ∷ 0 ∷ 1 ∷ 6000 ∷ []) ∷
+      (0 ∷ 1 ∷ 5000 ∷ 1 ∷ eight ∷ 100 ∷ 5 ∷ 0 ∷ 1 ∷ 6000 ∷ []) ∷
+      (1 ∷ seven ∷ 101 ∷ 126 ∷ 7 ∷ 4 ∷ 1 ∷ 5000 ∷ 1 ∷ eight ∷ 100 ∷ 5 ∷ 0 ∷ 1 ∷ 6000 ∷ []) ∷
+      (0 ∷ 1 ∷ 801 ∷ 1 ∷ seven ∷ 101 ∷ 4 ∷ 0 ∷ 0 ∷ []) ∷
+      (0 ∷ 1 ∷ 801 ∷ 1 ∷ seven ∷ 100 ∷ 4 ∷ 0 ∷ 0 ∷ []) ∷
+      (0 ∷ 1 ∷ 801 ∷ 2 ∷ eight ∷ 101 ∷ 5 ∷ 150 ∷ 0 ∷ []) ∷
+      (0 ∷ 1 ∷ 801 ∷ 2 ∷ eight ∷ 100 ∷ 5 ∷ 150 ∷ 0 ∷ []) ∷
+      (1 ∷ seven ∷ 101 ∷ 126 ∷ 7 ∷ 4 ∷ 0 ∷ 0 ∷ 0 ∷ []) ∷
+      (1 ∷ seven ∷ 101 ∷ 126 ∷ 7 ∷ 4 ∷ 1 ∷ 5000 ∷ 2 ∷ eight ∷ 101 ∷ 5 ∷ 150 ∷ 1 ∷ 6000 ∷ []) ∷
+      (1 ∷ seven ∷ 101 ∷ 126 ∷ 7 ∷ 4 ∷ 1 ∷ 5000 ∷ 2 ∷ eight ∷ 100 ∷ 5 ∷ 150 ∷ 1 ∷ 6000 ∷ []) ∷ [];
+}
+
+-- a ring-back begins a call, unless channel 70 was told of it before
+abbrev pub ringBackAlone : Row
+ringBackAlone = record {
+  computed =
+      afterDeed (callShip 0 (from nine duplex)) (filled (settled (fourth seven duplex)) quiet) ∷
+      afterDeed (callShip 0 (from nine duplex)) (filled (toldRQ (fourth seven duplex)) quiet) ∷
+      afterDeed (callShip 0 (from nine duplex)) (filled (toldRQ (fourth seven duplex)) ringsEight) ∷
+      afterDeed (callShip 0 (from nine duplex)) (filled (toldRQ (fourth seven duplex)) talksEight) ∷ [];
+  expected =
+      (2 ∷ nine ∷ 101 ∷ 126 ∷ 7 ∷ 10 ∷ 1 ∷ 251 ∷ 0 ∷ 1 ∷ 6000 ∷ []) ∷
+      (2 ∷ nine ∷ 101 ∷ 126 ∷ 7 ∷ 4 ∷ 1 ∷ 251 ∷ 0 ∷ 1 ∷ 6000 ∷ []) ∷
+      (2 ∷ nine ∷ 101 ∷ 126 ∷ 7 ∷ 4 ∷ 1 ∷ 251 ∷ 1 ∷ eight ∷ 100 ∷ 5 ∷ 0 ∷ 1 ∷ 6000 ∷ []) ∷
+      (2 ∷ nine ∷ 101 ∷ 126 ∷ 7 ∷ 4 ∷ 1 ∷ 251 ∷ 2 ∷ eight ∷ 101 ∷ 5 ∷ 150 ∷ 1 ∷ 6000 ∷ []) ∷ [];
 }
 
 -- of the line's words too: dial on a slot that is dialled or talks, on-hook on one that is dialled
@@ -1252,7 +1291,7 @@ abbrev pub given : List Action
 given = does (carrierOn 0) ∷ does (carrierOff 0) ∷ does (acknowledge 0 (from seven duplex)) ∷ does (callShip 0 (from seven duplex)) ∷
     does (unable 103 party usual) ∷ does (dial 0 usual) ∷ does (releaseLine 0) ∷ does (ringingOn 0) ∷ does (ringingOff 0) ∷
     does (busyTone 0) ∷ over 0 theShip party usual Nothing ∷
-    charge (paid 0 0 seven 1 2 3 .it) ∷
+    charge (paid 0 0 seven 1 2 3 4 .it) ∷
     does (dial 1 usual) ∷ []
 
 -- one charge, eleven deeds
@@ -1270,7 +1309,7 @@ told102 = record {
     deeds = unable 102 (from seven duplex .who) usual ∷
         [];
   } ∷ []) (blankBook (station 1));
-  expected = (100 ∷ []) ∷ still ∷ [] ∷ [];
+  expected = (100 ∷ 0 ∷ []) ∷ still ∷ [] ∷ [];
 }
 
 -- which requests are alike, to the rules and to the reader of the list: one ship, mode, second telecommand and number
@@ -1308,8 +1347,8 @@ pageCases =
     bothCalledPages ∷ bothCalledWords ∷ bothCalledWordsOfFirst ∷ bothCalledTenths ∷ wordsByCalls ∷ wordsTransmitted ∷ shoreAlone ∷
     shoreDeeds ∷ shoreOthers ∷ wordsByEach ∷ linesByEach ∷ calledOnly ∷ ringingShown ∷ switchesShown ∷ releasesShown ∷ isForShown ∷
     inQueuePages ∷ inQueueWords ∷ inQueueTenths ∷ twoCallsPages ∷ twoCallsWords ∷ twoCallsWordsOfFirst ∷
-    twoCallsTenths ∷ onThirdPages ∷ onThirdWords ∷ onThirdTenths ∷ dialledOnly ∷ unchargedShown ∷ stopsNumbered ∷
-    eventsShown ∷ wordsByDeeds ∷ wordsPickedUp ∷ wordsAtOnce ∷ eventsAlone ∷ diallingAlone ∷ deedsAlone ∷ wordsAlone ∷
+    twoCallsTenths ∷ onThirdPages ∷ onThirdWords ∷ onThirdTenths ∷ dialledOnly ∷ unchargedShown ∷ stopsNumbered ∷ numbersCharged ∷
+    eventsShown ∷ wordsByDeeds ∷ wordsPickedUp ∷ wordsAtOnce ∷ eventsAlone ∷ diallingAlone ∷ deedsAlone ∷ ringBackAlone ∷ wordsAlone ∷
     toldToWaitShown ∷ switchedOnShown ∷ lastAskedShown ∷ lastAskedNever ∷ chargesFound ∷ talkingOn ∷ wordsOf ∷ blankPage ∷
     told102 ∷ sameShown ∷ alikeShown ∷ []
 
