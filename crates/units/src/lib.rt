@@ -1,4 +1,4 @@
-// The four numbers that are never taken for one another, and the two ways between them.
+// The five numbers that are never taken for one another, and the two ways between them.
 // Each holds any number a script may hold, so that a wrong one is judged and never cut.
 ghost use mathlib.Core.Path.{_≡_};
 ghost use Rattle.units.specs.Units.{wholeSeconds, durationOf};
@@ -17,6 +17,9 @@ pub struct Seconds(u32);
 
 // A slot's number.
 pub struct SlotNumber(pub u32);
+
+// A call's number. Document 02, no. 4: "the next call number from 1"; 0 before the first.
+pub struct CallNumber(pub u32);
 
 // A working channel's number.
 pub struct Channel(pub u32);
