@@ -1,7 +1,6 @@
 -- What is laid out stands for what it was laid out for; and a record laid out anew.
 use Prim.Native.Nat.{ℕ, zero, suc, _≤_}
 use mathlib.Core.List.{List, [], _∷_, map}
-use mathlib.Core.Option.{Option, none, some}
 use mathlib.Core.Path.{_≡_, refl, sym, ap, _∙_}
 use native.Mathlib.Nat.{le-of-suc-le-suc, not-suc-le-zero}
 use native.Mathlib.Omega.{arith}
@@ -12,13 +11,14 @@ use Rattle.rules.specs.Rules.Words.{Config, simplex, duplex}
 use Rattle.rules.specs.Rules.Places.{Each}
 use Rattle.rules.specs.Rules.Bytes.{padded}
 use Rattle.rules.specs.Rules.Station as R
+use Rattle.rules.specs.Rules.Station.{dealing, callNumberIn, free, taken, pending, busy, held}
 use Rattle.requests.specs.Views.{viewed, itself, modeOf, digitsOf, requestOf}
 use Rattle.requests.specs.Images.{modeImage, requestImage}
 use Rattle.slots.specs.declared.Slot.{Slot}
 use Rattle.slots.specs.declared.Waiting.{Waiting}
 use Rattle.slots.specs.Phases.{keptIn}
-use Rattle.slots.specs.Views.{slotView, waitingView, channelOf}
-use Rattle.slots.specs.Images.{imageOr, storedImage, slotImage, waitingImage, blankSlot, blankWaiting, tidySlot, tidyWaiting, slotImages, Short, ShortOr, ShortSlot, Fits}
+use Rattle.slots.specs.Views.{dealingOf, slotView, waitingView, channelOf}
+use Rattle.slots.specs.Images.{storedImage, slotImage, waitingImage, blankSlot, blankWaiting, tidySlot, tidyWaiting, slotImages, Short, ShortSlot, Fits}
 use Rattle.slots.proofs.PhaseLaws.{Keeps, phase-there}
 
 -- ── one record ──
@@ -45,11 +45,14 @@ request-there r h = rw (mode-there (r .mode), read-back itself 0 16 (r .number) 
 
 pub slot-there : (c : Channel) (s : R.Slot) → ShortSlot s → slotView (slotImage c s) ≡ s
 unfolding slotImage
-slot-there c s h = phase-there s (requestOf (storedImage s)) (go (keptIn s) h)
+slot-there c s h = phase-there s (dealingOf (slotImage c s)) (go s h)
   where
-    go : (o : Option W.Request) → ShortOr o → Keeps (requestOf (imageOr o)) o
-    go none h = tt
-    go (some r) h = request-there r h
+    go : (s : R.Slot) → ShortSlot s → Keeps (dealing (callNumberIn s) (requestOf (storedImage s))) (keptIn s)
+    go free h = tt
+    go taken h = tt
+    go (pending k r t) h = ap (dealing (r .callNumber)) (request-there (r .request) h)
+    go (busy r g l) h = ap (dealing (r .callNumber)) (request-there (r .request) h)
+    go (held r n t) h = ap (dealing (r .callNumber)) (request-there (r .request) h)
 
 pub waiting-there : (w : R.Waiting) → Short (w .request) → waitingView (waitingImage w) ≡ w
 unfolding waitingImage

@@ -13,7 +13,7 @@ use Rattle.rules.specs.Rules.Words as W
 use Rattle.rules.specs.Rules.Words.{is, Party, Config}
 use Rattle.rules.specs.Rules.Places.{isSome}
 use Rattle.rules.specs.Rules.Station as R
-use Rattle.rules.specs.Rules.Station.{dealing, free, taken, pending, busy, held, offered, firstRingBack, secondRingBack, acknowledged, firstCall, secondCall, ringing, dialling, dialledOut, answered, shipOf, keptFor, isCalledIn, answeredIn, lossDue, mainDue}
+use Rattle.rules.specs.Rules.Station.{free, taken, pending, busy, held, offered, firstRingBack, secondRingBack, acknowledged, firstCall, secondCall, ringing, dialling, dialledOut, answered, shipOf, keptFor, callNumberIn, isCalledIn, answeredIn, lossDue, mainDue}
 use Rattle.rules.specs.Rules.Requests.{isOf, owns}
 use Rattle.rules.specs.Rules.Ashore.{keepsFor}
 use Rattle.rules.proofs.PlaceLaws.{and-true}
@@ -109,44 +109,48 @@ carrier-back : (c : Carrier) → carrierImage (carrierOf c) ≡ c
 carrier-back Present = refl
 carrier-back (Lost t) = refl
 
-pub phase-back : (p : Phase) (r : W.Request) → phaseImage (phaseView p r) ≡ p
+pub phase-back : (p : Phase) (r : R.Dealing) → phaseImage (phaseView p r) ≡ p
 phase-back p r = by-phase (λ p. phaseImage (phaseView p r) ≡ p) refl (λ t. refl) (λ t. refl) (λ t. refl) (λ t. refl) (λ t c. rw (carrier-back c)) (λ t c. rw (carrier-back c)) (λ t n. refl) refl (λ t c. rw (carrier-back c)) (λ t. refl) (λ t. refl) (λ t. refl) p
 
 carrier-there : (c : Option ℕ) → carrierOf (carrierImage c) ≡ c
 carrier-there none = refl
 carrier-there (some t) = refl
 
--- a request beside a slot: the one that it keeps, if it keeps one
-abbrev pub Keeps : W.Request → Option W.Request → Type 0
+-- a call beside a slot: the one that it keeps, if it keeps one
+abbrev pub Keeps : R.Dealing → Option R.Dealing → Type 0
 Keeps q none = Unit {0}
 Keeps q (some r) = q ≡ r
 
-pub phase-there : (s : R.Slot) (q : W.Request) → Keeps q (keptIn s) → phaseView (phaseImage s) q ≡ s
+pub phase-there : (s : R.Slot) (q : R.Dealing) → Keeps q (keptIn s) → phaseView (phaseImage s) q ≡ s
 phase-there free q h = refl
 phase-there taken q h = refl
-phase-there (pending offered r t) q h = ap (λ x. pending offered (dealing x) t) h
-phase-there (pending firstRingBack r t) q h = ap (λ x. pending firstRingBack (dealing x) t) h
-phase-there (pending secondRingBack r t) q h = ap (λ x. pending secondRingBack (dealing x) t) h
-phase-there (pending acknowledged r t) q h = ap (λ x. pending acknowledged (dealing x) t) h
-phase-there (pending firstCall r t) q h = ap (λ x. pending firstCall (dealing x) t) h
-phase-there (pending secondCall r t) q h = ap (λ x. pending secondCall (dealing x) t) h
-phase-there (pending ringing r t) q h = ap (λ x. pending ringing (dealing x) t) h
+phase-there (pending offered r t) q h = ap (λ x. pending offered x t) h
+phase-there (pending firstRingBack r t) q h = ap (λ x. pending firstRingBack x t) h
+phase-there (pending secondRingBack r t) q h = ap (λ x. pending secondRingBack x t) h
+phase-there (pending acknowledged r t) q h = ap (λ x. pending acknowledged x t) h
+phase-there (pending firstCall r t) q h = ap (λ x. pending firstCall x t) h
+phase-there (pending secondCall r t) q h = ap (λ x. pending secondCall x t) h
+phase-there (pending ringing r t) q h = ap (λ x. pending ringing x t) h
 phase-there (busy r (dialling d) l) q h = rw (h, carrier-there l)
 phase-there (busy r (dialledOut d) l) q h = rw (h, carrier-there l)
 phase-there (busy r (answered d) l) q h = rw (h, carrier-there l)
-phase-there (held r n t) q h = ap (λ x. held (dealing x) n t) h
+phase-there (held r n t) q h = ap (λ x. held x n t) h
 
--- ── a request is kept where the phase stores one ──
+-- ── a call is kept where the phase stores one ──
 
-kept-view : (p : Phase) (r : W.Request) → keptIn (phaseView p r) ≡ cond (stored p) (some r) none
+kept-view : (p : Phase) (r : R.Dealing) → keptIn (phaseView p r) ≡ cond (stored p) (some r) none
 kept-view p r = by-phase (λ p. keptIn (phaseView p r) ≡ cond (stored p) (some r) none) refl (λ t. refl) (λ t. refl) (λ t. refl) (λ t. refl) (λ t c. refl) (λ t c. refl) (λ t n. refl) refl (λ t c. refl) (λ t. refl) (λ t. refl) (λ t. refl) p
 
-pub stored-image : (p : Phase) (r : W.Request) → storedImage (phaseView p r) ≡ cond (stored p) (requestImage r) blankRequest
+pub stored-image : (p : Phase) (r : R.Dealing) → storedImage (phaseView p r) ≡ cond (stored p) (requestImage (r .request)) blankRequest
 stored-image p r = rw (kept-view p r) (go (stored p))
   where
-    go : (b : Bool) → imageOr (cond b (some r) none) ≡ cond b (requestImage r) blankRequest
+    go : (b : Bool) → imageOr (cond b (some r) none) ≡ cond b (requestImage (r .request)) blankRequest
     go true = refl
     go false = refl
+
+-- the number that is laid for a slot: its call's, 0 where it keeps none
+pub number-view : (p : Phase) (r : R.Dealing) → callNumberIn (phaseView p r) ≡ cond (stored p) (r .callNumber) 0
+number-view p r = by-phase (λ p. callNumberIn (phaseView p r) ≡ cond (stored p) (r .callNumber) 0) refl (λ t. refl) (λ t. refl) (λ t. refl) (λ t. refl) (λ t c. refl) (λ t c. refl) (λ t n. refl) refl (λ t c. refl) (λ t. refl) (λ t. refl) (λ t. refl) p
 
 pub stored-kept : (s : R.Slot) → stored (phaseImage s) ≡ isSome (keptIn s)
 stored-kept free = refl
@@ -165,38 +169,38 @@ stored-kept (held r n t) = refl
 
 -- ── whose a slot is, whether its ship is being called, and since when its call is answered ──
 
-ship-view : (p : Phase) (r : W.Request) → shipOf (phaseView p r) ≡ cond (owned p) (some (r .who)) none
-ship-view p r = by-phase (λ p. shipOf (phaseView p r) ≡ cond (owned p) (some (r .who)) none) refl (λ t. refl) (λ t. refl) (λ t. refl) (λ t. refl) (λ t c. refl) (λ t c. refl) (λ t n. refl) refl (λ t c. refl) (λ t. refl) (λ t. refl) (λ t. refl) p
+ship-view : (p : Phase) (r : R.Dealing) → shipOf (phaseView p r) ≡ cond (owned p) (some (r .request .who)) none
+ship-view p r = by-phase (λ p. shipOf (phaseView p r) ≡ cond (owned p) (some (r .request .who)) none) refl (λ t. refl) (λ t. refl) (λ t. refl) (λ t. refl) (λ t c. refl) (λ t c. refl) (λ t n. refl) refl (λ t c. refl) (λ t. refl) (λ t. refl) (λ t. refl) p
 
-pub owns-view : (x : Party) (p : Phase) (r : W.Request) → owns x (phaseView p r) ≡ cond (owned p) (is x (r .who)) false
+pub owns-view : (x : Party) (p : Phase) (r : R.Dealing) → owns x (phaseView p r) ≡ cond (owned p) (is x (r .request .who)) false
 owns-view x p r = rw (ship-view p r) (go (owned p))
   where
-    go : (b : Bool) → isOf x (cond b (some (r .who)) none) ≡ cond b (is x (r .who)) false
+    go : (b : Bool) → isOf x (cond b (some (r .request .who)) none) ≡ cond b (is x (r .request .who)) false
     go true = refl
     go false = refl
 
 -- the ship whose request it keeps, in a hold too
-kept-for-view : (p : Phase) (r : W.Request) → keptFor (phaseView p r) ≡ cond (stored p) (some (r .who)) none
-kept-for-view p r = by-phase (λ p. keptFor (phaseView p r) ≡ cond (stored p) (some (r .who)) none) refl (λ t. refl) (λ t. refl) (λ t. refl) (λ t. refl) (λ t c. refl) (λ t c. refl) (λ t n. refl) refl (λ t c. refl) (λ t. refl) (λ t. refl) (λ t. refl) p
+kept-for-view : (p : Phase) (r : R.Dealing) → keptFor (phaseView p r) ≡ cond (stored p) (some (r .request .who)) none
+kept-for-view p r = by-phase (λ p. keptFor (phaseView p r) ≡ cond (stored p) (some (r .request .who)) none) refl (λ t. refl) (λ t. refl) (λ t. refl) (λ t. refl) (λ t c. refl) (λ t c. refl) (λ t n. refl) refl (λ t c. refl) (λ t. refl) (λ t. refl) (λ t. refl) p
 
-pub keeps-for-view : (x : Party) (p : Phase) (r : W.Request) → keepsFor x (phaseView p r) ≡ cond (stored p) (is x (r .who)) false
+pub keeps-for-view : (x : Party) (p : Phase) (r : R.Dealing) → keepsFor x (phaseView p r) ≡ cond (stored p) (is x (r .request .who)) false
 keeps-for-view x p r = rw (kept-for-view p r) (go (stored p))
   where
-    go : (b : Bool) → isOf x (cond b (some (r .who)) none) ≡ cond b (is x (r .who)) false
+    go : (b : Bool) → isOf x (cond b (some (r .request .who)) none) ≡ cond b (is x (r .request .who)) false
     go true = refl
     go false = refl
 
-pub owner-view : (p : Phase) (r : W.Request) (l : List Party) → owner (phaseView p r) l ≡ cond (owned p) (r .who ∷ l) l
+pub owner-view : (p : Phase) (r : R.Dealing) (l : List Party) → owner (phaseView p r) l ≡ cond (owned p) (r .request .who ∷ l) l
 owner-view p r l = rw (ship-view p r) (go (owned p))
   where
-    go : (b : Bool) → listed (cond b (some (r .who)) none) l ≡ cond b (r .who ∷ l) l
+    go : (b : Bool) → listed (cond b (some (r .request .who)) none) l ≡ cond b (r .request .who ∷ l) l
     go true = refl
     go false = refl
 
-pub since-view : (p : Phase) (r : W.Request) → answeredSince p ≡ answeredIn (phaseView p r)
+pub since-view : (p : Phase) (r : R.Dealing) → answeredSince p ≡ answeredIn (phaseView p r)
 since-view p r = by-phase (λ p. answeredSince p ≡ answeredIn (phaseView p r)) refl (λ t. refl) (λ t. refl) (λ t. refl) (λ t. refl) (λ t c. refl) (λ t c. refl) (λ t n. refl) refl (λ t c. refl) (λ t. refl) (λ t. refl) (λ t. refl) p
 
-pub called-view : (p : Phase) (r : W.Request) → calledIn p ≡ isCalledIn (phaseView p r)
+pub called-view : (p : Phase) (r : R.Dealing) → calledIn p ≡ isCalledIn (phaseView p r)
 called-view p r = by-phase (λ p. calledIn p ≡ isCalledIn (phaseView p r)) refl (λ t. refl) (λ t. refl) (λ t. refl) (λ t. refl) (λ t c. refl) (λ t c. refl) (λ t n. refl) refl (λ t c. refl) (λ t. refl) (λ t. refl) (λ t. refl) p
 
 -- ── it keeps the rules, and its times fit, where what it stores and tells and its times do ──
@@ -207,29 +211,29 @@ either-way true false = refl
 either-way false true = refl
 either-way false false = refl
 
-pub keeps-view : (c : Config) (p : Phase) (r : W.Request) → slotKeeps c (phaseView p r) ≡ cond (stored p) (durationKeeps (lastedIn p) && requestKeeps c r) true
+pub keeps-view : (c : Config) (p : Phase) (r : R.Dealing) → slotKeeps c (phaseView p r) ≡ cond (stored p) (durationKeeps (lastedIn p) && requestKeeps c (r .request)) true
 unfolding durationKeeps
-keeps-view c p r = by-phase (λ p. slotKeeps c (phaseView p r) ≡ cond (stored p) (durationKeeps (lastedIn p) && requestKeeps c r) true) refl (λ t. refl) (λ t. refl) (λ t. refl) (λ t. refl) (λ t l. refl) (λ t l. refl) (λ t n. either-way (requestKeeps c r) (durationKeeps n)) refl (λ t l. refl) (λ t. refl) (λ t. refl) (λ t. refl) p
+keeps-view c p r = by-phase (λ p. slotKeeps c (phaseView p r) ≡ cond (stored p) (durationKeeps (lastedIn p) && requestKeeps c (r .request)) true) refl (λ t. refl) (λ t. refl) (λ t. refl) (λ t. refl) (λ t l. refl) (λ t l. refl) (λ t n. either-way (requestKeeps c (r .request)) (durationKeeps n)) refl (λ t l. refl) (λ t. refl) (λ t. refl) (λ t. refl) p
 
 pub owned-stored : (p : Phase) → owned p ≡ true → stored p ≡ true
 owned-stored = by-phase (λ p. owned p ≡ true → stored p ≡ true) (λ h. h) (λ t h. refl) (λ t h. refl) (λ t h. refl) (λ t h. refl) (λ t c h. refl) (λ t c h. refl) (λ t n h. refl) (λ h. h) (λ t c h. refl) (λ t h. refl) (λ t h. refl) (λ t h. refl)
 
-pub fits-view : (c : ℕ) (p : Phase) (r : W.Request) → slotFits c (phaseView p r) ≡ (lossFits c (r .mode) (carrierOf (carrierIn p)) && spanFits c (spanOf p))
+pub fits-view : (c : ℕ) (p : Phase) (r : R.Dealing) → slotFits c (phaseView p r) ≡ (lossFits c (r .request .mode) (carrierOf (carrierIn p)) && spanFits c (spanOf p))
 fits-view c p r =
-    by-phase (λ p. slotFits c (phaseView p r) ≡ (lossFits c (r .mode) (carrierOf (carrierIn p)) && spanFits c (spanOf p)))
+    by-phase (λ p. slotFits c (phaseView p r) ≡ (lossFits c (r .request .mode) (carrierOf (carrierIn p)) && spanFits c (spanOf p)))
     refl (λ t. refl) (λ t. refl) (λ t. refl) (λ t. refl)
-    (λ t l. either-way (spanFits c (spanOf (Dialling t l))) (lossFits c (r .mode) (carrierOf l)))
-    (λ t l. either-way (spanFits c (spanOf (Answered t l))) (lossFits c (r .mode) (carrierOf l)))
+    (λ t l. either-way (spanFits c (spanOf (Dialling t l))) (lossFits c (r .request .mode) (carrierOf l)))
+    (λ t l. either-way (spanFits c (spanOf (Answered t l))) (lossFits c (r .request .mode) (carrierOf l)))
     (λ t n. refl) refl
-    (λ t l. either-way (spanFits c (spanOf (DialledOut t l))) (lossFits c (r .mode) (carrierOf l)))
+    (λ t l. either-way (spanFits c (spanOf (DialledOut t l))) (lossFits c (r .request .mode) (carrierOf l)))
     (λ t. refl) (λ t. refl) (λ t. refl) p
 
 -- ── when its waits fall due ──
 
-pub loss-view : (p : Phase) (r : W.Request) → lossDue (phaseView p r) ≡ carrierOf (carrierIn p)
+pub loss-view : (p : Phase) (r : R.Dealing) → lossDue (phaseView p r) ≡ carrierOf (carrierIn p)
 loss-view p r = by-phase (λ p. lossDue (phaseView p r) ≡ carrierOf (carrierIn p)) refl (λ t. refl) (λ t. refl) (λ t. refl) (λ t. refl) (λ t l. refl) (λ t l. refl) (λ t n. refl) refl (λ t c. refl) (λ t. refl) (λ t. refl) (λ t. refl) p
 
-pub main-view : (p : Phase) (r : W.Request) → mainDue (phaseView p r) ≡ dueIn (spanOf p)
+pub main-view : (p : Phase) (r : R.Dealing) → mainDue (phaseView p r) ≡ dueIn (spanOf p)
 main-view p r = by-phase (λ p. mainDue (phaseView p r) ≡ dueIn (spanOf p)) refl (λ t. refl) (λ t. refl) (λ t. refl) (λ t. refl) (λ t l. refl) (λ t l. refl) (λ t n. refl) refl (λ t c. refl) (λ t. refl) (λ t. refl) (λ t. refl) p
 
 -- what a slot stores is short where every request is that keeps the rules

@@ -7,6 +7,8 @@ use Rattle.slots.proofs.laying.blank_slot.Reads as blank-slot
 use Rattle.slots.proofs.laying.blank_waiting.Reads as blank-waiting
 use Rattle.slots.proofs.laying.tidy_slot.Reads as tidy-slot
 use Rattle.slots.proofs.laying.tidy_waiting.Reads as tidy-waiting
+use Rattle.slots.proofs.numbers.none_left.Reads as none-left
+use Rattle.slots.proofs.numbers.number_after.Reads as number-after
 use Rattle.slots.proofs.stores.Reads as stores
 use Rattle.slots.proofs.has_ship.Reads as has-ship
 use Rattle.slots.proofs.is_called.Reads as is-called
@@ -34,6 +36,12 @@ is-ours-settled κs a r r' s s' p q = p ∙ sym q
 
 pub mast-keeps-settled : (κs : Lfts 0) (a : _) (r r' : _) (s s' : _) → mast-keeps.Post κs a r s → mast-keeps.Post κs a r' s' → r ≡ r'
 mast-keeps-settled κs a r r' s s' p q = p ∙ sym q
+
+pub none-left-settled : (κs : Lfts 0) (a : _) (r r' : _) (s s' : _) → none-left.Post κs a r s → none-left.Post κs a r' s' → r ≡ r'
+none-left-settled κs a r r' s s' p q = p ∙ sym q
+
+pub number-after-settled : (κs : Lfts 0) (a : _) (r r' : _) (s s' : _) → number-after.Post κs a r s → number-after.Post κs a r' s' → r ≡ r'
+number-after-settled κs a r r' s s' p q = p ∙ sym q
 
 pub stores-settled : (κs : Lfts 0) (a : _) (r r' : _) (s s' : _) → stores.Post κs a r s → stores.Post κs a r' s' → r ≡ r'
 stores-settled κs a r r' s s' p q = p ∙ sym q

@@ -4,13 +4,14 @@ use mathlib.Core.List.{List, [], _∷_}
 use mathlib.Core.Option.{Option, none, some}
 use mathlib.Core.Path.{_≡_}
 use lib.ListN.{length}
+use Rattle.units.specs.declared.CallNumber.{CallNumber}
 use Rattle.units.specs.declared.Channel.{Channel}
 use Rattle.units.specs.declared.Tenths.{Tenths}
 use Rattle.sequence.specs.Figures.{mostDigits}
 use Rattle.rules.specs.Rules.Words.{Config, Request as Asked}
 use Rattle.rules.specs.Rules.Places.{Each}
 use Rattle.rules.specs.Rules.Station as R
-use Rattle.rules.specs.Rules.Station.{free}
+use Rattle.rules.specs.Rules.Station.{free, callNumberIn}
 use Rattle.rules.specs.Rules.Sound.{mostSlots, queueRoom}
 use Rattle.requests.specs.declared.Request.{Request}
 use Rattle.requests.specs.Images.{requestImage, blankRequest}
@@ -22,15 +23,18 @@ use Rattle.slots.specs.Views.{slotView, waitingView}
 abbrev pub tenths : ℕ → Tenths
 tenths n = record { 0 = n }
 
-abbrev pub imageOr : Option Asked → Request
+abbrev pub imageOr : Option R.Dealing → Request
 imageOr none = blankRequest
-imageOr (some r) = requestImage r
+imageOr (some r) = requestImage (r .request)
 
 abbrev pub storedImage : R.Slot → Request
 storedImage s = imageOr (keptIn s)
 
+abbrev pub numberImage : R.Slot → CallNumber
+numberImage s = record { 0 = callNumberIn s }
+
 unfoldable pub slotImage : Channel → R.Slot → Slot
-slotImage c s = record { phase = phaseImage s; channel = c; request = storedImage s }
+slotImage c s = record { phase = phaseImage s; channel = c; call = numberImage s; request = storedImage s }
 
 unfoldable pub waitingImage : R.Waiting → Waiting
 waitingImage w = record { due = tenths (w .due); request = requestImage (w .request) }
@@ -62,9 +66,9 @@ slotImages (c ∷ cs) (s ∷ ss) = slotImage c s ∷ slotImages cs ss
 abbrev pub Short : Asked → Type 0
 Short r = length (r .number) ≤ mostDigits
 
-abbrev pub ShortOr : Option Asked → Type 0
+abbrev pub ShortOr : Option R.Dealing → Type 0
 ShortOr none = Unit {0}
-ShortOr (some r) = Short r
+ShortOr (some r) = Short (r .request)
 
 abbrev pub ShortSlot : R.Slot → Type 0
 ShortSlot s = ShortOr (keptIn s)

@@ -5,9 +5,8 @@ use mathlib.Core.Option.{Option, none, some}
 use lib.Dec.{leb}
 use Rattle.units.specs.declared.Lasted.{Lasted}
 use Rattle.units.specs.declared.Lasted.the-variants.{Nothing}
-use Rattle.rules.specs.Rules.Words as W
 use Rattle.rules.specs.Rules.Station as R
-use Rattle.rules.specs.Rules.Station.{dealing, free, taken, pending, busy, held, offered, firstRingBack, secondRingBack, acknowledged}
+use Rattle.rules.specs.Rules.Station.{free, taken, pending, busy, held, offered, firstRingBack, secondRingBack, acknowledged}
 use Rattle.rules.specs.Rules.Station.{firstCall, secondCall, ringing}
 use Rattle.rules.specs.Rules.Station.{dialling, dialledOut, answered, kindWait, diallingWait, replyWait, holdWait}
 use Rattle.rules.specs.Rules.Sound.{fits}
@@ -19,26 +18,26 @@ use Rattle.slots.specs.declared.Phase.{Phase}
 use Rattle.slots.specs.declared.Phase.the-variants.{Free, Offered, RingBack, RingBackAgain, Acknowledged}
 use Rattle.slots.specs.declared.Phase.the-variants.{Dialling, DialledOut, Answered, Hold, Taken, Called, CalledAgain, Ringing}
 
--- ── what it stands for, beside the request that its slot stores ──────────────
+-- ── what it stands for, beside what its slot stores of its call ───────────────
 
 abbrev pub carrierOf : Carrier → Option ℕ
 carrierOf Present = none
 carrierOf (Lost t) = some (t .0)
 
-abbrev pub phaseView : Phase → W.Request → R.Slot
+abbrev pub phaseView : Phase → R.Dealing → R.Slot
 phaseView Free r = free
-phaseView (Offered t) r = pending offered (dealing r) (t .0)
-phaseView (RingBack t) r = pending firstRingBack (dealing r) (t .0)
-phaseView (RingBackAgain t) r = pending secondRingBack (dealing r) (t .0)
-phaseView (Acknowledged t) r = pending acknowledged (dealing r) (t .0)
-phaseView (Dialling t c) r = busy (dealing r) (dialling (t .0)) (carrierOf c)
-phaseView (DialledOut t c) r = busy (dealing r) (dialledOut (t .0)) (carrierOf c)
-phaseView (Answered t c) r = busy (dealing r) (answered (t .0)) (carrierOf c)
-phaseView (Hold t n) r = held (dealing r) n (t .0)
+phaseView (Offered t) r = pending offered r (t .0)
+phaseView (RingBack t) r = pending firstRingBack r (t .0)
+phaseView (RingBackAgain t) r = pending secondRingBack r (t .0)
+phaseView (Acknowledged t) r = pending acknowledged r (t .0)
+phaseView (Dialling t c) r = busy r (dialling (t .0)) (carrierOf c)
+phaseView (DialledOut t c) r = busy r (dialledOut (t .0)) (carrierOf c)
+phaseView (Answered t c) r = busy r (answered (t .0)) (carrierOf c)
+phaseView (Hold t n) r = held r n (t .0)
 phaseView Taken r = taken
-phaseView (Called t) r = pending firstCall (dealing r) (t .0)
-phaseView (CalledAgain t) r = pending secondCall (dealing r) (t .0)
-phaseView (Ringing t) r = pending ringing (dealing r) (t .0)
+phaseView (Called t) r = pending firstCall r (t .0)
+phaseView (CalledAgain t) r = pending secondCall r (t .0)
+phaseView (Ringing t) r = pending ringing r (t .0)
 
 -- ── how it is laid out ───────────────────────────────────────────────────────
 
@@ -67,13 +66,13 @@ phaseImage (pending k r t) = pendingImage k t
 phaseImage (busy r g c) = stageImage g (carrierImage c)
 phaseImage (held r n t) = Hold (record { 0 = t }) n
 
--- the request that a slot keeps, if it keeps one
-abbrev pub keptIn : R.Slot → Option W.Request
+-- what a slot keeps of a call, if it keeps one
+abbrev pub keptIn : R.Slot → Option R.Dealing
 keptIn free = none
 keptIn taken = none
-keptIn (pending k r t) = some (r .request)
-keptIn (busy r g c) = some (r .request)
-keptIn (held r n t) = some (r .request)
+keptIn (pending k r t) = some r
+keptIn (busy r g c) = some r
+keptIn (held r n t) = some r
 
 -- ── what of it decides ───────────────────────────────────────────────────────
 

@@ -8,6 +8,7 @@ use Rattle.rules.specs.Rules.Words.{lineDialledOut, lineLifted, lineHung, carri
 use Rattle.rules.specs.Rules.Waits as T
 use Rattle.rules.specs.Rules.Waits.{ofQueue, loss, main}
 use Rattle.rules.specs.Rules.Station as R
+use Rattle.rules.specs.Rules.Station.{dealing}
 use Rattle.rules.specs.Rules.Requests as Q
 use Rattle.rules.specs.Rules.Requests.{nowhere, holds, waits}
 use Rattle.requests.specs.declared.Mode.the-variants.{Simplex}
@@ -46,8 +47,12 @@ abbrev pub handView : Hand → W.Hand
 handView Takes = handTakes
 handView GivesBack = handGives
 
+-- what its record holds of its call: the request, and 02, no. 4: the number, "The slot's record holds it"
+abbrev pub dealingOf : Slot → R.Dealing
+dealingOf s = dealing (s .call .0) (requestOf (s .request))
+
 abbrev pub slotView : Slot → R.Slot
-slotView s = phaseView (s .phase) (requestOf (s .request))
+slotView s = phaseView (s .phase) (dealingOf s)
 
 abbrev pub channelOf : Slot → Channel
 channelOf s = s .channel
@@ -107,7 +112,7 @@ abbrev pub noRequest : Request
 noRequest = record { ship = 0; station = 0; mode = Simplex; second = 0; number = record { count = 0; digits = [] } }
 
 abbrev pub noSlot : Slot
-noSlot = record { phase = Free; channel = record { 0 = 0 }; request = noRequest }
+noSlot = record { phase = Free; channel = record { 0 = 0 }; call = record { 0 = 0 }; request = noRequest }
 
 abbrev pub noWaiting : Waiting
 noWaiting = record { due = record { 0 = 0 }; request = noRequest }

@@ -16,6 +16,7 @@ use requests::least;
 use sequence::DIGITS;
 use sequence::MOST_DIGITS;
 use sequence::Number;
+use units::CallNumber;
 use units::Channel;
 use units::Tenths;
 
@@ -69,11 +70,13 @@ pub fn tidy_slot(slot: Slot) -> Slot
     let phase = slot.phase;
     let channel = slot.channel;
     let request = slot.request;
+    let call = slot.call;
     if stores(phase) {
         let tidied = tidy_request(request);
         return Slot {
             phase: phase,
             channel: channel,
+            call: call,
             request: tidied,
         };
     }
@@ -81,6 +84,7 @@ pub fn tidy_slot(slot: Slot) -> Slot
     Slot {
         phase: phase,
         channel: channel,
+        call: CallNumber(0),
         request: blank,
     }
 }
@@ -92,6 +96,7 @@ pub fn free_on(channel: Channel) -> Slot
     Slot {
         phase: Phase::Free,
         channel: channel,
+        call: CallNumber(0),
         request: blank,
     }
 }

@@ -1,12 +1,14 @@
 // The slots and the waiting ships of a station, and what of a phase decides, in one place, where a new phase is thought of.
 pub mod laying;
 pub mod mast;
+pub mod numbers;
 
 ghost use mathlib.Core.Path.{_≡_};
 ghost use Rattle.rules.specs.Rules.Station.{isFree, isTaken, lossDue, mainDue};
 ghost use Rattle.slots.specs.Phases.{carrierOf, stored, owned, calledIn, lastedIn, spanOf, dueIn, carrierIn};
 ghost use Rattle.slots.specs.Views.{slotView, whenView};
 use requests::Request;
+use units::CallNumber;
 use units::Channel;
 use units::Lasted;
 use units::SlotNumber;
@@ -91,6 +93,7 @@ pub enum Hand {
 pub struct Slot {
     pub request: Request,
     pub channel: Channel,
+    pub call: CallNumber, // 0 where no request is stored
     pub phase: Phase,
 }
 

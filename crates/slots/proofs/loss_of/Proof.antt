@@ -1,5 +1,5 @@
 use mathlib.Core.Path.{sym, ap, _∙_}
-use Rattle.requests.specs.Views.{requestOf}
+use Rattle.slots.specs.Views.{dealingOf}
 use Rattle.slots.specs.Phases.{carrierOf}
 use Rattle.slots.proofs.PhaseLaws.{loss-view}
 use borrow.Author.Needs.{needs}
@@ -9,7 +9,7 @@ use Rattle.slots.proofs.loss_of.Tie as tie
 returns : tie.Need-returns
 returns c =
     let x = c .before .before .args .slot in
-    c .loss-when .ensures ∙ ap carrierOf (c .before .carrier-in .ensures) ∙ sym (loss-view (x .phase) (requestOf (x .request)))
+    c .loss-when .ensures ∙ ap carrierOf (c .before .carrier-in .ensures) ∙ sym (loss-view (x .phase) (dealingOf x))
 
 pub loss-of-spec : {M : Type 1} → statement M
 loss-of-spec = tie.close (tie.spec (λ c κs. search needs) (λ c κs. search needs) returns)
