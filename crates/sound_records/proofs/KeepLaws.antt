@@ -13,11 +13,11 @@ use Rattle.sequence.proofs.Rest.{rest}
 use Rattle.units.specs.declared.Channel.{Channel}
 use Rattle.rules.specs.Rules.Places.{all}
 use Rattle.rules.specs.Rules.Sound.{requestKeeps, slotKeeps, waitingKeeps}
-use Rattle.requests.specs.Views.{viewed, itself, requestOf}
+use Rattle.requests.specs.Views.{viewed, itself}
 use Rattle.slots.specs.declared.Slot.{Slot}
 use Rattle.slots.specs.declared.Waiting.{Waiting}
 use Rattle.slots.specs.declared.mast.Mast.{Mast}
-use Rattle.slots.specs.Views.{onMast, slotView, waitingView}
+use Rattle.slots.specs.Views.{onMast, dealingOf, slotView, waitingView}
 use Rattle.slots.proofs.PhaseLaws.{keeps-view}
 use Rattle.slots.proofs.ImageLaws.{map-itself}
 use Rattle.sound_records.specs.Kept.{mostAt, digitsFit}
@@ -25,7 +25,7 @@ use Rattle.sound_records.specs.Kept.{mostAt, digitsFit}
 module _ (mast : Mast) (c d : List Channel) where
   slot-alike : (s : Slot) → slotKeeps (onMast mast c) (slotView s) ≡ slotKeeps (onMast mast d) (slotView s)
   unfolding requestKeeps
-  slot-alike s = keeps-view (onMast mast c) (s .phase) (requestOf (s .request)) ∙ sym (keeps-view (onMast mast d) (s .phase) (requestOf (s .request)))
+  slot-alike s = keeps-view (onMast mast c) (s .phase) (dealingOf s) ∙ sym (keeps-view (onMast mast d) (s .phase) (dealingOf s))
 
   pub slots-alike : (n : ℕ) (a : List Slot) → all (slotKeeps (onMast mast c)) (viewed slotView n a) ≡ all (slotKeeps (onMast mast d)) (viewed slotView n a)
   unfolding viewed

@@ -12,6 +12,7 @@ use Rattle.sequence.specs.Identity.{isShip}
 use Rattle.rules.specs.Rules.Words.{is, Party, Request, Config, ours}
 use Rattle.rules.specs.Rules.Places.{all, elem, distinct}
 use Rattle.rules.specs.Rules.Heard.{sameChannel}
+use Rattle.rules.specs.Rules.Station.{Dealing}
 use Rattle.rules.specs.Rules.Sound.{requestKeeps, durationKeeps, slotKeeps, waitingKeeps, owner, owners}
 use Rattle.rules.proofs.PlaceLaws.{and-true}
 use Rattle.rules.specs.Rules.Bytes.{padded}
@@ -20,7 +21,7 @@ use Rattle.requests.proofs.ArrayLaws.{padded-length, padded-front, padded-snoc,
 use Rattle.slots.specs.declared.Phase.{Phase}
 use Rattle.slots.specs.declared.Slot.{Slot}
 use Rattle.slots.specs.declared.Waiting.{Waiting}
-use Rattle.slots.specs.Views.{slotView, waitingView, channelOf, noSlot, noWaiting}
+use Rattle.slots.specs.Views.{dealingOf, slotView, waitingView, channelOf, noSlot, noWaiting}
 use Rattle.slots.specs.Phases.{phaseView, owned, lastedIn}
 use Rattle.slots.proofs.PhaseLaws.{owner-view, keeps-view, owned-stored}
 use Rattle.soundness.specs.Soundly.{numberOf, shipsOf, shipAt}
@@ -143,18 +144,18 @@ module _ (c : Config) where
   unfolding requestKeeps
   request-here r h = and-true (here (r .who)) _ (and-true (isShip (r .who .ship)) _ h .1) .0
 
-  owner-here : (p : Phase) (r : Request) (l : List Party) → slotKeeps c (phaseView p r) ≡ true → all here l ≡ true → all here (owner (phaseView p r) l) ≡ true
+  owner-here : (p : Phase) (r : Dealing) (l : List Party) → slotKeeps c (phaseView p r) ≡ true → all here l ≡ true → all here (owner (phaseView p r) l) ≡ true
   owner-here p r l k h = rw (owner-view p r l) (go (owned p) refl)
     where
-      go : (b : Bool) → owned p ≡ b → all here (cond b (r .who ∷ l) l) ≡ true
+      go : (b : Bool) → owned p ≡ b → all here (cond b (r .request .who ∷ l) l) ≡ true
       go true e =
-          let keeps : (durationKeeps (lastedIn p) && requestKeeps c r) ≡ true = rw (owned-stored p e) at (sym (keeps-view c p r) ∙ k) in
-          rw (request-here r (and-true (durationKeeps (lastedIn p)) _ keeps .1), h)
+          let keeps : (durationKeeps (lastedIn p) && requestKeeps c (r .request)) ≡ true = rw (owned-stored p e) at (sym (keeps-view c p r) ∙ k) in
+          rw (request-here (r .request) (and-true (durationKeeps (lastedIn p)) _ keeps .1), h)
       go false e = h
 
   owners-here : (ss : List Slot) (l : List Party) → all (slotKeeps c) (map slotView ss) ≡ true → all here l ≡ true → all here (owners (map slotView ss) l) ≡ true
   owners-here [] l k h = h
-  owners-here (s ∷ ss) l k h = let a = and-true (slotKeeps c (slotView s)) _ k in owner-here (s .phase) (requestOf (s .request)) (owners (map slotView ss) l) (a .0) (owners-here ss l (a .1) h)
+  owners-here (s ∷ ss) l k h = let a = and-true (slotKeeps c (slotView s)) _ k in owner-here (s .phase) (dealingOf s) (owners (map slotView ss) l) (a .0) (owners-here ss l (a .1) h)
 
   queue-here : (q : List Waiting) → all (waitingKeeps c) (map waitingView q) ≡ true → all here (map (λ w. w .request .who) (map waitingView q)) ≡ true
   queue-here [] h = refl
@@ -165,7 +166,7 @@ owners-ships : (l : List Slot) (q : List Waiting) → map ship (owners (map slot
 unfolding requestOf
 owners-ships [] [] = refl
 owners-ships [] (w ∷ q) = ap (λ r. w .request .ship ∷ r) (owners-ships [] q)
-owners-ships (s ∷ l) q = rw (owner-view (s .phase) (requestOf (s .request)) (owners (map slotView l) (map (λ w. w .request .who) (map waitingView q)))) (go (owned (s .phase)) (owners-ships l q))
+owners-ships (s ∷ l) q = rw (owner-view (s .phase) (dealingOf s) (owners (map slotView l) (map (λ w. w .request .who) (map waitingView q)))) (go (owned (s .phase)) (owners-ships l q))
   where
     go : (b : Bool) → map ship (owners (map slotView l) (map (λ w. w .request .who) (map waitingView q))) ≡ shipsOf (map itself l) ++ map shipAt q → map ship (cond b (requestOf (s .request) .who ∷ owners (map slotView l) (map (λ w. w .request .who) (map waitingView q))) (owners (map slotView l) (map (λ w. w .request .who) (map waitingView q)))) ≡ cond b (s .request .ship ∷ shipsOf (map itself l)) (shipsOf (map itself l)) ++ map shipAt q
     go true e = ap (λ r. s .request .ship ∷ r) e

@@ -71,9 +71,9 @@ module _ (mast : Mast) (clock : Tenths) where
       all-and fits (λ w. keeps w && waitingExact w) l
       ∙ rw (all-and keeps waitingExact l, all-viewed waitingView (placeFits (clock .0)) m b, all-viewed waitingView (waitingKeeps (named mast)) m b) refl
 
-  module _ (n : ℕ) (a : List Slot) (m : ℕ) (b : List Waiting) (ea : length a ≡ 16) (eb : length b ≡ 32) where
+  module _ (n : ℕ) (a : List Slot) (m : ℕ) (b : List Waiting) (last : ℕ) (ea : length a ≡ 16) (eb : length b ≡ 32) where
     abbrev pub station : R.Station
-    station = record { clock = clock .0; slots = viewed slotView n a; queue = viewed waitingView m b }
+    station = record { clock = clock .0; slots = viewed slotView n a; queue = viewed waitingView m b; lastCall = last }
 
     abbrev pub seen : Bool
     seen =
