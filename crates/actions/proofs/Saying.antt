@@ -12,18 +12,18 @@ use Rattle.sequence.proofs.Tests.{both-true}
 use Rattle.rules.specs.Rules.Places.{all, Each, lowest}
 use Rattle.rules.specs.Rules.Words.{Request, Config, unable}
 use Rattle.rules.specs.Rules.Actions.{Action, Ender, theShip, theCoast, does}
-use Rattle.rules.specs.Rules.Station.{rings, Slot, pending, busy, Waiting, Station, theSlot, answeredAt, isFree}
+use Rattle.rules.specs.Rules.Station.{rings, Dealing, Slot, pending, busy, Waiting, Station, theSlot, usedUp, answeredAt, isFree}
 use Rattle.rules.specs.Rules.Sound.{configKeeps, requestKeeps, durationKeeps, slotKeeps, waitingKeeps, queueRoom}
-use Rattle.rules.specs.Rules.Requests.{Out, rungBack, freedFor, freed, lasted, endActs, coastEnd, Standing, nowhere, holds, waits, placeOf, repeated, afresh, ruleD, offer, ruleF, ruleG, eToG, newcomer, dToG, redial, requested}
-use Rattle.rules.specs.Rules.Ashore.{calledFrom}
+use Rattle.rules.specs.Rules.Requests.{Out, toRingBack, rungBack, freedFor, freed, lasted, endActs, coastEnd, Standing, nowhere, holds, waits, placeOf, noNumber, repeated, afresh, ruleD, offer, ruleF, ruleG, eToG, newcomer, waitingOrNew, dToG, redial, requested}
+use Rattle.rules.specs.Rules.Ashore.{slotToTake, calledFrom}
 use Rattle.rules.specs.Rules.Calls.{dropActs}
 use Rattle.rules.specs.ListAlone.Book.{Stop, Column}
 use Rattle.rules.specs.ListAlone.LineWords.{Word}
 use Rattle.rules.proofs.PlaceLaws.{each-append, lowest-there}
 use Rattle.rules.proofs.Outcome.{Next, stays, becomes, frees, Move, to-dial, to-agree, to-ring, to-call, to-rings, to-answer, to-let-go, to-drop, to-stage, to-lose, to-regain, to-hold, to-end, to-repeat, to-run-out, to-take, to-give, Outcome, passed, moved}
-use Rattle.rules.proofs.Ruling.{Ruling, passes, repeats, renews, redials, bOrC-ruling}
+use Rattle.rules.proofs.Ruling.{Ruling, passes, repeats, renews, runs-out, redials, bOrC-ruling}
 use Rattle.rules.proofs.Stored.{Stored, stored-closed, lasted-keeps}
-use Rattle.rules.proofs.Base.{slot-all, slot-there}
+use Rattle.rules.proofs.Base.{slot-all, slot-there, slot-taken}
 use Rattle.actions.proofs.Speaking.{Speaks, small, acknowledge-speaks, callShip-speaks, unable-speaks, over-speaks}
 
 -- ── the pieces ───────────────────────────────────────────────────────────────
@@ -36,9 +36,9 @@ module _ (c : Config) (good : configKeeps c ≡ true) where
   says-if true x y p q = p
   says-if false x y p q = q
 
-  end-says : (i : ℕ) → i < length (c .channels) → (e : Ender) (r : Request) (b : Option ℕ) (t : ℕ) → requestKeeps c r ≡ true → Each (Speaks c) (endActs i e r b t)
-  end-says i h e r none t k = let b = small c good i h in ((refl, b), (over-speaks c good r k i h e (lasted none t) (lasted-keeps none t), ((refl, b), tt)))
-  end-says i h e r (some a) t k = let b = small c good i h in ((refl, b), ((refl, b), (over-speaks c good r k i h e (lasted (some a) t) (lasted-keeps (some a) t), ((refl, b), tt))))
+  end-says : (i : ℕ) → i < length (c .channels) → (e : Ender) (r : Dealing) (b : Option ℕ) (t : ℕ) → requestKeeps c (r .request) ≡ true → Each (Speaks c) (endActs i e r b t)
+  end-says i h e r none t k = let b = small c good i h in ((refl, b), (over-speaks c good (r .request) k i h e (lasted none t) (lasted-keeps none t), ((refl, b), tt)))
+  end-says i h e r (some a) t k = let b = small c good i h in ((refl, b), ((refl, b), (over-speaks c good (r .request) k i h e (lasted (some a) t) (lasted-keeps (some a) t), ((refl, b), tt))))
 
   drop-says : (i : ℕ) → i < length (c .channels) → (ringing tone : Bool) → Each (Speaks c) (dropActs i ringing tone)
   drop-says i h true true = let b = small c good i h in ((refl, b), ((refl, b), ((refl, b), ((refl, b), tt))))
@@ -65,9 +65,13 @@ module _ (c : Config) (good : configKeeps c ≡ true) where
 
       freed-says : Says c (freed i st)
       unfolding freed
-      freed-says = freedFor-says (st .queue) (s .queue-keeps)
+      freed-says = freedFor-says (toRingBack st) (go (usedUp st))
+        where
+          go : (b : Bool) → all (waitingKeeps c) (cond b [] (st .queue)) ≡ true
+          go true = refl
+          go false = s .queue-keeps
 
-      coastEnd-says : (r : Request) (g : Option ℕ) → requestKeeps c r ≡ true → Says c (coastEnd i r g st)
+      coastEnd-says : (r : Dealing) (g : Option ℕ) → requestKeeps c (r .request) ≡ true → Says c (coastEnd i r g st)
       unfolding coastEnd
       coastEnd-says r g k = each-append (Speaks c) (endActs i theCoast r g (st .clock)) (freed i st .acts) (end-says i there theCoast r g (st .clock) k) freed-says
 
@@ -82,6 +86,11 @@ module _ (c : Config) (good : configKeeps c ≡ true) where
     unfolding unableSecond
     full = unable-speaks c good r kept 102 refl
 
+    -- 02, no. 4: no number is left
+    no-number : (st : Station) → Says c (noNumber st r)
+    unfolding noNumber unableSecond
+    no-number st = (unable-speaks c good r kept 107 refl, tt)
+
     afresh-says : (st : Station) (i : ℕ) → i < length (c .channels) → Says c (afresh i st r)
     unfolding afresh
     afresh-says st i h = (acknowledge-speaks c good r kept i h, tt)
@@ -95,19 +104,23 @@ module _ (c : Config) (good : configKeeps c ≡ true) where
       eToG-says none e = says-if (ltb (length (st .queue)) queueRoom) (ruleF st r) (ruleG st r) (queued, tt) (full, tt)
 
       -- 02, no. 2: it is asked for ashore
-      pub called-says : (i : ℕ) → lowest isFree (st .slots) ≡ some i → Says c (calledFrom st r (some i))
+      pub called-says : (i : ℕ) → slotToTake st ≡ some i → Says c (calledFrom st r (some i))
       unfolding calledFrom
       called-says i e =
-          let h = known st s i (lowest-there isFree (st .slots) i e) in
+          let h = known st s i (lowest-there isFree (st .slots) i (slot-taken st i e .1)) in
           ((refl, small c good i h), (callShip-speaks c good r kept i h, tt))
 
+      waitingOrNew-says : (k : Option ℕ) → Says c (waitingOrNew st r k)
+      unfolding waitingOrNew newcomer ruleD
+      waitingOrNew-says none = eToG-says (lowest isFree (st .slots)) refl
+      waitingOrNew-says (some k) = (queued, tt)
+
       dToG-says : (k : Option ℕ) → Says c (dToG st r k)
-      unfolding dToG newcomer ruleD
-      dToG-says none = eToG-says (lowest isFree (st .slots)) refl
-      dToG-says (some k) = (queued, tt)
+      unfolding dToG
+      dToG-says k = says-if (usedUp st) (noNumber st r) (waitingOrNew st r k) (no-number st) (waitingOrNew-says k)
 
     module _ (st : Station) (s : Stored c st) (i : ℕ) where
-      redial-says : (o : Request) (g : Option ℕ) → i < length (c .channels) → requestKeeps c o ≡ true → Says c (redial i o g st r)
+      redial-says : (o : Dealing) (g : Option ℕ) → i < length (c .channels) → requestKeeps c (o .request) ≡ true → Says c (redial i o g st r)
       unfolding redial coastEnd
       redial-says o g h k = each-append (Speaks c) (coastEnd i o g st .acts) _ (coastEnd-says st s i h o g k) (dToG-says (freed i st .next) (stored-closed c .freeing i st s) (placeOf (r .who) (freed i st .next)))
 
@@ -115,14 +128,15 @@ module _ (c : Config) (good : configKeeps c ≡ true) where
       unfolding repeated
       ruling-says cs _ _ (passes p a) e = tt
       ruling-says cs _ _ (repeats k o d a b) e = (acknowledge-speaks c good r kept i (placed st s i (pending k o d) e refl), tt)
-      ruling-says cs _ _ (renews k o d z a b) e = afresh-says st i (placed st s i (pending k o d) e refl)
-      ruling-says cs _ _ (redials o g l a) e = redial-says (o .request) (answeredAt g) (placed st s i (busy o g l) e refl) (slot-keeps st s i (busy o g l) e)
+      ruling-says cs _ _ (renews k o d z u a b) e = afresh-says st i (placed st s i (pending k o d) e refl)
+      ruling-says cs _ _ (runs-out k o d z u a b) e = no-number st
+      ruling-says cs _ _ (redials o g l a) e = redial-says o (answeredAt g) (placed st s i (busy o g l) e refl) (slot-keeps st s i (busy o g l) e)
 
     pub requested-says : (st : Station) → Stored c st → (o : Standing) → Says c (requested st r o)
-    unfolding requested newcomer ruleD
-    requested-says st s nowhere = eToG-says st s (lowest isFree (st .slots)) refl
+    unfolding requested
+    requested-says st s nowhere = dToG-says st s none
     requested-says st s (holds i) = ruling-says st s i _ (theSlot st i) _ (bOrC-ruling i st r (theSlot st i)) refl
-    requested-says st s (waits k) = (queued, tt)
+    requested-says st s (waits k) = dToG-says st s (some k)
 
   -- ── on a slot ──────────────────────────────────────────────────────────────
 
@@ -138,8 +152,8 @@ module _ (c : Config) (good : configKeeps c ≡ true) where
   move-says i t _ _ _ (to-stage r n q l z) h e = tt
   move-says i t _ _ _ (to-lose r g l) h e = tt
   move-says i t _ _ _ (to-regain r g l) h e = tt
-  move-says i t _ _ _ (to-hold r g l) h e = end-says i (h refl) theShip (r .request) (answeredAt g) t e
-  move-says i t _ _ _ (to-end r g l) h e = end-says i (h refl) theCoast (r .request) (answeredAt g) t e
+  move-says i t _ _ _ (to-hold r g l) h e = end-says i (h refl) theShip r (answeredAt g) t e
+  move-says i t _ _ _ (to-end r g l) h e = end-says i (h refl) theCoast r (answeredAt g) t e
   move-says i t _ _ _ (to-repeat r n d) h e =
       let k = both-true (requestKeeps c (r .request)) (durationKeeps n) e in
       let b = small c good i (h refl) in

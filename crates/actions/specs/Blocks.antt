@@ -4,6 +4,7 @@ use mathlib.Core.Bool.{Bool, cond}
 use mathlib.Core.List.{List, [], _++_, _∷_}
 use lib.Dec.{leb}
 use lib.ListN.{length, take, drop}
+use Rattle.units.specs.declared.CallNumber.{CallNumber}
 use Rattle.units.specs.declared.Tenths.{Tenths}
 use Rattle.units.specs.Units.{wholeSeconds}
 use Rattle.rules.specs.Rules.Bytes.{padded, block, four, blockSize, payloadRoom}
@@ -26,12 +27,12 @@ actionBlock a = block (a .kind) (a .slot .0) (take (a .length) (a .payload))
 abbrev pub span : Tenths → Tenths → Tenths
 span start stop = record { 0 = stop .0 - start .0 }
 
--- "ship, start, stop, seconds; four bytes each, low first"
-abbrev pub fourEach : ℕ → ℕ → ℕ → ℕ → List ℕ
-fourEach ship start stop seconds = four ship (four start (four stop (four seconds [])))
+-- "ship, start, stop, seconds; four bytes each, low first"; 02, no. 4: the call number, "as a fifth field"
+abbrev pub fourEach : ℕ → ℕ → ℕ → ℕ → ℕ → List ℕ
+fourEach ship start stop seconds call = four ship (four start (four stop (four seconds (four call []))))
 
-abbrev pub chargeBytes : ℕ → Tenths → Tenths → List ℕ
-chargeBytes ship start stop = fourEach ship (start .0) (stop .0) (wholeSeconds (span start stop) .0)
+abbrev pub chargeBytes : ℕ → Tenths → Tenths → CallNumber → List ℕ
+chargeBytes ship start stop call = fourEach ship (start .0) (stop .0) (wholeSeconds (span start stop) .0) (call .0)
 
 -- a block in bytes: a slot's number past a byte is 255, which no slot has
 abbrev pub inBytes : List ℕ → List ℕ

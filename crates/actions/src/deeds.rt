@@ -11,6 +11,7 @@ use crate::PAYLOAD;
 use requests::least;
 use sequence::MOST_DIGITS;
 use sequence::Number;
+use units::CallNumber;
 use units::Lasted;
 use units::SlotNumber;
 use units::Tenths;
@@ -112,16 +113,17 @@ pub fn lasted(start: Tenths, stop: Tenths) -> Lasted
     seconds.duration()
 }
 
-// "ship, start, stop, seconds; four bytes each, low first"
-pub fn charge(slot: SlotNumber, ship: u32, start: Tenths, stop: Tenths) -> Action
-    ensures { λ r. ⌜ r ≡ actionOf 7 (slot .0) (chargeBytes ship start stop) ⌝ }
-    ensures { λ r. ⌜ actionBlock r ≡ block 7 (slot .0) (chargeBytes ship start stop) ⌝ }
+// "ship, start, stop, seconds; four bytes each, low first"; document 02, no. 4: the call number, "as a fifth field"
+pub fn charge(slot: SlotNumber, ship: u32, start: Tenths, stop: Tenths, call: CallNumber) -> Action
+    ensures { λ r. ⌜ r ≡ actionOf 7 (slot .0) (chargeBytes ship start stop call) ⌝ }
+    ensures { λ r. ⌜ actionBlock r ≡ block 7 (slot .0) (chargeBytes ship start stop call) ⌝ }
 {
     let span = span_of(start, stop);
     let charged = span.whole_seconds();
     let seconds = charged.count();
     let begun = start.0;
     let ended = stop.0;
+    let number = call.0;
     let mut payload = [0u8; PAYLOAD];
     payload[0] = (ship % 256) as u8;
     payload[1] = (ship / 256 % 256) as u8;
@@ -139,10 +141,14 @@ pub fn charge(slot: SlotNumber, ship: u32, start: Tenths, stop: Tenths) -> Actio
     payload[13] = (seconds / 256 % 256) as u8;
     payload[14] = (seconds / 65536 % 256) as u8;
     payload[15] = (seconds / 16777216 % 256) as u8;
+    payload[16] = (number % 256) as u8;
+    payload[17] = (number / 256 % 256) as u8;
+    payload[18] = (number / 65536 % 256) as u8;
+    payload[19] = (number / 16777216 % 256) as u8;
     Action {
         kind: 7,
         slot: slot,
-        length: 16,
+        length: 20,
         payload: payload,
     }
 }

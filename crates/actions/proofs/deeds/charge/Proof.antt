@@ -114,11 +114,35 @@ cast-payload-16 c = search needs
 array-write-payload-16 : tie.Need-array-write-payload-16
 array-write-payload-16 c = search needs
 
+cast-payload-17 : tie.Need-cast-payload-17
+cast-payload-17 c = search needs
+
+array-write-payload-17 : tie.Need-array-write-payload-17
+array-write-payload-17 c = search needs
+
+cast-payload-18 : tie.Need-cast-payload-18
+cast-payload-18 c = search needs
+
+array-write-payload-18 : tie.Need-array-write-payload-18
+array-write-payload-18 c = search needs
+
+cast-payload-19 : tie.Need-cast-payload-19
+cast-payload-19 c = search needs
+
+array-write-payload-19 : tie.Need-array-write-payload-19
+array-write-payload-19 c = search needs
+
+cast-payload-20 : tie.Need-cast-payload-20
+cast-payload-20 c = search needs
+
+array-write-payload-20 : tie.Need-array-write-payload-20
+array-write-payload-20 c = search needs
+
 returns : tie.Need-returns
 unfolding actionOf padded
 returns c = let a = c .before .before .before .args in
     let e : c .count .result ≡ wholeSeconds (span (a .start) (a .stop)) .0 = rw (c .count .ensures, c .before .whole-seconds .ensures, c .before .before .span-of .ensures) in
-    both 7 (a .slot .0) (chargeBytes (a .ship) (a .start) (a .stop)) _ (omega arith) (rw (← e))
+    both 7 (a .slot .0) (chargeBytes (a .ship) (a .start) (a .stop) (a .call)) _ (omega arith) (rw (← e))
 
 pub charge-spec : {M : Type 1} → statement M
 charge-spec =
@@ -159,4 +183,12 @@ charge-spec =
     array-write-payload-15
     cast-payload-16
     array-write-payload-16
+    cast-payload-17
+    array-write-payload-17
+    cast-payload-18
+    array-write-payload-18
+    cast-payload-19
+    array-write-payload-19
+    cast-payload-20
+    array-write-payload-20
     returns)
