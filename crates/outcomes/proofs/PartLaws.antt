@@ -1,13 +1,13 @@
 -- An outcome in the words of the rules is its parts together: the answer, the actions, and the station with its slot and its queue so changed.
 use Prim.Native.Nat.{ℕ, _≤_}
-use mathlib.Core.Bool.{Bool}
+use mathlib.Core.Bool.{Bool, true, false}
 use mathlib.Core.List.{List, [], _∷_}
 use mathlib.Core.Path.{_≡_, refl, ap}
 use native.Mathlib.Omega.{arith}
 use Rattle.rules.specs.Rules.Words.{Request, carrierOff}
 use Rattle.rules.specs.Rules.Actions.{Action, does, theCoast}
 use Rattle.rules.specs.Rules.Station as R
-use Rattle.rules.specs.Rules.Station.{kindWait, diallingWait, holdWait, queueWait}
+use Rattle.rules.specs.Rules.Station.{Dealing, kindWait, diallingWait, holdWait, queueWait, usedUp, newCall, setQueue}
 use Rattle.rules.specs.Rules.Sound.{limit}
 use Rattle.rules.specs.Rules.Requests.{also, rungBack, freedFor, freed, endActs, coastEnd, repeated, afresh, ruleD, offer, ruleF}
 use Rattle.rules.specs.Rules.Ashore.{calledFrom}
@@ -18,16 +18,20 @@ use Rattle.outcomes.specs.declared.Outcome.the-variants.{Ignored, Passes
 use Rattle.outcomes.specs.Does.{sinceOf, outOf, sceneOf, actsOf, turned, requeued, applied}
 use Rattle.outcomes.proofs.WaitLaws.{wait-fits}
 
-module _ (i : ℕ) (own asked : Request) (st : R.Station) (h : st .clock ≤ limit) where
-  -- a slot is freed: nobody waits, or the oldest is rung back
-  frees-applied : (q : List R.Waiting) → st .queue ≡ q → freed i st ≡ applied (sceneOf i own asked st) Frees st
-  unfolding freed freedFor rungBack applied sceneOf actsOf turned requeued
-  frees-applied [] e = rw e refl
-  frees-applied (w ∷ q) e = rw (e, wait-fits (st .clock) (kindWait R.firstRingBack) h (omega arith)) refl
+module _ (i : ℕ) (own : Dealing) (asked : Request) (st : R.Station) (h : st .clock ≤ limit) where
+  -- a slot is freed: no number is left, nobody waits, or the oldest is rung back
+  frees-by : (b : Bool) (q : List R.Waiting) → usedUp st ≡ b → st .queue ≡ q → freed i st ≡ applied (sceneOf i own asked st) Frees st
+  unfolding freed freedFor rungBack newCall setQueue applied sceneOf actsOf turned requeued
+  frees-by true q u e = rw u refl
+  frees-by false [] u e = rw (u, e) refl
+  frees-by false (w ∷ q) u e = rw (u, e, wait-fits (st .clock) (kindWait R.firstRingBack) h (omega arith)) refl
+
+  frees-applied : freed i st ≡ applied (sceneOf i own asked st) Frees st
+  frees-applied = frees-by (usedUp st) (st .queue) refl refl
 
   -- with actions before it
   also-frees : (a : List Action) → also a (freed i st) ≡ also a (applied (sceneOf i own asked st) Frees st)
-  also-frees a = ap (also a) (frees-applied (st .queue) refl)
+  also-frees a = ap (also a) frees-applied
 
   clears-applied : offerDue i st ≡ applied (sceneOf i own asked st) Clears st
   unfolding offerDue applied actsOf sceneOf
@@ -52,7 +56,7 @@ module _ (i : ℕ) (own asked : Request) (st : R.Station) (h : st .clock ≤ lim
   outcome-applied (Turns p) = refl
   outcome-applied Dials = rw (wait-fits (st .clock) diallingWait h (omega arith)) refl
   outcome-applied RingsBackAgain = rw (wait-fits (st .clock) (kindWait R.secondRingBack) h (omega arith)) refl
-  outcome-applied Frees = frees-applied (st .queue) refl
+  outcome-applied Frees = frees-applied
   outcome-applied Clears = clears-applied
   outcome-applied (CoastEnds k) = ends-applied k
   outcome-applied (ShipEnds k) = rw (wait-fits (st .clock) holdWait h (omega arith)) refl

@@ -30,7 +30,7 @@ pub enum Outcome {
     Offers, // rule e
     Joins, // rule f
     Replaces(QueuePlace), // rule d
-    Unable(u8), // rules a and g
+    Unable(u8), // rules a and g, and document 02, no. 4: no number is left
     Drops(QueuePlace), // a queue entry due
     Calls, // from ashore
     CallsAgain, // the first call from ashore due
@@ -39,7 +39,7 @@ pub enum Outcome {
     DropsCall(bool, bool), // it is dropped: whether it rings, and whether the caller gets the tone
 }
 
-// What becomes of the slot: another phase, with its own request, the one asked, or the oldest waiting ship's.
+// What becomes of the slot: another phase of its own call, or a new call for the one asked or the oldest waiting ship.
 pub enum Turn {
     Stays,
     Own(Phase),

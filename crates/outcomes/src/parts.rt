@@ -1,6 +1,7 @@
-// What an outcome comes to: the answer, the slot, the queue.
+// What an outcome comes to: the answer, the slot, the queue, the last call number.
 ghost use mathlib.Core.Path.{_≡_};
 ghost use Rattle.outcomes.specs.Does.{answerOf, goesOn, lastedOf, freeTurn, turnOf, freeChange, queueChange, enteredOf};
+ghost use Rattle.outcomes.specs.Does.{ringableOf, lastAfter};
 use crate::Outcome;
 use crate::QueueChange;
 use crate::Talk;
@@ -19,6 +20,9 @@ use slots::QueuePlace;
 use slots::RING_BACK_WAIT;
 use slots::RINGING_WAIT;
 use slots::Waiting;
+use slots::numbers::none_left;
+use slots::numbers::number_after;
+use units::CallNumber;
 use units::Lasted;
 use units::Tenths;
 
@@ -52,20 +56,39 @@ pub fn goes_on(outcome: Outcome) -> bool
     }
 }
 
-// A slot is freed where so many wait: "the same event takes the oldest".
-fn free_turn(time: Tenths, waiting: u8) -> Turn
-    ensures { λ r. ⌜ r ≡ freeTurn time waiting ⌝ }
+// How many of so many that wait may be rung back. Document 02, no. 4: once the last number has been given, "no waiting ship".
+pub fn ringable(last: CallNumber, waiting: u8) -> u8
+    ensures { λ r. ⌜ r ≡ ringableOf last waiting ⌝ }
 {
-    if waiting == 0 {
+    if none_left(last) { 0 } else { waiting }
+}
+
+// The last number given then: what is not the slot's own call takes the next.
+pub fn last_after(turn: Turn, last: CallNumber) -> CallNumber
+    ensures { λ r. ⌜ r ≡ lastAfter last turn ⌝ }
+{
+    match turn {
+        Turn::Stays => last,
+        Turn::Own(_) => last,
+        Turn::Asked(_) => number_after(last),
+        Turn::Oldest(_) => number_after(last),
+    }
+}
+
+// A slot is freed where so many may be rung back: "the same event takes the oldest".
+fn free_turn(time: Tenths, ringable: u8) -> Turn
+    ensures { λ r. ⌜ r ≡ freeTurn time ringable ⌝ }
+{
+    if ringable == 0 {
         return Turn::Own(Phase::Free);
     }
     let due = due_after(time, RING_BACK_WAIT);
     Turn::Oldest(Phase::RingBack(due))
 }
 
-// What becomes of the slot at that time, where so many wait.
-pub fn turn_of(outcome: Outcome, time: Tenths, waiting: u8) -> Turn
-    ensures { λ r. ⌜ r ≡ turnOf time waiting outcome ⌝ }
+// What becomes of the slot at that time, where so many may be rung back.
+pub fn turn_of(outcome: Outcome, time: Tenths, ringable: u8) -> Turn
+    ensures { λ r. ⌜ r ≡ turnOf time ringable outcome ⌝ }
 {
     match outcome {
         Outcome::Turns(phase) => Turn::Own(phase),
@@ -94,30 +117,30 @@ pub fn turn_of(outcome: Outcome, time: Tenths, waiting: u8) -> Turn
         | Outcome::Clears
         | Outcome::CoastEnds(_)
         | Outcome::Redials(_)
-        | Outcome::DropsCall(_, _) => free_turn(time, waiting),
+        | Outcome::DropsCall(_, _) => free_turn(time, ringable),
         _ => Turn::Stays,
     }
 }
 
-fn free_change(waiting: u8) -> QueueChange
-    ensures { λ r. ⌜ r ≡ freeChange waiting ⌝ }
+fn free_change(ringable: u8) -> QueueChange
+    ensures { λ r. ⌜ r ≡ freeChange ringable ⌝ }
 {
-    if waiting == 0 {
+    if ringable == 0 {
         return QueueChange::Same;
     }
     QueueChange::Leaves(QueuePlace(0))
 }
 
 // What becomes of the queue.
-pub fn queue_change(outcome: Outcome, time: Tenths, waiting: u8) -> QueueChange
-    ensures { λ r. ⌜ r ≡ queueChange time waiting outcome ⌝ }
+pub fn queue_change(outcome: Outcome, time: Tenths, ringable: u8) -> QueueChange
+    ensures { λ r. ⌜ r ≡ queueChange time ringable outcome ⌝ }
 {
     match outcome {
         Outcome::Frees
         | Outcome::Clears
         | Outcome::CoastEnds(_)
         | Outcome::Redials(_)
-        | Outcome::DropsCall(_, _) => free_change(waiting),
+        | Outcome::DropsCall(_, _) => free_change(ringable),
         Outcome::Joins => {
             let due = due_after(time, QUEUE_WAIT);
             QueueChange::Joins(due)

@@ -31,13 +31,13 @@ returns-8 : tie.Need-returns-8
 returns-8 c = rw (c .enum-told6 .given .1)
 
 returns-9 : tie.Need-returns-9
-returns-9 c = rw (time-is _ _ (c .due-after7 .ensures)) (outcome-arm (11 ∷ 13 ∷ []) _ (turnOf (c .before .before .args .time) (c .before .before .args .waiting)) (search needs) (c .before .before .args .outcome) (c .before .match .keys9))
+returns-9 c = rw (time-is _ _ (c .due-after7 .ensures)) (outcome-arm (11 ∷ 13 ∷ []) _ (turnOf (c .before .before .args .time) (c .before .before .args .ringable)) (search needs) (c .before .before .args .outcome) (c .before .match .keys9))
 
 returns-10 : tie.Need-returns-10
-returns-10 c = rw (c .free-turn .ensures) (outcome-arm (5 ∷ 6 ∷ 7 ∷ 12 ∷ 22 ∷ []) _ (turnOf (c .before .before .args .time) (c .before .before .args .waiting)) (search needs) (c .before .before .args .outcome) (c .before .match .keys10))
+returns-10 c = rw (c .free-turn .ensures) (outcome-arm (5 ∷ 6 ∷ 7 ∷ 12 ∷ 22 ∷ []) _ (turnOf (c .before .before .args .time) (c .before .before .args .ringable)) (search needs) (c .before .before .args .outcome) (c .before .match .keys10))
 
 returns-11 : tie.Need-returns-11
-returns-11 c = outcome-arm (0 ∷ 1 ∷ 9 ∷ 10 ∷ 14 ∷ 15 ∷ 16 ∷ 17 ∷ []) _ (turnOf (c .before .args .time) (c .before .args .waiting)) (search needs) (c .before .args .outcome) (c .match .keys11)
+returns-11 c = outcome-arm (0 ∷ 1 ∷ 9 ∷ 10 ∷ 14 ∷ 15 ∷ 16 ∷ 17 ∷ []) _ (turnOf (c .before .args .time) (c .before .args .ringable)) (search needs) (c .before .args .outcome) (c .match .keys11)
 
 pub turn-of-spec : {M : Type 1} → statement M
 turn-of-spec =
