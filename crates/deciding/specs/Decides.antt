@@ -19,12 +19,14 @@ use Rattle.slots.specs.declared.Signal.{Signal}
 use Rattle.slots.specs.declared.Signal.the-variants.{LineDialledOut, LineLifted, LineHung, CarrierHeard, CarrierLost}
 use Rattle.slots.specs.declared.Hand.{Hand}
 use Rattle.slots.specs.declared.Hand.the-variants.{Takes, GivesBack}
+use Rattle.slots.specs.declared.Place.{Place}
+use Rattle.slots.specs.declared.Place.the-variants.{At, Nothing}
 use Rattle.outcomes.specs.declared.Talk.{Talk}
 use Rattle.outcomes.specs.declared.Talk.the-variants.{Unanswered, Since}
 use Rattle.outcomes.specs.declared.Outcome.{Outcome}
 use Rattle.outcomes.specs.declared.Outcome.the-variants.{Ignored, Turns, Dials, RingsBackAgain, Frees, Clears, CoastEnds}
-use Rattle.outcomes.specs.declared.Outcome.the-variants.{ShipEnds, SaysAgain, Repeats, Renews, Redials, Offers, Joins, Unable}
-use Rattle.outcomes.specs.declared.Outcome.the-variants.{CallsAgain, StartsRinging, Transmits, DropsCall}
+use Rattle.outcomes.specs.declared.Outcome.the-variants.{ShipEnds, SaysAgain, Repeats, Renews, Redials, Offers, Joins, Replaces}
+use Rattle.outcomes.specs.declared.Outcome.the-variants.{Unable, CallsAgain, StartsRinging, Transmits, DropsCall}
 use Rattle.outcomes.specs.Does.{waitFrom}
 
 -- the columns: free; taken; before the line is dialled, or called from ashore; dialling; dialled out; answered; in the hold
@@ -194,15 +196,19 @@ mainDueBy = on Ignored Ignored dueKindBy (λ d l. CoastEnds Unanswered) (λ d l.
 abbrev pub dataBy : Bool → Outcome
 dataBy called = cond called Ignored (Unable 109)
 
+-- 02, no. 4: what is decided while a call number is left; then "answer 104/107 and change nothing else"
+abbrev pub whileLeft : Bool → Outcome → Outcome
+whileLeft spent o = cond spent (Unable 107) o
+
 -- b. "offered a slot by an identical request .. If it differs, or the slot is in ring-back or acknowledged"
-abbrev pub ruleBBy : Bool → Kind → Outcome
-ruleBBy same offered = cond same Repeats Renews
-ruleBBy same firstRingBack = Renews
-ruleBBy same secondRingBack = Renews
-ruleBBy same acknowledged = Renews
-ruleBBy same firstCall = Ignored
-ruleBBy same secondCall = Ignored
-ruleBBy same ringing = Ignored
+abbrev pub ruleBBy : Bool → Bool → Kind → Outcome
+ruleBBy same spent offered = cond same Repeats (whileLeft spent Renews)
+ruleBBy same spent firstRingBack = whileLeft spent Renews
+ruleBBy same spent secondRingBack = whileLeft spent Renews
+ruleBBy same spent acknowledged = whileLeft spent Renews
+ruleBBy same spent firstCall = Ignored
+ruleBBy same spent secondCall = Ignored
+ruleBBy same spent ringing = Ignored
 
 -- c. "ignored if duplex or if its carrier is present"
 abbrev pub ruleCBy : Mode → Talk → Carrier → Outcome
@@ -210,13 +216,21 @@ ruleCBy Duplex k l = Ignored
 ruleCBy Simplex k Present = Ignored
 ruleCBy Simplex k (Lost d) = Redials k
 
-abbrev pub askedAgainBy : Mode → Bool → Phase → Outcome
-askedAgainBy m same =
-    on Ignored Ignored (ruleBBy same) (λ d l. ruleCBy m Unanswered l) (λ d l. ruleCBy m Unanswered l) (λ b l. ruleCBy m (Since b) l)
-    (λ n. Ignored)
+abbrev pub askedAgainBy : Mode → Bool → Bool → Phase → Outcome
+askedAgainBy m same spent =
+    on Ignored Ignored (ruleBBy same spent) (λ d l. ruleCBy m Unanswered l) (λ d l. ruleCBy m Unanswered l)
+    (λ b l. ruleCBy m (Since b) l) (λ n. Ignored)
 
--- ── and of a ship that stands nowhere ────────────────────────────────────────
+-- ── and of a ship that has no slot ───────────────────────────────────────────
 
 -- e. "A slot is free"; f. "The queue has room"; g. "Otherwise answer 104/102."
 abbrev pub newcomerBy : Bool → ℕ → Outcome
 newcomerBy found waiting = cond found Offers (cond (ltb waiting queueRoom) Joins (Unable 102))
+
+-- d. "The ship is waiting", at that place
+abbrev pub waitingOrNewBy : Place → Bool → ℕ → Outcome
+waitingOrNewBy (At k) found waiting = Replaces k
+waitingOrNewBy Nothing found waiting = newcomerBy found waiting
+
+abbrev pub dToGBy : Bool → Place → Bool → ℕ → Outcome
+dToGBy spent place found waiting = whileLeft spent (waitingOrNewBy place found waiting)

@@ -5,7 +5,7 @@ ghost use Rattle.deciding.specs.Decides.{dialledOutBy, offHookBy, upBy, 
 ghost use Rattle.deciding.specs.Decides.{shipEndBy, bqBy};
 ghost use Rattle.deciding.specs.Decides.{declinedBy, dataBy};
 ghost use Rattle.deciding.specs.Decides.{bySignal, takeBy, giveBackBy, byHand, mainDueBy, ruleCBy, askedAgainBy};
-ghost use Rattle.deciding.specs.Decides.{newcomerBy};
+ghost use Rattle.deciding.specs.Decides.{whileLeft, newcomerBy, dToGBy};
 use due_times::carrier_wait;
 use due_times::due_after;
 use outcomes::Outcome;
@@ -16,6 +16,7 @@ use slots::Hand;
 use slots::MOST_WAITING;
 use slots::OFFER_WAIT;
 use slots::Phase;
+use slots::Place;
 use slots::REPLY_WAIT;
 use slots::Signal;
 use units::Tenths;
@@ -250,17 +251,30 @@ fn rule_c(mode: Mode, talk: Talk, carrier: Carrier) -> Outcome
     }
 }
 
-// b or c, by the mode of the slot's own request, and whether the one asked is the same.
-pub fn asked_again(mode: Mode, same: bool, phase: Phase) -> Outcome
-    ensures { λ r. ⌜ r ≡ askedAgainBy mode same phase ⌝ }
+// Document 02, no. 4: what is decided while a call number is left; then "answer 104/107 and change nothing else".
+fn while_left(spent: bool, outcome: Outcome) -> Outcome
+    ensures { λ r. ⌜ r ≡ whileLeft spent outcome ⌝ }
+{
+    if spent {
+        return Outcome::Unable(107);
+    }
+    outcome
+}
+
+// b or c, by the mode of the slot's own request, whether the one asked is the same, and whether the numbers are used up.
+pub fn asked_again(mode: Mode, same: bool, spent: bool, phase: Phase) -> Outcome
+    ensures { λ r. ⌜ r ≡ askedAgainBy mode same spent phase ⌝ }
 {
     match phase {
         Phase::Offered(_) => if same {
             Outcome::Repeats
         } else {
-            Outcome::Renews
+            while_left(spent, Outcome::Renews)
         },
-        Phase::RingBack(_) | Phase::RingBackAgain(_) | Phase::Acknowledged(_) => Outcome::Renews,
+        Phase::RingBack(_) | Phase::RingBackAgain(_) | Phase::Acknowledged(_) => while_left(
+            spent,
+            Outcome::Renews,
+        ),
         Phase::Dialling(_, carrier) => rule_c(mode, Talk::Unanswered, carrier),
         Phase::DialledOut(_, carrier) => rule_c(mode, Talk::Unanswered, carrier),
         Phase::Answered(since, carrier) => rule_c(mode, Talk::Since(since), carrier),
@@ -269,7 +283,7 @@ pub fn asked_again(mode: Mode, same: bool, phase: Phase) -> Outcome
 }
 
 // e, f or g, by whether a slot was found free, and how many wait.
-pub fn newcomer(found: bool, waiting: u8) -> Outcome
+fn newcomer(found: bool, waiting: u8) -> Outcome
     ensures { λ r. ⌜ r ≡ newcomerBy found waiting ⌝ }
 {
     if found {
@@ -279,4 +293,14 @@ pub fn newcomer(found: bool, waiting: u8) -> Outcome
         return Outcome::Joins;
     }
     Outcome::Unable(102)
+}
+
+// d, for a ship that waits at that place; e to g, for one that waits nowhere.
+pub fn d_to_g(spent: bool, place: Place, found: bool, waiting: u8) -> Outcome
+    ensures { λ r. ⌜ r ≡ dToGBy spent place found waiting ⌝ }
+{
+    match place {
+        Place::At(number) => while_left(spent, Outcome::Replaces(number)),
+        Place::Nothing => while_left(spent, newcomer(found, waiting)),
+    }
 }
