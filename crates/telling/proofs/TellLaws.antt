@@ -8,6 +8,7 @@ use lib.ListN.{length}
 use Rattle.units.specs.declared.Channel.{Channel}
 use Rattle.rules.specs.Rules.Words.{Config, Request, carrierOff}
 use Rattle.rules.specs.Rules.Actions.{Action, Ender, does, theShip, theCoast}
+use Rattle.rules.specs.Rules.Station.{Dealing}
 use Rattle.rules.specs.Rules.Requests.{endActs}
 use Rattle.rules.specs.Rules.Calls.{dropActs}
 use Rattle.rules.specs.Rules.Bytes.{channelAt}
@@ -69,21 +70,21 @@ free-parts : (sc : D.Scene) (n : ℕ) → sayActs sc (freeSay n) ≡ ringBackAct
 free-parts sc zero = refl
 free-parts sc (suc n) = refl
 
-pub parts : (sc : D.Scene) (o : Outcome) → closeActs sc (closeOf o) ++ sayActs sc (sayOf (sc .waiting) o) ≡ actsOf sc o
+pub parts : (sc : D.Scene) (o : Outcome) → closeActs sc (closeOf o) ++ sayActs sc (sayOf (sc .ringable) o) ≡ actsOf sc o
 unfolding actsOf
 parts sc Ignored = refl
 parts sc Passes = refl
 parts sc (Turns p) = refl
 parts sc Dials = refl
 parts sc RingsBackAgain = refl
-parts sc Frees = free-parts sc (sc .waiting)
-parts sc Clears = ap (λ l. does (carrierOff (sc .slot)) ∷ l) (free-parts sc (sc .waiting))
-parts sc (CoastEnds k) = ap (λ l. endActs (sc .slot) theCoast (sc .own) (sinceOf k) (sc .clock) ++ l) (free-parts sc (sc .waiting))
+parts sc Frees = free-parts sc (sc .ringable)
+parts sc Clears = ap (λ l. does (carrierOff (sc .slot)) ∷ l) (free-parts sc (sc .ringable))
+parts sc (CoastEnds k) = ap (λ l. endActs (sc .slot) theCoast (sc .own) (sinceOf k) (sc .clock) ++ l) (free-parts sc (sc .ringable))
 parts sc (ShipEnds k) = append-nil (endActs (sc .slot) theShip (sc .own) (sinceOf k) (sc .clock))
 parts sc (SaysAgain n) = refl
 parts sc Repeats = refl
 parts sc Renews = refl
-parts sc (Redials k) = ap (λ l. endActs (sc .slot) theCoast (sc .own) (sinceOf k) (sc .clock) ++ l) (free-parts sc (sc .waiting))
+parts sc (Redials k) = ap (λ l. endActs (sc .slot) theCoast (sc .own) (sinceOf k) (sc .clock) ++ l) (free-parts sc (sc .ringable))
 parts sc Offers = refl
 parts sc Joins = refl
 parts sc (Replaces k) = refl
@@ -93,12 +94,12 @@ parts sc Calls = refl
 parts sc CallsAgain = refl
 parts sc StartsRinging = refl
 parts sc Transmits = refl
-parts sc (DropsCall rung tone) = ap (λ l. dropActs (sc .slot) rung tone ++ l) (free-parts sc (sc .waiting))
+parts sc (DropsCall rung tone) = ap (λ l. dropActs (sc .slot) rung tone ++ l) (free-parts sc (sc .ringable))
 
 -- ── on the channel of the slot ───────────────────────────────────────────────
 
 module _ (c : Config) where
-  end-on : (i : ℕ) (e : Ender) (r : Request) (k : Talk) (t : ℕ) → map (sentOn (channelAt c i)) (endActs i e r (sinceOf k) t) ≡ map (sentBlock c) (endActs i e r (sinceOf k) t)
+  end-on : (i : ℕ) (e : Ender) (r : Dealing) (k : Talk) (t : ℕ) → map (sentOn (channelAt c i)) (endActs i e r (sinceOf k) t) ≡ map (sentBlock c) (endActs i e r (sinceOf k) t)
   unfolding sentBlock sentOn sentPayload
   end-on i e r Unanswered t = refl
   end-on i e r (Since b) t = refl
@@ -127,14 +128,14 @@ module _ (c : Config) where
   told-on sc (Turns p) = refl
   told-on sc Dials = refl
   told-on sc RingsBackAgain = refl
-  told-on sc Frees = ring-on (sc .slot) (sc .oldest) (sc .waiting)
-  told-on sc Clears = ap (λ l. sentOn (channelAt c (sc .slot)) (does (carrierOff (sc .slot))) ∷ l) (ring-on (sc .slot) (sc .oldest) (sc .waiting))
-  told-on sc (CoastEnds k) = both-on (channelAt c (sc .slot)) (endActs (sc .slot) theCoast (sc .own) (sinceOf k) (sc .clock)) (ringBackActs (sc .slot) (sc .oldest) (sc .waiting)) (end-on (sc .slot) theCoast (sc .own) k (sc .clock)) (ring-on (sc .slot) (sc .oldest) (sc .waiting))
+  told-on sc Frees = ring-on (sc .slot) (sc .oldest) (sc .ringable)
+  told-on sc Clears = ap (λ l. sentOn (channelAt c (sc .slot)) (does (carrierOff (sc .slot))) ∷ l) (ring-on (sc .slot) (sc .oldest) (sc .ringable))
+  told-on sc (CoastEnds k) = both-on (channelAt c (sc .slot)) (endActs (sc .slot) theCoast (sc .own) (sinceOf k) (sc .clock)) (ringBackActs (sc .slot) (sc .oldest) (sc .ringable)) (end-on (sc .slot) theCoast (sc .own) k (sc .clock)) (ring-on (sc .slot) (sc .oldest) (sc .ringable))
   told-on sc (ShipEnds k) = end-on (sc .slot) theShip (sc .own) k (sc .clock)
   told-on sc (SaysAgain n) = refl
   told-on sc Repeats = refl
   told-on sc Renews = refl
-  told-on sc (Redials k) = both-on (channelAt c (sc .slot)) (endActs (sc .slot) theCoast (sc .own) (sinceOf k) (sc .clock)) (ringBackActs (sc .slot) (sc .oldest) (sc .waiting)) (end-on (sc .slot) theCoast (sc .own) k (sc .clock)) (ring-on (sc .slot) (sc .oldest) (sc .waiting))
+  told-on sc (Redials k) = both-on (channelAt c (sc .slot)) (endActs (sc .slot) theCoast (sc .own) (sinceOf k) (sc .clock)) (ringBackActs (sc .slot) (sc .oldest) (sc .ringable)) (end-on (sc .slot) theCoast (sc .own) k (sc .clock)) (ring-on (sc .slot) (sc .oldest) (sc .ringable))
   told-on sc Offers = refl
   told-on sc Joins = refl
   told-on sc (Replaces k) = refl
@@ -144,7 +145,7 @@ module _ (c : Config) where
   told-on sc CallsAgain = refl
   told-on sc StartsRinging = refl
   told-on sc Transmits = refl
-  told-on sc (DropsCall rung tone) = both-on (channelAt c (sc .slot)) (dropActs (sc .slot) rung tone) (ringBackActs (sc .slot) (sc .oldest) (sc .waiting)) (drop-on (sc .slot) rung tone) (ring-on (sc .slot) (sc .oldest) (sc .waiting))
+  told-on sc (DropsCall rung tone) = both-on (channelAt c (sc .slot)) (dropActs (sc .slot) rung tone) (ringBackActs (sc .slot) (sc .oldest) (sc .ringable)) (drop-on (sc .slot) rung tone) (ring-on (sc .slot) (sc .oldest) (sc .ringable))
 
   -- what a scene tells on the channel of its slot is what the rules send
   pub telling-sent : (s : Scene) → s .channel ≡ channelAt c (s .slot .0) → (o : Outcome) (k : ℕ) (room : List ℕ)

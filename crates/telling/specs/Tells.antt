@@ -4,6 +4,7 @@ use mathlib.Core.Bool.{Bool, cond}
 use mathlib.Core.List.{List, [], _∷_, map}
 use Rattle.rules.specs.Rules.Words.{carrierOn, carrierOff, acknowledge, callShip, unable, dial, ringingOn, ringingOff, busyTone}
 use Rattle.rules.specs.Rules.Actions.{Action, Ender, does, over, theShip}
+use Rattle.rules.specs.Rules.Station.{dealing}
 use Rattle.rules.specs.Rules.Requests.{bill, endActs}
 use Rattle.rules.specs.Rules.Calls.{dropActs}
 use Rattle.units.specs.declared.Lasted.{Lasted}
@@ -31,10 +32,10 @@ sceneView s =
     record {
       clock = s .clock .0;
       slot = s .slot .0;
-      own = requestOf (s .own);
+      own = dealing (s .call .0) (requestOf (s .own));
       asked = requestOf (s .asked);
       oldest = requestOf (s .oldest);
-      waiting = s .waiting;
+      ringable = s .ringable;
     }
 
 -- actions about its slot, from block number k on
@@ -69,43 +70,43 @@ closeOf O.StartsRinging = Leaves
 closeOf O.Transmits = Leaves
 closeOf (O.DropsCall rung tone) = DropsCall rung tone
 
--- a slot is freed where so many wait
+-- a slot is freed where so many may be rung back
 abbrev pub freeSay : ℕ → Say
 freeSay zero = Nothing
 freeSay (suc n) = Lifted CallsOldest
 
 -- what is then sent or dialled
 abbrev pub sayOf : ℕ → Outcome → Say
-sayOf waiting O.Ignored = Nothing
-sayOf waiting O.Passes = Nothing
-sayOf waiting (O.Turns p) = Nothing
-sayOf waiting O.Dials = Plain Dials
-sayOf waiting O.RingsBackAgain = Plain CallsOwn
-sayOf waiting O.Frees = freeSay waiting
-sayOf waiting O.Clears = freeSay waiting
-sayOf waiting (O.CoastEnds k) = freeSay waiting
-sayOf waiting (O.ShipEnds k) = Nothing
-sayOf waiting (O.SaysAgain n) = Nothing
-sayOf waiting O.Repeats = Plain Acknowledges
-sayOf waiting O.Renews = Plain Acknowledges
-sayOf waiting (O.Redials k) = freeSay waiting
-sayOf waiting O.Offers = Lifted Acknowledges
-sayOf waiting O.Joins = Plain (Unable 103)
-sayOf waiting (O.Replaces k) = Plain (Unable 103)
-sayOf waiting (O.Unable n) = Plain (Unable n)
-sayOf waiting (O.Drops k) = Nothing
-sayOf waiting O.Calls = Lifted CallsAsked
-sayOf waiting O.CallsAgain = Plain CallsOwn
-sayOf waiting O.StartsRinging = Plain RingingOn
-sayOf waiting O.Transmits = Plain RingingOff
-sayOf waiting (O.DropsCall rung tone) = freeSay waiting
+sayOf ringable O.Ignored = Nothing
+sayOf ringable O.Passes = Nothing
+sayOf ringable (O.Turns p) = Nothing
+sayOf ringable O.Dials = Plain Dials
+sayOf ringable O.RingsBackAgain = Plain CallsOwn
+sayOf ringable O.Frees = freeSay ringable
+sayOf ringable O.Clears = freeSay ringable
+sayOf ringable (O.CoastEnds k) = freeSay ringable
+sayOf ringable (O.ShipEnds k) = Nothing
+sayOf ringable (O.SaysAgain n) = Nothing
+sayOf ringable O.Repeats = Plain Acknowledges
+sayOf ringable O.Renews = Plain Acknowledges
+sayOf ringable (O.Redials k) = freeSay ringable
+sayOf ringable O.Offers = Lifted Acknowledges
+sayOf ringable O.Joins = Plain (Unable 103)
+sayOf ringable (O.Replaces k) = Plain (Unable 103)
+sayOf ringable (O.Unable n) = Plain (Unable n)
+sayOf ringable (O.Drops k) = Nothing
+sayOf ringable O.Calls = Lifted CallsAsked
+sayOf ringable O.CallsAgain = Plain CallsOwn
+sayOf ringable O.StartsRinging = Plain RingingOn
+sayOf ringable O.Transmits = Plain RingingOff
+sayOf ringable (O.DropsCall rung tone) = freeSay ringable
 
 -- "charge if answered"
 abbrev pub billActs : D.Scene → Talk → List Action
-billActs sc k = bill (sc .slot) (sc .own .who) (sinceOf k) (sc .clock)
+billActs sc k = bill (sc .slot) (sc .own) (sinceOf k) (sc .clock)
 
 abbrev pub offActs : D.Scene → Ender → Lasted → List Action
-offActs sc e n = over (sc .slot) e (sc .own .who) (sc .own .number) n ∷ does (carrierOff (sc .slot)) ∷ []
+offActs sc e n = over (sc .slot) e (sc .own .request .who) (sc .own .request .number) n ∷ does (carrierOff (sc .slot)) ∷ []
 
 abbrev pub endedActs : D.Scene → Ender → Talk → List Action
 endedActs sc e k = endActs (sc .slot) e (sc .own) (sinceOf k) (sc .clock)
@@ -131,8 +132,8 @@ closeActs sc (DropsCall rung tone) = dropCallActs sc rung tone
 closeActs sc (Again n) = againActs sc n
 
 abbrev pub wordAct : D.Scene → Word → Action
-wordAct sc Dials = does (dial (sc .slot) (sc .own .number))
-wordAct sc CallsOwn = does (callShip (sc .slot) (sc .own))
+wordAct sc Dials = does (dial (sc .slot) (sc .own .request .number))
+wordAct sc CallsOwn = does (callShip (sc .slot) (sc .own .request))
 wordAct sc CallsOldest = does (callShip (sc .slot) (sc .oldest))
 wordAct sc CallsAsked = does (callShip (sc .slot) (sc .asked))
 wordAct sc RingingOn = does (ringingOn (sc .slot))

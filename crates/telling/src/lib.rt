@@ -25,6 +25,7 @@ use outcomes::Outcome;
 use outcomes::Talk;
 use outcomes::parts::lasted_of;
 use requests::Request;
+use units::CallNumber;
 use units::Channel;
 use units::Lasted;
 use units::SlotNumber;
@@ -35,10 +36,11 @@ pub struct Scene {
     pub clock: Tenths,
     pub slot: SlotNumber,
     pub channel: Channel, // the slot's
+    pub call: CallNumber, // the slot's
     pub own: Request, // the slot's
     pub asked: Request, // the event's
     pub oldest: Request, // the oldest waiting ship's, where one waits
-    pub waiting: u8, // how many wait
+    pub ringable: u8, // how many may be rung back
 }
 
 // How the call of the slot is closed.
@@ -82,18 +84,18 @@ fn close_of(outcome: Outcome) -> Close
     }
 }
 
-// A slot is freed: the oldest of those that wait is rung back.
-fn free_say(waiting: u8) -> Say
-    ensures { λ r. ⌜ r ≡ freeSay waiting ⌝ }
+// A slot is freed: the oldest of those that may be is rung back.
+fn free_say(ringable: u8) -> Say
+    ensures { λ r. ⌜ r ≡ freeSay ringable ⌝ }
 {
-    if waiting == 0 {
+    if ringable == 0 {
         return Say::Nothing;
     }
     Say::Lifted(Word::CallsOldest)
 }
 
-fn say_of(outcome: Outcome, waiting: u8) -> Say
-    ensures { λ r. ⌜ r ≡ sayOf waiting outcome ⌝ }
+fn say_of(outcome: Outcome, ringable: u8) -> Say
+    ensures { λ r. ⌜ r ≡ sayOf ringable outcome ⌝ }
 {
     match outcome {
         Outcome::Dials => Say::Plain(Word::Dials),
@@ -105,7 +107,7 @@ fn say_of(outcome: Outcome, waiting: u8) -> Say
         | Outcome::Clears
         | Outcome::CoastEnds(_)
         | Outcome::Redials(_)
-        | Outcome::DropsCall(_, _) => free_say(waiting),
+        | Outcome::DropsCall(_, _) => free_say(ringable),
         Outcome::Repeats | Outcome::Renews => Say::Plain(Word::Acknowledges),
         Outcome::Offers => Say::Lifted(Word::Acknowledges),
         Outcome::Joins | Outcome::Replaces(_) => Say::Plain(Word::Unable(103)),
@@ -123,7 +125,7 @@ impl Scene {
         match talk {
             Talk::Unanswered => block,
             Talk::Since(start) => lay(
-                charge(self.slot, self.own.ship, start, self.clock),
+                charge(self.slot, self.own.ship, start, self.clock, self.call),
                 block,
                 room,
             ),
@@ -246,7 +248,7 @@ impl Scene {
         ensures { λ _. ⌜ now (room .exit) ≡ telling self (actsOf (sceneView self) outcome) block (now (room .entry)) .room ⌝ }
     {
         let close = close_of(outcome);
-        let say = say_of(outcome, self.waiting);
+        let say = say_of(outcome, self.ringable);
         let closed = self.close(close, block, room);
         self.say(say, closed, room)
     }

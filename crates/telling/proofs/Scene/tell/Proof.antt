@@ -11,7 +11,7 @@ returns c = let a = c .before .before .before .before .before .before .before .b
     let sc = sceneView (a .self) in
     let p = rw (c .before .before .before .before .before .before .before .before .before .close-of .ensures) at (c .before .before .before .before .before .before .close .ensures) in
     let q = rw (c .before .before .before .before .before .before .before .before .say-of .ensures) at (c .before .before .say .ensures) in
-    rw (← parts sc (a .outcome)) (tells-append (a .self) (a .block) (now (a .room)) (closeActs sc (closeOf (a .outcome))) (sayActs sc (sayOf (a .self .waiting) (a .outcome))) _ _ _ _ p q)
+    rw (← parts sc (a .outcome)) (tells-append (a .self) (a .block) (now (a .room)) (closeActs sc (closeOf (a .outcome))) (sayActs sc (sayOf (a .self .ringable) (a .outcome))) _ _ _ _ p q)
 
 pub tell-spec : {M : Type 1} → statement M
 tell-spec =
