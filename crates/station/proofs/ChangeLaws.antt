@@ -5,8 +5,9 @@ use mathlib.Core.Path.{_≡_, refl, sym, ap, _∙_}
 use native.Mathlib.Omega.{arith}
 use lib.ListN.{length, length-append, getD, set}
 use Rattle.rules.specs.Rules.Places.{dropAt, modAt}
+use Rattle.units.specs.declared.CallNumber.{CallNumber}
 use Rattle.rules.specs.Rules.Station as R
-use Rattle.rules.specs.Rules.Station.{setSlot, setQueue}
+use Rattle.rules.specs.Rules.Station.{setSlot, newCall, setQueue}
 use Rattle.requests.specs.Views.{viewed, requestOf}
 use Rattle.requests.proofs.ArrayLaws.{viewed-set, viewed-same, viewed-push, viewed-length, modAt-past}
 use Rattle.slots.specs.declared.Slot.{Slot}
@@ -17,7 +18,7 @@ use Rattle.outcomes.specs.declared.Turn.{Turn}
 use Rattle.outcomes.specs.declared.Turn.the-variants.{Stays, Own, Asked, Oldest}
 use Rattle.outcomes.specs.declared.QueueChange.{QueueChange}
 use Rattle.outcomes.specs.declared.QueueChange.the-variants.{Same, Leaves, Joins, Replaces}
-use Rattle.outcomes.specs.Does.{turned, requeued}
+use Rattle.outcomes.specs.Does.{turned, lastAfter, requeued}
 use Rattle.telling.specs.declared.Scene.{Scene}
 use Rattle.telling.specs.Tells.{sceneView}
 use Rattle.station.specs.Changes.{slotTurned, leavingOf, entryPlace, lengthAfter}
@@ -25,25 +26,27 @@ use Rattle.outcomes.specs.Does.{enteredOf}
 
 -- ── the slots ──
 
-turned-channel : (sc : Scene) (x : Slot) (w : Turn) → slotTurned sc x w .channel ≡ x .channel
-turned-channel sc x Stays = refl
-turned-channel sc x (Own p) = refl
-turned-channel sc x (Asked p) = refl
-turned-channel sc x (Oldest p) = refl
+turned-channel : (sc : Scene) (last : CallNumber) (x : Slot) (w : Turn) → slotTurned sc last x w .channel ≡ x .channel
+turned-channel sc last x Stays = refl
+turned-channel sc last x (Own p) = refl
+turned-channel sc last x (Asked p) = refl
+turned-channel sc last x (Oldest p) = refl
 
 module _ (sc : Scene) (n : ℕ) (a : List Slot) (st : R.Station) (seen : viewed slotView n a ≡ st .slots) where
-  pub slots-written : (w : Turn) → viewed slotView n (set a (sc .slot .0) (slotTurned sc (getD a (sc .slot .0) noSlot) w)) ≡ turned (sceneView sc) w st .slots
-  unfolding turned setSlot sceneView
-  slots-written Stays = viewed-same slotView n a (sc .slot .0) _ noSlot refl ∙ seen
-  slots-written (Own p) = viewed-set slotView n a (sc .slot .0) _ ∙ ap (modAt _ (sc .slot .0)) seen
-  slots-written (Asked p) = viewed-set slotView n a (sc .slot .0) _ ∙ ap (modAt _ (sc .slot .0)) seen
-  slots-written (Oldest p) = viewed-set slotView n a (sc .slot .0) _ ∙ ap (modAt _ (sc .slot .0)) seen
+  -- the number `last` was the last one given before
+  module _ (last : CallNumber) (given : last .0 ≡ st .lastCall) where
+    pub slots-written : (w : Turn) → viewed slotView n (set a (sc .slot .0) (slotTurned sc (lastAfter last w) (getD a (sc .slot .0) noSlot) w)) ≡ turned (sceneView sc) w st .slots
+    unfolding turned setSlot newCall sceneView
+    slots-written Stays = viewed-same slotView n a (sc .slot .0) _ noSlot refl ∙ seen
+    slots-written (Own p) = viewed-set slotView n a (sc .slot .0) _ ∙ ap (modAt _ (sc .slot .0)) seen
+    slots-written (Asked p) = viewed-set slotView n a (sc .slot .0) _ ∙ rw (given, seen) refl
+    slots-written (Oldest p) = viewed-set slotView n a (sc .slot .0) _ ∙ rw (given, seen) refl
 
-  pub channels-written : (w : Turn) → viewed channelOf n (set a (sc .slot .0) (slotTurned sc (getD a (sc .slot .0) noSlot) w)) ≡ viewed channelOf n a
-  channels-written w = viewed-same channelOf n a (sc .slot .0) _ noSlot (turned-channel sc _ w)
+  pub channels-written : (last : CallNumber) (w : Turn) → viewed channelOf n (set a (sc .slot .0) (slotTurned sc last (getD a (sc .slot .0) noSlot) w)) ≡ viewed channelOf n a
+  channels-written last w = viewed-same channelOf n a (sc .slot .0) _ noSlot (turned-channel sc last _ w)
 
   pub slots-kept : n ≤ sc .slot .0 → (w : Turn) → viewed slotView n a ≡ turned (sceneView sc) w st .slots
-  unfolding turned setSlot sceneView
+  unfolding turned setSlot newCall sceneView
   slots-kept past w = let h : length (viewed slotView n a) ≤ sc .slot .0 = omega (arith, viewed-length slotView n a) in go (rw seen at h) w
     where
       go : length (st .slots) ≤ sc .slot .0 → (w : Turn) → viewed slotView n a ≡ turned (sceneView sc) w st .slots

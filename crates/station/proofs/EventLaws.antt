@@ -18,7 +18,7 @@ use Rattle.requests.specs.Views.{modeOf, requestOf}
 use Rattle.slots.specs.declared.Phase.{Phase}
 use Rattle.slots.specs.declared.Slot.{Slot}
 use Rattle.slots.specs.Phases.{phaseView}
-use Rattle.slots.specs.Views.{slotView, configFor}
+use Rattle.slots.specs.Views.{dealingOf, slotView, configFor}
 use Rattle.hearing.specs.declared.Heard.{Heard}
 use Rattle.hearing.specs.Said.{heardOf}
 use Rattle.outcomes.specs.declared.Outcome.{Outcome}
@@ -37,7 +37,7 @@ pub heard-is : (s : Station) (m : List ℕ) (r : Reading) → r ≡ readingOf m 
 unfolding meaning configOf
 heard-is s m r e h k = rw e at k
 
-plain-is : (c : W.Config) (i : ℕ) (st : R.Station) (r q : W.Request) (m : Mode) → modeOf m ≡ r .mode → st .clock ≤ limit → (w : Plain) (p : Phase)
+plain-is : (c : W.Config) (i : ℕ) (st : R.Station) (r : R.Dealing) (q : W.Request) (m : Mode) → modeOf m ≡ r .request .mode → st .clock ≤ limit → (w : Plain) (p : Phase)
     → outOf i r q (byPlain w (timeOf st) m p) st ≡ happenedOn c i st (phaseView p r) (plainView w)
 unfolding happenedOn
 plain-is c i st r q m e h (Signal g) p = signal-is i st r q m e h g p
@@ -51,5 +51,5 @@ module _ (s : Station) (t : Tenths) (n : ℕ) (i : SlotNumber) (x : Slot) (at : 
   plain-acts late q w e =
       let y = slotOf s (i .0) in
       rw (e, at)
-      (plain-is (configOf s) (i .0) (setClock (t .0) (modelOf s)) (requestOf (y .request)) q (y .request .mode) refl late w (y .phase)
+      (plain-is (configOf s) (i .0) (setClock (t .0) (modelOf s)) (dealingOf y) q (y .request .mode) refl late w (y .phase)
       ∙ slot-acts s (t .0) (i .0) n (plainView w) (slotView y) (slot-view s (i .0)))

@@ -46,23 +46,24 @@ module _ {A : Type 0} (f : A → A) (b : A) where
 
 -- the station s, with its slots and its queue laid out anew
 module _ (s : Station) (few : s .count ≤ 16) (fewWait : s .waiting ≤ 32) (wide : length (s .slots) ≡ 16) (long : length (s .queue) ≡ 32) where
-  pub image-is : (r : Station) → r .clock ≡ s .clock → r .mast ≡ s .mast → r .count ≡ s .count → r .waiting ≡ s .waiting
+  pub image-is : (r : Station) → r .clock ≡ s .clock → r .mast ≡ s .mast → r .last ≡ s .last → r .count ≡ s .count → r .waiting ≡ s .waiting
       → r .slots ≡ padded blankSlot 16 (viewed tidySlot (s .count) (s .slots)) → r .queue ≡ padded blankWaiting 32 (viewed tidyWaiting (s .waiting) (s .queue))
       → r ≡ imageOf (configOf s) (modelOf s)
   unfolding imageOf configOf modelOf
-  image-is r a b c d e f =
+  image-is r a b l c d e f =
       let n : s .count ≡ length (viewed slotView (s .count) (s .slots)) = omega (arith, viewed-length slotView (s .count) (s .slots)) in
       let m : s .waiting ≡ length (viewed waitingView (s .waiting) (s .queue)) = omega (arith, viewed-length waitingView (s .waiting) (s .queue)) in
-      same r (imageOf (configOf s) (modelOf s)) a b (c ∙ n) (d ∙ m) (e ∙ ap (padded blankSlot 16) (tidied-slots (s .count) (s .slots))) (f ∙ ap (padded blankWaiting 32) (tidied-queue (s .waiting) (s .queue)))
+      same r (imageOf (configOf s) (modelOf s)) a b l (c ∙ n) (d ∙ m) (e ∙ ap (padded blankSlot 16) (tidied-slots (s .count) (s .slots))) (f ∙ ap (padded blankWaiting 32) (tidied-queue (s .waiting) (s .queue)))
     where
-      same : (x y : Station) → x .clock ≡ y .clock → x .mast ≡ y .mast → x .count ≡ y .count → x .waiting ≡ y .waiting → x .slots ≡ y .slots → x .queue ≡ y .queue → x ≡ y
-      same x y a b c d e f =
-          ap (λ k. record { clock = k; mast = x .mast; count = x .count; waiting = x .waiting; slots = x .slots; queue = x .queue }) a
-          ∙ ap (λ k. record { clock = y .clock; mast = k; count = x .count; waiting = x .waiting; slots = x .slots; queue = x .queue }) b
-          ∙ ap (λ k. record { clock = y .clock; mast = y .mast; count = k; waiting = x .waiting; slots = x .slots; queue = x .queue }) c
-          ∙ ap (λ k. record { clock = y .clock; mast = y .mast; count = y .count; waiting = k; slots = x .slots; queue = x .queue }) d
-          ∙ ap (λ k. record { clock = y .clock; mast = y .mast; count = y .count; waiting = y .waiting; slots = k; queue = x .queue }) e
-          ∙ ap (λ k. record { clock = y .clock; mast = y .mast; count = y .count; waiting = y .waiting; slots = y .slots; queue = k }) f
+      same : (x y : Station) → x .clock ≡ y .clock → x .mast ≡ y .mast → x .last ≡ y .last → x .count ≡ y .count → x .waiting ≡ y .waiting → x .slots ≡ y .slots → x .queue ≡ y .queue → x ≡ y
+      same x y a b l c d e f =
+          ap (λ k. record { clock = k; mast = x .mast; last = x .last; count = x .count; waiting = x .waiting; slots = x .slots; queue = x .queue }) a
+          ∙ ap (λ k. record { clock = y .clock; mast = k; last = x .last; count = x .count; waiting = x .waiting; slots = x .slots; queue = x .queue }) b
+          ∙ ap (λ k. record { clock = y .clock; mast = y .mast; last = k; count = x .count; waiting = x .waiting; slots = x .slots; queue = x .queue }) l
+          ∙ ap (λ k. record { clock = y .clock; mast = y .mast; last = y .last; count = k; waiting = x .waiting; slots = x .slots; queue = x .queue }) c
+          ∙ ap (λ k. record { clock = y .clock; mast = y .mast; last = y .last; count = y .count; waiting = k; slots = x .slots; queue = x .queue }) d
+          ∙ ap (λ k. record { clock = y .clock; mast = y .mast; last = y .last; count = y .count; waiting = y .waiting; slots = k; queue = x .queue }) e
+          ∙ ap (λ k. record { clock = y .clock; mast = y .mast; last = y .last; count = y .count; waiting = y .waiting; slots = y .slots; queue = k }) f
 
   -- d is the earliest wait of the slots, e of all, seen in the arrays a and b once their unused places are blank
   pub due-is : (a : List Slot) (b : List Waiting) (d e : Due) → a ≡ doneFrom tidySlot blankSlot (s .count) (s .slots) (s .count) → b ≡ doneFrom tidyWaiting blankWaiting (s .waiting) (s .queue) (s .waiting)

@@ -13,7 +13,7 @@ use Rattle.rules.specs.Rules.Places.{isSome}
 use Rattle.rules.specs.Rules.Words.{Happened, signal, operator, What, onSlot, Ashore, fromAshore, ashoreIn, Event}
 use Rattle.rules.specs.Rules.Station.{theSlot, fires}
 use Rattle.rules.specs.Rules.Sound.{limit, sound}
-use Rattle.rules.specs.Rules.Verdict.{unless, roomNeeded, overtaken, slotThere, readIn, barred, namesShip, namesMode, namesNumber, namesEngaged, slotIsFree, refusals, verdict}
+use Rattle.rules.specs.Rules.Verdict.{unless, roomNeeded, overtaken, slotThere, readIn, barred, namesShip, namesMode, namesNumber, namesEngaged, slotToBeHad, refusals, verdict}
 use Rattle.gate.specs.declared.Look.{Look}
 use Rattle.gate.specs.Asked.{andThen, askedAlways, askedNow, askedOnSlot}
 use Rattle.gate.proofs.AskedLaws.{one-more}
@@ -38,7 +38,7 @@ module _ (s : Station) (l : Look) (sees : Sees s l) (n t : ℕ) where
       ∷ unless (namesMode o) 17
       ∷ unless (namesNumber o) 19
       ∷ unless (not (namesEngaged (configOf s) (modelOf s) o)) 38
-      ∷ unless (slotIsFree (modelOf s) o) 37
+      ∷ unless (slotToBeHad (modelOf s) o) 37
       ∷ []
 
   -- what is asked of an event behind 34, and behind 33

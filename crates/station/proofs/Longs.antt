@@ -9,7 +9,7 @@ use Rattle.station.proofs.Station.Laws as K′
 use Rattle.station.specs.declared.Station.{Station}
 
 pub slots-long : (s : Station) → Is (row K.the-type) s (S.vals K.the-type K′.the-laws s) → length (s .slots) ≡ 16
-slots-long s g = simp length-map at (g .1 .1 .1 .1 .0 .1 .0 .1)
+slots-long s g = simp length-map at (g .1 .1 .1 .1 .1 .0 .1 .0 .1)
 
 pub queue-long : (s : Station) → Is (row K.the-type) s (S.vals K.the-type K′.the-laws s) → length (s .queue) ≡ 32
-queue-long s g = simp length-map at (g .1 .1 .1 .1 .1 .0 .1 .0 .1)
+queue-long s g = simp length-map at (g .1 .1 .1 .1 .1 .1 .0 .1 .0 .1)

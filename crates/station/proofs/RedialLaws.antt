@@ -1,6 +1,6 @@
 -- c. ".. then d to g apply": what goes on behind an outcome, on the station that it leaves.
 use Prim.Native.Nat.{ℕ, zero, suc, _≤_}
-use mathlib.Core.Bool.{true, false, cond}
+use mathlib.Core.Bool.{Bool, true, false, cond}
 use mathlib.Core.List.{List, [], _∷_, map-append}
 use mathlib.Core.Path.{_≡_, refl, sym, ap, _∙_}
 use native.Mathlib.Omega.{arith}
@@ -10,9 +10,9 @@ use Rattle.units.specs.declared.Tenths.{Tenths}
 use Rattle.rules.specs.Rules.Words.{Config, Request}
 use Rattle.rules.specs.Rules.Places.{Each, modAt}
 use Rattle.rules.specs.Rules.Station as R
-use Rattle.rules.specs.Rules.Station.{setSlot, setQueue, setClock}
+use Rattle.rules.specs.Rules.Station.{setSlot, newCall, setQueue, setClock, usedUp}
 use Rattle.rules.specs.Rules.Sound.{sound}
-use Rattle.rules.specs.Rules.Requests.{also, rungBack, freedFor, freed, coastEnd}
+use Rattle.rules.specs.Rules.Requests.{also, toRingBack, rungBack, freedFor, freed, coastEnd}
 use Rattle.rules.proofs.PlaceLaws.{modAt-length}
 use Rattle.slots.specs.Images.{Short, ShortSlot, Fits}
 use Rattle.soundness.proofs.FitLaws.{sound-fits}
@@ -39,8 +39,8 @@ each-set P x p (suc i) (y ∷ l) h = (h .0, each-set P x p i l (h .1))
 
 -- a slot is freed, and what stands then fits as before
 freed-fits : (c : Config) (i : ℕ) (st : R.Station) → Fits c st → Fits c (freed i st .next)
-unfolding freed freedFor rungBack setSlot setQueue
-freed-fits c i st f = go (st .queue) (f .fewWait) (f .shortQueue)
+unfolding freed freedFor rungBack setSlot newCall setQueue
+freed-fits c i st f = back (usedUp st)
   where
     go : (q : List R.Waiting) → length q ≤ 32 → Each (λ w. Short (w .request)) q → Fits c (freedFor i st q .next)
     go [] fewWait short =
@@ -60,8 +60,12 @@ freed-fits c i st f = go (st .queue) (f .fewWait) (f .shortQueue)
           shortQueue = short .1;
         }
 
+    back : (b : Bool) → Fits c (freedFor i st (cond b [] (st .queue)) .next)
+    back true = go [] (omega arith) tt
+    back false = go (st .queue) (f .fewWait) (f .shortQueue)
+
 -- what goes on behind frees the slot first
-on-frees : (i : ℕ) (own q : Request) (st : R.Station) (o : Outcome) → cond (goesOn o) (outOf i own q o st .next) (freed i st .next) ≡ freed i st .next
+on-frees : (i : ℕ) (own : R.Dealing) (q : Request) (st : R.Station) (o : Outcome) → cond (goesOn o) (outOf i own q o st .next) (freed i st .next) ≡ freed i st .next
 unfolding outOf coastEnd
 on-frees i own q st Ignored = refl
 on-frees i own q st Passes = refl
@@ -88,8 +92,8 @@ on-frees i own q st Transmits = refl
 on-frees i own q st (DropsCall rung tone) = refl
 
 freed-clock : (i : ℕ) (st : R.Station) → freed i st .next .clock ≡ st .clock
-unfolding freed freedFor rungBack setSlot setQueue
-freed-clock i st = go (st .queue)
+unfolding freed freedFor rungBack setSlot newCall setQueue
+freed-clock i st = go (toRingBack st)
   where
     go : (q : List R.Waiting) → freedFor i st q .next .clock ≡ st .clock
     go [] = refl
@@ -143,7 +147,7 @@ module _ (s : Station) (t : Tenths) (i : SlotNumber) (q : Request) (o : Outcome)
 
   -- the outcome p of the slot j goes on, for a ship that has no slot
   module _ (on : goesOn o ≡ true) (next : Station) (left : modelOf next ≡ outAt s t i q o .next) (clock : outAt s t i q o .next .clock ≡ t .0)
-      (j : SlotNumber) (p : Outcome) (goes : (u : ℕ) (own : Request) → outOf (j .0) own q p (setClock u (modelOf next)) ≡ withoutSlot q (setClock u (modelOf next))) where
+      (j : SlotNumber) (p : Outcome) (goes : (u : ℕ) (own : R.Dealing) → outOf (j .0) own q p (setClock u (modelOf next)) ≡ withoutSlot q (setClock u (modelOf next))) where
     goes-is : outAt next t j q p ≡ withoutSlot q (outAt s t i q o .next)
     unfolding outAt
     goes-is = goes (t .0) (ownOf next (j .0)) ∙ ap (withoutSlot q) (ap (setClock (t .0)) left ∙ clock-set (t .0) (outAt s t i q o .next) clock)

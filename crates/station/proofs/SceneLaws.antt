@@ -1,6 +1,7 @@
 -- An outcome told and applied by its scene is the outcome in the words of the rules.
 use Prim.Native.Nat.{ℕ, _≤_}
-use mathlib.Core.List.{List, map}
+use mathlib.Core.Bool.{Bool, true, false, cond}
+use mathlib.Core.List.{List, [], map}
 use mathlib.Core.Path.{_≡_, refl, sym, ap, _∙_}
 use lib.ListN.{length, getD}
 use Rattle.units.specs.declared.SlotNumber.{SlotNumber}
@@ -8,9 +9,9 @@ use Rattle.units.specs.declared.Tenths.{Tenths}
 use Rattle.rules.specs.Rules.Words.{Request}
 use Rattle.rules.specs.Rules.Bytes.{channelAt}
 use Rattle.rules.specs.Rules.Station as R
-use Rattle.rules.specs.Rules.Station.{setClock, nextDue}
+use Rattle.rules.specs.Rules.Station.{setClock, nextDue, noneLeft, usedUp}
 use Rattle.rules.specs.Rules.Sound.{limit}
-use Rattle.rules.specs.Rules.Requests.{Out}
+use Rattle.rules.specs.Rules.Requests.{Out, toRingBack}
 use Rattle.requests.specs.declared.Request.{Request as Asked}
 use Rattle.requests.specs.Views.{requestOf}
 use Rattle.slots.specs.declared.Slot.{Slot}
@@ -21,7 +22,7 @@ use Rattle.actions.specs.Sent.{sentBlock}
 use Rattle.blocks.specs.Laid.{Laid, laidFrom}
 use Rattle.outcomes.specs.declared.Outcome.{Outcome}
 use Rattle.outcomes.specs.Does as D
-use Rattle.outcomes.specs.Does.{outOf, sceneOf, actsOf, answerOf, queueChange, requeued, applied}
+use Rattle.outcomes.specs.Does.{outOf, ringableOf, sceneOf, actsOf, answerOf, queueChange, requeued, applied}
 use Rattle.outcomes.proofs.PartLaws.{outcome-applied}
 use Rattle.telling.specs.declared.Scene.{Scene}
 use Rattle.telling.specs.Tells.{sceneView, telling}
@@ -34,7 +35,7 @@ use Rattle.station.specs.Pieces.{slotOf, ownOf, outAt, laidOf, enacted}
 use Rattle.station.proofs.PlaceLaws.{slot-channel}
 use Rattle.station.proofs.ApplyLaws.{turned-queue}
 
-scene-out : (s : Station) (t i : ℕ) (own asked : Request) → t ≤ limit → (sc : D.Scene) (o : Outcome) → sc ≡ sceneOf i own asked (setClock t (modelOf s))
+scene-out : (s : Station) (t i : ℕ) (own : R.Dealing) (asked : Request) → t ≤ limit → (sc : D.Scene) (o : Outcome) → sc ≡ sceneOf i own asked (setClock t (modelOf s))
     → applied sc o (setClock t (modelOf s)) ≡ outOf i own asked o (setClock t (modelOf s))
 unfolding setClock
 scene-out s t i own asked late sc o e = rw e (sym (outcome-applied i own asked (setClock t (modelOf s)) late o))
@@ -43,13 +44,22 @@ scene-out s t i own asked late sc o e = rw e (sym (outcome-applied i own asked (
 abbrev pub Shows : Station → Tenths → SlotNumber → Request → Scene → Type 0
 Shows s t i q sc = (sceneView sc ≡ sceneOf (i .0) (ownOf s (i .0)) q (setClock (t .0) (modelOf s))) × ((sc .clock ≡ t) × (sc .channel ≡ channelAt (configOf s) (sc .slot .0)))
 
--- from the slot's record and the oldest waiting ship's, where n wait
-pub shows : (s : Station) (t : Tenths) (i : SlotNumber) (q : Asked) (x : Slot) (w : Waiting) (n : ℕ) → x ≡ slotOf s (i .0)
-    → waitingView w ≡ getD (modelOf s .queue) 0 (waitingView blankWaiting) → n ≡ length (modelOf s .queue)
-    → Shows s t i (requestOf q) (record { clock = t; slot = i; channel = x .channel; own = x .request; asked = q; oldest = w .request; waiting = n })
+-- how many may be rung back, where n wait
+rung-back : (s : Station) (t n : ℕ) → n ≡ length (modelOf s .queue) → ringableOf (s .last) n ≡ length (toRingBack (setClock t (modelOf s)))
+unfolding setClock usedUp modelOf
+rung-back s t n e = rw e (go (noneLeft (s .last .0)))
+  where
+    go : (b : Bool) → cond b 0 (length (modelOf s .queue)) ≡ length (cond b [] (modelOf s .queue))
+    go true = refl
+    go false = refl
+
+-- from the slot's record and the oldest waiting ship's, where n wait and k may be rung back
+pub shows : (s : Station) (t : Tenths) (i : SlotNumber) (q : Asked) (x : Slot) (w : Waiting) (n k : ℕ) → x ≡ slotOf s (i .0)
+    → waitingView w ≡ getD (modelOf s .queue) 0 (waitingView blankWaiting) → n ≡ length (modelOf s .queue) → k ≡ ringableOf (s .last) n
+    → Shows s t i (requestOf q) (record { clock = t; slot = i; channel = x .channel; call = x .call; own = x .request; asked = q; oldest = w .request; ringable = k })
 unfolding sceneOf sceneView ownOf setClock
-shows s t i q x w n at first waiting =
-    (rw (waiting, ap (λ (y : R.Waiting). y .request) first, at), (refl, ap (λ y. y .channel) at ∙ slot-channel s (i .0)))
+shows s t i q x w n k at first waiting few =
+    (rw (few ∙ rung-back s (t .0) n waiting, ap (λ (y : R.Waiting). y .request) first, at), (refl, ap (λ y. y .channel) at ∙ slot-channel s (i .0)))
 
 module _ (s : Station) (t : Tenths) (i : SlotNumber) (q : Request) (sc : Scene) (o : Outcome) (late : t .0 ≤ limit) (shows : Shows s t i q sc) where
   pub out-is : applied (sceneView sc) o (setClock (sc .clock .0) (modelOf s)) ≡ outAt s t i q o
@@ -59,7 +69,7 @@ module _ (s : Station) (t : Tenths) (i : SlotNumber) (q : Request) (sc : Scene) 
       ∙ scene-out s (t .0) (i .0) (ownOf s (i .0)) q late (sceneView sc) o (shows .0)
 
   -- the queue that the outcome leaves
-  pub queue-is : outAt s t i q o .next .queue ≡ requeued (sceneView sc) (queueChange (sc .clock) (sc .waiting) o) (setClock (sc .clock .0) (modelOf s)) .queue
+  pub queue-is : outAt s t i q o .next .queue ≡ requeued (sceneView sc) (queueChange (sc .clock) (sc .ringable) o) (setClock (sc .clock .0) (modelOf s)) .queue
   unfolding applied setClock sceneView
   queue-is = ap (λ (x : Out). x .next .queue) (sym out-is) ∙ turned-queue (sceneView sc) _ (requeued (sceneView sc) _ (setClock (sc .clock .0) (modelOf s)))
 

@@ -83,7 +83,7 @@ module _ (mast : Mast) (channels : List Channel) (n : ℕ) (w : length channels 
       ap (λ (l : List Channel). configKeeps (onMast mast l)) (rw (e, le-leb n 16 h) back)
 
   pub set-up-done : configKeeps (onMast mast (countedOf channels n)) ≡ true
-      → _≡_ {A = SetUp} (record { answer = 0; station = record { clock = tenths 0; mast = mast; count = n; waiting = 0; slots = padded blankSlot 16 (viewed freeOn n channels); queue = padded blankWaiting 32 [] } }) (setUpOf (onMast mast (countedOf channels n)))
+      → _≡_ {A = SetUp} (record { answer = 0; station = record { clock = tenths 0; mast = mast; last = record { 0 = 0 }; count = n; waiting = 0; slots = padded blankSlot 16 (viewed freeOn n channels); queue = padded blankWaiting 32 [] } }) (setUpOf (onMast mast (countedOf channels n)))
   unfolding setUpVerdict imageOf fresh viewed
   set-up-done k = rw (k, le-leb n 16 h, images mast (take n channels), counts mast (take n channels), counted)
 

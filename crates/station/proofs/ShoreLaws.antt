@@ -6,9 +6,8 @@ use mathlib.Core.Option.{Option, none, some}
 use mathlib.Core.Path.{_≡_, refl, sym, _∙_}
 use Rattle.units.specs.declared.SlotNumber.{SlotNumber}
 use Rattle.units.specs.declared.Tenths.{Tenths}
-use Rattle.rules.specs.Rules.Places.{isSome, lowest}
-use Rattle.rules.specs.Rules.Ashore.{ashoreRequest}
-use Rattle.rules.specs.Rules.Station.{isFree}
+use Rattle.rules.specs.Rules.Places.{isSome}
+use Rattle.rules.specs.Rules.Ashore.{ashoreRequest, slotToTake}
 use Rattle.rules.specs.Rules.Sound.{numberKeeps}
 use Rattle.rules.specs.Rules.Calls.{actAt, act}
 use Rattle.requests.specs.declared.Request.{Request}
@@ -32,12 +31,12 @@ last-passed none true n h = refl
 last-passed none false n h = let k : _≡_ {A = Option ℕ} none (some n) = h in cc
 last-passed (some k) b n h = let k : _≡_ {A = Option ℕ} none (some k) = h in cc
 
-found-is : (f : Found) → isSome (foundView f) ≡ true → foundView f ≡ some (slotFound f .0)
+pub found-is : (f : Found) → isSome (foundView f) ≡ true → foundView f ≡ some (slotFound f .0)
 found-is (At i) h = refl
 found-is Nothing h = cc
 
--- the slot f is the lowest free one, and the number keeps the rules
-module _ (s : Station) (t : Tenths) (n ship mode : ℕ) (digits : List ℕ) (f : Found) (e : foundView f ≡ lowest isFree (modelOf s .slots)) (k : isSome (foundView f) ≡ true) (h : numberKeeps digits ≡ true) where
+-- the slot f is to be taken, and the number keeps the rules
+module _ (s : Station) (t : Tenths) (n ship mode : ℕ) (digits : List ℕ) (f : Found) (e : foundView f ≡ slotToTake (modelOf s)) (k : isSome (foundView f) ≡ true) (h : numberKeeps digits ≡ true) where
   pub shore-acts : (i : SlotNumber) → i ≡ slotFound f → (r : Request) → r ≡ requestFrom (s .mast) ship mode digits
       → outAt s t i (requestOf r) Calls ≡ act (configOf s) (modelOf s) (record { time = t .0; room = n; what = ashoreOf ship mode digits })
   unfolding outAt outOf actAt configOf ashoreRequest

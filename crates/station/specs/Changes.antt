@@ -1,5 +1,6 @@
 -- What an outcome makes of a slot's record, and of the queue's.
 use Prim.Native.Nat.{ℕ, _+_}
+use Rattle.units.specs.declared.CallNumber.{CallNumber}
 use Rattle.rules.specs.Rules.Sound.{queueRoom}
 use Rattle.slots.specs.declared.Slot.{Slot}
 use Rattle.outcomes.specs.declared.Turn.{Turn}
@@ -8,11 +9,12 @@ use Rattle.outcomes.specs.declared.QueueChange.{QueueChange}
 use Rattle.outcomes.specs.declared.QueueChange.the-variants.{Same, Leaves, Joins, Replaces}
 use Rattle.telling.specs.declared.Scene.{Scene}
 
-abbrev pub slotTurned : Scene → Slot → Turn → Slot
-slotTurned sc x Stays = x
-slotTurned sc x (Own p) = record { phase = p; channel = x .channel; request = sc .own }
-slotTurned sc x (Asked p) = record { phase = p; channel = x .channel; request = sc .asked }
-slotTurned sc x (Oldest p) = record { phase = p; channel = x .channel; request = sc .oldest }
+-- a new call has the last number then given
+abbrev pub slotTurned : Scene → CallNumber → Slot → Turn → Slot
+slotTurned sc last x Stays = x
+slotTurned sc last x (Own p) = record { phase = p; channel = x .channel; call = sc .call; request = sc .own }
+slotTurned sc last x (Asked p) = record { phase = p; channel = x .channel; call = last; request = sc .asked }
+slotTurned sc last x (Oldest p) = record { phase = p; channel = x .channel; call = last; request = sc .oldest }
 
 -- the place that is given up in a queue of n
 abbrev pub leavingOf : ℕ → QueueChange → ℕ

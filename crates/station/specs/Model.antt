@@ -16,6 +16,7 @@ modelOf s =
       clock = s .clock .0;
       slots = viewed slotView (s .count) (s .slots);
       queue = viewed waitingView (s .waiting) (s .queue);
+      lastCall = s .last .0;
     }
 
 -- what never changes
@@ -28,6 +29,7 @@ imageOf c m =
     record {
       clock = tenths (m .clock);
       mast = mastOf c;
+      last = record { 0 = m .lastCall };
       count = length (m .slots);
       waiting = length (m .queue);
       slots = padded blankSlot 16 (slotImages (c .channels) (m .slots));

@@ -27,7 +27,7 @@ use Rattle.slots.specs.declared.Due.the-variants.{Never, In}
 use Rattle.slots.specs.declared.Found.{Found}
 use Rattle.slots.specs.declared.Found.the-variants as F
 use Rattle.slots.specs.Images.{blankSlot}
-use Rattle.slots.specs.Views.{signalView, handView, dueView}
+use Rattle.slots.specs.Views.{dealingOf, signalView, handView, dueView}
 use Rattle.actions.specs.Sent.{sentBlock}
 use Rattle.blocks.specs.Laid.{Laid, laidFrom}
 use Rattle.gate.specs.declared.Look.{Look}
@@ -52,12 +52,12 @@ pub record Sees (s : Station) (l : Look) : Type 0 where
   pub slots : l .count ≡ length (modelOf s .slots)
   pub first : dueView (l .due) ≡ earliest (table (modelOf s))
 
--- the slot i, and the request that it keeps
+-- the slot i, and what it keeps of its call
 unfoldable pub slotOf : Station → ℕ → Slot
 slotOf s i = getD (viewed itself (s .count) (s .slots)) i blankSlot
 
-unfoldable pub ownOf : Station → ℕ → W.Request
-ownOf s i = requestOf (slotOf s i .request)
+unfoldable pub ownOf : Station → ℕ → R.Dealing
+ownOf s i = dealingOf (slotOf s i)
 
 -- ── enacted ──────────────────────────────────────────────────────────────────
 

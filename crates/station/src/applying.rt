@@ -7,12 +7,14 @@ use outcomes::Turn;
 use slots::MOST_WAITING;
 use slots::Slot;
 use telling::Scene;
+use units::CallNumber;
 
-// The slot as the outcome turns it, its channel kept.
-pub(crate) fn slot_turned(slot: Slot, turn: Turn, scene: Scene) -> Slot
-    ensures { λ r. ⌜ r ≡ slotTurned scene slot turn ⌝ }
+// The slot as the outcome turns it, its channel kept; a new call has the last number then given.
+pub(crate) fn slot_turned(slot: Slot, turn: Turn, scene: Scene, last: CallNumber) -> Slot
+    ensures { λ r. ⌜ r ≡ slotTurned scene last slot turn ⌝ }
 {
     let channel = slot.channel;
+    let call = scene.call;
     let own = scene.own;
     let asked = scene.asked;
     let oldest = scene.oldest;
@@ -21,16 +23,19 @@ pub(crate) fn slot_turned(slot: Slot, turn: Turn, scene: Scene) -> Slot
         Turn::Own(phase) => Slot {
             phase: phase,
             channel: channel,
+            call: call,
             request: own,
         },
         Turn::Asked(phase) => Slot {
             phase: phase,
             channel: channel,
+            call: last,
             request: asked,
         },
         Turn::Oldest(phase) => Slot {
             phase: phase,
             channel: channel,
+            call: last,
             request: oldest,
         },
     }

@@ -7,12 +7,12 @@ ghost use Rattle.rules.specs.Rules.Sound.{limit, queueRoom, sound};
 ghost use Rattle.rules.specs.Rules.Words as W;
 ghost use Rattle.rules.specs.Rules.Words.{onChannel70};
 ghost use Rattle.rules.specs.Rules.Heard.{declined};
-ghost use Rattle.rules.specs.Rules.Station.{theSlot, setClock};
+ghost use Rattle.rules.specs.Rules.Station.{Dealing, theSlot, setClock};
 ghost use Rattle.rules.specs.Rules.Requests as Q;
-ghost use Rattle.rules.specs.Rules.Requests.{standing, beingCalled, requested};
+ghost use Rattle.rules.specs.Rules.Requests.{standing, beingCalled, dToG, requested};
 ghost use Rattle.rules.specs.Rules.Calls.{bqFor, heardOn70};
 ghost use Rattle.requests.specs.Views.{requestOf};
-ghost use Rattle.slots.specs.Views.{standingView};
+ghost use Rattle.slots.specs.Views.{placeView, standingView};
 ghost use Rattle.hearing.specs.Said.{heardOf};
 ghost use Rattle.outcomes.specs.Does.{outOf, goesOn, withoutSlot};
 ghost use Rattle.station.specs.Model.{modelOf, configOf};
@@ -21,6 +21,8 @@ ghost use Rattle.station.specs.Pieces.{modelAt, chosenAt, handedBack, ro
 use crate::Choice;
 use crate::Station;
 use crate::Stepped;
+use crate::places::is_found;
+use crate::places::slot_found;
 use crate::places::slot_there;
 use gate::Verdict;
 use hearing::Heard;
@@ -35,61 +37,45 @@ use requests::sameness::same_request;
 use searches::first_free;
 use searches::place_of;
 use searches::standing;
-use slots::Found;
 use slots::Place;
 use slots::SLOTS;
 use slots::Standing;
 use slots::is_called;
+use slots::numbers::none_left;
 use units::SlotNumber;
 use units::Tenths;
 
 impl Station {
-    // e. "A slot is free: offer the lowest"; f. "The queue has room"; g. "Otherwise answer 104/102."
-    fn newcomer(self) -> Choice
+    // d to g, for a ship that has no slot, by the place where it waits.
+    fn d_to_g(self, place: Place) -> Choice
         ensures { λ r. ⌜
-            ((t : ℕ) (own q : W.Request)
-            → outOf (r .slot .0) own q (r .outcome) (setClock t (modelOf self)) ≡ Q.newcomer (setClock t (modelOf self)) q)
+            ((t : ℕ) (own : Dealing) (q : W.Request)
+            → outOf (r .slot .0) own q (r .outcome) (setClock t (modelOf self)) ≡ dToG (setClock t (modelOf self)) q (placeView place))
             ⌝ }
         ensures { λ r. ⌜ goesOn (r .outcome) ≡ false ⌝ }
     {
         let slots = self.slots;
         let free = first_free(slots, self.count);
         let waiting = self.queue_length();
-        match free {
-            Found::At(slot) => {
-                let outcome = deciding::newcomer(true, waiting);
-                Choice {
-                    slot: slot,
-                    outcome: outcome,
-                }
-            }
-            Found::Nothing => {
-                let outcome = deciding::newcomer(false, waiting);
-                Choice {
-                    slot: SlotNumber(0),
-                    outcome: outcome,
-                }
-            }
+        let spent = none_left(self.last);
+        let outcome = deciding::d_to_g(spent, place, is_found(free), waiting);
+        Choice {
+            slot: slot_found(free),
+            outcome: outcome,
         }
     }
 
-    // d. "The ship waits in the queue"; or e to g: for a ship that has no slot.
+    // d to g, for a ship that has no slot.
     fn without_slot(self, request: Request) -> Choice
         ensures { λ r. ⌜
-            ((t : ℕ) (own : W.Request)
+            ((t : ℕ) (own : Dealing)
             → outOf (r .slot .0) own (requestOf request) (r .outcome) (setClock t (modelOf self))
             ≡ withoutSlot (requestOf request) (setClock t (modelOf self)))
             ⌝ }
     {
         let queue = self.queue;
-        let found = place_of(queue, self.waiting, request.ship, request.station);
-        match found {
-            Place::At(place) => Choice {
-                slot: SlotNumber(0),
-                outcome: Outcome::Replaces(place),
-            },
-            Place::Nothing => self.newcomer(),
-        }
+        let place = place_of(queue, self.waiting, request.ship, request.station);
+        self.d_to_g(place)
     }
 
     // b. or c.: the ship has that slot.
@@ -102,7 +88,8 @@ impl Station {
         let kept = the_slot.request;
         let same = same_request(request, kept);
         let mode = kept.mode;
-        let outcome = deciding::asked_again(mode, same, phase);
+        let spent = none_left(self.last);
+        let outcome = deciding::asked_again(mode, same, spent, phase);
         Choice {
             slot: slot,
             outcome: outcome,
@@ -135,12 +122,9 @@ impl Station {
             ⌝ }
     {
         match self.stands(request) {
-            Standing::Nowhere => self.newcomer(),
+            Standing::Nowhere => self.d_to_g(Place::Nothing),
             Standing::Holds(slot) => self.asked_again(time, slot, request),
-            Standing::Waits(place) => Choice {
-                slot: SlotNumber(0),
-                outcome: Outcome::Replaces(place),
-            },
+            Standing::Waits(place) => self.d_to_g(Place::At(place)),
         }
     }
 

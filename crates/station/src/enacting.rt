@@ -22,7 +22,9 @@ use due_times::sooner_of;
 use outcomes::Outcome;
 use outcomes::parts::answer_of;
 use outcomes::parts::entered;
+use outcomes::parts::last_after;
 use outcomes::parts::queue_change;
+use outcomes::parts::ringable;
 use outcomes::parts::turn_of;
 use requests::Request;
 use requests::least;
@@ -70,20 +72,24 @@ impl Station {
         let channel = slot.channel;
         let own = slot.request;
         let oldest = head.request;
+        let call = slot.call;
+        let ringable = ringable(self.last, waiting);
         let scene = Scene {
             clock: time,
             slot: number,
             channel: channel,
+            call: call,
             own: own,
             asked: request,
             oldest: oldest,
-            waiting: waiting,
+            ringable: ringable,
         };
         let told = scene.tell(outcome, block, room);
-        let change = queue_change(outcome, time, waiting);
-        let turn = turn_of(outcome, time, waiting);
+        let change = queue_change(outcome, time, ringable);
+        let turn = turn_of(outcome, time, ringable);
+        let last = last_after(turn, self.last);
         if number.0 < slots as u32 {
-            self.slots[number.0 as usize] = slot_turned(slot, turn, scene);
+            self.slots[number.0 as usize] = slot_turned(slot, turn, scene, last);
         }
         // who waits behind the place that is given up moves up
         let mut gap = leaving(change, waiting);
@@ -100,6 +106,7 @@ impl Station {
         }
         let after = length_after(change, kept);
         self.clock = time;
+        self.last = last;
         self.count = slots;
         self.waiting = after;
         // laid out anew from the last place to the first, so that of two waits due together the earlier stands

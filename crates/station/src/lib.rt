@@ -20,6 +20,7 @@ use slots::Signal;
 use slots::Slot;
 use slots::Waiting;
 use slots::mast::Mast;
+use units::CallNumber;
 use units::SlotNumber;
 use units::Tenths;
 
@@ -27,6 +28,7 @@ use units::Tenths;
 pub struct Station {
     pub clock: Tenths,
     pub mast: Mast,
+    pub last: CallNumber, // the last call number given, 0 before the first
     pub slots: [Slot; SLOTS],
     pub queue: [Waiting; QUEUE_ROOM],
     pub count: u8,

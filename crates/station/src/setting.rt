@@ -17,6 +17,7 @@ use slots::laying::blank_waiting;
 use slots::laying::free_on;
 use slots::mast::Mast;
 use soundness::config_keeps;
+use units::CallNumber;
 use units::Channel;
 use units::Tenths;
 
@@ -46,6 +47,7 @@ impl Station {
         Station {
             clock: Tenths(0),
             mast: Mast { identity: 0 },
+            last: CallNumber(0),
             count: 0,
             waiting: 0,
             slots: [blank; SLOTS],
@@ -77,6 +79,7 @@ impl Station {
         let station = Station {
             clock: Tenths(0),
             mast: mast,
+            last: CallNumber(0),
             count: count,
             waiting: 0,
             slots: slots,

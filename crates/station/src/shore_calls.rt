@@ -1,15 +1,14 @@
 // A call from ashore to a ship.
 ghost use mathlib.Core.Path.{_≡_};
-ghost use Rattle.rules.specs.Rules.Places.{lowest, isSome};
-ghost use Rattle.rules.specs.Rules.Station.{isFree};
-ghost use Rattle.rules.specs.Rules.Ashore.{engaged};
+ghost use Rattle.rules.specs.Rules.Ashore.{engaged, slotToTake};
 ghost use Rattle.requests.specs.Views.{partyOf};
 ghost use Rattle.slots.specs.Views.{foundView};
 ghost use Rattle.station.specs.Model.{modelOf};
 ghost use Rattle.station.specs.Step.{eventAt, ashoreOf, steppedBy, roomAfter};
-ghost use Rattle.station.specs.Pieces.{slotFound};
 use crate::Station;
 use crate::Stepped;
+use crate::places::is_found;
+use crate::places::slot_found;
 use ashore::digits_keep;
 use ashore::is_mode;
 use ashore::request_from;
@@ -21,27 +20,8 @@ use searches::place_of;
 use sequence::parts::is_ship;
 use slots::Found;
 use slots::Place;
-use units::SlotNumber;
+use slots::numbers::none_left;
 use units::Tenths;
-
-fn is_found(found: Found) -> bool
-    ensures { λ r. ⌜ r ≡ isSome (foundView found) ⌝ }
-{
-    match found {
-        Found::At(_) => true,
-        Found::Nothing => false,
-    }
-}
-
-// The slot that was found; the lowest where none was.
-fn slot_found(found: Found) -> SlotNumber
-    ensures { λ r. ⌜ r ≡ slotFound found ⌝ }
-{
-    match found {
-        Found::At(slot) => slot,
-        Found::Nothing => SlotNumber(0),
-    }
-}
 
 impl Station {
     // "that ship already has a slot (a hold included) or waits"
@@ -59,9 +39,13 @@ impl Station {
         }
     }
 
-    fn free_slot(self) -> Found
-        ensures { λ r. ⌜ foundView r ≡ lowest isFree (modelOf self .slots) ⌝ }
+    // The slot that a call from ashore takes; document 02, no. 4: none once the last number has been given.
+    fn slot_to_take(self) -> Found
+        ensures { λ r. ⌜ foundView r ≡ slotToTake (modelOf self) ⌝ }
     {
+        if none_left(self.last) {
+            return Found::Nothing;
+        }
         let slots = self.slots;
         first_free(slots, self.count)
     }
@@ -86,7 +70,7 @@ impl Station {
         let look = self.looked();
         let first = look.due;
         let engaged = self.is_engaged(ship, mast.identity);
-        let free = self.free_slot();
+        let free = self.slot_to_take();
         let verdict = look.judge_now(room.len(), time)
             .and_then(is_ship(ship), 15)
             .and_then(is_mode(mode), 17)

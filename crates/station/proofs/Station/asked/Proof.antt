@@ -3,7 +3,6 @@ use Rattle.rules.specs.Rules.Station as R
 use Rattle.rules.specs.Rules.Station.{setClock}
 use Rattle.rules.specs.Rules.Requests.{requested}
 use Rattle.requests.specs.Views.{requestOf}
-use Rattle.outcomes.specs.Does.{outOf, wholeOf}
 use Rattle.station.specs.Model.{modelOf}
 use Rattle.station.specs.Pieces.{wholeAt}
 use Rattle.station.proofs.AskLaws.{ends-there}
@@ -17,7 +16,7 @@ returns c =
     let x = c .before .before .before .before .args in
     let st : R.Station = setClock (x .time .0) (modelOf (x .self)) in
     let h = rw (c .before .enum-told .given .1) at (c .before .before .before .stands .ensures (x .time .0)) in
-    ends-there _ _ _ _ st (c .newcomer .ensures .1) ∙ c .newcomer .ensures .0 (x .time .0) _ _ ∙ ap (requested st (requestOf (x .request))) h
+    ends-there _ _ _ _ st (c .d-to-g .ensures .1) ∙ c .d-to-g .ensures .0 (x .time .0) _ _ ∙ ap (requested st (requestOf (x .request))) h
 
 returns-2 : tie.Need-returns-2
 returns-2 c =
@@ -27,12 +26,12 @@ returns-2 c =
     c .asked-again .ensures ∙ ap (requested st (requestOf (x .request))) h
 
 returns-3 : tie.Need-returns-3
-unfolding requested wholeAt wholeOf outOf
+unfolding requested wholeAt
 returns-3 c =
-    let x = c .before .before .before .before .args in
+    let x = c .before .before .before .before .before .args in
     let st : R.Station = setClock (x .time .0) (modelOf (x .self)) in
-    let h = rw (c .before .place .given .1) at (c .before .before .before .stands .ensures (x .time .0)) in
-    ap (requested st (requestOf (x .request))) h
+    let h = rw (c .before .before .place .given .1) at (c .before .before .before .before .stands .ensures (x .time .0)) in
+    ends-there _ _ _ _ st (c .d-to-g2 .ensures .1) ∙ c .d-to-g2 .ensures .0 (x .time .0) _ _ ∙ ap (requested st (requestOf (x .request))) h
 
 pub asked-spec : {M : Type 1} → statement M
 asked-spec =
@@ -44,6 +43,7 @@ asked-spec =
     (λ c. search needs)
     (λ c κs. search needs)
     (λ c. search needs)
+    (λ c κs. search needs)
     returns
     returns-2
     returns-3)

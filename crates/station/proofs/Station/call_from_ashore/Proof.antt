@@ -30,7 +30,7 @@ unfolding ashoreRequest configOf
 judged v =
     let x = start v .args in
     let sees = v .before .before .before .before .before .before .before .before .before .before .before .before .looked .ensures in
-    (rw (v .before .before .and-then4 .ensures, v .before .before .before .and-then3 .ensures, v .before .before .before .before .before .and-then2 .ensures, v .before .before .before .before .before .before .before .and-then .ensures, v .before .before .before .before .before .before .before .before .before .judge-now .ensures, v .before .before .before .before .before .before .before .before .is-ship .ensures, v .before .before .before .before .before .before .is-mode .ensures, v .before .before .before .before .digits-keep .ensures, v .before .before .before .before .before .before .before .before .before .before .before .is-engaged .ensures, v .before .is-found .ensures, v .before .before .before .before .before .before .before .before .before .before .free-slot .ensures) at (v .and-then5 .ensures))
+    (rw (v .before .before .and-then4 .ensures, v .before .before .before .and-then3 .ensures, v .before .before .before .before .before .and-then2 .ensures, v .before .before .before .before .before .before .before .and-then .ensures, v .before .before .before .before .before .before .before .before .before .judge-now .ensures, v .before .before .before .before .before .before .before .before .is-ship .ensures, v .before .before .before .before .before .before .is-mode .ensures, v .before .before .before .before .digits-keep .ensures, v .before .before .before .before .before .before .before .before .before .before .before .is-engaged .ensures, v .before .is-found .ensures, v .before .before .before .before .before .before .before .before .before .before .slot-to-take .ensures) at (v .and-then5 .ensures))
     ∙ five-more _ _ sees (length (x .room .now)) (x .time .0) _ _ _ _ _
     ∙ asked-ashore _ _ sees (length (x .room .now)) (x .time .0) (record { ship = x .ship; mode = x .mode; digits = x .digits .now })
 
@@ -48,7 +48,7 @@ decided b =
     let x = start v .args in
     let p = passed (x .self) (event (start v)) (accepted b) in
     let found = last-passed (verdictOf (v .before .before .and-then4 .result)) (v .before .is-found .result) 37 (sym (ap verdictOf (b .before .before .enum-told .given .1)) ∙ v .and-then5 .ensures) in
-    shore-acts (x .self) (x .time) (length (x .room .now)) (x .ship) (x .mode) (x .digits .now) (v .before .before .before .before .before .before .before .before .before .before .free-slot .result) (v .before .before .before .before .before .before .before .before .before .before .free-slot .ensures) (sym (v .before .is-found .ensures) ∙ found) (rules.accepted (configOf (x .self)) (modelOf (x .self)) (event (start v)) (p .judged) .number)
+    shore-acts (x .self) (x .time) (length (x .room .now)) (x .ship) (x .mode) (x .digits .now) (v .before .before .before .before .before .before .before .before .before .before .slot-to-take .result) (v .before .before .before .before .before .before .before .before .before .before .slot-to-take .ensures) (sym (v .before .is-found .ensures) ∙ found) (rules.accepted (configOf (x .self)) (modelOf (x .self)) (event (start v)) (p .judged) .number)
     _ (b .before .slot-found .ensures) _ (v .before .before .before .before .before .before .before .before .before .before .before .before .before .request-from .ensures)
 
 enact-requires : tie.Need-enact-requires

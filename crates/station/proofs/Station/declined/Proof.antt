@@ -5,6 +5,7 @@ use Rattle.rules.specs.Rules.Calls.{declinedOn, declinedAt, heardOn70}
 use Rattle.requests.specs.Views.{requestOf}
 use Rattle.outcomes.specs.Does.{outOf, wholeOf}
 use Rattle.deciding.proofs.RuleLaws.{declined-is}
+use Rattle.slots.specs.Views.{dealingOf}
 use Rattle.station.specs.Model.{modelOf}
 use Rattle.station.specs.Pieces.{slotOf, ownOf, wholeAt}
 use Rattle.station.proofs.AskLaws.{ends-there, declined-ends}
@@ -34,7 +35,7 @@ returns-2 c =
     let h = rw (told .slot .given .1) at (told .before .before .stands .ensures (x .time .0)) in
     rw (c .declined .ensures, slot-is (x .t1) (slots-long (x .t1) (z .good .0)) i _ _ refl (c .before .slot-there .ensures))
     (ends-there i _ q _ st (declined-ends (y .phase))
-    ∙ declined-is i st (requestOf (y .request)) q (y .phase)
+    ∙ declined-is i st (dealingOf y) q (y .phase)
     ∙ ap (declinedOn i st) (slot-view (x .t1) i)
     ∙ ap (declinedAt st) h)
 

@@ -6,6 +6,7 @@ use mathlib.Core.Path.{_≡_, refl, sym, ap, _∙_}
 use native.Mathlib.Omega.{arith}
 use lib.ListN.{length, length-set, getD, set}
 use denote.Ref.{now}
+use Rattle.units.specs.declared.CallNumber.{CallNumber}
 use Rattle.rules.specs.Rules.Places.{dropAt}
 use Rattle.rules.specs.Rules.Waits.{earliest, sooner, ofQueue, loss, main}
 use Rattle.rules.specs.Rules.Station as R
@@ -21,7 +22,7 @@ use Rattle.due_times.specs.Joins.{joinDue, queueJoined}
 use Rattle.due_times.proofs.DueLaws.{slots-down, slots-none, queue-down, queue-none}
 use Rattle.outcomes.specs.declared.QueueChange.{QueueChange}
 use Rattle.outcomes.specs.declared.Turn.{Turn}
-use Rattle.outcomes.specs.Does.{turnOf, requeued, turned, applied}
+use Rattle.outcomes.specs.Does.{turnOf, lastAfter, requeued, turned, applied}
 use Rattle.telling.specs.declared.Scene.{Scene}
 use Rattle.telling.specs.Tells.{sceneView}
 use Rattle.station.specs.declared.Station.{Station}
@@ -31,7 +32,7 @@ use Rattle.station.specs.Changes.{slotTurned, leavingOf, lengthAfter}
 use Rattle.outcomes.specs.Does.{enteredOf}
 use Rattle.station.proofs.Longs.{slots-long, queue-long}
 use Rattle.station.proofs.PlaceLaws.{slot-in, slot-past, oldest-in, oldest-past, queue-length}
-use Rattle.station.proofs.ApplyLaws.{requeued-slots, moved-is}
+use Rattle.station.proofs.ApplyLaws.{requeued-slots, requeued-last, turned-last, moved-is}
 use Rattle.station.proofs.ChangeLaws.{slots-written, channels-written, slots-kept, queue-written, queue-kept, queue-fits}
 use Rattle.station.proofs.FinishLaws.{done-again, done-whole, image-is, due-is}
 use Rattle.station.proofs.SceneLaws.{Shows, shows, queue-is, enacts}
@@ -43,56 +44,59 @@ use Rattle.station.proofs.Station.enact.Tie as tie
 
 -- the gap moves to the end of the queue
 abbrev Inv-loop : tie.InvT-loop
-Inv-loop time outcome request block room self₀ slots waiting blank nobody told change gap₀ self gap =
+Inv-loop time outcome request block room self₀ slots waiting blank nobody ringable told change last gap₀ self gap =
     (self .mast ≡ self₀ .mast) × (self .slots ≡ self₀ .slots) × (length (self .queue) ≡ 32) × (waiting ≤ 32) × (gap < 256)
     × (dropAt gap (viewed waitingView waiting (self .queue)) ≡ dropAt gap₀ (viewed waitingView waiting (self₀ .queue)))
 
 abbrev μ-loop : tie.MeasureT-loop
-μ-loop time outcome request block room self₀ slots waiting blank nobody told change gap₀ self gap = waiting - gap
+μ-loop time outcome request block room self₀ slots waiting blank nobody ringable told change last gap₀ self gap = waiting - gap
 
 -- the slots laid out anew from i on, first the unused ones
 abbrev Inv-loop2 : tie.InvT-loop2
-Inv-loop2 outcome block room self₀ slots waiting blank nobody told gap kept place after first i₀ self i =
+Inv-loop2 outcome block room self₀ slots waiting blank nobody ringable told gap kept place after first i₀ self i =
     (self .clock ≡ self₀ .clock) × (self .mast ≡ self₀ .mast) × (self .count ≡ self₀ .count) × (self .waiting ≡ self₀ .waiting) × (self .queue ≡ self₀ .queue)
-    × (slots ≤ i) × (i ≤ 16) × (self .slots ≡ doneFrom tidySlot blankSlot slots (self₀ .slots) i)
+    × (slots ≤ i) × (i ≤ 16) × (self .slots ≡ doneFrom tidySlot blankSlot slots (self₀ .slots) i) × (self .last ≡ self₀ .last)
 
 abbrev μ-loop2 : tie.MeasureT-loop2
-μ-loop2 outcome block room self₀ slots waiting blank nobody told gap kept place after first i₀ self i = i
+μ-loop2 outcome block room self₀ slots waiting blank nobody ringable told gap kept place after first i₀ self i = i
 
 abbrev Inv-loop3 : tie.InvT-loop3
-Inv-loop3 outcome block room self₀ slots waiting nobody told gap kept place after first₀ i₀ self first i =
+Inv-loop3 outcome block room self₀ slots waiting nobody ringable told gap kept place after first₀ i₀ self first i =
     (self .clock ≡ self₀ .clock) × (self .mast ≡ self₀ .mast) × (self .count ≡ self₀ .count) × (self .waiting ≡ self₀ .waiting) × (self .queue ≡ self₀ .queue)
     × (i ≤ slots) × (slots ≤ 16) × (length (self₀ .slots) ≡ 16) × (self .slots ≡ doneFrom tidySlot blankSlot slots (self₀ .slots) i)
-    × (dueView first ≡ earliest (slotTable i (left slotView slots (self₀ .slots) i)))
+    × (dueView first ≡ earliest (slotTable i (left slotView slots (self₀ .slots) i))) × (self .last ≡ self₀ .last)
 
 abbrev μ-loop3 : tie.MeasureT-loop3
-μ-loop3 outcome block room self₀ slots waiting nobody told gap kept place after first₀ i₀ self first i = i
+μ-loop3 outcome block room self₀ slots waiting nobody ringable told gap kept place after first₀ i₀ self first i = i
 
 -- and so the queue
 abbrev Inv-loop4 : tie.InvT-loop4
-Inv-loop4 outcome block room self₀ slots waiting nobody told gap kept place after first i₀ self i =
+Inv-loop4 outcome block room self₀ slots waiting nobody ringable told gap kept place after first i₀ self i =
     (self .clock ≡ self₀ .clock) × (self .mast ≡ self₀ .mast) × (self .count ≡ self₀ .count) × (self .waiting ≡ self₀ .waiting) × (self .slots ≡ self₀ .slots)
-    × (after ≤ i) × (i ≤ 32) × (self .queue ≡ doneFrom tidyWaiting blankWaiting after (self₀ .queue) i)
+    × (after ≤ i) × (i ≤ 32) × (self .queue ≡ doneFrom tidyWaiting blankWaiting after (self₀ .queue) i) × (self .last ≡ self₀ .last)
 
 abbrev μ-loop4 : tie.MeasureT-loop4
-μ-loop4 outcome block room self₀ slots waiting nobody told gap kept place after first i₀ self i = i
+μ-loop4 outcome block room self₀ slots waiting nobody ringable told gap kept place after first i₀ self i = i
 
 abbrev Inv-loop5 : tie.InvT-loop5
-Inv-loop5 outcome block room self₀ slots waiting told gap kept place after first₀ i₀ self first i =
+Inv-loop5 outcome block room self₀ slots waiting ringable told gap kept place after first₀ i₀ self first i =
     (self .clock ≡ self₀ .clock) × (self .mast ≡ self₀ .mast) × (self .count ≡ self₀ .count) × (self .waiting ≡ self₀ .waiting) × (self .slots ≡ self₀ .slots)
     × (i ≤ after) × (after ≤ 32) × (length (self₀ .queue) ≡ 32) × (self .queue ≡ doneFrom tidyWaiting blankWaiting after (self₀ .queue) i)
-    × (dueView first ≡ queueJoined i (map dueOf (left waitingView after (self₀ .queue) i)) (dueView first₀))
+    × (dueView first ≡ queueJoined i (map dueOf (left waitingView after (self₀ .queue) i)) (dueView first₀)) × (self .last ≡ self₀ .last)
 
 abbrev μ-loop5 : tie.MeasureT-loop5
-μ-loop5 outcome block room self₀ slots waiting told gap kept place after first₀ i₀ self first i = i
+μ-loop5 outcome block room self₀ slots waiting ringable told gap kept place after first₀ i₀ self first i = i
 
 -- ── the places of the code, from the last back ──
 
 abbrev Start : Type 0
 Start = tie.Start Inv-loop μ-loop Inv-loop2 μ-loop2 Inv-loop3 μ-loop3 Inv-loop4 μ-loop4 Inv-loop5 μ-loop5
 
+abbrev Both : Type 0
+Both = tie.Joined2 Inv-loop μ-loop Inv-loop2 μ-loop2 Inv-loop3 μ-loop3 Inv-loop4 μ-loop4 Inv-loop5 μ-loop5
+
 abbrev Read : Type 0
-Read = tie.Joined2 Inv-loop μ-loop Inv-loop2 μ-loop2 Inv-loop3 μ-loop3 Inv-loop4 μ-loop4 Inv-loop5 μ-loop5
+Read = tie.After-ringable Inv-loop μ-loop Inv-loop2 μ-loop2 Inv-loop3 μ-loop3 Inv-loop4 μ-loop4 Inv-loop5 μ-loop5
 
 abbrev Turned : Type 0
 Turned = tie.Joined3 Inv-loop μ-loop Inv-loop2 μ-loop2 Inv-loop3 μ-loop3 Inv-loop4 μ-loop4 Inv-loop5 μ-loop5
@@ -109,11 +113,14 @@ Requeued = tie.Joined4 Inv-loop μ-loop Inv-loop2 μ-loop2 Inv-loop3 μ-loop3 In
 abbrev Blanking : Type 0
 Blanking = tie.At-loop2 Inv-loop μ-loop Inv-loop2 μ-loop2 Inv-loop3 μ-loop3 Inv-loop4 μ-loop4 Inv-loop5 μ-loop5
 
+abbrev both : Read → Both
+both c = c .before .before .before .before .before .before
+
 abbrev start : Read → Start
-start c = c .before .before .before .before .before .before .before .before
+start c = both c .before .before .before .before .before .before .before .before
 
 abbrev read : Turned → Read
-read c = c .before .before .before .before .before .before .before .before .before .before .before
+read c = c .before .before .before .before .before .before .before .before .before .before
 
 abbrev turned′ : Closed → Turned
 turned′ c = c .before .before .before
@@ -130,10 +137,10 @@ abbrev own : Read → Station
 own c = start c .args .t1
 
 abbrev slots : Read → ℕ
-slots c = c .before .before .before .before .before .before .least .result
+slots c = both c .before .before .before .before .before .before .least .result
 
 abbrev waiting : Read → ℕ
-waiting c = c .before .before .before .before .before .least2 .result
+waiting c = both c .before .before .before .before .before .least2 .result
 
 wide : (c : Read) → length (own c .slots) ≡ 16
 wide c = slots-long (own c) (start c .good .0)
@@ -142,39 +149,40 @@ long : (c : Read) → length (own c .queue) ≡ 32
 long c = queue-long (own c) (start c .good .0)
 
 slots-is : (c : Read) → slots c ≡ min (own c .count) 16
-slots-is c = c .before .before .before .before .before .before .least .ensures
+slots-is c = both c .before .before .before .before .before .before .least .ensures
 
 waiting-is : (c : Read) → waiting c ≡ min (own c .waiting) 32
-waiting-is c = c .before .before .before .before .before .least2 .ensures
+waiting-is c = both c .before .before .before .before .before .least2 .ensures
 
-slot-is : (c : Read) → c .before .if1 .slot ≡ slotOf (own c) (start c .args .number .0)
+slot-is : (c : Read) → both c .before .if1 .slot ≡ slotOf (own c) (start c .args .number .0)
 slot-is c =
     ⊎-elim
-    (λ v. v .3 ∙ slot-in (own c) (wide c) (start c .args .number .0) (rw (slots-is c) at (v .0 .taken)))
-    (λ v. v .1 ∙ c .before .before .before .before .blank-slot .ensures ∙ slot-past (own c) (wide c) (start c .args .number .0) (rw (slots-is c) at (v .0 .left)))
-    (c .before .if1 .came)
+    (λ v. v .3 ∙ slot-in (own c) (wide c) (start c .args .number .0) (omega (arith, slots-is c, v .0 .taken)))
+    (λ v. v .1 ∙ both c .before .before .before .before .blank-slot .ensures ∙ slot-past (own c) (wide c) (start c .args .number .0) (omega (arith, slots-is c, v .0 .left)))
+    (both c .before .if1 .came)
 
-oldest-is : (c : Read) → waitingView (c .if2 .head) ≡ getD (modelOf (own c) .queue) 0 (waitingView blankWaiting)
+oldest-is : (c : Read) → waitingView (both c .if2 .head) ≡ getD (modelOf (own c) .queue) 0 (waitingView blankWaiting)
 oldest-is c =
     ⊎-elim
     (λ v. ap waitingView (v .2) ∙ oldest-in (own c) (long c) (rw (waiting-is c) at (v .0 .taken)))
-    (λ v. ap waitingView (v .1 ∙ c .before .before .before .blank-waiting .ensures) ∙ oldest-past (own c) (long c) (rw (waiting-is c) at (v .0 .left)))
-    (c .if2 .came)
+    (λ v. ap waitingView (v .1 ∙ both c .before .before .before .blank-waiting .ensures) ∙ oldest-past (own c) (long c) (rw (waiting-is c) at (v .0 .left)))
+    (both c .if2 .came)
 
 abbrev scene : Read → Scene
 scene c =
     record {
       clock = start c .args .time;
       slot = start c .args .number;
-      channel = c .before .if1 .slot .channel;
-      own = c .before .if1 .slot .request;
+      channel = both c .before .if1 .slot .channel;
+      call = both c .before .if1 .slot .call;
+      own = both c .before .if1 .slot .request;
       asked = start c .args .request;
-      oldest = c .if2 .head .request;
-      waiting = waiting c;
+      oldest = both c .if2 .head .request;
+      ringable = c .ringable .result;
     }
 
 shown : (c : Read) → Shows (own c) (start c .args .time) (start c .args .number) (requestOf (start c .args .request)) (scene c)
-shown c = shows (own c) (start c .args .time) (start c .args .number) (start c .args .request) (c .before .if1 .slot) (c .if2 .head) (waiting c) (slot-is c) (oldest-is c) (waiting-is c ∙ queue-length (own c) (long c))
+shown c = shows (own c) (start c .args .time) (start c .args .number) (start c .args .request) (both c .before .if1 .slot) (both c .if2 .head) (waiting c) (c .ringable .result) (slot-is c) (oldest-is c) (waiting-is c ∙ queue-length (own c) (long c)) (c .ringable .ensures)
 
 -- the model at the event's time
 abbrev before′ : Read → R.Station
@@ -183,10 +191,10 @@ before′ c = setClock (start c .args .time .0) (modelOf (own c))
 -- ── the slot ──
 
 abbrev change : Turned → QueueChange
-change c = c .before .before .before .queue-change .result
+change c = c .before .before .before .before .before .queue-change .result
 
 abbrev turn : Turned → Turn
-turn c = c .before .before .turn-of .result
+turn c = c .before .before .before .before .turn-of .result
 
 abbrev during : Turned → R.Station
 during c = requeued (sceneView (scene (read c))) (change c) (before′ (read c))
@@ -199,7 +207,15 @@ slots-seen c =
     let n : slots r ≡ min (s .count) (length (s .slots)) = omega (arith, slots-is r, wide r) in
     ap (λ z. viewed slotView z (s .slots)) n ∙ viewed-min slotView (s .count) (s .slots) ∙ sym (requeued-slots (sceneView (scene r)) (change c) (before′ r))
 
-slot-there : (c : Turned) → start (read c) .args .number .0 < slots (read c) → c .before .before .before .before .before .before .before .before .before .before .before .before .if1 .slot ≡ getD (own (read c) .slots) (start (read c) .args .number .0) noSlot
+-- the last number given before, and then
+last-seen : (c : Turned) → own (read c) .last .0 ≡ during c .lastCall
+unfolding modelOf setClock
+last-seen c = sym (requeued-last (sceneView (scene (read c))) (change c) (before′ (read c)))
+
+last-is : (c : Turned) → c .before .before .last-after .result ≡ lastAfter (own (read c) .last) (turn c)
+last-is c = c .before .before .last-after .ensures
+
+slot-there : (c : Turned) → start (read c) .args .number .0 < slots (read c) → both (read c) .before .if1 .slot ≡ getD (own (read c) .slots) (start (read c) .args .number .0) noSlot
 slot-there c h = let r = read c in slot-is r ∙ sym (slot-in (own r) (wide r) (start r .args .number .0) (omega (arith, slots-is r)))
 
 turned-mast : (c : Turned) → c .if3 .self .mast ≡ own (read c) .mast
@@ -217,8 +233,8 @@ turned-slots c =
     ⊎-elim
     (λ v.
     ap (λ (z : Station). viewed slotView (slots r) (z .slots)) (v .3)
-    ∙ ap (λ z. viewed slotView (slots r) (set (own r .slots) (start r .args .number .0) z)) (v .1 .ensures ∙ ap (λ z. slotTurned (scene r) z (turn c)) (slot-there c (v .0 .taken)))
-    ∙ slots-written (scene r) (slots r) (own r .slots) (during c) (slots-seen c) (turn c))
+    ∙ ap (λ z. viewed slotView (slots r) (set (own r .slots) (start r .args .number .0) z)) (v .1 .ensures ∙ ap (λ z. slotTurned (scene r) (c .before .before .last-after .result) z (turn c)) (slot-there c (v .0 .taken)) ∙ ap (λ z. slotTurned (scene r) z (getD (own r .slots) (start r .args .number .0) noSlot) (turn c)) (last-is c))
+    ∙ slots-written (scene r) (slots r) (own r .slots) (during c) (slots-seen c) (own r .last) (last-seen c) (turn c))
     (λ v. ap (λ (z : Station). viewed slotView (slots r) (z .slots)) (v .1) ∙ slots-kept (scene r) (slots r) (own r .slots) (during c) (slots-seen c) (v .0 .left) (turn c))
     (c .if3 .came)
 
@@ -228,8 +244,8 @@ turned-channels c =
     ⊎-elim
     (λ v.
     ap (λ (z : Station). viewed channelOf (slots r) (z .slots)) (v .3)
-    ∙ ap (λ z. viewed channelOf (slots r) (set (own r .slots) (start r .args .number .0) z)) (v .1 .ensures ∙ ap (λ z. slotTurned (scene r) z (turn c)) (slot-there c (v .0 .taken)))
-    ∙ channels-written (scene r) (slots r) (own r .slots) (during c) (slots-seen c) (turn c))
+    ∙ ap (λ z. viewed channelOf (slots r) (set (own r .slots) (start r .args .number .0) z)) (v .1 .ensures ∙ ap (λ z. slotTurned (scene r) (c .before .before .last-after .result) z (turn c)) (slot-there c (v .0 .taken)))
+    ∙ channels-written (scene r) (slots r) (own r .slots) (during c) (slots-seen c) (c .before .before .last-after .result) (turn c))
     (λ v. ap (λ (z : Station). viewed channelOf (slots r) (z .slots)) (v .1))
     (c .if3 .came)
 
@@ -267,7 +283,7 @@ fits c =
     let k : kept c ≤ 32 = omega (arith, c .before .before .least3 .ensures, l .inv .3) in
     let e = queue-is (own r) (x .time) (x .number) (requestOf (x .request)) (scene r) (x .outcome) (z .pre .0) (shown r) in
     queue-fits (scene r) (kept c) (l .self .queue) (before′ r) (l .inv .2) (change t) (queue-left c) k
-    (rw (e ∙ ap (λ y. requeued (sceneView (scene r)) y (before′ r) .queue) (sym (t .before .before .before .queue-change .ensures))) at (z .pre .1))
+    (rw (e ∙ ap (λ y. requeued (sceneView (scene r)) y (before′ r) .queue) (sym (t .before .before .before .before .before .queue-change .ensures))) at (z .pre .1))
 
 requeued-mast : (c : Requeued) → c .if4 .self .mast ≡ own (read (turned′ (closed c))) .mast
 requeued-mast c =
@@ -316,6 +332,7 @@ next c =
     record {
       clock = start (from c) .args .time;
       mast = requeued′ c .if4 .self .mast;
+      last = turned′ (closed (requeued′ c)) .before .before .last-after .result;
       count = slots (from c);
       waiting = after c;
       slots = requeued′ c .if4 .self .slots;
@@ -339,10 +356,13 @@ moved c =
     let r = from c in
     moved-is (sceneView (scene r)) (start r .args .outcome) (before′ r) (modelOf (next c)) refl
     (ap (viewed slotView (slots r)) (requeued-slots-are l) ∙ turned-slots t
-    ∙ ap (λ y. turned (sceneView (scene r)) y (during t) .slots) (t .before .before .turn-of .ensures)
-    ∙ ap (λ y. turned (sceneView (scene r)) (turnOf (start r .args .time) (waiting r) (start r .args .outcome)) (requeued (sceneView (scene r)) y (before′ r)) .slots) (t .before .before .before .queue-change .ensures))
+    ∙ ap (λ y. turned (sceneView (scene r)) y (during t) .slots) (t .before .before .before .before .turn-of .ensures)
+    ∙ ap (λ y. turned (sceneView (scene r)) (turnOf (start r .args .time) (r .ringable .result) (start r .args .outcome)) (requeued (sceneView (scene r)) y (before′ r)) .slots) (t .before .before .before .before .before .queue-change .ensures))
     (ap (λ n. viewed waitingView n (l .if4 .self .queue)) (c .before .length-after .ensures) ∙ requeued-queue l
-    ∙ ap (λ y. requeued (sceneView (scene r)) y (before′ r) .queue) (t .before .before .before .queue-change .ensures))
+    ∙ ap (λ y. requeued (sceneView (scene r)) y (before′ r) .queue) (t .before .before .before .before .before .queue-change .ensures))
+    (ap (λ (z : CallNumber). z .0) (last-is t) ∙ turned-last (sceneView (scene r)) (turn t) (during t) (own r .last) (last-seen t)
+    ∙ ap (λ y. turned (sceneView (scene r)) y (during t) .lastCall) (t .before .before .before .before .turn-of .ensures)
+    ∙ ap (λ y. turned (sceneView (scene r)) (turnOf (start r .args .time) (r .ringable .result) (start r .args .outcome)) (requeued (sceneView (scene r)) y (before′ r)) .lastCall) (t .before .before .before .before .before .queue-change .ensures))
 
 kept-config : (c : Blanking) → configOf (next c) ≡ configOf (own (from c))
 unfolding configOf
@@ -392,8 +412,8 @@ Tidy-place = tie.In-loop5 Inv-loop μ-loop Inv-loop2 μ-loop2 Inv-loop3 μ-loop3
 in-slots : (c : Slot-in) → c .before .before .before .before .before .before .before .args .number .0 < 16
 in-slots c = omega (arith, c .if1 .taken, c .before .before .before .before .before .least .ensures)
 
-in-slots-again : (c : Slot-out) → start (c .before .before .before .before .before .before .before .before .before .before .before) .args .number .0 < 16
-in-slots-again c = omega (arith, c .if3 .taken, slots-is (c .before .before .before .before .before .before .before .before .before .before .before))
+in-slots-again : (c : Slot-out) → start (c .before .before .before .before .before .before .before .before .before .before) .args .number .0 < 16
+in-slots-again c = omega (arith, c .if3 .taken, slots-is (c .before .before .before .before .before .before .before .before .before .before))
 
 in-queue : (c : Moving) → c .before .loop .gap + 1 < 32
 in-queue c = omega (arith, c .loop-test .taken, c .before .loop .inv .3)
@@ -439,7 +459,7 @@ loop2-holds c =
     let l = c .before in
     let r = read (turned′ (closed l)) in
     let w = ap length (requeued-slots-are l) ∙ turned-wide (turned′ (closed l)) in
-    (refl, refl, refl, refl, refl, omega (arith, slots-is r), omega arith, none-done tidySlot blankSlot (slots r) (l .if4 .self .slots) 16 (omega (arith, w)))
+    (refl, refl, refl, refl, refl, omega (arith, slots-is r), omega arith, none-done tidySlot blankSlot (slots r) (l .if4 .self .slots) 16 (omega (arith, w)), refl)
 
 loop2-less : tie.Need-loop2-less Inv-loop μ-loop Inv-loop2 μ-loop2 Inv-loop3 μ-loop3 Inv-loop4 μ-loop4 Inv-loop5 μ-loop5
 loop2-less c = let h = blank-in c in omega arith
@@ -457,9 +477,10 @@ loop2-again c =
       l .inv .4,
       omega (arith, k),
       omega (arith, l .inv .6),
-      ap (λ z. set z (l .i - 1) (r .before .before .before .before .blank-slot .result)) (l .inv .7)
-          ∙ ap (λ z. set (doneFrom tidySlot blankSlot (slots r) (next (c .before) .slots) (l .i)) (l .i - 1) z) (r .before .before .before .before .blank-slot .ensures)
+      ap (λ z. set z (l .i - 1) (both r .before .before .before .before .blank-slot .result)) (l .inv .7)
+          ∙ ap (λ z. set (doneFrom tidySlot blankSlot (slots r) (next (c .before) .slots) (l .i)) (l .i - 1) z) (both r .before .before .before .before .blank-slot .ensures)
           ∙ done-unused tidySlot blankSlot (slots r) (next (c .before) .slots) (l .i) (h .0) k,
+      l .inv .8,
     )
 
 -- the unused slots are blank
@@ -488,6 +509,7 @@ loop3-holds c =
       w,
       done-again tidySlot blankSlot n (next (c .before) .slots) (l .self .slots) (blanked-slots c) ∙ ap (doneFrom tidySlot blankSlot n (l .self .slots)) (sym (blanked c)),
       slots-none n (l .self .slots) (l .i) (omega (arith, blanked c, w, f)),
+      refl,
     )
 
 loop3-less : tie.Need-loop3-less Inv-loop μ-loop Inv-loop2 μ-loop2 Inv-loop3 μ-loop3 Inv-loop4 μ-loop4 Inv-loop5 μ-loop5
@@ -517,6 +539,7 @@ loop3-again c =
           ∙ ap (λ z. joinDue (loss (l .i - 1)) (lossDue (slotView (getD (l .self .slots) (l .i - 1) noSlot))) z) (c .before .before .main-due .ensures)
           ∙ ap (λ z. joinDue (loss (l .i - 1)) (lossDue (slotView z)) (joinDue (main (l .i - 1)) (mainDue (slotView z)) (dueView (l .first)))) at
           ∙ slots-down n a (l .i) (h .0) (l .inv .5) (omega (arith, k, l .inv .7)) (l .inv .9),
+      l .inv .10,
     )
 
 -- the slots are laid out anew
@@ -529,7 +552,7 @@ seen-long c = ap length (seen-queue c) ∙ requeued-long (requeued′ (c .before
 loop4-holds : tie.Need-loop4-holds Inv-loop μ-loop Inv-loop2 μ-loop2 Inv-loop3 μ-loop3 Inv-loop4 μ-loop4 Inv-loop5 μ-loop5
 loop4-holds c =
     let b = c .before .before .before in
-    (refl, refl, refl, refl, refl, after-fits b, omega arith, none-done tidyWaiting blankWaiting (after b) (c .before .loop3 .self .queue) 32 (omega (arith, seen-long c)))
+    (refl, refl, refl, refl, refl, after-fits b, omega arith, none-done tidyWaiting blankWaiting (after b) (c .before .loop3 .self .queue) 32 (omega (arith, seen-long c)), refl)
 
 loop4-less : tie.Need-loop4-less Inv-loop μ-loop Inv-loop2 μ-loop2 Inv-loop3 μ-loop3 Inv-loop4 μ-loop4 Inv-loop5 μ-loop5
 loop4-less c = let h = empty-in c in omega arith
@@ -549,9 +572,10 @@ loop4-again c =
       l .inv .4,
       omega (arith, k),
       omega (arith, l .inv .6),
-      ap (λ z. set z (l .i - 1) (from b .before .before .before .blank-waiting .result)) (l .inv .7)
-          ∙ ap (λ z. set (doneFrom tidyWaiting blankWaiting (after b) q (l .i)) (l .i - 1) z) (from b .before .before .before .blank-waiting .ensures)
+      ap (λ z. set z (l .i - 1) (both (from b) .before .before .before .blank-waiting .result)) (l .inv .7)
+          ∙ ap (λ z. set (doneFrom tidyWaiting blankWaiting (after b) q (l .i)) (l .i - 1) z) (both (from b) .before .before .before .blank-waiting .ensures)
           ∙ done-unused tidyWaiting blankWaiting (after b) q (l .i) (h .0) k,
+      l .inv .8,
     )
 
 -- the unused places are blank
@@ -586,6 +610,7 @@ loop5-holds c =
       w,
       done-again tidyWaiting blankWaiting (after b) (next b .queue) (l .self .queue) (emptied-queue c) ∙ ap (doneFrom tidyWaiting blankWaiting (after b) (l .self .queue)) (sym (emptied c)),
       queue-none (after b) (l .self .queue) (l .i) _ (omega (arith, emptied c, w, f)),
+      refl,
     )
 
 loop5-less : tie.Need-loop5-less Inv-loop μ-loop Inv-loop2 μ-loop2 Inv-loop3 μ-loop3 Inv-loop4 μ-loop4 Inv-loop5 μ-loop5
@@ -615,10 +640,11 @@ loop5-again c =
       c .before .sooner-of .ensures
           ∙ ap (λ (z : Waiting). sooner (record { what = ofQueue (l .i - 1); at = z .due .0 }) (dueView (l .first))) at
           ∙ queue-down n a (l .i) _ (h .0) (l .inv .5) (omega (arith, k, l .inv .7)) (l .inv .9),
+      l .inv .10,
     )
 
 same-length : tie.Need-same-length Inv-loop μ-loop Inv-loop2 μ-loop2 Inv-loop3 μ-loop3 Inv-loop4 μ-loop4 Inv-loop5 μ-loop5
-same-length c = let h = turned′ (closed (requeued′ (blanking (c .before .before .before .before)))) .before .before .before .before .before .room .given in search needs
+same-length c = let h = turned′ (closed (requeued′ (blanking (c .before .before .before .before)))) .before .before .before .before .before .before .before .room .given in search needs
 
 returns : tie.Need-returns Inv-loop μ-loop Inv-loop2 μ-loop2 Inv-loop3 μ-loop3 Inv-loop4 μ-loop4 Inv-loop5 μ-loop5
 returns c =
@@ -637,12 +663,12 @@ returns c =
     let d3 : l3 .i ≡ 0 = omega (arith, e .before .before .loop3-test .left) in
     let slots-done = l4 .inv .4 ∙ l3 .inv .8 ∙ ap (doneFrom tidySlot blankSlot (slots r) (l2 .self .slots)) d3 in
     let queue-done = l5 .inv .8 ∙ ap (doneFrom tidyWaiting blankWaiting (after b) (l4 .self .queue)) d5 in
-    let image = image-is n (few b) (after-fits b) (next-wide b) (requeued-long (requeued′ b)) (l5 .self) (l5 .inv .0 ∙ l4 .inv .0 ∙ l3 .inv .0 ∙ l2 .inv .0) (l5 .inv .1 ∙ l4 .inv .1 ∙ l3 .inv .1 ∙ l2 .inv .1) (l5 .inv .2 ∙ l4 .inv .2 ∙ l3 .inv .2 ∙ l2 .inv .2) (l5 .inv .3 ∙ l4 .inv .3 ∙ l3 .inv .3 ∙ l2 .inv .3)
+    let image = image-is n (few b) (after-fits b) (next-wide b) (requeued-long (requeued′ b)) (l5 .self) (l5 .inv .0 ∙ l4 .inv .0 ∙ l3 .inv .0 ∙ l2 .inv .0) (l5 .inv .1 ∙ l4 .inv .1 ∙ l3 .inv .1 ∙ l2 .inv .1) (l5 .inv .10 ∙ l4 .inv .8 ∙ l3 .inv .10 ∙ l2 .inv .8) (l5 .inv .2 ∙ l4 .inv .2 ∙ l3 .inv .2 ∙ l2 .inv .2) (l5 .inv .3 ∙ l4 .inv .3 ∙ l3 .inv .3 ∙ l2 .inv .3)
     (done-whole tidySlot blankSlot (slots r) 16 (n .slots) (l2 .self .slots) (l5 .self .slots) (blanked-slots bl) (l5 .inv .4 ∙ slots-done) (next-wide b))
     (done-whole tidyWaiting blankWaiting (after b) 32 (n .queue) (l4 .self .queue) (l5 .self .queue) (emptied-queue e) queue-done (requeued-long (requeued′ b))) in
     let due = due-is n (few b) (after-fits b) (next-wide b) (requeued-long (requeued′ b)) (l2 .self .slots) (l4 .self .queue) (l3 .first) (l5 .first) (blanked-slots bl) (emptied-queue e)
     (rw d3 at (l3 .inv .9)) (rw d5 at (l5 .inv .9)) in
-    enacts (own r) (x .time) (x .number) (requestOf (x .request)) (scene r) (x .outcome) (z .pre .0) (shown r) n (moved b, kept-config b) (x .block) _ (now (x .room)) _ (turned′ (closed (requeued′ b)) .before .before .before .before .before .before .tell .ensures) _ (c .before .answer-of .ensures) _
+    enacts (own r) (x .time) (x .number) (requestOf (x .request)) (scene r) (x .outcome) (z .pre .0) (shown r) n (moved b, kept-config b) (x .block) _ (now (x .room)) _ (turned′ (closed (requeued′ b)) .before .before .before .before .before .before .before .before .tell .ensures) _ (c .before .answer-of .ensures) _
     (rw (c .due-time .ensures ∙ due, image))
 
 cast-before : tie.Need-cast-before Inv-loop μ-loop Inv-loop2 μ-loop2 Inv-loop3 μ-loop3 Inv-loop4 μ-loop4 Inv-loop5 μ-loop5
@@ -657,11 +683,11 @@ element-copy-out-before c = in-place c
 entered-requires : tie.Need-entered-requires Inv-loop μ-loop Inv-loop2 μ-loop2 Inv-loop3 μ-loop3 Inv-loop4 μ-loop4 Inv-loop5 μ-loop5
 entered-requires c κs = search needs
 
-cast-t61 : tie.Need-cast-t61 Inv-loop μ-loop Inv-loop2 μ-loop2 Inv-loop3 μ-loop3 Inv-loop4 μ-loop4 Inv-loop5 μ-loop5
-cast-t61 c = let h = in-place (c .before .before) in omega (arith, h)
+cast-t65 : tie.Need-cast-t65 Inv-loop μ-loop Inv-loop2 μ-loop2 Inv-loop3 μ-loop3 Inv-loop4 μ-loop4 Inv-loop5 μ-loop5
+cast-t65 c = let h = in-place (c .before .before) in omega (arith, h)
 
-mul-t62 : tie.Need-mul-t62 Inv-loop μ-loop Inv-loop2 μ-loop2 Inv-loop3 μ-loop3 Inv-loop4 μ-loop4 Inv-loop5 μ-loop5
-mul-t62 c = let h = in-place (c .before .before) in omega (arith, h)
+mul-t66 : tie.Need-mul-t66 Inv-loop μ-loop Inv-loop2 μ-loop2 Inv-loop3 μ-loop3 Inv-loop4 μ-loop4 Inv-loop5 μ-loop5
+mul-t66 c = let h = in-place (c .before .before) in omega (arith, h)
 
 element-set-from-self-2 : tie.Need-element-set-from-self-2 Inv-loop μ-loop Inv-loop2 μ-loop2 Inv-loop3 μ-loop3 Inv-loop4 μ-loop4 Inv-loop5 μ-loop5
 element-set-from-self-2 c = in-place (c .before .before)
@@ -690,14 +716,14 @@ mul-stored c = let h = tidy-in c in omega (arith, h)
 element-copy-out-stored : tie.Need-element-copy-out-stored Inv-loop μ-loop Inv-loop2 μ-loop2 Inv-loop3 μ-loop3 Inv-loop4 μ-loop4 Inv-loop5 μ-loop5
 element-copy-out-stored c = tidy-in c .1
 
-cast-t79 : tie.Need-cast-t79 Inv-loop μ-loop Inv-loop2 μ-loop2 Inv-loop3 μ-loop3 Inv-loop4 μ-loop4 Inv-loop5 μ-loop5
-cast-t79 c = let h = tidy-in (c .before) in omega (arith, h)
+cast-t83 : tie.Need-cast-t83 Inv-loop μ-loop Inv-loop2 μ-loop2 Inv-loop3 μ-loop3 Inv-loop4 μ-loop4 Inv-loop5 μ-loop5
+cast-t83 c = let h = tidy-in (c .before) in omega (arith, h)
 
 main-due-requires : tie.Need-main-due-requires Inv-loop μ-loop Inv-loop2 μ-loop2 Inv-loop3 μ-loop3 Inv-loop4 μ-loop4 Inv-loop5 μ-loop5
 main-due-requires c κs = search needs
 
-cast-t79-2 : tie.Need-cast-t79-2 Inv-loop μ-loop Inv-loop2 μ-loop2 Inv-loop3 μ-loop3 Inv-loop4 μ-loop4 Inv-loop5 μ-loop5
-cast-t79-2 c = let h = tidy-in (c .before .before) in omega (arith, h)
+cast-t83-2 : tie.Need-cast-t83-2 Inv-loop μ-loop Inv-loop2 μ-loop2 Inv-loop3 μ-loop3 Inv-loop4 μ-loop4 Inv-loop5 μ-loop5
+cast-t83-2 c = let h = tidy-in (c .before .before) in omega (arith, h)
 
 loss-due-requires : tie.Need-loss-due-requires Inv-loop μ-loop Inv-loop2 μ-loop2 Inv-loop3 μ-loop3 Inv-loop4 μ-loop4 Inv-loop5 μ-loop5
 loss-due-requires c κs = search needs
@@ -705,11 +731,11 @@ loss-due-requires c κs = search needs
 tidy-slot-requires : tie.Need-tidy-slot-requires Inv-loop μ-loop Inv-loop2 μ-loop2 Inv-loop3 μ-loop3 Inv-loop4 μ-loop4 Inv-loop5 μ-loop5
 tidy-slot-requires c κs = search needs
 
-cast-t74 : tie.Need-cast-t74 Inv-loop μ-loop Inv-loop2 μ-loop2 Inv-loop3 μ-loop3 Inv-loop4 μ-loop4 Inv-loop5 μ-loop5
-cast-t74 c = let h = tidy-in (c .before .before .before .before) in omega (arith, h)
+cast-t78 : tie.Need-cast-t78 Inv-loop μ-loop Inv-loop2 μ-loop2 Inv-loop3 μ-loop3 Inv-loop4 μ-loop4 Inv-loop5 μ-loop5
+cast-t78 c = let h = tidy-in (c .before .before .before .before) in omega (arith, h)
 
-mul-t75 : tie.Need-mul-t75 Inv-loop μ-loop Inv-loop2 μ-loop2 Inv-loop3 μ-loop3 Inv-loop4 μ-loop4 Inv-loop5 μ-loop5
-mul-t75 c = let h = tidy-in (c .before .before .before .before) in omega (arith, h)
+mul-t79 : tie.Need-mul-t79 Inv-loop μ-loop Inv-loop2 μ-loop2 Inv-loop3 μ-loop3 Inv-loop4 μ-loop4 Inv-loop5 μ-loop5
+mul-t79 c = let h = tidy-in (c .before .before .before .before) in omega (arith, h)
 
 element-set-from-self-3 : tie.Need-element-set-from-self-3 Inv-loop μ-loop Inv-loop2 μ-loop2 Inv-loop3 μ-loop3 Inv-loop4 μ-loop4 Inv-loop5 μ-loop5
 element-set-from-self-3 c = tidy-in (c .before .before .before .before) .1
@@ -744,11 +770,11 @@ sooner-of-requires c κs = search needs
 tidy-waiting-requires : tie.Need-tidy-waiting-requires Inv-loop μ-loop Inv-loop2 μ-loop2 Inv-loop3 μ-loop3 Inv-loop4 μ-loop4 Inv-loop5 μ-loop5
 tidy-waiting-requires c κs = search needs
 
-cast-t89 : tie.Need-cast-t89 Inv-loop μ-loop Inv-loop2 μ-loop2 Inv-loop3 μ-loop3 Inv-loop4 μ-loop4 Inv-loop5 μ-loop5
-cast-t89 c = let h = place-in (c .before .before .before .before) in omega (arith, h)
+cast-t93 : tie.Need-cast-t93 Inv-loop μ-loop Inv-loop2 μ-loop2 Inv-loop3 μ-loop3 Inv-loop4 μ-loop4 Inv-loop5 μ-loop5
+cast-t93 c = let h = place-in (c .before .before .before .before) in omega (arith, h)
 
-mul-t90 : tie.Need-mul-t90 Inv-loop μ-loop Inv-loop2 μ-loop2 Inv-loop3 μ-loop3 Inv-loop4 μ-loop4 Inv-loop5 μ-loop5
-mul-t90 c = let h = place-in (c .before .before .before .before) in omega (arith, h)
+mul-t94 : tie.Need-mul-t94 Inv-loop μ-loop Inv-loop2 μ-loop2 Inv-loop3 μ-loop3 Inv-loop4 μ-loop4 Inv-loop5 μ-loop5
+mul-t94 c = let h = place-in (c .before .before .before .before) in omega (arith, h)
 
 element-set-from-self-4 : tie.Need-element-set-from-self-4 Inv-loop μ-loop Inv-loop2 μ-loop2 Inv-loop3 μ-loop3 Inv-loop4 μ-loop4 Inv-loop5 μ-loop5
 element-set-from-self-4 c = place-in (c .before .before .before .before) .1
@@ -785,6 +811,8 @@ enact-spec =
     (λ c κs. search needs)
     (λ c κs. search needs)
     (λ c κs. search needs)
+    (λ c κs. search needs)
+    (λ c κs. search needs)
     (λ c. search needs)
     (λ c κs. search needs)
     (λ c. let h = in-slots-again (c .before .before) in search needs)
@@ -811,8 +839,8 @@ enact-spec =
     mul-before
     element-copy-out-before
     entered-requires
-    cast-t61
-    mul-t62
+    cast-t65
+    mul-t66
     element-set-from-self-2
     length-after-requires
     loop2-holds
@@ -827,13 +855,13 @@ enact-spec =
     cast-stored
     mul-stored
     element-copy-out-stored
-    cast-t79
+    cast-t83
     main-due-requires
-    cast-t79-2
+    cast-t83-2
     loss-due-requires
     tidy-slot-requires
-    cast-t74
-    mul-t75
+    cast-t78
+    mul-t79
     element-set-from-self-3
     loop3-less
     loop3-again
@@ -851,8 +879,8 @@ enact-spec =
     element-copy-out-entry
     sooner-of-requires
     tidy-waiting-requires
-    cast-t89
-    mul-t90
+    cast-t93
+    mul-t94
     element-set-from-self-4
     loop5-less
     loop5-again

@@ -15,7 +15,7 @@ use Rattle.requests.specs.Views.{requestOf}
 use Rattle.slots.specs.declared.Phase.{Phase}
 use Rattle.slots.specs.declared.Slot.{Slot}
 use Rattle.slots.specs.Phases.{phaseView}
-use Rattle.slots.specs.Views.{slotView}
+use Rattle.slots.specs.Views.{dealingOf, slotView}
 use Rattle.hearing.specs.declared.Heard.{Heard}
 use Rattle.hearing.specs.declared.HeardKind.{HeardKind}
 use Rattle.hearing.specs.declared.HeardKind.the-variants.{CallRequest, DataRequest, Bq, WorkingCall, EndOfCall, Declined, Nothing}
@@ -38,7 +38,7 @@ use Rattle.station.proofs.Station.heard_on_slot.Tie as tie
 
 -- ── by the kind of what was heard ────────────────────────────────────────────
 
-kind-is : (r q : Request) (i : ℕ) (st : R.Station) (k : HeardKind) (own : Bool) → is (q .who) (r .who) ≡ own → (p : Phase) → outOf i r q (byKind k own p) st ≡ heardOn i st (phaseView p r) (heardAs k q)
+kind-is : (r : R.Dealing) (q : Request) (i : ℕ) (st : R.Station) (k : HeardKind) (own : Bool) → is (q .who) (r .request .who) ≡ own → (p : Phase) → outOf i r q (byKind k own p) st ≡ heardOn i st (phaseView p r) (heardAs k q)
 unfolding outOf heardOn
 kind-is r q i st CallRequest own e p = refl
 kind-is r q i st DataRequest own e p = refl
@@ -56,7 +56,7 @@ unfolding outAt ownOf happenedOn
 acts s t n i x at o m h f own b e =
     let y = slotOf s (i .0) in
     rw (e, b, at)
-    (kind-is (requestOf (y .request)) (requestOf (h .request)) (i .0) (setClock (t .0) (modelOf s)) (h .kind) _ refl (y .phase)
+    (kind-is (dealingOf y) (requestOf (h .request)) (i .0) (setClock (t .0) (modelOf s)) (h .kind) _ refl (y .phase)
     ∙ ap (heardOn (i .0) (setClock (t .0) (modelOf s)) (slotView y)) f
     ∙ slot-acts s (t .0) (i .0) n (heard m) (slotView y) (slot-view s (i .0)))
 

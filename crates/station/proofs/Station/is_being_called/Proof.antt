@@ -2,8 +2,8 @@ use mathlib.Core.Path.{refl, ap, _∙_}
 use Rattle.rules.specs.Rules.Station as R
 use Rattle.rules.specs.Rules.Station.{setClock, isCalledIn}
 use Rattle.rules.specs.Rules.Requests.{calledAt, beingCalled}
-use Rattle.requests.specs.Views.{requestOf}
 use Rattle.slots.proofs.PhaseLaws.{called-view}
+use Rattle.slots.specs.Views.{dealingOf}
 use Rattle.station.specs.Model.{modelOf}
 use Rattle.station.specs.Pieces.{slotOf}
 use Rattle.station.proofs.Longs.{slots-long}
@@ -29,7 +29,7 @@ returns-2 c = λ t.
     let st : R.Station = setClock t (modelOf (x .t1)) in
     let h = rw (told .slot .given .1) at (told .before .before .stands .ensures t) in
     rw (c .is-called .ensures, slot-is (x .t1) (slots-long (x .t1) (z .good .0)) i _ _ refl (c .before .slot-there .ensures))
-    (called-view (y .phase) (requestOf (y .request)) ∙ ap isCalledIn (slot-view (x .t1) i) ∙ ap (calledAt st) h)
+    (called-view (y .phase) (dealingOf y) ∙ ap isCalledIn (slot-view (x .t1) i) ∙ ap (calledAt st) h)
 
 returns-3 : tie.Need-returns-3
 unfolding beingCalled

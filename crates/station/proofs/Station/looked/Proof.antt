@@ -67,7 +67,7 @@ sees :
 unfolding recordsKeep configOf modelOf table
 sees x wide long due₁ due₂ n a b s d e =
     record {
-      soundly = s ∙ rw (b, a) (seen-is (x .mast) (x .clock) (x .count) (x .slots) (x .waiting) (x .queue) wide long);
+      soundly = s ∙ rw (b, a) (seen-is (x .mast) (x .clock) (x .count) (x .slots) (x .waiting) (x .queue) (x .last .0) wide long);
       clock = refl;
       slots = n ∙ sym (viewed-length slotView (x .count) (x .slots) ∙ ap (min (x .count)) wide);
       first = e ∙ rw d (sym (earliest-queue 0 (map dueOf (viewed waitingView (x .waiting) (x .queue))) (slotTable 0 (viewed slotView (x .count) (x .slots)))));

@@ -22,7 +22,7 @@ use Rattle.slots.specs.declared.Wait.the-variants.{Entry, Loss, Main}
 use Rattle.slots.specs.declared.Due.{Due}
 use Rattle.slots.specs.declared.Due.the-variants.{Never, In}
 use Rattle.slots.specs.Phases.{phaseView}
-use Rattle.slots.specs.Views.{waitView, dueView}
+use Rattle.slots.specs.Views.{dealingOf, waitView, dueView}
 use Rattle.outcomes.specs.declared.Outcome.{Outcome}
 use Rattle.outcomes.specs.Does.{outOf}
 use Rattle.deciding.proofs.RuleLaws.{coast-end-is, main-due-is, drops-is, passes-is}
@@ -53,7 +53,7 @@ moment-due (In u w) t (some p) h = go (leb (p .at) (t .0)) refl h
         rw z (leb-true (p .at) (t .0) e)
     go false e k = let y : _≡_ {A = ℕ} 0 1 = cc in absurd (omega arith)
 
-module _ (m : R.Station) (r q : Request) where
+module _ (m : R.Station) (r : R.Dealing) (q : Request) where
   wait-is : (st : R.Station) (w : Wait) (p : Phase) → phaseView p r ≡ theSlot st (waitSlot w .0) → outOf (waitSlot w .0) r q (byWait w p) st ≡ fire st (waitView w)
   unfolding fire
   wait-is st (Entry k) p e = drops-is 0 st r q k
@@ -73,7 +73,7 @@ unfolding outAt ownOf actAt fires
 acts s t n first d f k u eu i ei x at q o e =
     let y = slotOf s (dueSlot d .0) in
     rw (e, at, ei, eu)
-    (due-is (modelOf s) (requestOf (y .request)) q d t (y .phase) (slot-view s (dueSlot d .0)) ∙ ap (ticked (modelOf s) (t .0)) (k ∙ ap (ifDue (t .0)) f))
+    (due-is (modelOf s) (dealingOf y) q d t (y .phase) (slot-view s (dueSlot d .0)) ∙ ap (ticked (modelOf s) (t .0)) (k ∙ ap (ifDue (t .0)) f))
 
 -- ── the needs ────────────────────────────────────────────────────────────────
 

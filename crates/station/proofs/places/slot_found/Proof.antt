@@ -1,6 +1,6 @@
 use borrow.Author.Needs.{needs}
-use Rattle.station.proofs.shore_calls.slot_found.Statement.{statement}
-use Rattle.station.proofs.shore_calls.slot_found.Tie as tie
+use Rattle.station.proofs.places.slot_found.Statement.{statement}
+use Rattle.station.proofs.places.slot_found.Tie as tie
 
 returns-2 : tie.Need-returns-2
 returns-2 c = rw (c .enum-told .given .1)
