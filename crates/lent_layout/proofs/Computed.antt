@@ -19,7 +19,7 @@ pub request-computed : places 0 (take 6 requestFields) ≡ 0 ∷ 4 ∷ 8 ∷ 9 �
 unfolding requestFields
 request-computed = refl
 
-pub slot-computed : places 0 (take 10 slotFields) ≡ 0 ∷ 1 ∷ 5 ∷ 6 ∷ 10 ∷ 11 ∷ 12 ∷ 13 ∷ 14 ∷ 18 ∷ []
+pub slot-computed : places 0 (take 11 slotFields) ≡ 0 ∷ 1 ∷ 5 ∷ 6 ∷ 10 ∷ 11 ∷ 12 ∷ 13 ∷ 14 ∷ 18 ∷ 22 ∷ []
 unfolding slotFields requestFields
 slot-computed = refl
 
@@ -27,7 +27,7 @@ pub waiting-computed : places 0 (take 2 waitingFields) ≡ 0 ∷ 4 ∷ []
 unfolding waitingFields requestFields
 waiting-computed = refl
 
-pub head-computed : places 0 headFields ≡ 0 ∷ 1 ∷ 5 ∷ 9 ∷ 10 ∷ []
+pub head-computed : places 0 headFields ≡ 0 ∷ 1 ∷ 5 ∷ 9 ∷ 10 ∷ 11 ∷ []
 unfolding headFields
 head-computed = refl
 
@@ -35,7 +35,7 @@ pub request-size-computed : requestSize ≡ 27
 unfolding requestFields
 request-size-computed = refl
 
-pub slot-size-computed : slotSize ≡ 45
+pub slot-size-computed : slotSize ≡ 49
 unfolding slotFields requestFields
 slot-size-computed = refl
 
@@ -43,22 +43,22 @@ pub waiting-size-computed : waitingSize ≡ 31
 unfolding waitingFields requestFields
 waiting-size-computed = refl
 
-pub slots-place-computed : slotsPlace ≡ 11
+pub slots-place-computed : slotsPlace ≡ 15
 unfolding headFields
 slots-place-computed = refl
 
-pub queue-place-computed : queuePlace ≡ 731
+pub queue-place-computed : queuePlace ≡ 799
 unfolding headFields slotFields requestFields
 queue-place-computed = refl
 
-pub station-size-computed : stationSize ≡ 1723
+pub station-size-computed : stationSize ≡ 1791
 unfolding stationSize headFields slotFields waitingFields requestFields
 station-size-computed = refl
 
-pub layout-version-computed : layoutVersion ≡ 3
+pub layout-version-computed : layoutVersion ≡ 4
 unfolding layoutVersion
 layout-version-computed = refl
 
-pub sized-computed : (b : List ℕ) → sized b ≡ eqb (length b) 1723
+pub sized-computed : (b : List ℕ) → sized b ≡ eqb (length b) 1791
 unfolding sized
 sized-computed b = rw station-size-computed

@@ -135,9 +135,9 @@ slot-wide : (c : Channel) (s : R.Slot) → Wide (slotImage c s .request)
 unfolding slotImage
 slot-wide c s = go (keptIn s)
   where
-    go : (o : Option W.Request) → Wide (imageOr o)
+    go : (o : Option R.Dealing) → Wide (imageOr o)
     go none = blank-wide
-    go (some r) = request-wide r
+    go (some r) = request-wide (r .request)
 
 slots-wide : (cs : List Channel) (ss : List R.Slot) → Each (λ x. Wide (x .request)) (slotImages cs ss)
 slots-wide [] ss = tt

@@ -107,11 +107,11 @@ phase-laid f room p h =
 
 pub slot-laid : (s : Slot) (f : PhaseFields) (room : List ℕ) (p : ℕ) → f ≡ phaseFields (s .phase) → p ≤ length room
     → laidAll (laid room p (encode (take 8 slotFields) (phaseNumbers f []))) p (size (take 8 slotFields))
-    (lowFirst 4 (s .channel .0) ∷ encode requestFields (requestNumbers (s .request)) ∷ [])
+    (lowFirst 4 (s .channel .0) ∷ lowFirst 4 (s .call .0) ∷ encode requestFields (requestNumbers (s .request)) ∷ [])
     ≡ laid room p (slotBytes s)
 unfolding flatten slotBytes slotFields slotNumbers
 slot-laid s f room p e h =
-    laid-all room p (encode (take 8 slotFields) (phaseNumbers f [])) (lowFirst 4 (s .channel .0) ∷ encode requestFields (requestNumbers (s .request)) ∷ []) h
+    laid-all room p (encode (take 8 slotFields) (phaseNumbers f [])) (lowFirst 4 (s .channel .0) ∷ lowFirst 4 (s .call .0) ∷ encode requestFields (requestNumbers (s .request)) ∷ []) h
     ∙ (rw (append-nil (encode requestFields (requestNumbers (s .request))), e))
 
 pub waiting-laid : (w : Waiting) (room : List ℕ) (p : ℕ) → p ≤ length room

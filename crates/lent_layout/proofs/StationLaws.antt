@@ -10,6 +10,9 @@ use lib.Seq.{drop-at}
 use lib.Dec.{eqb}
 use borrow.Author.Tests.{eq-eqb}
 use Rattle.requests.proofs.ArrayLaws.{padded-length}
+use Rattle.units.specs.declared.Tenths.{Tenths}
+use Rattle.units.specs.declared.CallNumber.{CallNumber}
+use Rattle.slots.specs.declared.mast.Mast.{Mast}
 use Rattle.slots.specs.declared.Slot.{Slot}
 use Rattle.slots.specs.declared.Waiting.{Waiting}
 use Rattle.slots.specs.Views.{alone}
@@ -17,11 +20,11 @@ use Rattle.slots.specs.Images.{blankSlot, blankWaiting, tenths}
 use Rattle.station.specs.declared.Station.{Station}
 use Rattle.layouts.specs.Fields.{size, filled, lowFirst, numberAt, encode, decodeFrom, decode, laid}
 use Rattle.layouts.specs.Records.{repeated, recordsAt, recordsIn}
-use Rattle.layouts.proofs.FieldLaws.{encode-length, decode-length, laid-all, laid-whole}
+use Rattle.layouts.proofs.FieldLaws.{encode-length, decode-length, laidAll, laid-all, laid-whole}
 use Rattle.layouts.proofs.RecordLaws.{encode-behind, decode-behind, encode-repeated, records-decoded, repeated-length, repeated-size, flatMap-length}
 use Rattle.lent_layout.specs.Layout.{requestFields, slotFields, waitingFields, headFields, stationFields, layoutVersion, slotSize, waitingSize, slotsPlace, queuePlace, stationSize}
 use Rattle.lent_layout.specs.Numbers.{requestNumbers, slotNumbers, waitingNumbers, stationNumbers, slotFrom, waitingFrom, inUse, stationIn}
-use Rattle.lent_layout.specs.Stations.{sized, stationBytes, slotBytes, waitingBytes}
+use Rattle.lent_layout.specs.Stations.{sized, headBytes, stationBytes, slotBytes, waitingBytes}
 use Rattle.lent_layout.proofs.LayLaws.{slot-size}
 
 -- ── how many numbers and bytes ───────────────────────────────────────────────
@@ -59,6 +62,7 @@ pub station-read : (b : List ℕ)
       mast = alone (numberAt b 5 4);
       count = getD b 9 0;
       waiting = getD b 10 0;
+      last = record { 0 = numberAt b 11 4 };
       slots = inUse blankSlot 16 (getD b 9 0) (recordsAt (λ p. slotFrom (decode slotFields b p)) 16 slotSize slotsPlace);
       queue = inUse blankWaiting 32 (getD b 10 0) (recordsAt (λ p. waitingFrom (decode waitingFields b p)) 32 waitingSize queuePlace);
     }
@@ -117,11 +121,11 @@ module _ (s : Station) where
   unfolding waitingBytes
   queue-bytes = rw queue32 at (encode-repeated waitingNumbers waitingFields waiting-numbers (usedQueue s))
 
-  station-bytes : stationBytes s
-      ≡ (layoutVersion ∷ [])
-      ++ (lowFirst 4 (s .clock .0)
-      ++ (lowFirst 4 (s .mast .identity) ++ ((s .count ∷ s .waiting ∷ []) ++ (flatMap slotBytes (usedSlots s) ++ flatMap waitingBytes (usedQueue s)))))
-  unfolding stationBytes stationFields headFields stationNumbers
+  abbrev pub head : List ℕ
+  head = headBytes (s .clock) (s .mast) (s .count) (s .waiting) (s .last)
+
+  station-bytes : stationBytes s ≡ head ++ (flatMap slotBytes (usedSlots s) ++ flatMap waitingBytes (usedQueue s))
+  unfolding stationBytes headBytes stationFields headFields stationNumbers
   station-bytes =
       let e : length (flatMap slotNumbers (usedSlots s)) ≡ length (repeated 16 slotFields) = slots-numbers ∙ sym (repeated-length 16 slotFields) in
       rw (encode-behind (repeated 16 slotFields) (repeated 32 waitingFields) (flatMap slotNumbers (usedSlots s)) (flatMap waitingNumbers (usedQueue s)) e, slots-bytes, queue-bytes)
@@ -130,19 +134,24 @@ module _ (s : Station) where
   unfolding stationBytes stationFields headFields stationNumbers
   station-first = eq-eqb (getD (stationBytes s) 0 0) layoutVersion refl
 
-  -- the version, the clock, the identity and the two counts
-  abbrev head-laid : List ℕ → List ℕ
-  head-laid b =
-      laid (laid (laid (laid b 0 (layoutVersion ∷ [])) 1 (lowFirst 4 (s .clock .0))) 5 (lowFirst 4 (s .mast .identity))) 9 (s .count ∷ s .waiting ∷ [])
-
   pub station-laid : (b : List ℕ) → length b ≡ stationSize
-      → laid (laid (head-laid b) slotsPlace (flatMap slotBytes (usedSlots s))) queuePlace (flatMap waitingBytes (usedQueue s)) ≡ stationBytes s
-  unfolding flatten headFields
+      → laid (laid (laid b 0 head) slotsPlace (flatMap slotBytes (usedSlots s))) queuePlace (flatMap waitingBytes (usedQueue s)) ≡ stationBytes s
+  unfolding flatten headFields headBytes
   station-laid b w =
       let first = flatMap slotBytes (usedSlots s) in
       let second = flatMap waitingBytes (usedQueue s) in
       let wide : length first ≡ slotSize * 16 = flatMap-length slotBytes slotSize slot-size (usedSlots s) ∙ ap (λ k. slotSize * k) slots16 in
       let place : queuePlace ≡ 0 + (slotsPlace + length first) = omega (arith, wide) in
-      ap (λ k. laid (laid (head-laid b) slotsPlace first) k second) place
-      ∙ laid-all b 0 (layoutVersion ∷ []) (lowFirst 4 (s .clock .0) ∷ lowFirst 4 (s .mast .identity) ∷ (s .count ∷ s .waiting ∷ []) ∷ first ∷ second ∷ []) (omega arith)
+      ap (λ k. laid (laid (laid b 0 head) slotsPlace first) k second) place
+      ∙ laid-all b 0 head (first ∷ second ∷ []) (omega arith)
       ∙ (rw (append-nil second) (ap (laid b 0) (sym station-bytes) ∙ laid-whole b (stationBytes s) (station-size ∙ sym w)))
+
+-- the version, the clock, the identity, the two counts and the last call number
+pub head-laid : (clock : Tenths) (mast : Mast) (count waiting : ℕ) (last : CallNumber) (b : List ℕ)
+    → laidAll (laid b 0 (layoutVersion ∷ [])) 0 1
+    (lowFirst 4 (clock .0) ∷ lowFirst 4 (mast .identity) ∷ (count ∷ waiting ∷ []) ∷ lowFirst 4 (last .0) ∷ [])
+    ≡ laid b 0 (headBytes clock mast count waiting last)
+unfolding flatten headBytes headFields
+head-laid clock mast count waiting last b =
+    laid-all b 0 (layoutVersion ∷ []) (lowFirst 4 (clock .0) ∷ lowFirst 4 (mast .identity) ∷ (count ∷ waiting ∷ []) ∷ lowFirst 4 (last .0) ∷ []) (omega arith)
+    ∙ (rw (append-nil (lowFirst 4 (last .0))) refl)

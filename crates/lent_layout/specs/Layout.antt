@@ -28,6 +28,7 @@ slotFields =
     ∷ row "minutes" 1
     ∷ row "seconds" 1
     ∷ row "channel" 4
+    ∷ row "call number" 4
     ∷ requestFields
 
 unfoldable pub waitingFields : List Field
@@ -35,14 +36,20 @@ waitingFields = row "due time" 4 ∷ requestFields
 
 unfoldable pub headFields : List Field
 headFields =
-    row "version" 1 ∷ row "clock" 4 ∷ row "identity" 4 ∷ row "count of slots" 1 ∷ row "count of waiting ships" 1 ∷ []
+    row "version" 1
+    ∷ row "clock" 4
+    ∷ row "identity" 4
+    ∷ row "count of slots" 1
+    ∷ row "count of waiting ships" 1
+    ∷ row "last call number given" 4
+    ∷ []
 
 unfoldable pub stationFields : List Field
 stationFields = headFields ++ (repeated mostSlots slotFields ++ repeated queueRoom waitingFields)
 
 -- moves whenever a field does, or what a number in one stands for
 unfoldable pub layoutVersion : ℕ
-layoutVersion = 3
+layoutVersion = 4
 
 -- ── sizes and places ─────────────────────────────────────────────────────────
 

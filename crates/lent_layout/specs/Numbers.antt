@@ -4,6 +4,8 @@ use mathlib.Core.Bool.{cond}
 use mathlib.Core.List.{List, [], _∷_, _++_, flatMap}
 use lib.Dec.{leb, eqb}
 use lib.ListN.{length, getD, take, drop}
+use Rattle.units.specs.declared.Tenths.{Tenths}
+use Rattle.units.specs.declared.CallNumber.{CallNumber}
 use Rattle.sequence.specs.Figures.{mostDigits}
 use Rattle.rules.specs.Rules.Bytes.{padded}
 use Rattle.rules.specs.Rules.Sound.{mostSlots, queueRoom}
@@ -13,6 +15,7 @@ use Rattle.requests.specs.declared.Request.{Request}
 use Rattle.requests.specs.Images.{blankRequest}
 use Rattle.slots.specs.declared.Slot.{Slot}
 use Rattle.slots.specs.declared.Waiting.{Waiting}
+use Rattle.slots.specs.declared.mast.Mast.{Mast}
 use Rattle.slots.specs.Views.{alone}
 use Rattle.slots.specs.Images.{blankSlot, blankWaiting, tenths}
 use Rattle.station.specs.declared.Station.{Station}
@@ -68,7 +71,7 @@ phaseNumbers f l =
     ∷ l
 
 unfoldable pub slotNumbers : Slot → List ℕ
-slotNumbers s = phaseNumbers (phaseFields (s .phase)) (s .channel .0 ∷ requestNumbers (s .request))
+slotNumbers s = phaseNumbers (phaseFields (s .phase)) (s .channel .0 ∷ s .call .0 ∷ requestNumbers (s .request))
 
 unfoldable pub waitingNumbers : Waiting → List ℕ
 waitingNumbers w = w .due .0 ∷ requestNumbers (w .request)
@@ -77,9 +80,12 @@ waitingNumbers w = w .due .0 ∷ requestNumbers (w .request)
 unfoldable pub inUse : {A : Type 0} → A → ℕ → ℕ → List A → List A
 inUse blank room n l = padded blank room (take n l)
 
+abbrev pub headNumbers : Tenths → Mast → ℕ → ℕ → CallNumber → List ℕ
+headNumbers clock mast count waiting last = layoutVersion ∷ clock .0 ∷ mast .identity ∷ count ∷ waiting ∷ last .0 ∷ []
+
 unfoldable pub stationNumbers : Station → List ℕ
 stationNumbers s =
-    (layoutVersion ∷ s .clock .0 ∷ s .mast .identity ∷ s .count ∷ s .waiting ∷ [])
+    headNumbers (s .clock) (s .mast) (s .count) (s .waiting) (s .last)
     ++ (flatMap slotNumbers (inUse blankSlot mostSlots (s .count) (s .slots))
     ++ flatMap waitingNumbers (inUse blankWaiting queueRoom (s .waiting) (s .queue)))
 
@@ -93,7 +99,13 @@ phaseIn ns =
     }
 
 unfoldable pub slotFrom : List ℕ → Slot
-slotFrom ns = record { phase = phaseFrom (phaseIn ns); channel = record { 0 = getD ns 8 0 }; request = requestFrom (drop 9 ns) }
+slotFrom ns =
+    record {
+      phase = phaseFrom (phaseIn ns);
+      channel = record { 0 = getD ns 8 0 };
+      call = record { 0 = getD ns 9 0 };
+      request = requestFrom (drop 10 ns);
+    }
 
 unfoldable pub waitingFrom : List ℕ → Waiting
 waitingFrom ns = record { due = tenths (getD ns 0 0); request = requestFrom (drop 1 ns) }
@@ -105,6 +117,7 @@ stationIn ns =
       mast = alone (getD ns 2 0);
       count = getD ns 3 0;
       waiting = getD ns 4 0;
+      last = record { 0 = getD ns 5 0 };
       slots = inUse blankSlot mostSlots (getD ns 3 0) (recordsIn slotFrom mostSlots (length slotFields) (drop (length headFields) ns));
       queue =
           inUse blankWaiting queueRoom (getD ns 4 0)

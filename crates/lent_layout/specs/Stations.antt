@@ -4,13 +4,16 @@ use mathlib.Core.Bool.{Bool, cond, _&&_}
 use mathlib.Core.List.{List}
 use lib.Dec.{eqb}
 use lib.ListN.{length, getD}
+use Rattle.units.specs.declared.Tenths.{Tenths}
+use Rattle.units.specs.declared.CallNumber.{CallNumber}
+use Rattle.slots.specs.declared.mast.Mast.{Mast}
 use Rattle.slots.specs.declared.Slot.{Slot}
 use Rattle.slots.specs.declared.Waiting.{Waiting}
 use Rattle.station.specs.declared.Station.{Station}
 use Rattle.station.specs.Step.{blankStation}
 use Rattle.layouts.specs.Fields.{encode, decode}
-use Rattle.lent_layout.specs.Layout.{slotFields, waitingFields, stationFields, stationSize, layoutVersion}
-use Rattle.lent_layout.specs.Numbers.{slotNumbers, waitingNumbers, stationNumbers, stationIn}
+use Rattle.lent_layout.specs.Layout.{slotFields, waitingFields, headFields, stationFields, stationSize, layoutVersion}
+use Rattle.lent_layout.specs.Numbers.{slotNumbers, waitingNumbers, headNumbers, stationNumbers, stationIn}
 
 unfoldable pub stationBytes : Station → List ℕ
 stationBytes s = encode stationFields (stationNumbers s)
@@ -31,7 +34,10 @@ stationFrom b = cond (current b) (stationIn (decode stationFields b 0)) blankSta
 unfoldable pub stationLaid : Station → List ℕ → List ℕ
 stationLaid s b = cond (sized b) (stationBytes s) b
 
--- one slot's, and one waiting ship's
+-- those of the head, one slot's, and one waiting ship's
+unfoldable pub headBytes : Tenths → Mast → ℕ → ℕ → CallNumber → List ℕ
+headBytes clock mast count waiting last = encode headFields (headNumbers clock mast count waiting last)
+
 unfoldable pub slotBytes : Slot → List ℕ
 slotBytes s = encode slotFields (slotNumbers s)
 

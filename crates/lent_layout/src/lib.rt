@@ -2,13 +2,13 @@
 ghost use mathlib.Core.Path.{_≡_};
 ghost use Prim.Native.Nat.{_+_, _*_, _≤_};
 ghost use lib.ListN.{length};
-ghost use Rattle.layouts.specs.Fields.{decode};
+ghost use Rattle.layouts.specs.Fields.{decode, laid};
 ghost use Rattle.layouts.specs.Records.{recordsAt};
 ghost use Rattle.rules.specs.Rules.Sound.{mostSlots, queueRoom};
 ghost use Rattle.slots.specs.Images.{blankSlot, blankWaiting};
 ghost use Rattle.lent_layout.specs.Layout.{slotFields, waitingFields, slotSize, waitingSize, slotsPlace, queuePlace};
 ghost use Rattle.lent_layout.specs.Numbers.{inUse, slotFrom, waitingFrom};
-ghost use Rattle.lent_layout.specs.Stations.{stationFrom, stationLaid};
+ghost use Rattle.lent_layout.specs.Stations.{headBytes, stationFrom, stationLaid};
 
 mod asked;
 mod numbers;
@@ -36,10 +36,11 @@ use slots::laying::blank_slot;
 use slots::laying::blank_waiting;
 use slots::mast::Mast;
 use station::Station;
+use units::CallNumber;
 use units::Tenths;
 
 // Moves whenever a field does, or what a number in one stands for; it stands in front.
-const LAYOUT_VERSION: u8 = 3;
+const LAYOUT_VERSION: u8 = 4;
 
 // Where each field stands: behind the one before it, from the version on.
 const CLOCK: usize = 1;
@@ -50,7 +51,9 @@ const SLOT_COUNT: usize = IDENTITY + 4;
 
 const WAITING_COUNT: usize = SLOT_COUNT + 1;
 
-const SLOTS_PLACE: usize = WAITING_COUNT + 1;
+const LAST_CALL: usize = WAITING_COUNT + 1;
+
+const SLOTS_PLACE: usize = LAST_CALL + 4;
 
 const QUEUE_PLACE: usize = SLOTS_PLACE + SLOTS * SLOT_SIZE;
 
@@ -113,11 +116,28 @@ pub fn station_from(bytes: &[u8]) -> Station
         mast: Mast {
             identity: four_at(bytes, IDENTITY),
         },
+        last: CallNumber(four_at(bytes, LAST_CALL)),
         count: count,
         waiting: waiting,
         slots: slots,
         queue: queue,
     }
+}
+
+fn lay_head(clock: Tenths, mast: Mast, count: u8, waiting: u8, last: CallNumber, bytes: &mut [u8])
+    requires { ⌜ slotsPlace ≤ length (now bytes) ⌝ }
+    ensures { λ _. ⌜ now (bytes .exit) ≡ laid (now (bytes .entry)) 0 (headBytes clock mast count waiting last) ⌝ }
+{
+    let version = [LAYOUT_VERSION];
+    let time = low_first(clock.0);
+    let identity = low_first(mast.identity);
+    let counts = [count, waiting];
+    let given = low_first(last.0);
+    lay(&version, 0, bytes);
+    lay(&time, CLOCK, bytes);
+    lay(&identity, IDENTITY, bytes);
+    lay(&counts, SLOT_COUNT, bytes);
+    lay(&given, LAST_CALL, bytes);
 }
 
 // Lent bytes of another size stay as they are. A blank record is zeros.
@@ -127,16 +147,14 @@ pub fn lay_station(station: Station, bytes: &mut [u8])
     if bytes.len() != STATION_SIZE {
         return;
     }
-    let version = [LAYOUT_VERSION];
-    let clock = station.clock;
-    let time = low_first(clock.0);
-    let mast = station.mast;
-    let identity = low_first(mast.identity);
-    let counts = [station.count, station.waiting];
-    lay(&version, 0, bytes);
-    lay(&time, CLOCK, bytes);
-    lay(&identity, IDENTITY, bytes);
-    lay(&counts, SLOT_COUNT, bytes);
+    lay_head(
+        station.clock,
+        station.mast,
+        station.count,
+        station.waiting,
+        station.last,
+        bytes,
+    );
     // Record by record out of the station: an array handed on is copied whole.
     let slots = least(station.count, MOST_SLOTS) as usize;
     let mut i = 0;

@@ -20,6 +20,7 @@ use phase_fields::phase_fields;
 use phase_fields::phase_from;
 use slots::Slot;
 use slots::Waiting;
+use units::CallNumber;
 use units::Channel;
 use units::Tenths;
 
@@ -40,7 +41,9 @@ const SECONDS: usize = MINUTES + 1;
 
 const CHANNEL: usize = SECONDS + 1;
 
-const REQUEST: usize = CHANNEL + 4;
+const CALL_NUMBER: usize = CHANNEL + 4;
+
+const REQUEST: usize = CALL_NUMBER + 4;
 
 pub(crate) const SLOT_SIZE: usize = REQUEST + REQUEST_SIZE;
 
@@ -80,6 +83,7 @@ pub(crate) fn slot_at(bytes: &[u8], place: usize) -> Slot
     Slot {
         phase: phase,
         channel: Channel(four_at(bytes, place + CHANNEL)),
+        call: CallNumber(four_at(bytes, place + CALL_NUMBER)),
         request: request,
     }
 }
@@ -122,9 +126,12 @@ pub(crate) fn lay_slot(slot: Slot, place: usize, room: &mut [u8])
     let channel = slot.channel;
     let request = slot.request;
     let fields = phase_fields(phase);
-    let number = low_first(channel.0);
+    let call = slot.call;
+    let working = low_first(channel.0);
+    let number = low_first(call.0);
     lay_phase(fields, place, room);
-    lay(&number, place + CHANNEL, room);
+    lay(&working, place + CHANNEL, room);
+    lay(&number, place + CALL_NUMBER, room);
     lay_request(request, place + REQUEST, room);
 }
 

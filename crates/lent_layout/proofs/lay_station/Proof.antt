@@ -34,17 +34,8 @@ returns : tie.Need-returns Inv-loop μ-loop Inv-loop2 μ-loop2
 unfolding stationLaid
 returns c = rw (sized-computed (c .before .before .args .bytes .now) ∙ ne-eqb _ _ (c .if1 .taken))
 
-lay-requires : tie.Need-lay-requires Inv-loop μ-loop Inv-loop2 μ-loop2
-lay-requires c κs = omega arith
-
-lay-requires-2 : tie.Need-lay-requires-2 Inv-loop μ-loop Inv-loop2 μ-loop2
-lay-requires-2 c κs = omega arith
-
-lay-requires-3 : tie.Need-lay-requires-3 Inv-loop μ-loop Inv-loop2 μ-loop2
-lay-requires-3 c κs = omega arith
-
-lay-requires-4 : tie.Need-lay-requires-4 Inv-loop μ-loop Inv-loop2 μ-loop2
-lay-requires-4 c κs = omega arith
+lay-head-requires : tie.Need-lay-head-requires Inv-loop μ-loop Inv-loop2 μ-loop2
+lay-head-requires c κs = omega (arith, slots-place-computed)
 
 loop-holds : tie.Need-loop-holds Inv-loop μ-loop Inv-loop2 μ-loop2
 unfolding laid flatMap
@@ -70,10 +61,10 @@ loop-less c = omega arith
 
 loop-again : tie.Need-loop-again Inv-loop μ-loop Inv-loop2 μ-loop2
 loop-again c = let atSlots = c .before .before .before .before .before .before in
-    let start = atSlots .before .before .before .before .before .before .before .before .before .before .before .before .before .before .before .before .before .before .before .before .before .before .before .before .before .before .before .before in
+    let start = atSlots .before .before .before .before .before .before .before .before .before .before .before in
     let s = start .args .t1 in
     let long = slots-long s (start .good .0) in
-    let begun = atSlots .before .before .before .before .lay4 .last .1 .1 .0 in
+    let begun = atSlots .before .before .before .before .lay-head .last .1 .1 .1 .1 .1 .0 in
     let wide : length begun ≡ stationSize = atSlots .loop .inv .3 in
     (c .before .before .lay-slot .ensures ∙ (rw (atSlots .loop .inv .0, slots-place-computed) (rw (slot-size-computed, slots-place-computed) at (record-laid slotBytes slotSize slot-size begun slotsPlace (atSlots .loop .i) (s .slots) noSlot (omega arith) (omega (arith, wide, slots-place-computed, station-size-computed))))), omega arith, search needs, atSlots .loop .inv .3)
 
@@ -116,7 +107,7 @@ loop2-less c = omega arith
 
 loop2-again : tie.Need-loop2-again Inv-loop μ-loop Inv-loop2 μ-loop2
 loop2-again c = let atQueue = c .before .before .before .before .before .before in
-    let start = atQueue .before .before .before .before .before .before .before .before .before .before .before .before .before .before .before .before .before .before .before .before .before .before .before .before .before .before .before .before .before .before .before .before .before .before .before in
+    let start = atQueue .before .before .before .before .before .before .before .before .before .before .before .before .before .before .before .before .before .before in
     let s = start .args .t1 in
     let long = queue-long s (start .good .0) in
     let begun = atQueue .before .before .before .before .lay-zeros .last .1 .1 .0 in
@@ -147,27 +138,23 @@ returns-2 c = let queued = c .before .before in
     let atQueue = queued .before .before .before in
     let slotted = atQueue .before .before .before .before in
     let atSlots = slotted .before .before .before in
-    let counted = atSlots .before .before .before .before in
-    let named = counted .before .before .before .before .before in
-    let timed = named .before .before .before .before .before in
-    let versioned = timed .before .before .before .before .before in
-    let numbers = versioned .before .before .before in
-    let begun = numbers .before .before .before .before in
+    let headed = atSlots .before .before .before .before in
+    let begun = headed .before .before .before .before .before in
     let start = begun .before .before in
     let s = start .args .t1 in
     let filled : atSlots .loop .i ≡ min (s .count) 16 = omega (arith, atSlots .before .least .ensures, atSlots .loop .inv .1, slotted .before .before .loop-test .left) in
     let lined : atQueue .loop2 .k ≡ min (s .waiting) 32 = omega (arith, atQueue .before .least2 .ensures, atQueue .loop2 .inv .1, queued .before .before .loop2-test .left) in
-    let slots-wide : length (counted .lay4 .last .1 .1 .0) ≡ stationSize = atSlots .loop .inv .3 in
+    let slots-wide : length (headed .lay-head .last .1 .1 .1 .1 .1 .0) ≡ stationSize = atSlots .loop .inv .3 in
     let queue-wide : length (slotted .lay-zeros .last .1 .1 .0) ≡ stationSize = atQueue .loop2 .inv .3 in
-    let slots-laid : slotted .lay-zeros .last .1 .1 .0 ≡ laid (counted .lay4 .last .1 .1 .0) slotsPlace (flatMap slotBytes (usedSlots s)) =
+    let slots-laid : slotted .lay-zeros .last .1 .1 .0 ≡ laid (headed .lay-head .last .1 .1 .1 .1 .1 .0) slotsPlace (flatMap slotBytes (usedSlots s)) =
     slotted .lay-zeros .ensures
-    ∙ (rw (atSlots .loop .inv .0, filled, atSlots .before .least .ensures, slots-place-computed) (rw (slot-size-computed, slots-place-computed) at (blanks-laid slotBytes slotSize slot-size blankSlot blank-slot-bytes (counted .lay4 .last .1 .1 .0) slotsPlace 16 (s .count) (s .slots) (slots-long s (start .good .0)) (omega (arith, slots-wide, slots-place-computed, station-size-computed))))) in
+    ∙ (rw (atSlots .loop .inv .0, filled, atSlots .before .least .ensures, slots-place-computed) (rw (slot-size-computed, slots-place-computed) at (blanks-laid slotBytes slotSize slot-size blankSlot blank-slot-bytes (headed .lay-head .last .1 .1 .1 .1 .1 .0) slotsPlace 16 (s .count) (s .slots) (slots-long s (start .good .0)) (omega (arith, slots-wide, slots-place-computed, station-size-computed))))) in
     let queue-laid : queued .lay-zeros2 .last .1 .1 .0 ≡ laid (slotted .lay-zeros .last .1 .1 .0) queuePlace (flatMap waitingBytes (usedQueue s)) =
     queued .lay-zeros2 .ensures
     ∙ (rw (atQueue .loop2 .inv .0, lined, atQueue .before .least2 .ensures, queue-place-computed) (rw (waiting-size-computed, queue-place-computed) at (blanks-laid waitingBytes waitingSize waiting-size blankWaiting blank-waiting-bytes (slotted .lay-zeros .last .1 .1 .0) queuePlace 32 (s .waiting) (s .queue) (queue-long s (start .good .0)) (omega (arith, queue-wide, queue-place-computed, station-size-computed))))) in
     rw (sized-computed (start .args .bytes .now) ∙ eq-eqb _ _ (begun .if1 .left))
     (queue-laid
-    ∙ (rw (slots-laid, counted .lay4 .ensures, named .lay3 .ensures, timed .lay2 .ensures, versioned .lay .ensures, numbers .low-first2 .ensures, numbers .before .before .low-first .ensures) (station-laid s (start .args .bytes .now) (begun .if1 .left ∙ sym station-size-computed))))
+    ∙ (rw (slots-laid, headed .lay-head .ensures) (station-laid s (start .args .bytes .now) (begun .if1 .left ∙ sym station-size-computed))))
 
 pub lay-station-spec : {M : Type 1} → statement M
-lay-station-spec = tie.close (tie.spec Inv-loop μ-loop Inv-loop2 μ-loop2 returns (λ c κs. search needs) (λ c κs. search needs) (λ c. search needs) lay-requires (λ c. search needs) lay-requires-2 (λ c. search needs) lay-requires-3 (λ c. search needs) lay-requires-4 (λ c κs. search needs) (λ c. search needs) loop-holds (λ c. search needs) element-copy-out-slot mul-lay-slot add-lay-slot lay-slot-requires add-i loop-less loop-again sub-lay-zeros mul-lay-zeros mul-lay-zeros-2 add-lay-zeros lay-zeros-requires (λ c κs. search needs) (λ c. search needs) loop2-holds (λ c. search needs) element-copy-out-entry mul-lay-waiting add-lay-waiting lay-waiting-requires add-k loop2-less loop2-again sub-lay-zeros-2 mul-lay-zeros-3 mul-lay-zeros-4 add-lay-zeros-2 lay-zeros-requires-2 same-length returns-2)
+lay-station-spec = tie.close (tie.spec Inv-loop μ-loop Inv-loop2 μ-loop2 returns lay-head-requires (λ c κs. search needs) (λ c. search needs) loop-holds (λ c. search needs) element-copy-out-slot mul-lay-slot add-lay-slot lay-slot-requires add-i loop-less loop-again sub-lay-zeros mul-lay-zeros mul-lay-zeros-2 add-lay-zeros lay-zeros-requires (λ c κs. search needs) (λ c. search needs) loop2-holds (λ c. search needs) element-copy-out-entry mul-lay-waiting add-lay-waiting lay-waiting-requires add-k loop2-less loop2-again sub-lay-zeros-2 mul-lay-zeros-3 mul-lay-zeros-4 add-lay-zeros-2 lay-zeros-requires-2 same-length returns-2)

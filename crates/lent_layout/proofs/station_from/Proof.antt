@@ -26,8 +26,11 @@ queue-from-requires c κs = omega (arith, queue-place-computed, waiting-size-com
 
 returns-3 : tie.Need-returns-3
 unfolding stationFrom current layoutVersion
-returns-3 c = let b = c .before .before .before .before .before .before .before .before .before .before .args .bytes .now in
-    rw (sized-computed b ∙ eq-eqb _ _ (c .before .before .before .before .before .before .before .before .if1 .left), eq-eqb _ _ (c .before .before .before .before .before .before .if2 .left), c .four-at2 .ensures, c .before .four-at .ensures, c .before .before .queue-from .ensures, c .before .before .before .slots-from .ensures) (sym (station-read b))
+returns-3 c = let queued = c .before .before .before in
+    let versioned = queued .before .before .before .before in
+    let sized = versioned .before .before in
+    let b = sized .before .before .args .bytes .now in
+    rw (sized-computed b ∙ eq-eqb _ _ (sized .if1 .left), eq-eqb _ _ (versioned .if2 .left), c .four-at3 .ensures, c .before .four-at2 .ensures, c .before .before .four-at .ensures, queued .queue-from .ensures, queued .before .slots-from .ensures) (sym (station-read b))
 
 pub station-from-spec : {M : Type 1} → statement M
-station-from-spec = tie.close (tie.spec (λ c κs. search needs) returns (λ c. search needs) (λ c κs. search needs) returns-2 (λ c. search needs) (λ c. search needs) slots-from-requires queue-from-requires (λ c κs. search needs) (λ c κs. search needs) returns-3)
+station-from-spec = tie.close (tie.spec (λ c κs. search needs) returns (λ c. search needs) (λ c κs. search needs) returns-2 (λ c. search needs) (λ c. search needs) slots-from-requires queue-from-requires (λ c κs. search needs) (λ c κs. search needs) (λ c κs. search needs) returns-3)

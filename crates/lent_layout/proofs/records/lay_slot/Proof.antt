@@ -24,12 +24,23 @@ lay-request-requires : tie.Need-lay-request-requires
 unfolding slotFields requestFields
 lay-request-requires c κs = omega arith
 
+lay-requires-2 : tie.Need-lay-requires-2
+unfolding slotFields requestFields
+lay-requires-2 c κs = omega arith
+
 returns : tie.Need-returns
 unfolding slotFields
-returns c = let a = c .before .before .before .before .before .before .before .before .before .before .before .before .before .before .before .before .before .before .args in
+returns c = let asked = c .before .before in
+    let numbered = asked .before .before .before .before in
+    let worked = numbered .before .before .before .before .before in
+    let phased = worked .before .before .before .before .before in
+    let given = phased .before .before in
+    let kept = given .before .before .before in
+    let a = kept .before .before .before .before .args in
     let h : a .place ≤ length (a .room .now) = omega arith in
-    c .before .before .lay-request .ensures ∙ (rw (c .before .before .before .before .before .before .lay .ensures, c .before .before .before .before .before .before .before .before .before .before .before .lay-phase .ensures, c .before .before .before .before .before .before .before .before .before .before .before .before .before .low-first .ensures) (slot-laid (a .slot) _ (a .room .now) (a .place) (c .before .before .before .before .before .before .before .before .before .before .before .before .before .before .phase-fields .ensures) h))
+    asked .lay-request .ensures
+    ∙ (rw (numbered .lay2 .ensures, worked .lay .ensures, phased .lay-phase .ensures, given .low-first2 .ensures, given .before .low-first .ensures) (slot-laid (a .slot) _ (a .room .now) (a .place) (kept .phase-fields .ensures) h))
 
 pub lay-slot-spec : {M : Type 1} → statement M
 unfolding slotFields requestFields
-lay-slot-spec = tie.close (tie.spec (λ c κs. search needs) (λ c κs. search needs) lay-phase-requires (λ c. search needs) (λ c. search needs) lay-requires add-lay-request lay-request-requires (λ c. search needs) returns)
+lay-slot-spec = tie.close (tie.spec (λ c κs. search needs) (λ c κs. search needs) (λ c κs. search needs) lay-phase-requires (λ c. search needs) (λ c. search needs) lay-requires (λ c. search needs) (λ c. search needs) lay-requires-2 add-lay-request lay-request-requires (λ c. search needs) returns)

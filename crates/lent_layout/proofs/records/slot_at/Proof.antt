@@ -18,10 +18,16 @@ four-at-requires : tie.Need-four-at-requires
 unfolding slotFields requestFields
 four-at-requires c κs = omega arith
 
+four-at-requires-2 : tie.Need-four-at-requires-2
+unfolding slotFields requestFields
+four-at-requires-2 c κs = omega arith
+
 returns : tie.Need-returns
 unfolding slotFrom slotFields
-returns c = rw (decode-further requestFields (c .before .before .before .before .before .args .bytes .now) (c .before .before .before .before .before .args .place) 18 0, c .four-at .ensures, c .before .request-at .ensures, c .before .before .phase-from .ensures, c .before .before .before .phase-at .ensures)
+returns c = let asked = c .before .before in
+    let a = asked .before .before .before .before .args in
+    rw (decode-further requestFields (a .bytes .now) (a .place) 22 0, c .four-at2 .ensures, c .before .four-at .ensures, asked .request-at .ensures, asked .before .phase-from .ensures, asked .before .before .phase-at .ensures)
 
 pub slot-at-spec : {M : Type 1} → statement M
 unfolding slotFields requestFields
-slot-at-spec = tie.close (tie.spec phase-at-requires (λ c κs. search needs) (λ c. search needs) request-at-requires (λ c. search needs) four-at-requires returns)
+slot-at-spec = tie.close (tie.spec phase-at-requires (λ c κs. search needs) (λ c. search needs) request-at-requires (λ c. search needs) four-at-requires (λ c. search needs) four-at-requires-2 returns)
