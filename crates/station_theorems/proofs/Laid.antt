@@ -9,7 +9,7 @@ use lib.ListN.{length, take, drop}
 use borrow.Author.Tests.{le-leb}
 use Rattle.units.specs.declared.Channel.{Channel}
 use Rattle.sequence.specs.Symbols.{allAtMost}
-use Rattle.rules.specs.Rules.Words.{Request, Config, Event}
+use Rattle.rules.specs.Rules.Words.{Config, Event}
 use Rattle.rules.specs.Rules.Places.{isSome, shift, lowest, all, Each}
 use Rattle.rules.specs.Rules.Station as R
 use Rattle.rules.specs.Rules.Station.{isFree}
@@ -17,11 +17,11 @@ use Rattle.rules.specs.Rules.Verdict.{verdict}
 use Rattle.rules.specs.Rules.Bytes.{padded, numberOf}
 use Rattle.rules.specs.Statement.{unchargedSlots, unchargedTenths}
 use Rattle.rules.proofs.PlaceLaws.{and-true, shift-none}
-use Rattle.requests.specs.Views.{viewed, itself, requestOf}
+use Rattle.requests.specs.Views.{viewed, itself}
 use Rattle.requests.specs.Images.{requestImage, blankRequest}
 use Rattle.slots.specs.declared.Slot.{Slot}
 use Rattle.slots.specs.Phases.{keptIn}
-use Rattle.slots.specs.Views.{slotView}
+use Rattle.slots.specs.Views.{dealingOf, slotView}
 use Rattle.slots.specs.Images.{imageOr, slotImage, waitingImage, blankSlot, blankWaiting, slotImages, Short, ShortOr, ShortSlot, Fits}
 use Rattle.slots.proofs.PhaseLaws.{stored-kept, since-view}
 use Rattle.sound_records.specs.Kept.{numberExact, slotExact, waitingExact}
@@ -69,9 +69,9 @@ slot-exact : (c : Channel) (s : R.Slot) → ShortSlot s → slotExact (slotImage
 unfolding slotExact slotImage requestImage
 slot-exact c s h = rw (stored-kept s) (go (keptIn s) h)
   where
-    go : (o : Option Request) → ShortOr o → cond (isSome o) (numberExact (imageOr o .number)) true ≡ true
+    go : (o : Option R.Dealing) → ShortOr o → cond (isSome o) (numberExact (imageOr o .number)) true ≡ true
     go none h = refl
-    go (some r) h = number-exact (r .number) h
+    go (some r) h = number-exact (r .request .number) h
 
 slots-exact : (cs : List Channel) (ss : List R.Slot) → Each ShortSlot ss → all slotExact (slotImages cs ss) ≡ true
 slots-exact [] ss h = refl
@@ -109,7 +109,7 @@ module _ (c : Config) (m : R.Station) (f : Fits c m) where
 
 slots-uncharged : (t : ℕ) (l : List Slot) → unchargedOn t l ≡ unchargedSlots t (map slotView l)
 slots-uncharged t [] = refl
-slots-uncharged t (s ∷ l) = rw (since-view (s .phase) (requestOf (s .request)), slots-uncharged t l)
+slots-uncharged t (s ∷ l) = rw (since-view (s .phase) (dealingOf s), slots-uncharged t l)
 
 pub uncharged-is : (s : Station) → unchargedBy s ≡ unchargedTenths (modelOf s)
 unfolding unchargedBy unchargedTenths modelOf viewed

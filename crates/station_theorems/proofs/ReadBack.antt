@@ -22,7 +22,7 @@ use Rattle.rules.specs.Rules.Words.{Party, Mode, simplex, duplex, modeNumber, R
 use Rattle.rules.specs.Rules.Actions.{Charge, Ender, theShip, theCoast, Action, does, over, charge, chargeNumbers}
 use Rattle.rules.specs.Rules.Bytes.{padded, numberOf, answerTo, ableSaid, unableSaid, lastedField, endSymbol, overSaid, block, channelAt, kindNumber, slotNumber, payloadOf, blockOf, blocks, fours}
 use Rattle.rules.specs.Rules.Printed.{shown}
-use Rattle.rules.specs.Statement.{chargesOf, FourBytes}
+use Rattle.rules.specs.Statement.{deedsOf, chargesOf, FourBytes}
 use Rattle.rules.proofs.Payloads.{block-length, Slim}
 use Rattle.requests.proofs.ArrayLaws.{padded-front}
 use Rattle.actions.specs.Sent.{speaks}
@@ -94,8 +94,9 @@ charge-back h f =
     let a = four-back _ (f .0) in
     let b = four-back _ (f .1 .0) in
     let c = four-back _ (f .1 .1 .0) in
-    let d = four-back _ (f .1 .1 .1) in
-    rw (a, b, c, d)
+    let d = four-back _ (f .1 .1 .1 .0) in
+    let e = four-back _ (f .1 .1 .1 .1) in
+    rw (a, b, c, d, e)
 
 -- ── a block ──────────────────────────────────────────────────────────────────
 
@@ -128,6 +129,10 @@ action-back c (does (busyTone i)) v f = refl
 action-back c (over i e x l n) v f = rw (meaning-back (overSaid e x l n) v, over-back i e x l n v)
 action-back c (charge h) v f = rw (charge-back h f)
 
+as-charge : (slot : ℕ) (p : List ℕ) → actionAs 7 slot p ≡ charge (chargeIn slot p) ∷ []
+unfolding actionAs
+as-charge slot p = refl
+
 -- ── the blocks of a room ─────────────────────────────────────────────────────
 
 -- the first block, and what stands behind it
@@ -151,6 +156,28 @@ actions-back c (a ∷ l) v s f rest =
     let g = split a l f in
     let one : actionIn (blockOf c a) ≡ a ∷ [] = block-back c a (s .0) ∙ action-back c a (v .0 .0) (g .0) in
     rw (first-block c a l rest, behind-block c a l rest, one, actions-back c l (v .1) (s .1) (g .1) rest)
+
+-- the deeds among them, of any charges
+one-deed : (c : Config) (a : Action) (l : List Action) → speaks c a ≡ true → deedsOf (actionAs (kindNumber a) (slotNumber a) (payloadOf c a) ++ l) ≡ deedsOf (a ∷ l)
+one-deed c (does d) l v = ap (λ z. deedsOf (z ++ l)) (action-back c (does d) v tt)
+one-deed c (over i e x digits n) l v = ap (λ z. deedsOf (z ++ l)) (action-back c (over i e x digits n) v tt)
+one-deed c (charge h) l v = charge-deeds h l
+  where
+    charge-deeds : (h : Charge) (l : List Action) → deedsOf (actionAs 7 (h .slot) (payloadOf c (charge h)) ++ l) ≡ deedsOf l
+    charge-deeds h l = ap (λ z. deedsOf (z ++ l)) (as-charge (h .slot) (payloadOf c (charge h)))
+
+pub deeds-back : (c : Config) (l : List Action) → Each (Speaks c) l → Each (Slim c) l → (rest : List ℕ)
+    → deedsOf (actionsIn (length l) (blocks c l ++ rest)) ≡ deedsOf l
+unfolding actionsIn
+deeds-back c [] v s rest = refl
+deeds-back c (a ∷ l) v s rest =
+    rw (first-block c a l rest, behind-block c a l rest, block-back c a (s .0))
+    (one-deed c a (actionsIn (length l) (blocks c l ++ rest)) (v .0 .0) ∙ deeds-behind a (actionsIn (length l) (blocks c l ++ rest)) l (deeds-back c l (v .1) (s .1) rest))
+  where
+    deeds-behind : (a : Action) (k l : List Action) → deedsOf k ≡ deedsOf l → deedsOf (a ∷ k) ≡ deedsOf (a ∷ l)
+    deeds-behind (does d) k l h = ap (λ z. d ∷ z) h
+    deeds-behind (over i e x digits n) k l h = h
+    deeds-behind (charge c) k l h = h
 
 pub shown-back : (c : Config) (l : List Action) → Each (Slim c) l → (rest : List ℕ) → shownIn (length l) (blocks c l ++ rest) ≡ map (shown c) l
 unfolding shownIn blockOf block

@@ -1,25 +1,27 @@
 -- What a step hands back, from its contract: the refusal, or what the rules say; and that there is one for every event.
 use Prim.Native.Nat.{ℕ, _*_, _≤_}
-use mathlib.Core.Path.{_≡_, refl, sym, ap, subst, _∙_}
+use mathlib.Core.Path.{_≡_, refl, sym, ap, _∙_}
 use mathlib.Core.List.{List, [], _∷_, _++_}
 use mathlib.Core.Bool.{Bool, true, false, cond}
 use mathlib.Core.Option.{Option, none, some}
 use native.Mathlib.Omega.{arith}
+use lib.Dec.{leb}
 use lib.ListN.{length, drop}
 use borrow.Author.Tests.{leb-true, leb-false}
 use Rattle.sequence.specs.Refusals.{firstRefusal}
-use Rattle.rules.specs.Rules.Words.{Config, Event, Signal, lineDialledOut, lineLifted, lineHung, carrierHeard, carrierLost, Hand, handTakes, handGives, Happened, heard, signal, operator, What, tick, onChannel70, onSlot, fromAshore}
+use Rattle.rules.specs.Rules.Words.{Request, Config, ashoreIn, Event, Signal, lineDialledOut, lineLifted, lineHung, carrierHeard, carrierLost, Hand, handTakes, handGives, Happened, heard, signal, operator, What, tick, onChannel70, onSlot, fromAshore}
 use Rattle.rules.specs.Rules.Places.{Each}
 use Rattle.rules.specs.Rules.Station as R
-use Rattle.rules.specs.Rules.Requests.{Out}
+use Rattle.rules.specs.Rules.Station.{setClock}
+use Rattle.rules.specs.Rules.Requests.{Out, ignored}
 use Rattle.rules.specs.Rules.Calls.{act}
 use Rattle.rules.specs.Rules.Verdict.{refusals, verdict}
 use Rattle.rules.specs.Rules.Bytes.{blocks}
-use Rattle.rules.specs.Statement.{ZeroOrOne, AtMostEight, ChargesFit, ReleasedWhenDropped, DroppedReleased, IgnoredWhenCalled, CalledIgnored}
+use Rattle.rules.specs.Statement.{deedsOf, chargesOf, FourBytes, NumbersGoOn, ToldWhenUsedUp, Told107, UsedUpTold, UsedUpStays, ZeroOrOne, AtMostEight, ReleasedWhenDropped, DroppedReleased, IgnoredWhenCalled, CalledIgnored}
 use Rattle.rules.proofs.Accepted.{accepted}
 use Rattle.rules.proofs.Eight.{at-most-eight}
 use Rattle.rules.proofs.Answered.{zero-or-one}
-use Rattle.rules_theorems.proofs.Charged.{charges-fit}
+use Rattle.rules_theorems.proofs.Numbers.{numbers-go-on, used-up-told, used-up-stays}
 use Rattle.rules.proofs.Kept.{stays-sound}
 use Rattle.rules_theorems.proofs.Released.{dropped-released, none-dropped}
 use Rattle.rules_theorems.proofs.Offered.{called-ignored}
@@ -34,8 +36,8 @@ use Rattle.station.proofs.GateLaws.{passed}
 use Rattle.station.proofs.StepLaws.{reads}
 use Rattle.station_theorems.specs.Rooms.{actionsIn, shownIn}
 use Rattle.station_theorems.specs.Steps.{Step, Allowed, by-heard-on-channel-70, by-heard-on-slot, by-dialling-ended, by-off-hook, by-on-hook, by-carrier-up, by-carrier-down, by-take-slot, by-give-back, by-call-from-ashore, by-tick, stepOf}
-use Rattle.station_theorems.specs.Statement.{outIn, laidOut, RefusalsLeaveAll, RoomsStay, RackDroppedReleased, RackCalledIgnored}
-use Rattle.station_theorems.proofs.ReadBack.{actions-back, shown-back, laid-back}
+use Rattle.station_theorems.specs.Statement.{outIn, laidOut, RefusalsLeaveAll, RoomsStay, RackDroppedReleased, RackCalledIgnored, RackNumbersGoOn, RackUsedUpTold, RackUsedUpStays}
+use Rattle.station_theorems.proofs.ReadBack.{actions-back, deeds-back, shown-back, laid-back}
 use contract.Lifetimes.{Lfts}
 use denote.Ref.{RefT}
 use Rattle.units.specs.declared.Tenths.{Tenths}
@@ -128,12 +130,20 @@ module _ (x : Step) (d : Does x) (o : Option ℕ) (e : refusal (x .before) (x .e
 
 -- ── the actions of an accepted event ─────────────────────────────────────────
 
-pub blocks-tell : (c : Config) (m : R.Station) (e : Event) → verdict c m e ≡ none → (rest : List ℕ)
+pub blocks-tell : (c : Config) (m : R.Station) (e : Event) → verdict c m e ≡ none → Each FourBytes (chargesOf (act c m e .acts)) → (rest : List ℕ)
     → actionsIn (length (act c m e .acts)) (blocks c (act c m e .acts) ++ rest) ≡ act c m e .acts
-unfolding AtMostEight ChargesFit
-blocks-tell c m e v rest =
+unfolding AtMostEight
+blocks-tell c m e v f rest =
     let a = accepted c m e v in
-    actions-back c (act c m e .acts) (act-says reads c m e v) (at-most-eight c m e (a .is-sound) .1) (charges-fit c m e v) rest
+    actions-back c (act c m e .acts) (act-says reads c m e v) (at-most-eight c m e (a .is-sound) .1) f rest
+
+-- the deeds, whatever numbers the station holds
+deeds-tell : (c : Config) (m : R.Station) (e : Event) → verdict c m e ≡ none → (rest : List ℕ)
+    → deedsOf (actionsIn (length (act c m e .acts)) (blocks c (act c m e .acts) ++ rest)) ≡ deedsOf (act c m e .acts)
+unfolding AtMostEight
+deeds-tell c m e v rest =
+    let a = accepted c m e v in
+    deeds-back c (act c m e .acts) (act-says reads c m e v) (at-most-eight c m e (a .is-sound) .1) rest
 
 pub answer-told : (c : Config) (m : R.Station) (e : Event) → verdict c m e ≡ none → act c m e .answer ≤ 1
 unfolding ZeroOrOne
@@ -173,25 +183,36 @@ rooms-stay x a = go (refusal (x .before) (x .event)) refl
         let n : x .back .count ≡ 0 = ap (λ (r : Stepped). r .count) (back-for x (allowed-does x a) (some k) e) in
         rw (n, l) refl
 
--- what an accepted step hands back is what the rules say
-accepted-out : (x : Step) → Allowed x → refusal (x .before) (x .event) ≡ none → outIn x ≡ act (configOf (x .before)) (modelOf (x .before)) (x .event)
-accepted-out x a e =
+-- what an accepted step hands back is what the rules say, its deeds too
+record AsRuled (x : Step) : Type 0 where
+  answer : x .back .answer ≡ act (configOf (x .before)) (modelOf (x .before)) (x .event) .answer
+  next : modelOf (x .back .station) ≡ act (configOf (x .before)) (modelOf (x .before)) (x .event) .next
+  count : x .back .count ≡ length (act (configOf (x .before)) (modelOf (x .before)) (x .event) .acts)
+  deeds : deedsOf (actionsIn (x .back .count) (x .left)) ≡ deedsOf (act (configOf (x .before)) (modelOf (x .before)) (x .event) .acts)
+  acts : Each FourBytes (chargesOf (act (configOf (x .before)) (modelOf (x .before)) (x .event) .acts)) → actionsIn (x .back .count) (x .left) ≡ act (configOf (x .before)) (modelOf (x .before)) (x .event) .acts
+
+as-ruled : (x : Step) → Allowed x → refusal (x .before) (x .event) ≡ none → AsRuled x
+as-ruled x a e =
     let c = configOf (x .before) in
     let m = modelOf (x .before) in
     let o = act (configOf (x .before)) (modelOf (x .before)) (x .event) in
     let v = passed (x .before) (x .event) (sym e) .judged in
     let b = back-for x (allowed-does x a) none e in
-    let answer : x .back .answer ≡ o .answer = ap (λ (r : Stepped). r .answer) b in
-    let next : modelOf (x .back .station) ≡ o .next = ap (λ (r : Stepped). modelOf (r .station)) b ∙ model-back c (o .next) (sound-fits c (o .next) (stays-sound c m (x .event) v)) in
-    let count : x .back .count ≡ length (o .acts) = ap (λ (r : Stepped). r .count) b in
-    rw (answer, next, count, left-for x (allowed-does x a) none e, blocks-tell c m (x .event) v (drop (40 * length (o .acts)) (x .lent))) refl
+    let n : x .back .count ≡ length (o .acts) = ap (λ (r : Stepped). r .count) b in
+    record {
+      answer = ap (λ (r : Stepped). r .answer) b;
+      next = ap (λ (r : Stepped). modelOf (r .station)) b ∙ model-back c (o .next) (sound-fits c (o .next) (stays-sound c m (x .event) v));
+      count = n;
+      deeds = rw (n, left-for x (allowed-does x a) none e) (deeds-tell c m (x .event) v (drop (40 * length (o .acts)) (x .lent)));
+      acts = λ f. rw (n, left-for x (allowed-does x a) none e) (blocks-tell c m (x .event) v f (drop (40 * length (o .acts)) (x .lent)));
+    }
 
 pub rack-dropped-released : RackDroppedReleased
 unfolding RackDroppedReleased DroppedReleased actionsIn
 rack-dropped-released x a = go (refusal (x .before) (x .event)) refl
   where
     go : (o : Option ℕ) → refusal (x .before) (x .event) ≡ o → ReleasedWhenDropped (modelOf (x .before)) (modelOf (x .back .station)) (actionsIn (x .back .count) (x .left))
-    go none e = subst (λ (o : Out). ReleasedWhenDropped (modelOf (x .before)) (o .next) (o .acts)) (sym (accepted-out x a e)) (dropped-released (configOf (x .before)) (modelOf (x .before)) (x .event) (passed (x .before) (x .event) (sym e) .judged))
+    go none e = let r = as-ruled x a e in rw (r .next, r .deeds) (dropped-released (configOf (x .before)) (modelOf (x .before)) (x .event) (passed (x .before) (x .event) (sym e) .judged))
     go (some n) e =
         let b = back-for x (allowed-does x a) (some n) e in
         let station : x .back .station ≡ x .before = ap (λ (r : Stepped). r .station) b in
@@ -212,8 +233,51 @@ unfolding RackCalledIgnored CalledIgnored
 rack-called-ignored x a t = go (refusal (x .before) (x .event)) refl
   where
     go : (o : Option ℕ) → refusal (x .before) (x .event) ≡ o → IgnoredWhenCalled (configOf (x .before)) (modelOf (x .before)) (x .event) (outIn x)
-    go none e = rw (accepted-out x a e) (called-ignored (configOf (x .before)) (modelOf (x .before)) (x .event) (passed (x .before) (x .event) (sym e) .judged))
+    go none e = λ i k r d p q z.
+        let s = as-ruled x a e in
+        let o = act (configOf (x .before)) (modelOf (x .before)) (x .event) in
+        let h : o ≡ ignored (setClock (x .event .time) (modelOf (x .before))) = called-ignored (configOf (x .before)) (modelOf (x .before)) (x .event) (passed (x .before) (x .event) (sym e) .judged) i k r d p q z in
+        rw (s .answer, s .next, s .acts (rw h tt), h) refl
     go (some n) e =
         let b : x .back .answer ≡ n = ap (λ (r : Stepped). r .answer) (back-for x (allowed-does x a) (some n) e) in
         let k : x .back .answer ≤ 1 = leb-true (x .back .answer) 1 t in
         absurd (omega (arith, refused-number (x .before) (x .event) n e))
+
+pub rack-numbers-go-on : RackNumbersGoOn
+unfolding RackNumbersGoOn NumbersGoOn modelOf
+rack-numbers-go-on x a = go (refusal (x .before) (x .event)) refl
+  where
+    go : (o : Option ℕ) → refusal (x .before) (x .event) ≡ o → x .before .last .0 ≤ x .back .station .last .0
+    go none e = rw (← (as-ruled x a e .next)) at (numbers-go-on (configOf (x .before)) (modelOf (x .before)) (x .event) (passed (x .before) (x .event) (sym e) .judged))
+    go (some n) e = let b : x .back .station ≡ x .before = ap (λ (r : Stepped). r .station) (back-for x (allowed-does x a) (some n) e) in rw b (omega arith)
+
+-- an answer of an accepted step is no refusal's
+not-refused : (x : Step) → Allowed x → leb (x .back .answer) 1 ≡ true → (n : ℕ) → refusal (x .before) (x .event) ≡ some n → ⊥
+not-refused x a t n e =
+    let b : x .back .answer ≡ n = ap (λ (r : Stepped). r .answer) (back-for x (allowed-does x a) (some n) e) in
+    let k = leb-true (x .back .answer) 1 t in
+    let m = refused-number (x .before) (x .event) n e in
+    omega (arith, b, k, m)
+
+pub rack-used-up-told : RackUsedUpTold
+unfolding RackUsedUpTold UsedUpTold
+rack-used-up-told x a t = go (refusal (x .before) (x .event)) refl
+  where
+    go : (o : Option ℕ) → refusal (x .before) (x .event) ≡ o → ToldWhenUsedUp (configOf (x .before)) (modelOf (x .before)) (x .event) (outIn x)
+    go none e = λ r l h.
+        let told = used-up-told (configOf (x .before)) (modelOf (x .before)) (x .event) (passed (x .before) (x .event) (sym e) .judged) r l h in
+        (λ n. as-told r (told .0 n), λ i k p d n y z q. as-told r (told .1 i k p d n y z q))
+      where
+        as-told : (r : Request) → Told107 (modelOf (x .before)) (x .event .time) r (act (configOf (x .before)) (modelOf (x .before)) (x .event)) → Told107 (modelOf (x .before)) (x .event .time) r (outIn x)
+        as-told r w = let s = as-ruled x a e in rw (s .answer, s .next, s .acts (rw w tt), w) refl
+    go (some n) e = absurd (not-refused x a t n e)
+
+pub rack-used-up-stays : RackUsedUpStays
+unfolding RackUsedUpStays UsedUpStays modelOf
+rack-used-up-stays x a t l = go (refusal (x .before) (x .event)) refl
+  where
+    go : (o : Option ℕ) → refusal (x .before) (x .event) ≡ o → (x .back .station .last .0 ≡ 4294967295) × (ashoreIn (x .event .what) ≡ none)
+    go none e =
+        let s = used-up-stays (configOf (x .before)) (modelOf (x .before)) (x .event) (passed (x .before) (x .event) (sym e) .judged) l in
+        (ap (λ (m : R.Station). m .lastCall) (as-ruled x a e .next) ∙ s .0, s .1)
+    go (some n) e = absurd (not-refused x a t n e)

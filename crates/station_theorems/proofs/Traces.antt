@@ -16,7 +16,7 @@ use Rattle.rules.specs.Rules.Calls.{act}
 use Rattle.rules.specs.Rules.Verdict.{verdict, setUpVerdict, step, play, final}
 use Rattle.rules.specs.Rules.Bytes.{blocks}
 use Rattle.rules.specs.Rules.Printed.{dueShown, lines, printed}
-use Rattle.rules.specs.Statement.{ZeroOrOne, AtMostEight}
+use Rattle.rules.specs.Statement.{ZeroOrOne, AtMostEight, NumbersFit, ChargesFit}
 use Rattle.rules.proofs.Run.{play-on, play-past, final-on, final-past}
 use Rattle.rules.proofs.Kept.{stays-sound}
 use Rattle.rules.proofs.Eight.{at-most-eight}
@@ -35,6 +35,8 @@ use Rattle.station_theorems.specs.Statement as S
 use Rattle.station_theorems.specs.Statement.{entriesIn, dueIn, shownBy, allShown}
 use Rattle.station_theorems.proofs.ReadBack.{shown-back}
 use Rattle.station_theorems.proofs.Laid.{refusal-is}
+use Rattle.rules_theorems.proofs.Charged.{charges-fit}
+use Rattle.rules_theorems.proofs.Numbers.{Given, next-given, given-fit}
 use Rattle.station_theorems.proofs.Steps.{allowed-does, back-for, left-for, blocks-tell}
 
 -- ── what set-up hands back ───────────────────────────────────────────────────
@@ -117,9 +119,10 @@ module _ (c : Config) (m : R.Station) (good : sound c m ≡ true) (x : Step) (on
     unfolding ZeroOrOne
     next-not-29 h = let n : x .back .answer ≤ 1 = rw (done-back c m good x on allowed v) (zero-or-one c m (x .event) .0 v) in omega arith
 
-    next-entry : S.entryIn x ≡ record { event = x .event; given = act c m (x .event) .acts }
-    next-entry =
-        rw (done-back c m good x on allowed v, done-left c m good x on allowed v, blocks-tell c m (x .event) v (drop (40 * length (act c m (x .event) .acts)) (x .lent))) refl
+    next-entry : NumbersFit m → S.entryIn x ≡ record { event = x .event; given = act c m (x .event) .acts }
+    unfolding ChargesFit
+    next-entry f =
+        rw (done-back c m good x on allowed v, done-left c m good x on allowed v, blocks-tell c m (x .event) v (charges-fit c m (x .event) v f) (drop (40 * length (act c m (x .event) .acts)) (x .lent))) refl
 
     next-shown : shownBy x ≡ lines c (step c m (x .event))
     unfolding AtMostEight imageOf
@@ -151,25 +154,25 @@ pub record IsRun (c : Config) (m : R.Station) (xs : List Step) : Type 0 where
   pub print : allShown xs ≡ printed c (eventsIn xs) m
   pub no-29 : Each (λ x. x .back .answer ≡ 29 → ⊥) xs
 
-pub is-run : (c : Config) (xs : List Step) (m : R.Station) → sound c m ≡ true → HandsOn (imageOf c m) xs → IsRun c m xs
+pub is-run : (c : Config) (xs : List Step) (m : R.Station) → sound c m ≡ true → Given m → HandsOn (imageOf c m) xs → IsRun c m xs
 unfolding entriesIn play final printed
-is-run c [] m good t = record { entries = refl; last = refl; print = refl; no-29 = tt }
-is-run c (x ∷ xs) m good t = go (verdict c m (x .event)) refl (λ m good t. is-run c xs m good t)
+is-run c [] m good g t = record { entries = refl; last = refl; print = refl; no-29 = tt }
+is-run c (x ∷ xs) m good g t = go (verdict c m (x .event)) refl (λ m good g t. is-run c xs m good g t)
   where
-    go : (o : Option ℕ) → verdict c m (x .event) ≡ o → ((m : R.Station) → sound c m ≡ true → HandsOn (imageOf c m) xs → IsRun c m xs) → IsRun c m (x ∷ xs)
+    go : (o : Option ℕ) → verdict c m (x .event) ≡ o → ((m : R.Station) → sound c m ≡ true → Given m → HandsOn (imageOf c m) xs → IsRun c m xs) → IsRun c m (x ∷ xs)
     go none v more =
         let next = act c m (x .event) .next in
         let s = next-station c m good x (t .0) (t .1 .0) v in
-        let w = more next (stays-sound c m (x .event) v) (rw s at (t .1 .1)) in
+        let w = more next (stays-sound c m (x .event) v) (next-given c m (x .event) v g) (rw s at (t .1 .1)) in
         record {
-          entries = rw (next-taken c m good x (t .0) (t .1 .0) v, next-entry c m good x (t .0) (t .1 .0) v, play-on c (x .event) (eventsIn xs) m v, w .entries) refl;
+          entries = rw (next-taken c m good x (t .0) (t .1 .0) v, next-entry c m good x (t .0) (t .1 .0) v (given-fit m g), play-on c (x .event) (eventsIn xs) m v, w .entries) refl;
           last = rw (s, final-on c (x .event) (eventsIn xs) m v) (w .last);
           print = rw (next-shown c m good x (t .0) (t .1 .0) v, step-on c m (x .event) v, w .print) refl;
           no-29 = (next-not-29 c m good x (t .0) (t .1 .0) v, w .no-29);
         }
     go (some n) v more =
         let s = same-station c m good x (t .0) (t .1 .0) n v in
-        let w = more m good (rw s at (t .1 .1)) in
+        let w = more m good g (rw s at (t .1 .1)) in
         record {
           entries = rw (not-taken c m good x (t .0) (t .1 .0) n v, play-past c (x .event) (eventsIn xs) m n v) (w .entries);
           last = rw (s, final-past c (x .event) (eventsIn xs) m n v) (w .last);

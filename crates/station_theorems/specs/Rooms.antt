@@ -55,9 +55,9 @@ overIn slot m = over slot (enderIn (m .end)) (partyIn m) (digitsIn (m .number)) 
 unfoldable pub fourAt : ℕ → List ℕ → ℕ
 fourAt i p = getD p i 0 + getD p (i + 1) 0 * 256 + getD p (i + 2) 0 * 65536 + getD p (i + 3) 0 * 16777216
 
--- "ship, start, stop, seconds"
+-- "ship, start, stop, seconds"; 02, no. 4: the call number
 unfoldable pub chargeIn : ℕ → List ℕ → Charge
-chargeIn slot p = chargeOf slot (fourAt 0 p) (fourAt 4 p) (fourAt 8 p) (fourAt 12 p)
+chargeIn slot p = chargeOf slot (fourAt 0 p) (fourAt 4 p) (fourAt 8 p) (fourAt 12 p) (fourAt 16 p)
 
 -- "kind, slot, payload length, 0, payload"
 abbrev pub kindIn : List ℕ → ℕ

@@ -1,13 +1,14 @@
 -- What is claimed of every trace: the theorem on charges and what stands beside it, carried from the rules to the station as it runs.
-use Prim.Native.Nat.{ℕ, _+_, _*_, _<_}
+use Prim.Native.Nat.{ℕ, _+_, _*_, _<_, _≤_}
 use mathlib.Core.Path.{_≡_}
+use mathlib.Core.Logic.{_⊎_}
 use mathlib.Core.Bool.{Bool, true, false, cond, _&&_}
 use mathlib.Core.List.{List, [], _∷_, _++_}
 use mathlib.Core.Option.{none}
-use lib.Dec.{leb}
+use lib.Dec.{eqb, leb}
 use lib.ListN.{length, take, drop, getD}
-use Rattle.rules.specs.Rules.Places.{Each}
-use Rattle.rules.specs.Rules.Words.{Config, Event}
+use Rattle.rules.specs.Rules.Places.{Each, distinct}
+use Rattle.rules.specs.Rules.Words.{Config, ashoreIn, Event}
 use Rattle.rules.specs.Rules.Station as R
 use Rattle.rules.specs.Rules.Sound.{sound}
 use Rattle.rules.specs.Rules.Station.{isFree}
@@ -16,10 +17,10 @@ use Rattle.rules.specs.Rules.Calls.{act}
 use Rattle.rules.specs.Rules.Verdict.{verdict, Entry}
 use Rattle.rules.specs.Rules.Bytes.{block, blocks, blockSize}
 use Rattle.rules.specs.ListAlone.Book.{blankBook}
-use Rattle.rules.specs.ListAlone.Reading.{stops, counted}
+use Rattle.rules.specs.ListAlone.Reading.{stops, counted, readAll}
 use Rattle.rules.specs.Rules.Printed.{printed}
-use Rattle.rules.specs.Statement.{notes, charged, owedFor, unchargedFrom, tenthsIn, stationAfter, WordsAgree, EveryEntry, RingingBy}
-use Rattle.rules.specs.Statement.{ReleasedWhenDropped, IgnoredWhenCalled}
+use Rattle.rules.specs.Statement.{notes, charged, callNumbers, NumbersFit, owedFor, unchargedFrom, tenthsIn, stationAfter, WordsAgree, EveryEntry, RingingBy}
+use Rattle.rules.specs.Statement.{ReleasedWhenDropped, IgnoredWhenCalled, HeldAsCounted, ToldWhenUsedUp}
 use Rattle.rules.specs.ListAlone.Repeated.{Answers, SendsSame, DialsNamed, DeedByDeed}
 use Rattle.rules.specs.ListAlone.LineWords.{InTurn}
 use Rattle.rules.specs.ListAlone.BeingCalled.{OffersOthers, AsksInVain}
@@ -50,7 +51,7 @@ entriesIn (x ∷ xs) = cond (accepted x) (entryIn x ∷ entriesIn xs) (entriesIn
 
 -- the actions that an accepted event gives are read back from their blocks
 unfoldable pub BlocksTell : Type 0
-BlocksTell = (c : Config) (m : R.Station) (e : Event) → verdict c m e ≡ none
+BlocksTell = (c : Config) (m : R.Station) (e : Event) → verdict c m e ≡ none → NumbersFit m
     → actionsIn (length (act c m e .acts)) (blocks c (act c m e .acts)) ≡ act c m e .acts
 
 -- ── the theorem on charges ───────────────────────────────────────────────────
@@ -113,12 +114,34 @@ RackCalledNotOffered = OfEveryTrace (λ c es s. EveryEntry OffersOthers c (notes
 unfoldable pub RackCalledAskInVain : Type 0
 RackCalledAskInVain = OfEveryTrace (λ c es s. EveryEntry AsksInVain c (notes es))
 
--- while a ship waits no slot in use is free
+-- while a ship waits no slot in use is free, unless the last call number has been given
 abbrev pub NoneIdle : Station → Type 0
-NoneIdle s = 0 < s .waiting → Each (λ x. isFree (slotView x) ≡ false) (take (s .count) (s .slots))
+NoneIdle s = 0 < s .waiting
+    → Each (λ x. isFree (slotView x) ≡ false) (take (s .count) (s .slots)) ⊎ (s .last .0 ≡ 4294967295)
 
 unfoldable pub RackNoChannelIdle : Type 0
 RackNoChannelIdle = OfEveryTrace (λ c es s. NoneIdle s)
+
+-- 02, no. 4: no two charges carry the same number; those that the list shows to begin have just the numbers from 1 to the station's last
+abbrev pub NumbersDiffer : List Entry → Type 0
+NumbersDiffer es = distinct eqb (callNumbers (charged 0 es)) ≡ true
+
+unfoldable pub RackChargesDiffer : Type 0
+RackChargesDiffer = OfEveryTrace (λ c es s. NumbersDiffer es)
+
+abbrev pub CountedTo : Config → List Entry → ℕ → Type 0
+CountedTo c es n = readAll c (notes es) (blankBook c) .given ≡ n
+
+unfoldable pub RackNumbersCounted : Type 0
+RackNumbersCounted = OfEveryTrace (λ c es s. CountedTo c es (s .last .0))
+
+-- "The slot's record holds it": the number that the list counts for the call on a slot
+unfoldable pub RackNumbersHeld : Type 0
+RackNumbersHeld = OfEveryTrace (λ c es s. HeldAsCounted c (notes es) (modelOf s))
+
+-- numbers never go back: of every station, in a trace or not, and every event
+unfoldable pub RackNumbersGoOn : Type 0
+RackNumbersGoOn = (x : Step) → Allowed x → x .before .last .0 ≤ x .back .station .last .0
 
 -- as `is_sound` finds it
 abbrev pub isSound : Station → Bool
@@ -147,6 +170,16 @@ outIn x = record { answer = x .back .answer; next = modelOf (x .back .station); 
 unfoldable pub RackCalledIgnored : Type 0
 RackCalledIgnored = (x : Step) → Allowed x → accepted x ≡ true
     → IgnoredWhenCalled (configOf (x .before)) (modelOf (x .before)) (x .event) (outIn x)
+
+-- 02, no. 4: once the last number has been given, 104/107 and nothing else; no number is given any more, and no caller ashore is accepted:
+-- of every station, in a trace or not, and every event that is not refused
+unfoldable pub RackUsedUpTold : Type 0
+RackUsedUpTold = (x : Step) → Allowed x → accepted x ≡ true
+    → ToldWhenUsedUp (configOf (x .before)) (modelOf (x .before)) (x .event) (outIn x)
+
+unfoldable pub RackUsedUpStays : Type 0
+RackUsedUpStays = (x : Step) → Allowed x → accepted x ≡ true → x .before .last .0 ≡ 4294967295
+    → (x .back .station .last .0 ≡ 4294967295) × (ashoreIn (x .event .what) ≡ none)
 
 -- answer, clock, action count, next due time; then each action from the room's bytes
 abbrev pub dueIn : NextDue → List ℕ
