@@ -10,7 +10,7 @@ use Rattle.sequence.proofs.Tests.{Either, yes!, no!, which}
 use Rattle.rules.specs.Rules.Places.{Each}
 use Rattle.rules.specs.Rules.Words.{Config, Event}
 use Rattle.rules.specs.Rules.Sound.{configKeeps}
-use Rattle.rules.specs.Statement.{notes, WordsAgree, EveryEntry, RingingBy}
+use Rattle.rules.specs.Statement.{notes, WordsAgree, EveryEntry, RingingBy, HeldAsCounted}
 use Rattle.rules.specs.ListAlone.Repeated.{Answers, SendsSame, DialsNamed, DeedByDeed}
 use Rattle.rules.specs.ListAlone.LineWords.{InTurn}
 use Rattle.rules.specs.ListAlone.BeingCalled.{OffersOthers, AsksInVain}
@@ -28,15 +28,15 @@ use Rattle.station_theorems.specs.Rooms.{actionsIn}
 use Rattle.station_theorems.specs.Steps.{Step, stepOf, Allowed, SetUpAs, Trace}
 use Rattle.station_theorems.specs.Steps as Rack
 use Rattle.station_theorems.specs.Statement as Said
-use Rattle.station_theorems.specs.Statement.{OfEveryTrace, Obeys, RackObeys, RackLiterally, RackAnswersRepeat, RackSecondSendingRepeats, RackDialsAsked, NoneIdle, RackNoChannelIdle, isSound, RackAlwaysSound}
+use Rattle.station_theorems.specs.Statement.{OfEveryTrace, Obeys, RackObeys, RackLiterally, RackAnswersRepeat, RackSecondSendingRepeats, RackDialsAsked, NoneIdle, RackNoChannelIdle, NumbersDiffer, RackChargesDiffer, CountedTo, RackNumbersCounted, RackNumbersHeld, RackNumbersGoOn, RackUsedUpTold, RackUsedUpStays, isSound, RackAlwaysSound}
 use Rattle.station_theorems.specs.Statement.{RackRingingAsTold, RackRingingInTurn, RackCalledNotOffered, RackCalledAskInVain, RackDroppedReleased, RackCalledIgnored}
-use Rattle.station_theorems.proofs.Steps.{step-allowed, rack-dropped-released, rack-called-ignored}
+use Rattle.station_theorems.proofs.Steps.{step-allowed, rack-dropped-released, rack-called-ignored, rack-numbers-go-on, rack-used-up-told, rack-used-up-stays}
 use Rattle.station_theorems.proofs.Scripted.{beginning}
-use Rattle.station_theorems.proofs.Theorems.{rack-obeys, rack-literally, rack-answers-repeat, rack-second-sending-repeats, rack-dials-asked, rack-no-channel-idle, rack-always-sound}
+use Rattle.station_theorems.proofs.Theorems.{rack-obeys, rack-literally, rack-answers-repeat, rack-second-sending-repeats, rack-dials-asked, rack-no-channel-idle, rack-charges-differ, rack-numbers-counted, rack-numbers-held, rack-always-sound}
 use Rattle.station_theorems.proofs.Theorems.{rack-ringing-as-told, rack-ringing-in-turn, rack-called-not-offered, rack-called-ask-in-vain}
 use Rattle.host_theorems.specs.Calls as Host
 use Rattle.host_theorems.specs.Calls.{Call, Entered, HandsOn, lastOf, SetUpIn, HostRun}
-use Rattle.host_theorems.specs.Statement.{answerIn, entriesIn, OfEveryHost, HostObeys, HostLiterally, HostAnswersRepeat, HostSecondSendingRepeats, HostDialsAsked, HostNoChannelIdle, HostAlwaysSound, HostTellsItsClock}
+use Rattle.host_theorems.specs.Statement.{answerIn, entriesIn, OfEveryHost, HostObeys, HostLiterally, HostAnswersRepeat, HostSecondSendingRepeats, HostDialsAsked, HostNoChannelIdle, HostChargesDiffer, HostNumbersCounted, HostNumbersHeld, HostNumbersGoOn, HostUsedUpTold, HostUsedUpStays, HostAlwaysSound, HostTellsItsClock}
 use Rattle.host_theorems.specs.Statement.{HostRingingAsTold, HostRingingInTurn, HostCalledNotOffered, HostCalledAskInVain, HostDroppedReleased, HostCalledIgnored}
 use Rattle.host_theorems.proofs.Calls.{called, answer-is, count-is}
 
@@ -168,6 +168,18 @@ pub host-no-channel-idle : HostNoChannelIdle
 unfolding HostNoChannelIdle RackNoChannelIdle
 host-no-channel-idle = carried (λ c es s. NoneIdle s) rack-no-channel-idle
 
+pub host-charges-differ : HostChargesDiffer
+unfolding HostChargesDiffer RackChargesDiffer
+host-charges-differ = carried (λ c es s. NumbersDiffer es) rack-charges-differ
+
+pub host-numbers-counted : HostNumbersCounted
+unfolding HostNumbersCounted RackNumbersCounted
+host-numbers-counted = carried (λ c es s. CountedTo c es (s .last .0)) rack-numbers-counted
+
+pub host-numbers-held : HostNumbersHeld
+unfolding HostNumbersHeld RackNumbersHeld
+host-numbers-held = carried (λ c es s. HeldAsCounted c (notes es) (modelOf s)) rack-numbers-held
+
 pub host-always-sound : HostAlwaysSound
 unfolding HostAlwaysSound RackAlwaysSound
 host-always-sound c xs t =
@@ -189,22 +201,32 @@ kept-station x a = go (refusal (stationFrom (x .station)) (x .event)) refl
     go none v = let l = accepted-leaves-its-station (x .station) (x .event) v in ap stationFrom (called x a .kept-is ∙ l .0) ∙ l .1 .1
     go (some n) v = ap stationFrom (called x a .kept-is ∙ refusal-leaves-all (x .station) (x .lent) (x .event) n v .0) ∙ (rw v)
 
+-- its step, and that the contracts allow it
+abbrev stepIn : Call → Step
+stepIn x =
+    let s = stationFrom (x .station) in
+    stepOf (x .event) s (x .lent) (steppedBy s (x .event)) (roomAfter s (x .lent) (x .event))
+
+allowed-in : (x : Call) → Entered x → Allowed (stepIn x)
+allowed-in x a = let k = called x a in rw (k .event-is) (step-allowed (stationFrom (x .station)) (x .lent) (k .time) (k .what))
+
 pub host-dropped-released : HostDroppedReleased
 unfolding HostDroppedReleased RackDroppedReleased roomLeft
-host-dropped-released x a =
-    let k = called x a in
-    let s = stationFrom (x .station) in
-    let e = x .event in
-    let step = stepOf e s (x .lent) (steppedBy s e) (roomAfter s (x .lent) e) in
-    let allowed : Allowed step = rw (k .event-is) (step-allowed s (x .lent) (k .time) (k .what)) in
-    rw (kept-station x a, count-is x a, k .left-is) (rack-dropped-released step allowed)
+host-dropped-released x a = rw (kept-station x a, count-is x a, called x a .left-is) (rack-dropped-released (stepIn x) (allowed-in x a))
 
 pub host-called-ignored : HostCalledIgnored
 unfolding HostCalledIgnored RackCalledIgnored roomLeft
-host-called-ignored x a t =
-    let k = called x a in
-    let s = stationFrom (x .station) in
-    let e = x .event in
-    let step = stepOf e s (x .lent) (steppedBy s e) (roomAfter s (x .lent) e) in
-    let allowed : Allowed step = rw (k .event-is) (step-allowed s (x .lent) (k .time) (k .what)) in
-    rw (answer-is x a, kept-station x a, count-is x a, k .left-is) (rack-called-ignored step allowed (rw (answer-is x a) at t))
+host-called-ignored x a t = rw (answer-is x a, kept-station x a, count-is x a, called x a .left-is) (rack-called-ignored (stepIn x) (allowed-in x a) (rw (answer-is x a) at t))
+
+-- 02, no. 4
+pub host-numbers-go-on : HostNumbersGoOn
+unfolding HostNumbersGoOn RackNumbersGoOn
+host-numbers-go-on x a = rw (kept-station x a) (rack-numbers-go-on (stepIn x) (allowed-in x a))
+
+pub host-used-up-told : HostUsedUpTold
+unfolding HostUsedUpTold RackUsedUpTold roomLeft
+host-used-up-told x a t = rw (answer-is x a, kept-station x a, count-is x a, called x a .left-is) (rack-used-up-told (stepIn x) (allowed-in x a) (rw (answer-is x a) at t))
+
+pub host-used-up-stays : HostUsedUpStays
+unfolding HostUsedUpStays RackUsedUpStays
+host-used-up-stays x a t l = rw (kept-station x a) (rack-used-up-stays (stepIn x) (allowed-in x a) (rw (answer-is x a) at t) l)

@@ -1,16 +1,17 @@
 -- What is claimed of every host that hands on the bytes it was left, from the bytes alone:
 -- the theorem on charges and what stands beside it.
-use Prim.Native.Nat.{ℕ, _*_, _/_, _%_, _<_}
+use Prim.Native.Nat.{ℕ, _*_, _/_, _%_, _<_, _≤_}
 use mathlib.Core.Path.{_≡_}
 use mathlib.Core.Bool.{true, cond}
 use mathlib.Core.List.{List, [], _∷_}
+use mathlib.Core.Option.{none}
 use lib.Dec.{leb}
 use contract.Lifetimes.{Lfts}
 use Rattle.rules.specs.Rules.Places.{Each}
-use Rattle.rules.specs.Rules.Words.{Config}
+use Rattle.rules.specs.Rules.Words.{Config, ashoreIn}
 use Rattle.rules.specs.Rules.Requests.{Out}
 use Rattle.rules.specs.Rules.Verdict.{Entry}
-use Rattle.rules.specs.Statement.{notes, WordsAgree, EveryEntry, RingingBy, ReleasedWhenDropped, IgnoredWhenCalled}
+use Rattle.rules.specs.Statement.{notes, WordsAgree, EveryEntry, RingingBy, ReleasedWhenDropped, IgnoredWhenCalled, HeldAsCounted, ToldWhenUsedUp}
 use Rattle.rules.specs.ListAlone.Repeated.{Answers, SendsSame, DialsNamed, DeedByDeed}
 use Rattle.rules.specs.ListAlone.LineWords.{InTurn}
 use Rattle.rules.specs.ListAlone.BeingCalled.{OffersOthers, AsksInVain}
@@ -20,7 +21,7 @@ use Rattle.lent_layout.specs.Stations.{stationFrom}
 use Rattle.coast.proofs.setting.coast_set_up.Reads as set-up
 use Rattle.coast.proofs.setting.coast_clock.Reads as clock
 use Rattle.station_theorems.specs.Rooms.{actionsIn}
-use Rattle.station_theorems.specs.Statement.{Obeys, NoneIdle, isSound}
+use Rattle.station_theorems.specs.Statement.{Obeys, NoneIdle, NumbersDiffer, CountedTo, isSound}
 use Rattle.host_theorems.specs.Calls.{Call, Entered, HostRun, lastOf}
 
 -- the answer and the count of actions, as `coast_answer` and `coast_count` take them
@@ -76,9 +77,25 @@ HostCalledNotOffered = OfEveryHost (λ c es s. EveryEntry OffersOthers c (notes 
 unfoldable pub HostCalledAskInVain : Type 0
 HostCalledAskInVain = OfEveryHost (λ c es s. EveryEntry AsksInVain c (notes es))
 
--- while a ship waits no slot in use is free
+-- while a ship waits no slot in use is free, unless the last call number has been given
 unfoldable pub HostNoChannelIdle : Type 0
 HostNoChannelIdle = OfEveryHost (λ c es s. NoneIdle s)
+
+-- 02, no. 4: no two charges carry the same number; those that the list shows to begin have just the numbers from 1 to the station's last
+unfoldable pub HostChargesDiffer : Type 0
+HostChargesDiffer = OfEveryHost (λ c es s. NumbersDiffer es)
+
+unfoldable pub HostNumbersCounted : Type 0
+HostNumbersCounted = OfEveryHost (λ c es s. CountedTo c es (s .last .0))
+
+-- "The slot's record holds it": the number that the list counts for the call on a slot
+unfoldable pub HostNumbersHeld : Type 0
+HostNumbersHeld = OfEveryHost (λ c es s. HeldAsCounted c (notes es) (modelOf s))
+
+-- numbers never go back: on any bytes, in a run or not
+unfoldable pub HostNumbersGoOn : Type 0
+HostNumbersGoOn = (x : Call) → Entered x
+    → stationFrom (x .station) .last .0 ≤ stationFrom (x .kept) .last .0
 
 -- no call of a run is answered 29, and the station in the bytes is sound
 unfoldable pub HostAlwaysSound : Type 0
@@ -103,6 +120,16 @@ outIn x = record { answer = answerIn x; next = modelOf (stationFrom (x .kept)); 
 unfoldable pub HostCalledIgnored : Type 0
 HostCalledIgnored = (x : Call) → Entered x → leb (answerIn x) 1 ≡ true
     → IgnoredWhenCalled (configOf (stationFrom (x .station))) (modelOf (stationFrom (x .station))) (x .event) (outIn x)
+
+-- 02, no. 4: once the last number has been given, 104/107 and nothing else; no number is given any more, and no caller ashore is accepted:
+-- on any bytes, in a run or not, wherever the answer is no refusal
+unfoldable pub HostUsedUpTold : Type 0
+HostUsedUpTold = (x : Call) → Entered x → leb (answerIn x) 1 ≡ true
+    → ToldWhenUsedUp (configOf (stationFrom (x .station))) (modelOf (stationFrom (x .station))) (x .event) (outIn x)
+
+unfoldable pub HostUsedUpStays : Type 0
+HostUsedUpStays = (x : Call) → Entered x → leb (answerIn x) 1 ≡ true → stationFrom (x .station) .last .0 ≡ 4294967295
+    → (stationFrom (x .kept) .last .0 ≡ 4294967295) × (ashoreIn (x .event .what) ≡ none)
 
 -- ── refusals, by the returned number, on any bytes, in a run or not ──────────
 
