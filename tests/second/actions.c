@@ -13,7 +13,7 @@
 #define KIND_BUSY_TONE 10u
 
 #define PAYLOAD_AT 4u
-#define CHARGE_BYTES 16u
+#define CHARGE_BYTES 20u
 
 /* "kind, slot (255 for the 104 answers), payload length, 0, payload, zeros";
  * hands back the payload's place, zeros as yet. "At most 8 a step": rule c
@@ -75,7 +75,7 @@ void act_release(struct work *work, uint32_t slot) {
 }
 
 /* "7 charge (ship, start, stop, seconds; four bytes each, low first)": the
- * call stops at the clock. */
+ * call stops at the clock. 02 no. 4: its number is "a fifth field". */
 void act_charge(struct work *work, uint32_t slot) {
     const struct slot *call = &work->station->slots[slot];
     uint32_t stop = work->station->clock;
@@ -84,6 +84,7 @@ void act_charge(struct work *work, uint32_t slot) {
     put_four(payload + 4, call->start);
     put_four(payload + 8, stop);
     put_four(payload + 12, charged_seconds(stop - call->start));
+    put_four(payload + 16, call->number);
 }
 
 void act_ringing_on(struct work *work, uint32_t slot) {

@@ -28,7 +28,8 @@ static bool is_engaged(const struct station *station, uint32_t ship) {
 }
 
 /* "15 for a bad ship identity, 17 for another mode, 19 for a bad number, 38
- * .., 37 when no slot is free; in this order" */
+ * .., 37 when no slot is free; in this order"; no. 4: 37 too when the call
+ * numbers are used up */
 int judge_caller(const struct station *station, const struct caller *caller) {
     if (!second_is_ship(caller->ship))
         return SHIP_BAD;
@@ -38,7 +39,7 @@ int judge_caller(const struct station *station, const struct caller *caller) {
         return NUMBER_BAD;
     if (is_engaged(station, caller->ship))
         return SHIP_ENGAGED;
-    return lowest_free(station) == NO_SLOT ? NO_SLOT_FREE : DONE;
+    return lowest_free(station) == NO_SLOT || !numbers_left(station) ? NO_SLOT_FREE : DONE;
 }
 
 /* ---- the call ---- */
@@ -61,12 +62,6 @@ void call_ship(struct work *work, const struct caller *caller) {
     store(work, slot, PHASE_CALLED, &request);
     act_carrier_on(work, slot);
     send_able(work, slot, RQ);
-}
-
-/* The slot goes on with the request that it has. */
-static void go_on(struct work *work, uint32_t slot, enum phase phase) {
-    struct meaning request = work->station->slots[slot].request;
-    store(work, slot, phase, &request);
 }
 
 /* "one repeat after 5 s, dropped after another 5 s" */

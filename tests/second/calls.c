@@ -35,13 +35,25 @@ void send_able(struct work *work, uint32_t slot, uint8_t end) {
     act_send_calling(work, (uint8_t)slot, &m);
 }
 
-/* The slot is now this request's, in this phase, its wait begun now. */
-void store(struct work *work, uint32_t slot, enum phase phase, const struct meaning *request) {
-    struct slot next = {0};
-    next.phase = phase;
-    next.request = *request;
+/* 02 no. 4: "once 4,294,967,295 has been given" there are none. */
+bool numbers_left(const struct station *station) {
+    return station->last_number < LAST_CALL_NUMBER;
+}
+
+/* The slot goes on with the request and the call number that it has, in this phase, its wait begun now. */
+void go_on(struct work *work, uint32_t slot, enum phase phase) {
+    const struct slot *held = slot_at(work, slot);
+    struct slot next = {.phase = phase, .request = held->request, .number = held->number};
     next.due = due_after(work->station->clock, slot_wait(phase));
     *slot_at(work, slot) = next;
+}
+
+/* The slot is now this request's. 02 no. 4: "Each offer, ring-back or call from ashore that takes a slot gets the next call
+ * number from 1; .. an offer made afresh takes a new one." */
+void store(struct work *work, uint32_t slot, enum phase phase, const struct meaning *request) {
+    slot_at(work, slot)->request = *request;
+    slot_at(work, slot)->number = ++work->station->last_number;
+    go_on(work, slot, phase);
 }
 
 /* "new request stored, acknowledgement sent, .. wait 160 from now"; the
@@ -62,23 +74,21 @@ static void ring_back(struct work *work, uint32_t slot) {
 
 /* "send once more, wait 50" */
 void repeat_ring_back(struct work *work, uint32_t slot) {
-    struct meaning request = slot_at(work, slot)->request;
-    store(work, slot, PHASE_RING_BACK_REPEATED, &request);
+    go_on(work, slot, PHASE_RING_BACK_REPEATED);
     send_able(work, slot, RQ);
 }
 
 /* "acknowledged, wait 160" */
 void acknowledge(struct work *work, uint32_t slot) {
-    struct meaning request = slot_at(work, slot)->request;
-    store(work, slot, PHASE_ACKNOWLEDGED, &request);
+    go_on(work, slot, PHASE_ACKNOWLEDGED);
 }
 
 /* "Whenever a slot is freed and a ship waits, the same event takes the
- * oldest." */
+ * oldest"; 02 no. 4: with the numbers used up "no waiting ship is rung back" */
 void free_slot(struct work *work, uint32_t slot) {
     static const struct slot empty = {0};
     *slot_at(work, slot) = empty;
-    if (work->station->waiting_count > 0u)
+    if (work->station->waiting_count > 0u && numbers_left(work->station))
         ring_back(work, slot);
 }
 
@@ -92,8 +102,7 @@ void close_unused(struct work *work, uint32_t slot) {
 /* "dial the stored request's number .. Carrier counts as present"; 02: "the
  * wait is 600 for dialling itself" */
 void dial(struct work *work, uint32_t slot) {
-    struct meaning request = slot_at(work, slot)->request;
-    store(work, slot, PHASE_DIALLING, &request);
+    go_on(work, slot, PHASE_DIALLING);
     slot_at(work, slot)->carrier = CARRIER_PRESENT;
     act_dial(work, slot);
 }
@@ -167,9 +176,8 @@ void coasts_end(struct work *work, uint32_t slot) {
 
 /* "Ship's end of call: .. with BQ and the duration, .. hold for 40" */
 void ships_end(struct work *work, uint32_t slot) {
-    struct meaning request = slot_at(work, slot)->request;
     struct duration duration = end_call(work, slot, BQ);
-    store(work, slot, PHASE_HOLD, &request);
+    go_on(work, slot, PHASE_HOLD);
     slot_at(work, slot)->duration = duration;
 }
 

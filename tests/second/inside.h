@@ -48,6 +48,8 @@ void queue_join(struct station *station, const struct meaning *request);
 /* ---- calls.c: what happens to a slot and its call ---- */
 uint32_t charged_seconds(uint32_t tenths);
 struct meaning exchanged(const struct meaning *request);
+bool numbers_left(const struct station *station);
+void go_on(struct work *work, uint32_t slot, enum phase phase);
 void store(struct work *work, uint32_t slot, enum phase phase, const struct meaning *request);
 void send_able(struct work *work, uint32_t slot, uint8_t end);
 void offer(struct work *work, uint32_t slot, const struct meaning *request);

@@ -4,9 +4,9 @@
 
 #include "station.h"
 
-#define STATION_BYTES 1723u
-#define LAYOUT_VERSION 3u
-#define SLOT_BYTES 45u
+#define STATION_BYTES 1791u
+#define LAYOUT_VERSION 4u
+#define SLOT_BYTES 49u
 #define WAITING_BYTES 31u
 
 enum layout {
@@ -15,8 +15,9 @@ enum layout {
     IDENTITY_AT = 5,
     SLOT_COUNT_AT = 9,
     WAITING_COUNT_AT = 10,
-    SLOTS_AT = 11,
-    QUEUE_AT = 731,
+    LAST_NUMBER_AT = 11,
+    SLOTS_AT = 15,
+    QUEUE_AT = 799,
     /* in a slot */
     PHASE_AT = 0,
     TIME_AT = 1,
@@ -27,7 +28,8 @@ enum layout {
     MINUTES_AT = 12,
     SECONDS_AT = 13,
     CHANNEL_AT = 14,
-    SLOT_REQUEST_AT = 18,
+    NUMBER_AT = 18,
+    SLOT_REQUEST_AT = 22,
     /* in a waiting ship */
     WAITING_DUE_AT = 0,
     WAITING_REQUEST_AT = 4,

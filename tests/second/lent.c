@@ -62,8 +62,10 @@ static bool get_slot(const uint8_t *bytes, struct slot *slot) {
         known = get_carrier(bytes, slot) && known;
     if (is_held(slot->phase))
         known = get_duration(bytes, &slot->duration) && known;
-    if (stores_request(slot->phase))
+    if (stores_request(slot->phase)) {
+        slot->number = get_four(bytes + NUMBER_AT);
         known = get_request(bytes + SLOT_REQUEST_AT, &slot->request) && known;
+    }
     return known;
 }
 
@@ -79,6 +81,7 @@ static bool get_station(const uint8_t *bytes, struct station *station) {
     station->identity = get_four(bytes + IDENTITY_AT);
     station->channel_count = bytes[SLOT_COUNT_AT];
     station->waiting_count = bytes[WAITING_COUNT_AT];
+    station->last_number = get_four(bytes + LAST_NUMBER_AT);
     if (station->channel_count > MOST_SLOTS || station->waiting_count > MOST_WAITING)
         return false;
     for (uint32_t i = 0; i < station->channel_count; i++) {
@@ -144,8 +147,10 @@ static void put_slot(uint8_t *bytes, const struct slot *slot, uint8_t channel) {
         put_carrier(bytes, slot);
     if (is_held(slot->phase))
         put_duration(bytes, &slot->duration);
-    if (stores_request(slot->phase))
+    if (stores_request(slot->phase)) {
+        put_four(bytes + NUMBER_AT, slot->number);
         put_request(bytes + SLOT_REQUEST_AT, &slot->request);
+    }
 }
 
 void second_lay(uint8_t *bytes, const struct station *station) {
@@ -154,6 +159,7 @@ void second_lay(uint8_t *bytes, const struct station *station) {
     put_four(bytes + IDENTITY_AT, station->identity);
     bytes[SLOT_COUNT_AT] = (uint8_t)station->channel_count;
     bytes[WAITING_COUNT_AT] = (uint8_t)station->waiting_count;
+    put_four(bytes + LAST_NUMBER_AT, station->last_number);
     for (uint32_t i = 0; i < station->channel_count; i++)
         put_slot(bytes + SLOTS_AT + i * SLOT_BYTES, &station->slots[i], station->channels[i]);
     for (uint32_t i = 0; i < station->waiting_count; i++) {

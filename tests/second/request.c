@@ -5,6 +5,7 @@
 #define NO_SLOT_BYTE 255u
 #define BUSY 102u
 #define QUEUED 103u
+#define EQUIPMENT_DISABLED 107u /* the call numbers are used up */
 #define MODE_NOT_USABLE 109u
 
 static bool same_number(const struct meaning *a, const struct meaning *b) {
@@ -42,12 +43,14 @@ uint32_t lowest_free(const struct station *station) {
     return NO_SLOT;
 }
 
-/* Rules d to g. */
+/* Rules d to g; 02 no. 4: with the numbers used up they "answer 104/107 and change nothing else". */
 static void place_ship(struct work *work, const struct meaning *request) {
     struct station *station = work->station;
     uint32_t place = place_in_queue(station, request->self);
     uint32_t slot = lowest_free(station);
-    if (place < station->waiting_count) {
+    if (!numbers_left(station)) {
+        answer_unable(work, request, EQUIPMENT_DISABLED);
+    } else if (place < station->waiting_count) {
         station->queue[place].request = *request;
         answer_unable(work, request, QUEUED);
     } else if (slot != NO_SLOT) {
@@ -61,11 +64,13 @@ static void place_ship(struct work *work, const struct meaning *request) {
     }
 }
 
-/* Rule b: offered, ring-back or acknowledged. */
+/* Rule b: offered, ring-back or acknowledged. A repeated acknowledgement needs no number, an offer afresh does. */
 static void ask_again(struct work *work, uint32_t slot, const struct meaning *request) {
     const struct slot *held = &work->station->slots[slot];
     if (is_offered(held->phase) && same_request(&held->request, request))
         send_able(work, slot, BQ);
+    else if (!numbers_left(work->station))
+        answer_unable(work, request, EQUIPMENT_DISABLED);
     else
         offer(work, slot, request);
 }

@@ -1,4 +1,4 @@
-/* The automatic coast station of 01, with 02's nos. 1 and 2, by value: it is handed in and the next
+/* The automatic coast station of 01, with 02's nos. 1, 2 and 4, by value: it is handed in and the next
  * station is handed back, with the answer and the count of actions. */
 #ifndef SECOND_STATION_H
 #define SECOND_STATION_H
@@ -12,6 +12,7 @@
 #define ACTION_BYTES 40u
 #define ACTION_ROOM (MOST_ACTIONS * ACTION_BYTES)
 #define TIME_LIMIT 4000000000u
+#define LAST_CALL_NUMBER 4294967295u
 
 /* Waits, in tenths of a second. */
 #define OFFER_WAIT 160u
@@ -78,6 +79,7 @@ struct slot {
     uint32_t due;             /* offer, ring-back, acknowledged, dialling, reply, hold, called, ringing */
     uint32_t carrier_due;     /* while the carrier is absent */
     uint32_t start;           /* of an answered call, in tenths */
+    uint32_t number;          /* of the call (02 no. 4), for as long as a request is stored */
     struct duration duration; /* of the hold's answer */
     struct meaning request;   /* stored from the offer, ring-back or call from ashore on */
 };
@@ -90,6 +92,7 @@ struct waiting_ship {
 struct station {
     uint32_t identity;
     uint32_t clock;
+    uint32_t last_number; /* the last call number given, 0 at set-up */
     uint32_t channel_count;
     uint32_t waiting_count;
     uint8_t channels[MOST_SLOTS];

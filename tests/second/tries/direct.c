@@ -1,6 +1,6 @@
 /* What no script can reach: the writer (21), soundness (29), a small room
- * (30), untouched bytes, the step of eight actions, and a free slot beside a
- * waiting ship. */
+ * (30), untouched bytes, the step of eight actions, a free slot beside a
+ * waiting ship, and the last call numbers. */
 #include <stdio.h>
 #include <string.h>
 #include "inside.h"
@@ -16,6 +16,7 @@ static void want(const char *what, long got, long wanted) {
 
 #define COAST 2001234u
 #define SHIP 200056789u
+#define LAST 4294967295u /* of the call numbers */
 
 static const uint8_t P1[24] = {
     123, 0, 20, 1, 23, 40, 100, 20, 0, 56, 78, 90, 101, 126, 126, 126, 126, 105, 5, 55, 12, 34, 117, 104};
@@ -152,12 +153,14 @@ static int ticked(struct station s, size_t room_len) {
 }
 
 /* A sound station at clock 1000: slot 0 answered simplex with the carrier
- * absent, slot 1 free, one ship waiting. */
+ * absent, the 7th call of 41, slot 1 free, one ship waiting. */
 static struct station busy(void) {
     struct station s = two_channels();
     struct slot *call = &s.slots[0];
     s.clock = 1000;
+    s.last_number = 41;
     call->phase = PHASE_ANSWERED;
+    call->number = 7;
     call->request = p1_meaning();
     call->request.first = 100;
     call->start = 900;
@@ -202,6 +205,10 @@ static void try_soundness(void) {
     s = busy(); s.queue[0].due = 10002; unsound("queue late", s);
     s = busy(); s.queue[0].due = 999; unsound("queue early", s);
     s = busy(); s.slots[1].phase = (enum phase)13; unsound("no such phase", s);
+    s = busy(); s.last_number = 0; want("no number given", second_is_sound(&s), 1);
+    s = busy(); s.last_number = LAST; want("the last number given", second_is_sound(&s), 1);
+    s = busy(); s.slots[0].number = 42; want("a number not given", second_is_sound(&s), 1);
+    s = busy(); s.slots[0].number = 0; want("no number", second_is_sound(&s), 1);
     /* clang-format on */
 }
 
@@ -244,7 +251,7 @@ static void try_phases(void) {
 static void try_eight(void) {
     static const uint8_t kinds[8] = {7, 6, 4, 2, 1, 3, 1, 3};
     static const uint8_t slots[8] = {0, 0, 0, 0, 0, 0, 1, 1};
-    static const uint8_t lengths[8] = {16, 0, 24, 0, 0, 24, 0, 24};
+    static const uint8_t lengths[8] = {20, 0, 24, 0, 0, 24, 0, 24};
     uint8_t room[ACTION_ROOM + 1];
     struct lent lent = {room, sizeof room};
     struct heard heard = {P1, 24};
@@ -264,6 +271,10 @@ static void try_eight(void) {
             want("zeros", block[j], 0);
     }
     want("charged seconds", room[4 + 12], 11);
+    want("the call's number", room[4 + 16], 7);
+    want("the ring-back's", (long)step.station.slots[0].number, 42);
+    want("the offer's", (long)step.station.slots[1].number, 43);
+    want("the last given", (long)step.station.last_number, 43);
     memset(room, 0xA5, sizeof room);
     heard.count = 20;
     step = second_heard_on_channel_70(busy(), 1010, heard, lent);
@@ -349,6 +360,238 @@ static void try_drop(void) {
     want("no wait of its own", second_is_sound(&step.station), 1);
 }
 
+/* ---- call numbers (02, no. 4) ---- */
+
+/* What one event gave: its step, and its room. */
+struct given {
+    struct step step;
+    struct room room;
+};
+
+static struct given asked(struct station s, const struct meaning *request) {
+    struct given given;
+    uint8_t symbols[LONGEST_SEQUENCE];
+    struct heard heard = {symbols, 0};
+    struct lent lent = {given.room.bytes, sizeof given.room};
+    want("a request", second_write(request, symbols, sizeof symbols, &heard.count), 0);
+    memset(given.room.bytes, 0xA5, sizeof given.room);
+    given.step = second_heard_on_channel_70(s, 1010, heard, lent);
+    want("accepted", given.step.answer, 0);
+    want("sound", second_is_sound(&given.step.station), 1);
+    return given;
+}
+
+static struct meaning request_of(uint32_t ship, uint8_t first) {
+    struct meaning m = p1_meaning();
+    m.self = ship;
+    m.first = first;
+    return m;
+}
+
+/* One action, a whole block: the request's answer, 104 and the reason. */
+static void want_unable(const char *what, const uint8_t *block, const struct meaning *request, uint8_t reason) {
+    uint8_t wanted[ACTION_BYTES] = {3, 255};
+    struct meaning m = *request;
+    size_t length = 0;
+    m.address = request->self;
+    m.self = request->address;
+    m.first = 104;
+    m.second = reason;
+    m.end = 122;
+    want("an answer", second_write(&m, wanted + 4, 28, &length), 0);
+    wanted[2] = (uint8_t)length;
+    want(what, memcmp(block, wanted, ACTION_BYTES), 0);
+}
+
+/* "answer 104/107 and change nothing else": the clock is moved, as with any accepted event. */
+static void want_nothing_else(const char *what, struct station s, const struct meaning *request, uint8_t reason) {
+    struct given given = asked(s, request);
+    s.clock = 1010;
+    want(what, given.step.actions, 1);
+    want(what, memcmp(&given.step.station, &s, sizeof s), 0);
+    want_unable(what, given.room.bytes, request, reason);
+    want(what, given.room.bytes[ACTION_BYTES], 0xA5);
+}
+
+static struct station counted(uint32_t last) {
+    struct station s = busy();
+    s.last_number = last;
+    return s;
+}
+
+/* counted(), and slot 1 has a request of ship SHIP + 2, the 9th call. */
+static struct station expecting(uint32_t last, enum phase phase) {
+    struct station s = counted(last);
+    s.slots[1].phase = phase;
+    s.slots[1].request = request_of(SHIP + 2, 101);
+    s.slots[1].number = 9;
+    s.slots[1].due = 1020;
+    return s;
+}
+
+/* Rules d to g, and a, with none left. */
+static void try_used_up(void) {
+    struct meaning m = request_of(SHIP + 1, 100);
+    struct station s = counted(LAST);
+    want_nothing_else("rule d", s, &m, 107);
+    m.self = SHIP + 2;
+    want_nothing_else("rule e", s, &m, 107);
+    s.slots[1].phase = PHASE_TAKEN;
+    want_nothing_else("rule f", s, &m, 107);
+    m.self = SHIP + 1;
+    want_nothing_else("rule d, no slot free", s, &m, 107);
+    for (s.waiting_count = 1; s.waiting_count < MOST_WAITING; s.waiting_count++) {
+        s.queue[s.waiting_count] = s.queue[0];
+        s.queue[s.waiting_count].request.self = SHIP + 100 + s.waiting_count;
+    }
+    m.self = SHIP + 2;
+    want_nothing_else("rule g", s, &m, 107);
+    s.waiting_count = 0;
+    memset(s.queue, 0, sizeof s.queue);
+    want_nothing_else("rule f, nobody waits", s, &m, 107);
+    m.first = 106;
+    want_nothing_else("rule a", counted(LAST), &m, 109);
+    m.self = SHIP;
+    want_nothing_else("rule a in a call", counted(LAST), &m, 109);
+}
+
+/* Rule b with none left: what is offered stays so, and is acknowledged again where the request is identical. */
+static void try_used_up_again(void) {
+    static const enum phase rung[] = {PHASE_RING_BACK, PHASE_RING_BACK_REPEATED, PHASE_ACKNOWLEDGED};
+    struct meaning same = request_of(SHIP + 2, 101), other = request_of(SHIP + 2, 100);
+    struct station s = expecting(LAST, PHASE_OFFERED);
+    struct given given = asked(s, &same);
+    s.clock = 1010;
+    want("repeated", given.step.actions, 1);
+    want("nothing stored", memcmp(&given.step.station, &s, sizeof s), 0);
+    want("sent", given.room.bytes[0], 3);
+    want("with its slot", given.room.bytes[1], 1);
+    want("able", given.room.bytes[4 + 12], 101);
+    want("the channel", given.room.bytes[4 + 16], 27);
+    want_nothing_else("offered, another request", expecting(LAST, PHASE_OFFERED), &other, 107);
+    for (size_t i = 0; i < 3u; i++) {
+        want_nothing_else("the same request", expecting(LAST, rung[i]), &same, 107);
+        want_nothing_else("another request", expecting(LAST, rung[i]), &other, 107);
+    }
+}
+
+/* Rule c ends its call whatever numbers are left: 4 actions, then a ring-back's 2, then an offer's 2 or the one of 107. */
+static void try_rule_c_at_the_end(void) {
+    static const struct {
+        uint32_t last, actions, phases[2], numbers[2], waiting;
+    } ends[] = {
+        {LAST, 5, {PHASE_FREE, PHASE_FREE}, {0, 0}, 1},
+        {LAST - 1u, 7, {PHASE_RING_BACK, PHASE_FREE}, {LAST, 0}, 0},
+        {LAST - 2u, 8, {PHASE_RING_BACK, PHASE_OFFERED}, {LAST - 1u, LAST}, 0},
+    };
+    struct meaning m = request_of(SHIP, 101);
+    for (size_t i = 0; i < 3u; i++) {
+        struct given given = asked(counted(ends[i].last), &m);
+        want("charged", given.room.bytes[0], 7);
+        want("under its number", given.room.bytes[4 + 16], 7);
+        want("actions", given.step.actions, ends[i].actions);
+        want("still waiting", given.step.station.waiting_count, ends[i].waiting);
+        want("the last given", (long)given.step.station.last_number, (long)LAST);
+        for (size_t j = 0; j < 2u; j++) {
+            want("phase", (long)given.step.station.slots[j].phase, (long)ends[i].phases[j]);
+            want("number", (long)given.step.station.slots[j].number, (long)ends[i].numbers[j]);
+        }
+        if (ends[i].actions < 8u)
+            want_unable("107", given.room.bytes + (ends[i].actions - 1u) * ACTION_BYTES, &m, 107);
+    }
+}
+
+/* The last one is given, to an offer, to an offer afresh, to a ring-back, to a call from ashore. */
+static void try_last_number(void) {
+    static const uint32_t digits[1] = {7};
+    struct meaning m = request_of(SHIP + 2, 100);
+    struct caller caller = {SHIP + 2, 101, digits, 1};
+    struct room room;
+    struct lent lent = {room.bytes, sizeof room};
+    struct step step = asked(counted(LAST - 1u), &m).step;
+    want("an offer", (long)step.station.slots[1].number, (long)LAST);
+    step = asked(expecting(LAST - 1u, PHASE_OFFERED), &m).step;
+    want("an offer afresh", (long)step.station.slots[1].number, (long)LAST);
+    want("its wait", (long)step.station.slots[1].due, 1171);
+    step = second_on_hook(counted(LAST - 1u), 1010, 0, lent);
+    want("a ring-back", (long)step.station.slots[0].number, (long)LAST);
+    step = second_call_from_ashore(counted(LAST - 1u), 1010, caller, lent);
+    want("a call from ashore", (long)step.station.slots[1].number, (long)LAST);
+    want("the last given", (long)step.station.last_number, (long)LAST);
+}
+
+/* Nobody is rung back, whatever frees the slot; the ship waits on until it is dropped. */
+static void try_no_ring_back(void) {
+    struct room room;
+    struct lent lent = {room.bytes, sizeof room};
+    struct station s = counted(LAST);
+    struct step step = second_on_hook(s, 1010, 0, lent);
+    want("an end alone", step.actions, 4);
+    want("freed", step.station.slots[0].phase, 0);
+    want("waits on", step.station.waiting_count, 1);
+    step = second_tick(step.station, 10001, lent);
+    want("dropped", step.station.waiting_count, 0);
+    s.slots[1].phase = PHASE_TAKEN;
+    step = second_give_back(s, 1010, 1, lent);
+    want("given back", step.actions, 0);
+    want("freed", step.station.slots[1].phase, 0);
+    step = second_tick(expecting(LAST, PHASE_HOLD), 1020, lent);
+    want("the hold's end", step.actions, 0);
+    step = second_tick(expecting(LAST, PHASE_OFFERED), 1020, lent);
+    want("carrier off alone", step.actions, 1);
+    step = second_tick(expecting(LAST, PHASE_RINGING), 1020, lent);
+    want("a drop alone", step.actions, 4);
+}
+
+/* A call that has its number goes on as ever. */
+static void try_goes_on(void) {
+    static const enum phase kept[] = {PHASE_RING_BACK, PHASE_CALLED};
+    struct meaning m = request_of(SHIP + 2, 101);
+    uint8_t symbols[LONGEST_SEQUENCE];
+    struct heard heard = {symbols, 0};
+    struct room room;
+    struct lent lent = {room.bytes, sizeof room};
+    struct step step;
+    for (size_t i = 0; i < 2u; i++) {
+        step = second_tick(expecting(LAST, kept[i]), 1020, lent);
+        want("once more", step.station.slots[1].phase, kept[i] + 1);
+        want("its number", (long)step.station.slots[1].number, 9);
+    }
+    m.end = 127;
+    want("a working call", second_write(&m, symbols, sizeof symbols, &heard.count), 0);
+    step = second_heard_on_slot(expecting(LAST, PHASE_ACKNOWLEDGED), 1010, 1, heard, lent);
+    want("dials", step.station.slots[1].phase, PHASE_DIALLING);
+    step = second_dialling_ended(step.station, 1020, 1, lent);
+    step = second_off_hook(step.station, 1030, 1, lent);
+    m.first = 105;
+    m.end = 117;
+    want("an end", second_write(&m, symbols, sizeof symbols, &heard.count), 0);
+    step = second_heard_on_slot(step.station, 1040, 1, heard, lent);
+    want("charged", room.bytes[0], 7);
+    want("its number", room.bytes[4 + 16], 9);
+    want("hold", step.station.slots[1].phase, PHASE_HOLD);
+    want("its number in the hold", (long)step.station.slots[1].number, 9);
+}
+
+/* "a caller ashore gets 37", behind 15, 17, 19 and 38. */
+static void try_caller_at_the_end(void) {
+    static const struct {
+        uint32_t ship, mode, count;
+        int answer;
+    } callers[] = {{COAST, 102, 0, 15}, {SHIP + 2, 102, 0, 17}, {SHIP, 101, 0, 19}, {SHIP, 101, 1, 38}, {SHIP + 1, 101, 1, 38},
+        {SHIP + 2, 101, 1, 37}};
+    static const uint32_t digits[1] = {7};
+    struct room room;
+    struct lent lent = {room.bytes, sizeof room};
+    for (size_t i = 0; i < sizeof callers / sizeof callers[0]; i++) {
+        struct caller caller = {callers[i].ship, callers[i].mode, digits, callers[i].count};
+        struct station s = counted(LAST);
+        struct step step = second_call_from_ashore(s, 1010, caller, lent);
+        want("a caller", step.answer, callers[i].answer);
+        want("unchanged", memcmp(&step.station, &s, sizeof s), 0);
+    }
+}
+
 int main(void) {
     try_writer();
     try_reader();
@@ -357,5 +600,12 @@ int main(void) {
     try_eight();
     try_ashore();
     try_drop();
+    try_used_up();
+    try_used_up_again();
+    try_rule_c_at_the_end();
+    try_last_number();
+    try_no_ring_back();
+    try_goes_on();
+    try_caller_at_the_end();
     return failures == 0 ? 0 : 1;
 }

@@ -1,19 +1,20 @@
 /* The station on lent bytes, byte by byte as include/coast.h lays it out: one call from its request to its hold, with a ship
- * that waits, and one from ashore. */
+ * that waits, and one from ashore; and the last call numbers. */
 #include <stdio.h>
 #include <string.h>
 #include "lent.h"
 #include "station.h"
 #include "../host/event.h"
 
-#define SIZE 1723u
-#define VERSION 3u /* at byte 0 */
+#define SIZE 1791u
+#define VERSION 4u /* at byte 0 */
 #define CLOCK 1
 #define IDENTITY 5
 #define SLOT_COUNT 9
 #define WAITING_COUNT 10
-#define SLOT 11   /* where the first slot begins */
-#define QUEUE 731 /* and the first waiting ship */
+#define LAST_NUMBER 11
+#define SLOT 15   /* where the first slot begins */
+#define QUEUE 799 /* and the first waiting ship */
 
 static uint8_t station[SIZE + 1u], wanted[SIZE + 1u];
 static struct room room;
@@ -86,12 +87,18 @@ static void want_time(size_t at, uint8_t low, uint8_t high) {
     wanted[at + 1] = high;
 }
 
+/* In a slot, with the last one given. */
+static void want_number(uint8_t number) {
+    wanted[LAST_NUMBER] = number;
+    wanted[SLOT + 18] = number;
+}
+
 static void set_up(void) {
     static const uint8_t channels[3] = {26, 88, 26};
     memset(station, 77, sizeof station);
     memset(wanted, 77, sizeof wanted);
-    want("1722 bytes", second_set_up_bytes(1, channels, 2, station, SIZE - 1u), 23);
-    want("1724 bytes", second_set_up_bytes(2001234, channels, 2, station, SIZE + 1u), 23);
+    want("1790 bytes", second_set_up_bytes(1, channels, 2, station, SIZE - 1u), 23);
+    want("1792 bytes", second_set_up_bytes(2001234, channels, 2, station, SIZE + 1u), 23);
     want("a ship's identity", second_set_up_bytes(200056789, channels, 2, station, SIZE), 36);
     want("a channel twice", second_set_up_bytes(2001234, channels, 3, station, SIZE), 36);
     want("no channel", second_set_up_bytes(2001234, NULL, 0, station, SIZE), 36);
@@ -114,7 +121,8 @@ static void offer(void) {
     want_time(CLOCK, 100, 0);
     wanted[SLOT] = 1;
     want_time(SLOT + 1, 5, 1); /* 261 */
-    want_request(SLOT + 18, ship, 1);
+    want_number(1);
+    want_request(SLOT + 22, ship, 1);
     want("request", heard("Q 100", request), told(0, 2, 261));
     want("next due", second_next_due_bytes(station, SIZE), told(0, 0, 261));
     want("before the clock", happens("H 90 0"), told(32, 0, 261));
@@ -122,9 +130,9 @@ static void offer(void) {
     want("no slot", happens("M 260 1"), told(34, 0, 261));
     want("not free", happens("M 260 0"), told(35, 0, 261));
     want("room", hand_in_line("T 261", NULL, &small_room), told(30, 0, 261));
-    want("1722 bytes", hand_in_line("T 261", NULL, &cut_off), 29);
-    want("due in 1722 bytes", second_next_due_bytes(station, SIZE - 1u), 29);
-    want("the clock in 1722 bytes", second_clock_bytes(station, SIZE - 1u), 29);
+    want("1790 bytes", hand_in_line("T 261", NULL, &cut_off), 29);
+    want("due in 1790 bytes", second_next_due_bytes(station, SIZE - 1u), 29);
+    want("the clock in 1790 bytes", second_clock_bytes(station, SIZE - 1u), 29);
     want("the clock", second_clock_bytes(station, SIZE), 4294967296u * 100u);
 }
 
@@ -198,7 +206,8 @@ static void end_and_ring_back(void) {
     wanted[WAITING_COUNT] = 0;
     wanted[SLOT] = 2;
     want_time(SLOT + 1, 130, 2); /* 642 */
-    want_request(SLOT + 18, other, 0);
+    want_number(2);
+    want_request(SLOT + 22, other, 0);
     want("hold's tick", happens("T 4000000000"), told(0, 2, 642));
 }
 
@@ -237,7 +246,7 @@ static void refused_from_ashore(void) {
     static const struct lent_bytes small_room = {station, SIZE, room.bytes, sizeof room - 1u};
     static const struct lent_bytes cut_off = {station, SIZE - 1u, room.bytes, sizeof room};
     want("room", hand_in_line("C 100 1 1", NULL, &small_room), 30);
-    want("1722 bytes", hand_in_line("C 100 200056789 101 7", NULL, &cut_off), 29);
+    want("1790 bytes", hand_in_line("C 100 200056789 101 7", NULL, &cut_off), 29);
     want("ship", happens("C 100 199999999 1"), 15);
     want("mode", happens("C 100 200056789 357"), 17);
     want("no digits", second_call_from_ashore_bytes(station, SIZE, 100, 200056789, 101, NULL, 0, room.bytes, sizeof room), 19);
@@ -252,7 +261,8 @@ static void called_from_ashore(void) {
     wanted[SLOT] = 10;
     want_time(CLOCK, 100, 0);
     want_time(SLOT + 1, 151, 0);
-    want_request(SLOT + 18, ship, 1);
+    want_number(1);
+    want_request(SLOT + 22, ship, 1);
     want("a call from ashore", happens("C 100 200056789 101 5 5 5 1 2 3 4"), told(0, 2, 151));
     want_sent("the call", room.bytes + 40, 126);
     want("no slot free", happens("C 110 200056780 101 7"), told(37, 0, 151));
@@ -263,7 +273,7 @@ static void called_from_ashore(void) {
     wanted[SLOT] = 11;
     want_time(CLOCK, 151, 0);
     want_time(SLOT + 1, 202, 0);
-    station[SLOT + 18 + 9] = wanted[SLOT + 18 + 9] = 104; /* as no caller's is: it is sent as it stands */
+    station[SLOT + 22 + 9] = wanted[SLOT + 22 + 9] = 104; /* as no caller's is: it is sent as it stands */
     want("the call once more", happens("T 160"), told(0, 1, 202));
     want_sent("the repeat", room.bytes, 104);
     litter();
@@ -288,7 +298,7 @@ static void answered_from_ashore(void) {
     want("its carrier down", happens("D 900 0"), told(0, 0, 951));
     want_time(CLOCK, 182, 3); /* 950 */
     memset(wanted + SLOT, 0, 14);
-    memset(wanted + SLOT + 18, 0, 27);
+    memset(wanted + SLOT + 18, 0, 31);
     want("the caller's on-hook", happens("H 950 0"), told(0, 4, 0));
 }
 
@@ -299,7 +309,7 @@ static void phases_from_ashore(void) {
         wanted[SLOT] = station[SLOT] = latest[i].phase;
         want_time(CLOCK, 0, 0);
         want_time(SLOT + 1, latest[i].low, latest[i].high);
-        want_request(SLOT + 18, ship, 1);
+        want_request(SLOT + 22, ship, 1);
         memcpy(station, wanted, SIZE);
         uint64_t due = (uint64_t)(latest[i].low + 256u * latest[i].high);
         want("the latest due time", second_next_due_bytes(station, SIZE), told(0, 0, due));
@@ -308,12 +318,77 @@ static void phases_from_ashore(void) {
         station[SLOT + 1] = wanted[SLOT + 1] = 0;
         station[SLOT + 2] = wanted[SLOT + 2] = 0;
         want("at the clock", second_next_due_bytes(station, SIZE), told(0, 0, 0) + 65536u);
-        station[SLOT + 18 + 8] = wanted[SLOT + 18 + 8] = 2;
+        station[SLOT + 22 + 8] = wanted[SLOT + 22 + 8] = 2;
         want("mode 2", second_next_due_bytes(station, SIZE), 29);
     }
-    station[SLOT + 18 + 8] = wanted[SLOT + 18 + 8] = 1;
+    station[SLOT + 22 + 8] = wanted[SLOT + 22 + 8] = 1;
     station[SLOT] = wanted[SLOT] = 13;
     want("phase 13", second_next_due_bytes(station, SIZE), 29);
+}
+
+/* The four bytes of a number, in the station and in what is wanted. */
+static void hand_in_number(size_t at, uint8_t low, uint8_t high) {
+    station[at] = wanted[at] = low;
+    for (size_t i = 1; i < 4u; i++)
+        station[at + i] = wanted[at + i] = high;
+}
+
+/* The last number but one has been given: an offer takes the last, 255 255 255 255. */
+static void last_number(void) {
+    static const uint8_t charge[24] = {
+        7, 0, 20, 0, 213, 159, 236, 11, 44, 1, 0, 0, 144, 1, 0, 0, 10, 0, 0, 0, 255, 255, 255, 255};
+    hand_in_number(LAST_NUMBER, 254, 255);
+    hand_in_number(SLOT + 18, 201, 202); /* of a free slot: not looked at, and 0 where it stays free */
+    memset(wanted + SLOT + 18, 0, 4);
+    want_time(CLOCK, 50, 0);
+    want("a tick", happens("T 50"), told(0, 0, 0));
+    memset(wanted + LAST_NUMBER, 255, 4);
+    memset(wanted + SLOT + 18, 255, 4);
+    want_time(CLOCK, 100, 0);
+    wanted[SLOT] = 1;
+    want_time(SLOT + 1, 5, 1); /* 261 */
+    want_request(SLOT + 22, ship, 1);
+    want("the last number", heard("Q 100", request), told(0, 2, 261));
+    want_time(CLOCK, 110, 0);
+    want("its acknowledgement repeated", heard("Q 110", request), told(0, 1, 261));
+    wanted[SLOT] = 5;
+    want_time(CLOCK, 200, 0);
+    want_time(SLOT + 1, 33, 3); /* 801 */
+    want("its call", heard("W 200 0", working_call), told(0, 1, 801));
+    wanted[SLOT] = 6;
+    want_time(CLOCK, 44, 1); /* 300 */
+    want_time(SLOT + 1, 44, 1);
+    want("its answer", happens("O 300 0"), told(0, 0, 0));
+    wanted[SLOT] = 7;
+    want_time(CLOCK, 144, 1);    /* 400 */
+    want_time(SLOT + 1, 185, 1); /* 441 */
+    wanted[SLOT + 10] = 1;
+    wanted[SLOT + 13] = 10;
+    want("its end", heard("W 400 0", end_of_call), told(0, 4, 441));
+    if (memcmp(room.bytes, charge, 24) != 0) {
+        failures++;
+        printf("its charge is another\n");
+    }
+}
+
+/* None is left: a request is told so, and a caller ashore turned away. */
+static void used_up(void) {
+    static const uint8_t unable[28] = {
+        3, 255, 24, 0, 123, 20, 0, 56, 78, 90, 100, 0, 20, 1, 23, 40, 104, 107, 126, 126, 126, 105, 5, 55, 12, 34, 122, 127};
+    want_time(CLOCK, 154, 1); /* 410 */
+    want("a request in the hold", heard("Q 410", request), told(0, 1, 441));
+    want_time(CLOCK, 185, 1); /* 441 */
+    memset(wanted + SLOT, 0, 14);
+    memset(wanted + SLOT + 18, 0, 31);
+    want("the hold's end", happens("T 441"), told(0, 0, 0));
+    want_time(CLOCK, 194, 1); /* 450 */
+    want("a request", heard("Q 450", request), told(0, 1, 0));
+    if (memcmp(room.bytes, unable, 28) != 0) {
+        failures++;
+        printf("it is not told 107\n");
+    }
+    want("a caller", happens("C 460 200056789 101 7"), told(37, 0, 0));
+    want("the clock", second_clock_bytes(station, SIZE), 4294967296u * 450u);
 }
 
 int main(void) {
@@ -327,5 +402,8 @@ int main(void) {
     called_from_ashore();
     answered_from_ashore();
     phases_from_ashore();
+    set_up();
+    last_number();
+    used_up();
     return failures == 0 ? 0 : 1;
 }
