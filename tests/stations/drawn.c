@@ -19,6 +19,25 @@ static uint32_t any_clock(void) {
     }
 }
 
+/* Any, and many at the edge of a byte. */
+static uint32_t any_number(void) {
+    static const uint32_t edges[] = {
+        0, 1, 254, 255, 256, 65535, 65536, 16777215, 16777216, LAST_CALL_NUMBER - 1u, LAST_CALL_NUMBER};
+    return one_in(2) ? edges[chance(sizeof edges / sizeof edges[0])] : chance(LAST_CALL_NUMBER);
+}
+
+/* The last call number given: often the last of all, often one of those right before it. */
+static uint32_t any_last_number(void) {
+    switch (chance(8)) {
+    case 0:
+    case 1: return LAST_CALL_NUMBER;
+    case 2:
+    case 3: return LAST_CALL_NUMBER - 1u;
+    case 4: return LAST_CALL_NUMBER - 2u;
+    default: return any_number();
+    }
+}
+
 /* From the clock to the clock plus the wait and 1. */
 static uint32_t any_due(uint32_t wait) {
     uint32_t clock = stage.station.clock;
@@ -65,8 +84,10 @@ static struct duration any_duration(void) {
 void draw_slot(uint32_t slot, enum phase phase) {
     struct slot next = {0};
     next.phase = phase;
-    if (stores_request(phase))
+    if (stores_request(phase)) {
+        next.number = any_number();
         next.request = any_stored(stage.ships[is_held(phase) ? chance(MOST_SHIPS) : slot]);
+    }
     if (talks(phase))
         next.start = any_start();
     else if (has_slot_wait(phase))
@@ -147,6 +168,7 @@ void begin_station(void) {
     static const uint32_t channel = 26;
     stage.station = second_set_up(any_coast(), &channel, 1).station;
     stage.station.clock = any_clock();
+    stage.station.last_number = any_last_number();
 }
 
 void fill_station(uint32_t slots, uint32_t waiting) {

@@ -4,7 +4,7 @@
 extern int printf(const char *, ...);
 
 enum part { WHOLE_AT_CLOCK, WHOLE_OF_IDENTITY, HEAD, SLOT, WAITING, SHIP_TWICE, CHANNEL_TWICE };
-enum from { PLAINLY, FROM_CLOCK, FROM_IDENTITY };
+enum from { PLAINLY, FROM_CLOCK, FROM_IDENTITY, WITHOUT_A_RULE };
 
 /* How the part is drawn before one of its fields is moved. */
 enum state { AS_DRAWN, FULL, IDLE, LOST_SIMPLEX, LOST_DUPLEX, WITH_DURATION, ONE_DIGIT, FIFTEEN_DIGITS, SIXTEEN_DIGITS };
@@ -45,11 +45,13 @@ static const struct field fields[] = {
         {1999999, 2000000, 7999999, 8000000, 200000000}},
     {"identity of an idle station", WHOLE_OF_IDENTITY, IDLE, ANY_PHASE, 0, 0, PLAINLY, 5,
         {1999999, 2000000, 7999999, 8000000, 200000000}},
-    {"version", HEAD, AS_DRAWN, ANY_PHASE, VERSION_AT, 1, PLAINLY, 7, {0, 1, 2, 3, 4, 131, 255}},
+    {"version", HEAD, AS_DRAWN, ANY_PHASE, VERSION_AT, 1, PLAINLY, 8, {0, 1, 2, 3, 4, 5, 132, 255}},
     {"clock", HEAD, AS_DRAWN, ANY_PHASE, CLOCK_AT, 4, FROM_CLOCK, 2, {-1, 1}},
     {"identity", HEAD, AS_DRAWN, ANY_PHASE, IDENTITY_AT, 4, FROM_IDENTITY, 3, {-1, 0, 1}},
     {"count of slots", HEAD, FULL, ANY_PHASE, SLOT_COUNT_AT, 1, PLAINLY, 7, {0, 1, 15, 16, 17, 18, 255}},
     {"count of waiting ships", HEAD, FULL, ANY_PHASE, WAITING_COUNT_AT, 1, PLAINLY, 7, {0, 1, 31, 32, 33, 34, 255}},
+    {"last call number", HEAD, AS_DRAWN, ANY_PHASE, LAST_NUMBER_AT, 4, WITHOUT_A_RULE, 6,
+        {0, 1, 4294967293, 4294967294, 4294967295, 4278190080}},
     {"channel", SLOT, AS_DRAWN, ANY_PHASE, CHANNEL_AT, 4, PLAINLY, 20,
         {0, 1, 15, 16, 17, 28, 29, 59, 60, 69, 70, 71, 88, 89, 255, 256 + 26, 26 << 8, (1 << 16) + 26, (1 << 24) + 26, 26 << 24}},
     {"phase", SLOT, AS_DRAWN, ANY_PHASE, PHASE_AT, 1, PLAINLY, 16, {0, 1, 2, 3, 4, 5, 6, 7, 8, 9, 10, 11, 12, 13, 14, 255}},
@@ -69,6 +71,7 @@ static const struct field fields[] = {
     {"hours", SLOT, WITH_DURATION, is_held, HOURS_AT, 1, PLAINLY, 3, {99, 100, 255}},
     {"minutes", SLOT, WITH_DURATION, is_held, MINUTES_AT, 1, PLAINLY, 3, {59, 60, 255}},
     {"seconds", SLOT, WITH_DURATION, is_held, SECONDS_AT, 1, PLAINLY, 3, {59, 60, 255}},
+    {"call number", SLOT, AS_DRAWN, stores_request, NUMBER_AT, 4, WITHOUT_A_RULE, 5, {0, 1, 255, 256, 4294967295}},
     OF_REQUEST("slot's ", SLOT, stores_request, SLOT_REQUEST_AT),
     {"waiting ship's due time", WAITING, AS_DRAWN, ANY_PHASE, WAITING_DUE_AT, 4, FROM_CLOCK, 4, {-1, 0, 9001, 9002}},
     OF_REQUEST("waiting ship's ", WAITING, ANY_PHASE, WAITING_REQUEST_AT),
@@ -194,10 +197,16 @@ void note_moved(bool sound) {
         unsounds[last]++;
 }
 
+/* A field without a rule is never outside it. */
+static bool was_moved(size_t field, uint32_t enough) {
+    bool outside = fields[field].from == WITHOUT_A_RULE ? unsounds[field] == 0u : unsounds[field] >= enough;
+    return sounds[field] >= enough && outside;
+}
+
 bool each_field_moved(uint32_t enough) {
     bool all = true;
     for (size_t i = 0; i < FIELDS; i++)
-        if (sounds[i] < enough || unsounds[i] < enough) {
+        if (!was_moved(i, enough)) {
             printf("stations: hardly tried: %s, %u times inside its rule and %u outside\n", fields[i].name, (unsigned)sounds[i],
                 (unsigned)unsounds[i]);
             all = false;

@@ -29,7 +29,7 @@ void draw_moved(uint8_t *bytes);
 const char *field_moved(void);          /* of the one drawn last */
 void tell_head(const uint8_t *bytes);   /* the station's own fields, before its slots */
 void note_moved(bool sound);            /* what it turned out to be */
-bool each_field_moved(uint32_t enough); /* whether each field was both inside and outside so often */
+bool each_field_moved(uint32_t enough); /* whether each field was both inside and outside its rule so often */
 
 /* ---- events.c ---- */
 struct event draw_event(void); /* one that fits the stage, or nearly */

@@ -10,13 +10,17 @@ extern int printf(const char *, ...);
 #define ENOUGH_ANSWERS 30u
 #define ENOUGH_ACTIONS 1000u /* and stations with a free slot beside waiting ships */
 #define ENOUGH_MOVES 20u
+#define ENOUGH_USED_UP 100u
 
 static const char letters[] = {EVERY_ENTRY(ITS_LETTER)};
 #define KINDS (sizeof letters) /* of calls */
 
+/* What was told 104/107, by what stood before it. */
+enum used_up { ALONE, BEHIND_AN_END, BEHIND_A_RING_BACK, USED_UP };
+
 static struct counts {
     uint32_t calls, answers[KINDS][MOST_ANSWERS], actions[ACTION_KINDS];
-    uint32_t on_sound, accepted, idle_beside_waiting;
+    uint32_t on_sound, accepted, idle_beside_waiting, used_up[USED_UP];
 } tally;
 
 void begin_tally(void) {
@@ -31,13 +35,30 @@ static size_t kind_of(char letter) {
     return kind;
 }
 
+#define SENDS 3u
+#define NO_SLOT_BYTE 255u
+#define SECOND_IN_SEQUENCE 13u
+#define EQUIPMENT_DISABLED 107u
+
+/* Whether the call numbers were used up, told by the last action. */
+static void note_used_up(size_t actions, const uint8_t *room) {
+    const uint8_t *last = room + (actions - 1u) * ACTION_BYTES;
+    if (last[0] != SENDS || last[1] != NO_SLOT_BYTE || last[4u + SECOND_IN_SEQUENCE] != EQUIPMENT_DISABLED)
+        return;
+    bool alone = actions == 1u, rung = !alone && (last - ACTION_BYTES)[0] == SENDS;
+    tally.used_up[alone ? ALONE : rung ? BEHIND_A_RING_BACK : BEHIND_AN_END]++;
+}
+
 void note_call(char letter, uint64_t returned, const uint8_t *room) {
     uint32_t answer = (uint32_t)(returned & 255u);
+    size_t actions = returned >> 8 & 255u;
     tally.calls++;
     if (answer < MOST_ANSWERS)
         tally.answers[kind_of(letter)][answer]++;
-    for (size_t i = 0; i < (returned >> 8 & 255u); i++)
+    for (size_t i = 0; i < actions; i++)
         tally.actions[room[i * ACTION_BYTES] % ACTION_KINDS]++;
+    if (actions > 0u)
+        note_used_up(actions, room);
 }
 
 void note_drawn(void) {
@@ -95,6 +116,15 @@ static bool enough_answers(void) {
     return all;
 }
 
+static bool enough_used_up(void) {
+    bool all = true;
+    for (size_t i = 0; i < USED_UP; i++)
+        all = all && tally.used_up[i] >= ENOUGH_USED_UP;
+    if (!all)
+        printf("stations: hardly tried: call numbers used up\n");
+    return all;
+}
+
 static void tell_answers(void) {
     for (uint32_t answer = 0; answer < MOST_ANSWERS; answer++) {
         uint32_t times = 0;
@@ -112,12 +142,14 @@ bool tell_tally(uint32_t stations) {
     printf("; actions");
     for (uint32_t kind = 1; kind < ACTION_KINDS; kind++)
         printf("%s%u: %u", kind == 1u ? " " : ", ", (unsigned)kind, (unsigned)tally.actions[kind]);
+    printf("; 104/107 alone %u, behind an end %u, behind a ring-back %u", (unsigned)tally.used_up[ALONE],
+        (unsigned)tally.used_up[BEHIND_AN_END], (unsigned)tally.used_up[BEHIND_A_RING_BACK]);
     printf("; sound stations accepted %u of %u, and %u had a free slot beside waiting ships\n", (unsigned)tally.accepted,
         (unsigned)tally.on_sound, (unsigned)tally.idle_beside_waiting);
     if (!often)
         printf("stations: hardly tried: events that a sound station accepts\n");
     if (!idle)
         printf("stations: hardly tried: a free slot beside waiting ships\n");
-    bool answered = enough_answers(), moved = each_field_moved(ENOUGH_MOVES);
-    return often && idle && answered && moved;
+    bool answered = enough_answers(), moved = each_field_moved(ENOUGH_MOVES), used_up = enough_used_up();
+    return often && idle && answered && moved && used_up;
 }

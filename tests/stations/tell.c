@@ -41,7 +41,8 @@ static void tell_slot(uint32_t slot, const uint8_t *bytes) {
         printf("\n");
         return;
     }
-    printf(", %s %u", talks(phase) ? "since" : "due", (unsigned)number_at(bytes + TIME_AT, 4));
+    printf(", call %u, %s %u", (unsigned)number_at(bytes + NUMBER_AT, 4), talks(phase) ? "since" : "due",
+        (unsigned)number_at(bytes + TIME_AT, 4));
     if (has_call(phase))
         tell_carrier(bytes);
     if (is_held(phase))
