@@ -1,5 +1,5 @@
 /* Writes one lively script, the same for the same seed, on standard output, and on standard error how often each situation
- * of document 01, and of nos. 1 and 2 of 02, was reached in it. */
+ * of document 01, and of nos. 1, 2 and 4 of 02, was reached in it. */
 #include <stdio.h>
 #include <stdlib.h>
 

@@ -230,6 +230,7 @@ static void note_changes(const struct station *before, const struct station *aft
 void note_step(const struct station *before, const struct event *event, const struct step *step) {
     uint32_t due = 0;
     note_ashore(before, event, step);
+    note_numbers(before, event, step);
     if (step->answer > IGNORED || event->letter == SET_UP_LETTER)
         return;
     switch (event->letter) {

@@ -1,4 +1,4 @@
-/* What a script may reach: each situation of document 01 and of nos. 1 and 2 of 02, and its count. */
+/* What a script may reach: each situation of document 01 and of nos. 1, 2 and 4 of 02, and its count. */
 #ifndef SITUATIONS_H
 #define SITUATIONS_H
 
@@ -186,7 +186,23 @@
     X(ASHORE_RULE_C, "call from ashore ended by rule c")                                    \
     X(ASHORE_RULE_C_BACK, "call from ashore ended by rule c, ring-back")                    \
     X(ASHORE_SPARED, "call from ashore, rule c ignores the request")                        \
-    X(ASHORE_UP, "call from ashore, carrier up ends its wait")
+    X(ASHORE_UP, "call from ashore, carrier up ends its wait")                              \
+    X(CHARGE_OFFER, "charge after an offer")                                                \
+    X(CHARGE_ACKNOWLEDGED_AGAIN, "charge after a repeated acknowledgement")                 \
+    X(CHARGE_AFRESH, "charge after an offer afresh, offered before")                        \
+    X(CHARGE_AFRESH_RUNG, "charge after an offer afresh, rung back before")                 \
+    X(CHARGE_AFRESH_AGREED, "charge after an offer afresh, acknowledged before")            \
+    X(CHARGE_AFRESH_AGAIN, "charge after an offer afresh, acknowledged again")              \
+    X(CHARGE_RING_BACK, "charge after a ring-back")                                         \
+    X(CHARGE_RING_BACK_AGAIN, "charge after a ring-back sent twice")                        \
+    X(CHARGE_ASHORE, "charge of a call from ashore")                                        \
+    X(CHARGE_ASHORE_AGAIN, "charge of a call from ashore sent twice")                       \
+    X(CHARGE_SAME_SHIP, "second charge of a ship on one slot, none between them")           \
+    X(CHARGE_EARLIER, "charge with a lower number than the last")                           \
+    X(CHARGE_BEHIND_REFUSED, "charge, a caller refused since the last number but its own")  \
+    X(CHARGE_BEHIND_QUEUED, "charge, a ship queued since the last number but its own")      \
+    X(NUMBERS_SKIPPED, "charge, numbers skipped since the last")                            \
+    X(NUMBER_OVER_A_BYTE, "charge with a number over 255")
 
 enum situation {
 #define AS_NAME(name, words) SEEN_##name,
@@ -210,5 +226,8 @@ uint32_t slot_of(const struct station *station, uint32_t ship, bool hold); /* it
 
 /* ---- situations_ashore.c: calls from shore to ship, refused ones too ---- */
 void note_ashore(const struct station *before, const struct event *event, const struct step *step);
+
+/* ---- situations_numbers.c: what is charged, by how its number was given ---- */
+void note_numbers(const struct station *before, const struct event *event, const struct step *step);
 
 #endif
