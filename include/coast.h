@@ -29,14 +29,15 @@ extern "C" {
 
 /* The library's version: MAJOR moves where a host has to be changed, MINOR where only something is added for it, PATCH where only
  * a fault is mended. It is no version of the lent layout: COAST_LAYOUT_VERSION is that. A new layout moves MINOR at least: a host
- * need not be changed, but the stations that it kept are refused. */
-#define COAST_VERSION "1.4.0"
+ * need not be changed, but the stations that it kept are refused. So does a field that is added behind the others of an action's
+ * payload: a host reads those that it knows, and does not mind a payload that is longer. */
+#define COAST_VERSION "1.5.0"
 #define COAST_VERSION_MAJOR 1
-#define COAST_VERSION_MINOR 4
+#define COAST_VERSION_MINOR 5
 #define COAST_VERSION_PATCH 0
 
 /* The deepest that any entry reaches into the stack, as measured. */
-#define COAST_STACK_SIZE 12800
+#define COAST_STACK_SIZE 13056
 
 /* A sequence has 21 to 28 symbols, one a byte. */
 #define COAST_SHORTEST_SEQUENCE 21
@@ -80,8 +81,8 @@ extern "C" {
 #define COAST_ANSWER_BAD_END 20           /* the end of sequence is not 117, 122 or 127 */
 #define COAST_ANSWER_ROOM_SHORT 21        /* the room for a sequence is under 28 bytes, or for a transmission under 148 */
 #define COAST_ANSWER_MEANING_SHORT 22     /* the meaning's bytes are fewer than 32 */
-#define COAST_ANSWER_WRONG_SIZE 23        /* the bytes to set a station up in are not 1723 */
-#define COAST_ANSWER_NOT_SOUND 29         /* the station handed in is not sound, or its bytes are not 1723 of this version */
+#define COAST_ANSWER_WRONG_SIZE 23        /* the bytes to set a station up in are not 1791 */
+#define COAST_ANSWER_NOT_SOUND 29         /* the station handed in is not sound, or its bytes are not 1791 of this version */
 #define COAST_ANSWER_ACTIONS_SHORT 30     /* the room for actions is under 320 bytes */
 #define COAST_ANSWER_TIME_TOO_LATE 31     /* the time is over 4,000,000,000 */
 #define COAST_ANSWER_TIME_BEFORE_CLOCK 32 /* the time is before the station's clock */
@@ -89,7 +90,7 @@ extern "C" {
 #define COAST_ANSWER_NO_SLOT 34           /* there is no slot of this number */
 #define COAST_ANSWER_OPERATOR 35          /* takes a slot that is not free, or gives back one that is not taken */
 #define COAST_ANSWER_BAD_SET_UP 36        /* not a coast station's identity, or not 1 to 16 different working channels */
-#define COAST_ANSWER_NO_FREE_SLOT 37      /* a call from ashore, and no slot is free */
+#define COAST_ANSWER_NO_FREE_SLOT 37      /* a call from ashore, and no slot is free, or the call numbers are used up */
 #define COAST_ANSWER_SHIP_ENGAGED 38      /* a call from ashore to a ship that has a slot, a held one too, or waits for one */
 #define COAST_ANSWER_NO_PHASING 51        /* no phasing found in what the modem handed over */
 #define COAST_ANSWER_COPIES_BAD 52        /* all copies of one symbol were received, and none is good */
@@ -156,7 +157,7 @@ uint32_t coast_write_transmission(const uint8_t *symbols, size_t count, uint8_t 
  * and behind it, unless another whole phasing stands before it. And nothing is read but what stood in good characters. */
 uint32_t coast_read_transmission(const uint8_t *characters, size_t size, uint8_t *room, size_t room_size);
 
-/* A station lives in 1723 bytes that the host lends; nobody but the library needs to look inside. Numbers stand low byte
+/* A station lives in 1791 bytes that the host lends; nobody but the library needs to look inside. Numbers stand low byte
  * first. `coast_set_up` fills them, and every event that is answered 0 or 1 leaves the next station there. They may be copied,
  * kept and handed in again, at any place. Bytes that the library did not leave are judged like any others.
  *
@@ -165,13 +166,14 @@ uint32_t coast_read_transmission(const uint8_t *characters, size_t size, uint8_t
  *    5  4  the station's identity                         4 acknowledged, 5 dialling, 6 answered, 7 hold, 8 taken,
  *    9  1  count of slots                                 9 dialled out; of a call from ashore 10 called,
  *   10  1  count of waiting ships                         11 called again, 12 ringing
- *   11     16 slots of 45 bytes                     1  4  due time (1 to 5, 7, 9 to 12), or when it was answered (6)
- *  731     32 waiting ships of 31 bytes,            5  1  the ship's carrier (5, 6, 9): 0 present, 1 lost
- *          the oldest first                         6  4  due time of a carrier that is lost
- *                                                  10  1  what was told (7): 0 nothing, 1 a duration
- *  in each stored request:                         11  3  hours, minutes, seconds
- *    0  4  ship                                    14  4  channel
- *    4  4  station called, or calling              18 27  request, in the phases 1 to 7 and 9 to 12
+ *   11  4  the last call number given               1  4  due time (1 to 5, 7, 9 to 12), or when it was answered (6)
+ *   15     16 slots of 49 bytes                     5  1  the ship's carrier (5, 6, 9): 0 present, 1 lost
+ *  799     32 waiting ships of 31 bytes,            6  4  due time of a carrier that is lost
+ *          the oldest first                        10  1  what was told (7): 0 nothing, 1 a duration
+ *                                                  11  3  hours, minutes, seconds
+ *  in each stored request:                         14  4  channel
+ *    0  4  ship                                    18  4  call number, in the phases 1 to 7 and 9 to 12
+ *    4  4  station called, or calling              22 27  request, in the phases 1 to 7 and 9 to 12
  *    8  1  mode: 0 simplex, 1 duplex
  *    9  1  second telecommand                    in each waiting ship:
  *   10  1  count of digits                          0  4  due time
@@ -183,10 +185,10 @@ uint32_t coast_read_transmission(const uint8_t *characters, size_t size, uint8_t
  * phase over 12; with a carrier, a duration's mark or a mode over 1 where it is looked at; or with a digit past its count that
  * is not 0.
  *
- * A station is sound if document 01, with nos. 1 and 2 of document 02, allows it: its identity, channels and stored requests keep
- * the rules, no ship stands twice, no call was answered after the clock, and each due time lies from the clock to the clock plus
- * its wait and a tenth. All that the library leaves is sound. */
-#define COAST_STATION_SIZE 1723
+ * A station is sound if document 01, with nos. 1, 2 and 4 of document 02, allows it: its identity, channels and stored requests
+ * keep the rules, no ship stands twice, no call was answered after the clock, and each due time lies from the clock to the clock
+ * plus its wait and a tenth. Call numbers may be any. All that the library leaves is sound. */
+#define COAST_STATION_SIZE 1791
 
 /* The version moves whenever the layout does, and stands at byte 0 in every layout. Every entry refuses a station of
  * another version, 29, but coast_set_up, which does not look at the bytes that it fills; and no entry turns it into one of
@@ -196,7 +198,7 @@ uint32_t coast_read_transmission(const uint8_t *characters, size_t size, uint8_t
  *     is ignored. A slot so freed may ring back a waiting ship;
  *   - switches off the carrier of every slot. Ships that waited, or had a slot without a call yet, lose it, and call again;
  *   - sets a station up by the new library, counts its time from 0 again, and takes again the slots that were taken. */
-#define COAST_LAYOUT_VERSION 3
+#define COAST_LAYOUT_VERSION 4
 #define COAST_AT_VERSION 0
 
 /* Actions: an event lays at most eight at the front of its room, in the order in which they are to be done; coast_count of
@@ -220,15 +222,29 @@ struct coast_lent {
 #define COAST_ACTION_SEND_WORKING 4    /* payload: a sequence, to send on the slot's working channel */
 #define COAST_ACTION_DIAL 5            /* payload: the digits 0 to 9 to dial, one a byte; when done: coast_dialling_ended */
 #define COAST_ACTION_RELEASE_LINE 6    /* the line that was dialled for the slot, or the caller's that was joined to it */
-#define COAST_ACTION_CHARGE 7          /* payload: ship, start and stop in tenths, seconds; four bytes each, low byte first */
-#define COAST_ACTION_RINGING_ON 8      /* to the caller ashore: ringing tone, until .. */
-#define COAST_ACTION_RINGING_OFF 9     /* .. this */
-#define COAST_ACTION_BUSY_TONE 10      /* to the caller ashore: busy tone, for five seconds that the exchange counts */
+#define COAST_ACTION_CHARGE 7      /* payload: ship, start and stop in tenths, seconds, call number; four bytes each, low first */
+#define COAST_ACTION_RINGING_ON 8  /* to the caller ashore: ringing tone, until .. */
+#define COAST_ACTION_RINGING_OFF 9 /* .. this */
+#define COAST_ACTION_BUSY_TONE 10  /* to the caller ashore: busy tone, for five seconds that the exchange counts */
+
+/* Call numbers: each offer, each ring-back and each call from ashore that takes a slot gets the next one, from 1 on. The slot keeps
+ * it through a repeated acknowledgement, a second sending and the ship's answer, to the end of the call and of its hold; an offer
+ * made afresh takes a new one. The charge carries it. Proved: from one set-up on, no two charges have the same, so that an office can
+ * tell two short calls of one ship apart, and knows a charge that reaches it twice. Many a number is never charged, since many an
+ * offer is not taken up: a gap is no charge that was lost. Set up anew, a station counts from 1 again. So an office that has the
+ * charges of several stations, or of one that was set up anew, must be told of which set-up each is.
+ * The last number is 4,294,967,295: more than ten for each second until COAST_LAST_TIME. Once that has been given
+ *   - a request that would be offered a slot, or its own slot afresh, that would wait, or would find no place, is answered with
+ *     104 and 107 (equipment disabled), which the station tells for nothing else. But for the clock nothing changes: a slot that
+ *     is offered or rung back, and a place in the queue, stay as they were;
+ *   - no waiting ship is rung back: a slot that is freed stays free beside those that wait. A caller ashore is refused, 37;
+ *   - all else is as ever: a ship that asks again for what it is offered is told so, and calls go on to their ends.
+ * A host then sets its station up anew, at an hour without calls. */
 
 /* What the entries below return is one number: coast_answer, coast_count, coast_waits, coast_due and coast_time take it apart.
  *
  * Sets a station up in the `size` bytes at `station`, with a slot for each of the `count` channels, one a byte: slot 0
- * for the first, and so on; all slots free, the clock at 0. Answers 0; or 23 where the size is not 1723, or else 36. */
+ * for the first, and so on; all slots free, the clock at 0. Answers 0; or 23 where the size is not 1791, or else 36. */
 uint64_t coast_set_up(uint32_t identity, const uint8_t *channels, size_t count, uint8_t *station, size_t size);
 
 /* When the station must be handed a tick, at the latest: coast_waits and coast_due of what is returned. Answers 0, or 29.
@@ -245,7 +261,7 @@ uint64_t coast_next_due(const uint8_t *station, size_t size);
  *   - refuses a file that is damaged, by a check of its own: bytes that were changed may still be a sound station. Where
  *     coast_clock answers 29, they are no sound station, or one of another version;
  *   - does the actions that were saved, but for those that it knows to be done. A charge that is so done twice has the same
- *     ship, start and stop;
+ *     call number, and no other charge has;
  *   - counts its time on from the clock, and adds what has passed meanwhile where it knows that;
  *   - sets its timer as coast_next_due tells, and hands in ticks for what has fallen due, as coast_tick tells. */
 uint64_t coast_clock(const uint8_t *station, size_t size);
@@ -292,8 +308,8 @@ uint64_t coast_on_hook(uint8_t *station, size_t size, uint32_t time, uint32_t sl
  * not after action 6 has released the line: the slot may then be another's. What comes of the call:
  *   - The ship's first BQ with 100 or 101 that names the slot's channel: it rings (8), for a minute at most.
  *   - The first carrier up while it rings is the ship's transmission, whoever sent it: the ringing ends (9), and the call is
- *     answered. It is charged from here on, and ends as any other does. The charge names the ship alone: whose line it was, the
- *     host knows by the slot.
+ *     answered. It is charged from here on, and ends as any other does. The charge has no word of the caller: whose line it was,
+ *     the host knows by the slot.
  *   - No BQ within 5 s of the second sending, no carrier within the minute, or the ship's BQ with 104, ringing or not: the call
  *     is dropped. The ringing ends if it rings (9), then carrier off (2), busy tone (10), release (6). The slot is freed at once:
  *     the tone's five seconds are the exchange's, which keeps the caller for so long and then clears the line.
@@ -304,7 +320,7 @@ uint64_t coast_on_hook(uint8_t *station, size_t size, uint32_t time, uint32_t sl
  * was dialled.
  * Refused, no slot is taken and no action given. Where the time was refused, 32 or 33, the host hands the call in once more, as
  * told with the answers. Refused 15, 17, 19, 38 or 37, the caller is turned away: by a busy tone of the host's own where the ship
- * is engaged, 38, or no slot is free, 37.
+ * is engaged, 38, or no slot or call number is left, 37.
  * Answers 0; or 29, 30, 31, 32, 33, 15 where that is no ship, 17 where it is another mode, 19, 38, 37. */
 uint64_t coast_call_from_ashore(uint8_t *station, size_t size, uint32_t time, uint32_t ship, uint32_t mode, const uint8_t *digits,
     size_t count, uint8_t *room, size_t room_size);

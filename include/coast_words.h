@@ -5,7 +5,7 @@
 
 #include "coast.h"
 
-/* A number in four bytes, the low byte first: so identities, times and seconds stand in lent bytes. */
+/* A number in four bytes, the low byte first: so identities, times, seconds and call numbers stand in lent bytes. */
 static inline uint32_t coast_number_at(const uint8_t *bytes) {
     return bytes[0] | (uint32_t)bytes[1] << 8 | (uint32_t)bytes[2] << 16 | (uint32_t)bytes[3] << 24;
 }
@@ -46,7 +46,8 @@ static inline const uint8_t *coast_payload(const uint8_t *action) {
     return action + COAST_AT_ACTION_PAYLOAD;
 }
 
-/* Of a charge: the call's ship, when the call was answered and when it stopped, in tenths, and the seconds charged. */
+/* Of a charge: the call's ship, when the call was answered and when it stopped, in tenths, the seconds charged, and the call's
+ * number, which no other charge since the set-up has. */
 static inline uint32_t coast_charge_ship(const uint8_t *action) {
     return coast_number_at(coast_payload(action));
 }
@@ -61,6 +62,10 @@ static inline uint32_t coast_charge_stop(const uint8_t *action) {
 
 static inline uint32_t coast_charge_seconds(const uint8_t *action) {
     return coast_number_at(coast_payload(action) + 12);
+}
+
+static inline uint32_t coast_charge_call(const uint8_t *action) {
+    return coast_number_at(coast_payload(action) + 16);
 }
 
 /* Digits, one a byte as a meaning and a dial action have them, as text with a final 0; `text` has room for one more than there
@@ -103,7 +108,7 @@ static inline const char *coast_answer_words(uint32_t answer) {
     case COAST_ANSWER_NO_SLOT: return "no such slot";
     case COAST_ANSWER_OPERATOR: return "a slot that is not free to take, or not taken";
     case COAST_ANSWER_BAD_SET_UP: return "not a coast station with 1 to 16 working channels";
-    case COAST_ANSWER_NO_FREE_SLOT: return "no slot is free";
+    case COAST_ANSWER_NO_FREE_SLOT: return "no slot is free, or no call number is left";
     case COAST_ANSWER_SHIP_ENGAGED: return "the ship has a slot already, or waits for one";
     case COAST_ANSWER_NO_PHASING: return "no phasing found";
     case COAST_ANSWER_COPIES_BAD: return "all copies of a symbol are bad";
