@@ -15,7 +15,7 @@ extern int rename(const char *, const char *);
 #define EXISTS 0
 #define OWNER_ALONE 0600u
 
-#define KEPT_VERSION 0x314b4352u /* RCK1 in the file; another number whenever the struct changes */
+#define KEPT_VERSION 0x324b4352u /* RCK2 in the file; another number whenever the struct changes */
 #define PATH_MOST 4000u
 
 struct file {

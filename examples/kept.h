@@ -2,7 +2,7 @@
  *
  * The host writes it after each event that the station accepts, before it does the first action, and again after each action.
  * So, however the host ends, every action is done, in order, and once: but for the one that was under way, which is done again,
- * since nobody can tell how far it got. A charge that is done twice has the same ship, start and stop. */
+ * since nobody can tell how far it got. A charge that is done twice has the same call number. */
 #ifndef KEPT_H
 #define KEPT_H
 

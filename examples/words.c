@@ -86,7 +86,7 @@ static void print_charge(const uint8_t *action) {
     print_time(coast_charge_start(action));
     printf(" to ");
     print_time(coast_charge_stop(action));
-    printf(": %u s", (unsigned)coast_charge_seconds(action));
+    printf(": %u s, call %u", (unsigned)coast_charge_seconds(action), (unsigned)coast_charge_call(action));
 }
 
 void print_order(const uint8_t *action) {

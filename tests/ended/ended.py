@@ -10,7 +10,7 @@ KILLED, POWER_CUT, FAILS = KINDS = range(3)   # how a play ends
 REFUSES = 3
 TO_THE_END = (0, 0, KILLED)
 ACTION, SAVED = b'    channel ', b'= '
-COUNT_AT, DONE_AT, LAST_CHANNEL_AT, STATION_AT, FIRST_PHASE_AT = 8, 12, 44, 45, 56  # in a kept file
+COUNT_AT, DONE_AT, LAST_CHANNEL_AT, STATION_AT, FIRST_PHASE_AT = 8, 12, 44, 45, 60  # in a kept file
 SPOILT = [(0, 0), (COUNT_AT, 9), (DONE_AT, 9), (LAST_CHANNEL_AT, 1), (STATION_AT, 1), (FIRST_PHASE_AT, 13)]
 
 
