@@ -64,7 +64,7 @@ struct others {
     uint32_t (*character_at)(const uint8_t *characters, size_t place);
     void (*put_character)(uint8_t *characters, size_t place, uint32_t character);
     const uint8_t *(*action_at)(const uint8_t *room, size_t place);
-    uint32_t (*of_action[6])(const uint8_t *action);
+    uint32_t (*of_action[7])(const uint8_t *action);
     size_t (*length)(const uint8_t *action);
     const uint8_t *(*payload)(const uint8_t *action);
     char *(*text)(const uint8_t *digits, size_t count, char *text);
@@ -77,7 +77,8 @@ extern const struct others others;
 const struct others others = {coast_read_sequence, coast_write_sequence, {coast_write_character, coast_read_character},
     {coast_write_transmission, coast_read_transmission}, coast_answer, coast_count, coast_waits, coast_due, coast_time,
     coast_number_at, coast_put_number, coast_character_at, coast_put_character, coast_action_at,
-    {coast_action_kind, coast_action_slot, coast_charge_ship, coast_charge_start, coast_charge_stop, coast_charge_seconds},
+    {coast_action_kind, coast_action_slot, coast_charge_ship, coast_charge_start, coast_charge_stop, coast_charge_seconds,
+        coast_charge_call},
     coast_payload_length, coast_payload, coast_digits_text, coast_dialled,
     {coast_answer_words, coast_action_words, coast_telecommand_words, coast_reason_words, coast_end_words, coast_phase_words}};
 

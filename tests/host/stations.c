@@ -158,9 +158,12 @@ static void try_taken_apart(void) {
     want("charged from", coast_charge_start(ended.room), 720);
     want("charged to", coast_charge_stop(ended.room), 4829);
     want("seconds charged", coast_charge_seconds(ended.room), 410);
+    want("the call charged", coast_charge_call(ended.room), 1);
     want("then the line", coast_action_kind(coast_action_at(ended.room, 1)), COAST_ACTION_RELEASE_LINE);
     want("charged from off-hook", coast_charge_start(after(21).room), 9910);
     want("charged from the ship's transmission", coast_charge_start(after(29).room), 10700);
+    want("the second call charged", coast_charge_call(after(21).room), 2);
+    want("the third, from ashore", coast_charge_call(after(29).room), 3);
     coast_put_number(ended.station, 4000000000u);
     want("a number put", coast_number_at(ended.station), 4000000000u);
 }
@@ -222,7 +225,7 @@ static void try_sizes(void) {
 
 /* Fills the bytes of slots and waiting ships past the counts, which nobody may look at. */
 static void litter(struct own *own) {
-    for (size_t i = 11u + 2u * 45u; i < COAST_STATION_SIZE; i++)
+    for (size_t i = 15u + 2u * 49u; i < COAST_STATION_SIZE; i++)
         own->station[i] = 255;
 }
 
@@ -276,10 +279,10 @@ static void try_unsound(void) {
     static const struct {
         size_t steps, place;
         uint8_t value;
-    } wrong[] = {{3, 4, 255}, {3, 8, 1}, {3, 9, 0}, {3, 9, 17}, {3, 10, 33}, {3, 11, 13}, {3, 11, 255}, {3, 13, 255}, {3, 25, 16},
-        {3, 26, 1}, {3, 32, 0}, {3, 37, 2}, {3, 39, 17}, {5, 16, 2}, {5, 18, 255}, {10, 21, 2}, {10, 23, 60}, {16, 11, 13},
-        {16, 13, 255}, {16, 16, 2}, {16, 18, 255}, {16, 32, 0}, {22, 13, 255}, {22, 32, 0}, {22, 37, 2}, {24, 13, 255},
-        {25, 13, 255}, {25, 39, 17}};
+    } wrong[] = {{3, 4, 255}, {3, 8, 1}, {3, 9, 0}, {3, 9, 17}, {3, 10, 33}, {3, 15, 13}, {3, 15, 255}, {3, 17, 255}, {3, 29, 16},
+        {3, 30, 1}, {3, 40, 0}, {3, 45, 2}, {3, 47, 17}, {5, 20, 2}, {5, 22, 255}, {10, 25, 2}, {10, 27, 60}, {16, 15, 13},
+        {16, 17, 255}, {16, 20, 2}, {16, 22, 255}, {16, 40, 0}, {22, 17, 255}, {22, 40, 0}, {22, 45, 2}, {24, 17, 255},
+        {25, 17, 255}, {25, 47, 17}};
     for (size_t i = 0; i < sizeof wrong / sizeof wrong[0]; i++) {
         struct own own = after(wrong[i].steps);
         own.station[wrong[i].place] = wrong[i].value;
@@ -291,9 +294,9 @@ static void try_unsound(void) {
 /* Before its dialling ended a slot has the phase 5, and then 9; the bytes beside it stand for the same. */
 static void try_dialled_out(void) {
     struct own dialling = after(15), dialled = after(16);
-    want("the phase of dialling", dialling.station[11], 5);
-    want("the phase of dialled out", dialled.station[11], 9);
-    dialled.station[11] = 5;
+    want("the phase of dialling", dialling.station[15], 5);
+    want("the phase of dialled out", dialled.station[15], 9);
+    dialled.station[15] = 5;
     want("the first end of dialling", coast_answer(hand_in_own(&dialled, "P 9320 0")), COAST_ANSWER_DONE);
     want_due("a minute from there", hand_in_own(&dialled, "U 9330 0"), 9921);
 }
@@ -305,12 +308,31 @@ static void try_called(void) {
         uint8_t phase;
     } phases[] = {{22, 10}, {23, 10}, {24, 11}, {25, 12}, {26, 12}, {27, 6}, {29, 7}};
     for (size_t i = 0; i < sizeof phases / sizeof phases[0]; i++)
-        want("the phase of a call from ashore", after(phases[i].steps).station[11], phases[i].phase);
+        want("the phase of a call from ashore", after(phases[i].steps).station[15], phases[i].phase);
     struct own called = after(25);
-    called.station[11] = 10;
-    called.station[12] = 143; /* due at 10127, as a sending may be */
-    called.station[13] = 39;
+    called.station[15] = 10;
+    called.station[16] = 143; /* due at 10127, as a sending may be */
+    called.station[17] = 39;
     want("carrier up before it rings", coast_answer(hand_in_own(&called, "U 10110 0")), COAST_ANSWER_IGNORED);
+}
+
+/* The last call number given stands at byte 11, and a slot's own at its byte 18: the last of all is given, to one call. */
+static void try_call_numbers(void) {
+    struct own own = after(0);
+    coast_put_number(own.station + 11, UINT32_MAX - 1u);
+    want("the last number", (uint32_t)coast_count(hand_in_own(&own, "Q 100 P1")), 2);
+    want("it is given", coast_number_at(own.station + 11), UINT32_MAX);
+    want("the slot keeps it", coast_number_at(own.station + 15 + 18), UINT32_MAX);
+    hand_in_own(&own, "W 250 0 P4");
+    hand_in_own(&own, "O 720 0");
+    hand_in_own(&own, "W 4829 0 P5");
+    want("the charge has it", coast_charge_call(own.room), UINT32_MAX);
+    hand_in_own(&own, "T 9000");
+    want("none is left", (uint32_t)coast_count(hand_in_own(&own, "Q 9100 P1")), 1);
+    want("no slot is given", coast_action_slot(own.room), 255);
+    want("equipment disabled", coast_payload(own.room)[13], 107);
+    want_refused(
+        "none for a caller", "C 9200 200056789 101 7", own.station, COAST_STATION_SIZE, COAST_ACTIONS_SIZE, NO_SLOT_FREE);
 }
 
 /* Of all that byte 0 may be, one value alone is a station's; set-up does not look at it. */
@@ -423,6 +445,7 @@ void try_stations(void) {
     try_unsound();
     try_dialled_out();
     try_called();
+    try_call_numbers();
     try_versions();
     try_advice();
     try_coming_back();
