@@ -47,6 +47,7 @@ fn run_tables(tally: Tally) -> Tally {
     let tally = run_file(tally, b"operator");
     let tally = run_file(tally, b"ring-back");
     let tally = run_file(tally, b"ashore");
+    let tally = run_file(tally, b"numbers");
     let tally = run_file(tally, b"waits");
     let tally = run_file(tally, b"queue");
     let tally = run_file(tally, b"published");
