@@ -1,9 +1,11 @@
-// Calls what no script can reach, and compares: stations made by hand, rooms, and the writer's refusals.
+// Calls what no script can reach, and compares: stations made by hand, rooms, the last call numbers, and the writer's refusals.
+mod numbers;
 mod rooms;
 mod stations;
 mod unsound;
 mod writer;
 
+use crate::numbers::try_numbers;
 use crate::rooms::try_rooms;
 use crate::unsound::try_soundness;
 use crate::writer::try_writer;
@@ -29,6 +31,8 @@ fn main() {
     try_soundness();
     say(b"rooms\n");
     try_rooms();
+    say(b"the last call numbers\n");
+    try_numbers();
     say(b"the writer\n");
     try_writer();
 }

@@ -50,9 +50,9 @@ fn busy_in(time: Tenths, length: usize) -> u8 {
     ticked_in(busy(), time, length)
 }
 
-// How many actions rule c gives where a slot is free and a ship waits, which no run leads to.
-fn most_actions() -> u8 {
-    let symbols = [
+// The ship of the busy slot asks for a call, in simplex.
+pub(crate) fn request() -> [u8; 24] {
+    [
         123,
         0,
         20,
@@ -77,7 +77,12 @@ fn most_actions() -> u8 {
         34,
         117,
         105u8,
-    ];
+    ]
+}
+
+// How many actions rule c gives where a slot is free and a ship waits, which no run leads to.
+fn most_actions() -> u8 {
+    let symbols = request();
     let mut room = [165u8; 320];
     let stepped = busy().heard_on_channel_70(Tenths(1100), &symbols, &mut room);
     stepped.count

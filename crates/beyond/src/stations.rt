@@ -7,6 +7,7 @@ use slots::Phase;
 use slots::Slot;
 use slots::Waiting;
 use station::Station;
+use units::CallNumber;
 use units::Channel;
 use units::Lasted;
 use units::Tenths;
@@ -49,6 +50,7 @@ fn usual_slot() -> Slot {
     Slot {
         phase: usual_phase(),
         channel: Channel(26),
+        call: CallNumber(7),
         request: usual_request(),
     }
 }
@@ -91,11 +93,20 @@ pub(crate) fn busy() -> Station {
     made(Tenths(1000), 2001234, 2, 1, usual_slot(), usual_waiting())
 }
 
+// With that call number given last.
+pub(crate) fn busy_behind(last: u32) -> Station {
+    let given = CallNumber(last);
+    let mut station = busy();
+    station.last = given;
+    station
+}
+
 // With nobody in a slot or waiting.
 fn idle(clock: Tenths, identity: u32) -> Station {
     let slot = Slot {
         phase: Phase::Free,
         channel: Channel(26),
+        call: CallNumber(7),
         request: usual_request(),
     };
     made(clock, identity, 2, 0, slot, usual_waiting())
@@ -125,6 +136,7 @@ fn with_slot(phase: Phase, channel: Channel, request: Request) -> Station {
     let slot = Slot {
         phase: phase,
         channel: channel,
+        call: CallNumber(7),
         request: request,
     };
     made(Tenths(1000), 2001234, 2, 1, slot, usual_waiting())
