@@ -23,7 +23,7 @@ extern int fflush(void *);
 #define ACTIONS_MOST (COAST_ACTIONS_SIZE / COAST_ONE_ACTION_SIZE)
 #define PAYLOAD_MOST (COAST_ONE_ACTION_SIZE - COAST_AT_ACTION_PAYLOAD)
 #define DIGITS_MOST 16u
-#define CHARGE_LENGTH 16u
+#define CHARGE_LENGTH 20u
 #define NO_SLOT 255u
 #define CALLING_CHANNEL 70u
 #define SIMPLEX 100u
@@ -293,7 +293,7 @@ static const char *judge_payload(const uint8_t *action) {
         return answer == COAST_ANSWER_DONE ? NULL : coast_answer_words(answer);
     case COAST_ACTION_DIAL:
         return are_digits(coast_payload(action), length) ? NULL : "what is to be dialled is not 1 to 16 digits";
-    case COAST_ACTION_CHARGE: return length == CHARGE_LENGTH ? NULL : "a charge has 16 bytes";
+    case COAST_ACTION_CHARGE: return length == CHARGE_LENGTH ? NULL : "a charge has 20 bytes";
     case COAST_ACTION_CARRIER_ON:
     case COAST_ACTION_CARRIER_OFF:
     case COAST_ACTION_RELEASE_LINE:

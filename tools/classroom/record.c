@@ -24,18 +24,18 @@ extern int fflush(void *);
 #define UNABLE 104u
 
 /* The station's bytes, as include/coast.h has them for this version of the layout. */
-#define VERSION_READ_HERE 3
+#define VERSION_READ_HERE 4
 _Static_assert(COAST_LAYOUT_VERSION == VERSION_READ_HERE, "read include/coast.h again, and say here what moved");
 enum {
     AT_CLOCK = 1,
     AT_SLOT_COUNT = 9,
     AT_WAITING_COUNT = 10,
-    AT_SLOTS = 11,
-    SLOT_SIZE = 45,
-    AT_WAITING = 731,
+    AT_SLOTS = 15,
+    SLOT_SIZE = 49,
+    AT_WAITING = 799,
     WAITING_SIZE = 31
 };
-enum { AT_PHASE = 0, AT_TIME = 1, AT_CARRIER = 5, AT_CARRIER_DUE = 6, AT_CHANNEL = 14, AT_REQUEST = 18, AT_WAITING_REQUEST = 4 };
+enum { AT_PHASE = 0, AT_TIME = 1, AT_CARRIER = 5, AT_CARRIER_DUE = 6, AT_CHANNEL = 14, AT_REQUEST = 22, AT_WAITING_REQUEST = 4 };
 enum { AT_SHIP = 0, AT_DIGIT_COUNT = 10, AT_DIGITS = 11 };
 enum phase { FREE = 0, DIALLING = 5, ANSWERED = 6, TAKEN = 8, DIALLED_OUT = 9, LAST_PHASE = 12 };
 
@@ -107,7 +107,7 @@ static void print_does(const uint8_t *action) {
     if (kind == COAST_ACTION_DIAL)
         printf(" %s", coast_dialled(action, number));
     if (kind == COAST_ACTION_CHARGE) {
-        printf(" %u s\n", (unsigned)coast_charge_seconds(action));
+        printf(" %u s (call %u)\n", (unsigned)coast_charge_seconds(action), (unsigned)coast_charge_call(action));
         printf("charged %u %u %u", (unsigned)slot, (unsigned)coast_charge_start(action), (unsigned)coast_charge_stop(action));
     }
     printf("\n");

@@ -2,7 +2,7 @@
  *
  *   sequence write ADDRESS SENDER FIRST SECOND KIND BYTE BYTE BYTE END [DIGIT]...   the symbols of the sequence with this meaning
  *   sequence read [SYMBOL]...                                                      the same parts of a sequence; below, its words
- *   sequence charge SHIP START STOP SECONDS                                        the bytes of a charge's payload
+ *   sequence charge SHIP START STOP SECONDS CALL                                   the bytes of a charge's payload
  *
  * Status 1 where the library refuses, with the refusal's number and words on standard error; 2 where a number does not fit. */
 #include <coast_words.h>
@@ -16,6 +16,7 @@ extern int dprintf(int, const char *, ...);
 #define PARTS 9u       /* of a meaning, before its digits */
 #define MOST_DIGITS 16 /* that are laid; a count of more is the writer's to refuse */
 #define MOST_WORDS 255 /* what a byte can count */
+#define CHARGE_PARTS 5u
 
 static void print_bytes(const uint8_t *bytes, size_t count) {
     for (size_t i = 0; i < count; i++)
@@ -77,11 +78,11 @@ static int read_sequence(char **words, size_t count) {
 }
 
 static int lay_charge(char **words, size_t count) {
-    uint32_t numbers[4];
-    uint8_t payload[16];
-    if (count != 4 || !read_numbers(words, count, UINT32_MAX, numbers))
+    uint32_t numbers[CHARGE_PARTS];
+    uint8_t payload[4u * CHARGE_PARTS];
+    if (count != CHARGE_PARTS || !read_numbers(words, count, UINT32_MAX, numbers))
         return WRONG_USAGE;
-    for (size_t i = 0; i < 4; i++)
+    for (size_t i = 0; i < CHARGE_PARTS; i++)
         coast_put_number(payload + 4 * i, numbers[i]);
     print_bytes(payload, sizeof payload);
     return 0;

@@ -8,7 +8,7 @@ HEAD = """# The phases of a slot
 
 Drawn by `tools/phases` from the definitions, and not written by hand: it runs `step` of `crates/rules/specs/Rules/Verdict.antt`, which is
 all of the rules for an event, on a slot in each phase and takes every way through its clauses. Times are tenths of a second. A wait falls
-due one tenth after its length.
+due one tenth after its length. A call number is taken to be left: [MANUAL.md](MANUAL.md#call-numbers) tells what happens otherwise.
 
 ![The phases of a slot, and what leads from one to another; the tables below say the same.](phases.svg)
 """

@@ -119,7 +119,7 @@ class Rules:
 
     def stepped(self, slot, outcome):
         """For each event its cases: what was asked beside the event, and the outcome."""
-        station = {'clock': Unknown('clock'), 'slots': Slots(slot), 'queue': Unknown('queue')}
+        station = {'clock': Unknown('clock'), 'slots': Slots(slot), 'queue': Unknown('queue'), 'lastCall': Unknown('last call')}
         given, cases = [Unknown('config'), station, Unknown('event')], {}
         for asked, result in self.ways(lambda way: outcome(way, way.run('step', given))):
             event = ' '.join(answer for question, answer in asked if is_event(question))

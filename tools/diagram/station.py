@@ -2,9 +2,9 @@
 from reading import NotUnderstood
 from running import Built, Unknown
 
-# What every accepted event passes, whatever the slot's phase.
+# What every accepted event passes, whatever the slot's phase; and a call number is left.
 PASSED = {'sound': 'true', 'overtaken': 'false', 'slotThere': 'true', 'isDone': 'true', 'namesShip': 'true', 'namesMode': 'true',
-          'namesNumber': 'true'}
+          'namesNumber': 'true', 'usedUp': 'false'}
 WITHIN = ['leb roomNeeded event .room', 'leb event .time limit', 'leb clock event .time']
 # Not looked into: who asks for what, what the symbols say, when and how long.
 CLOSED = ['is', 'isFor', 'same', 'ltb', 'length', 'meaning', 'ashoreRequest', 'dueAfter', 'lasted', 'roomNeeded', 'limit']
@@ -68,6 +68,7 @@ UNOPENED = {
     **{name: closed(name) for name in CLOSED},
     **{name: lambda way, *given, answer=answer: Built(answer) for name, answer in PASSED.items()},
     'fires': lambda way, time, station: Unknown('event .wait'),
+    'nextCall': lambda way, station: Unknown('next call'),
     'cond': lambda way, test, one, other: one if way.holds(test) else other,
     'not': lambda way, test: Built('false' if way.holds(test) else 'true'),
     '&&': lambda way, test, other: other if way.holds(test) else Built('false'),

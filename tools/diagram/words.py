@@ -31,12 +31,12 @@ ANSWERS = {
 OF_OTHERS = {'from another ship', 'for another ship'}
 # What a slot keeps: each argument of its constructors, and each field of their records.
 KEPT = {
-    'Dealing.request': 'the request', 'pending.2': 'the due time', 'dialling.0': "the dialling's due time",
-    'dialledOut.0': "the reply's due time", 'answered.0': 'since when',
+    'Dealing.request': 'the request', 'Dealing.callNumber': 'the call number', 'pending.2': 'the due time',
+    'dialling.0': "the dialling's due time", 'dialledOut.0': "the reply's due time", 'answered.0': 'since when',
     'busy.2': "a lost carrier's due time", 'held.1': 'the duration told', 'held.2': 'the due time',
 }
 # What may change of it while the phase stays.
-CHANGED = {'pending.1': 'new request', 'pending.2': 'new wait', 'busy.2 none': 'no carrier wait', 'busy.2 some': 'carrier wait begun'}
+CHANGED = {'pending.1': 'new call', 'pending.2': 'new wait', 'busy.2 none': 'no carrier wait', 'busy.2 some': 'carrier wait begun'}
 WAITS = {'main': 'wait', 'loss': 'carrier wait', 'ofQueue': 'queue wait'}
 # The queue as it was, without its oldest ship, and what is done with either.
 QUEUE = {
