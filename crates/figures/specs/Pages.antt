@@ -18,7 +18,7 @@ use Rattle.rules.specs.ListAlone.LineWords.{Line, idle, outward, inward, since,
 use Rattle.rules.specs.ListAlone.LineWords.{wordHeard, wordsDone, wordAfter, wordOf, ringingsDone, ringingAfter, ringingSwitches, change}
 use Rattle.rules.specs.ListAlone.LineWords.{release, releases}
 use Rattle.rules.specs.ListAlone.BeingCalled.{isFor, columnsAfter}
-use Rattle.rules.specs.Statement.{deedsOf, chargesOf, charged, runOf, stationAfter, listOf, stopsOf, callNumbers, tenthsIn}
+use Rattle.rules.specs.Statement.{deedsOf, chargesOf, charged, runOf, stationAfter, listOf, stopsOf, callNumbers, tenthsIn, begunIn}
 use Rattle.rules.specs.Statement.{unchargedTenths, eventsOf}
 use Rattle.rules.specs.ListAlone.Repeated.{toldToWait, lastAsked, switchedOn}
 use Rattle.rules.specs.Tables.Runs.{station, seven, eight, nine, sends, usual, callsFor, calls, dataCalls, accepts, acceptsIn, declines}
@@ -792,6 +792,23 @@ numbersCharged = record {
   expected = (2 ∷ 1 ∷ 3 ∷ []) ∷ [];
 }
 
+abbrev pub callShown : Option Begun → List ℕ
+callShown none = 0 ∷ []
+callShown (some o) = 1 ∷ shortly o
+
+-- the call that the list shows on a slot: that of its line, or while the line is quiet the one last told of on channel 70
+abbrev pub callsShown : Row
+callsShown = record {
+  computed = map callShown (begunIn silent quiet ∷ begunIn (toldBQ (fourth eight duplex)) quiet ∷
+      begunIn (toldRQ (fourth eight duplex)) quiet ∷ begunIn (settled (fourth eight duplex)) quiet ∷
+      begunIn (toldRQ (fourth eight duplex)) callsSeven ∷ begunIn silent ringsSeven ∷
+      begunIn (toldBQ (fourth eight duplex)) (dialled (fifth seven simplex) false) ∷
+      begunIn silent (talking (fifth seven simplex) 300) ∷ []);
+  expected = (0 ∷ []) ∷ (1 ∷ 200000008 ∷ 101 ∷ 4 ∷ []) ∷ (1 ∷ 200000008 ∷ 101 ∷ 4 ∷ []) ∷ (1 ∷ 200000008 ∷ 101 ∷ 4 ∷ []) ∷
+      (1 ∷ 200000007 ∷ 100 ∷ 5 ∷ []) ∷ (1 ∷ 200000007 ∷ 100 ∷ 5 ∷ []) ∷ (1 ∷ 200000007 ∷ 100 ∷ 5 ∷ []) ∷
+      (1 ∷ 200000007 ∷ 100 ∷ 5 ∷ []) ∷ [];
+}
+
 -- the events of a run
 abbrev pub eventsShown : Row
 eventsShown = record {
@@ -1348,8 +1365,8 @@ pageCases =
     shoreDeeds ∷ shoreOthers ∷ wordsByEach ∷ linesByEach ∷ calledOnly ∷ ringingShown ∷ switchesShown ∷ releasesShown ∷ isForShown ∷
     inQueuePages ∷ inQueueWords ∷ inQueueTenths ∷ twoCallsPages ∷ twoCallsWords ∷ twoCallsWordsOfFirst ∷
     twoCallsTenths ∷ onThirdPages ∷ onThirdWords ∷ onThirdTenths ∷ dialledOnly ∷ unchargedShown ∷ stopsNumbered ∷ numbersCharged ∷
-    eventsShown ∷ wordsByDeeds ∷ wordsPickedUp ∷ wordsAtOnce ∷ eventsAlone ∷ diallingAlone ∷ deedsAlone ∷ ringBackAlone ∷ wordsAlone ∷
-    toldToWaitShown ∷ switchedOnShown ∷ lastAskedShown ∷ lastAskedNever ∷ chargesFound ∷ talkingOn ∷ wordsOf ∷ blankPage ∷
+    callsShown ∷ eventsShown ∷ wordsByDeeds ∷ wordsPickedUp ∷ wordsAtOnce ∷ eventsAlone ∷ diallingAlone ∷ deedsAlone ∷ ringBackAlone ∷
+    wordsAlone ∷ toldToWaitShown ∷ switchedOnShown ∷ lastAskedShown ∷ lastAskedNever ∷ chargesFound ∷ talkingOn ∷ wordsOf ∷ blankPage ∷
     told102 ∷ sameShown ∷ alikeShown ∷ []
 
 abbrev pub pageRuns : List Run
