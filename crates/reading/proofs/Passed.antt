@@ -1,16 +1,18 @@
 -- What an answer of Done says: every test of the table holds; and the other way round.
-use Prim.Native.Nat.{ℕ, _≤_}
+use Prim.Native.Nat.{ℕ, _-_, _≤_}
 use mathlib.Core.Path.{_≡_, refl}
-use mathlib.Core.Bool.{true}
+use mathlib.Core.Bool.{true, false}
 use mathlib.Core.List.{List}
 use native.Mathlib.Omega.{arith}
 use lib.Dec.{leb}
-use lib.ListN.{length}
-use borrow.Author.Tests.{leb-true}
+use lib.ListN.{length, getD}
+use borrow.Author.Tests.{leb-true, ne-eqb}
 use Rattle.sequence.specs.declared.Answer.the-variants.{Done}
 use Rattle.sequence.specs.Answers.{isDone}
 use Rattle.sequence.specs.Symbols.{allAtMost}
+use Rattle.sequence.specs.Layout.{endOk}
 use Rattle.sequence.specs.Reading.{lengthIn, checkIn, formatIn, identitiesIn, categoryIn, telecommandsIn, fieldIn, numberIn, endIn, refusals, answerOf}
+use Rattle.sequence.specs.Reading.{pairsIn, parityOk, pairsOk}
 use Rattle.sequence.proofs.Tests.{both-true}
 use Rattle.sequence.proofs.RefusalLaws.{all-held, done-held}
 
@@ -66,6 +68,21 @@ unfolding answerOf refusals
 done s p =
     all-held (refusals s) Done
     (rw (p .long, p .symbols, p .check, p .format, p .identities, p .category, p .telecommands, p .field, p .number, p .end))
+
+-- "digit pairs, each 0 to 99" are no ends
+pub no-end : (p : ℕ) → p ≤ 99 → endOk p ≡ false
+unfolding endOk
+no-end p h =
+    rw (ne-eqb p 117 (λ e. omega arith), ne-eqb p 122 (λ e. omega arith), ne-eqb p 127 (λ e. omega arith))
+
+module _ (s : List ℕ) (ok : isDone (answerOf s) ≡ true) where
+  pub pairs-small : allAtMost 99 (pairsIn s) ≡ true
+  unfolding numberIn pairsOk
+  pairs-small = both-true (parityOk (getD s 17 0) (getD (pairsIn s) 0 0)) _ (passed s ok .number) .1
+
+  pub ends-last : endOk (getD s (length s - 2) 0) ≡ true
+  unfolding endIn
+  ends-last = passed s ok .end
 
 pub long-enough : (s : List ℕ) → isDone (answerOf s) ≡ true → (21 ≤ length s) × (length s ≤ 28)
 long-enough s e = long s (passed s e .long)

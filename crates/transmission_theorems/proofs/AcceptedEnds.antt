@@ -1,29 +1,23 @@
 -- A sequence that the reader accepts has its first end last but one.
-use Prim.Native.Nat.{ℕ, suc, _-_, _≤_}
+use Prim.Native.Nat.{ℕ, suc, _-_}
 use mathlib.Core.Path.{_≡_, sym, ap, _∙_}
-use mathlib.Core.Bool.{true, false}
+use mathlib.Core.Bool.{true}
 use mathlib.Core.List.{List, [], _∷_, _++_}
 use native.Mathlib.Omega.{arith}
 use lib.Dec.{leb}
 use lib.ListN.{length, getD, drop, length-drop}
 use lib.Seq.{drop-drop, drop-append-le}
-use borrow.Author.Tests.{leb-true, ne-eqb}
+use borrow.Author.Tests.{leb-true}
 use Rattle.sequence.specs.Symbols.{allAtMost}
 use Rattle.sequence.specs.Layout.{endOk}
 use Rattle.sequence.specs.Answers.{isDone}
-use Rattle.sequence.specs.Reading.{answerOf, pairsIn, numberIn, pairsOk, parityOk, endIn}
+use Rattle.sequence.specs.Reading.{answerOf, pairsIn}
 use Rattle.sequence.proofs.Tests.{both-true}
-use Rattle.reading.proofs.Passed.{passed, long-enough}
+use Rattle.reading.proofs.Passed.{long-enough, no-end, pairs-small, ends-last}
 use Rattle.sequence_theorems.proofs.NumberLaws.{all-drop}
 use Rattle.sequence_theorems.proofs.RoundTrip.{pairs-count, last-two}
 use Rattle.transmission.specs.Copies.{beforeEnd, countOf}
 use Rattle.transmission_theorems.proofs.EndLaws.{before-end-take}
-
--- "digit pairs, each 0 to 99" are no ends
-no-end : (p : ℕ) → p ≤ 99 → endOk p ≡ false
-unfolding endOk
-no-end p h =
-    rw (ne-eqb p 117 (λ e. omega arith), ne-eqb p 122 (λ e. omega arith), ne-eqb p 127 (λ e. omega arith))
 
 ends-behind : (pairs : List ℕ) (e : ℕ) (l : List ℕ) → allAtMost 99 pairs ≡ true → endOk e ≡ true → beforeEnd (pairs ++ e ∷ l) ≡ length pairs
 ends-behind [] e l a o = rw o
@@ -32,14 +26,6 @@ ends-behind (p ∷ pairs) e l a o =
     rw (no-end p (leb-true p 99 (h .0))) (ap suc (ends-behind pairs e l (h .1) o))
 
 module _ (s : List ℕ) (ok : isDone (answerOf s) ≡ true) where
-  pairs-small : allAtMost 99 (pairsIn s) ≡ true
-  unfolding numberIn pairsOk
-  pairs-small = both-true (parityOk (getD s 17 0) (getD (pairsIn s) 0 0)) _ (passed s ok .number) .1
-
-  ends-last : endOk (getD s (length s - 2) 0) ≡ true
-  unfolding endIn
-  ends-last = passed s ok .end
-
   end-of-pairs : beforeEnd (drop 19 s) ≡ length s - 21
   end-of-pairs =
       let h = long-enough s ok in
@@ -47,7 +33,7 @@ module _ (s : List ℕ) (ok : isDone (answerOf s) ≡ true) where
       let e : drop 19 s ≡ drop 1 (pairsIn s) ++ (getD s (length s - 2) 0 ∷ getD s (length s - 1) 0 ∷ []) =
       sym (drop-drop 1 18 s) ∙ ap (drop 1) (last-two s ok) ∙ drop-append-le 1 (pairsIn s) _ (omega arith) in
       let l : length (drop 1 (pairsIn s)) ≡ length s - 21 = length-drop 1 (pairsIn s) ∙ omega arith in
-      rw e (ends-behind (drop 1 (pairsIn s)) _ _ (all-drop 99 1 (pairsIn s) pairs-small) ends-last ∙ l)
+      rw e (ends-behind (drop 1 (pairsIn s)) _ _ (all-drop 99 1 (pairsIn s) (pairs-small s ok)) (ends-last s ok) ∙ l)
 
   pub accepted-ends : countOf s ≡ length s
   unfolding countOf
