@@ -42,11 +42,11 @@ use Rattle.useless_versions.specs.Transmissions.{SentBy, by-write-transm
 use Rattle.useless_versions.specs.Transmissions.{SentInC, by-coast-write-transmission, NoUselessSendInC}
 use Rattle.useless_versions.specs.Transmissions.{ReceivedBy, by-read-transmission, NoUselessReceiver}
 use Rattle.useless_versions.specs.Transmissions.{ReceivedInC, by-coast-read-transmission, NoUselessReceiveInC}
-use Rattle.useless_versions.specs.Transmissions.{NoFixedReply, CharacterBy, by-character-of, NoUselessCharacter}
+use Rattle.useless_versions.specs.Transmissions.{CharacterBy, by-character-of, NoUselessCharacter}
 use Rattle.useless_versions.specs.Transmissions.{CharacterInC, by-coast-write-character, NoUselessCharacterInC}
 use Rattle.useless_versions.specs.Transmissions.{SymbolBy, by-symbol-of, NoUselessSymbol}
 use Rattle.useless_versions.specs.Transmissions.{SymbolInC, by-coast-read-character, NoUselessSymbolInC}
-use Rattle.useless_versions.proofs.ShutOut.{one, shut-out}
+use Rattle.useless_versions.proofs.ShutOut.{one, shut-out, no-fixed-reply}
 use Rattle.useless_versions.proofs.Events.{blank-behind}
 use Rattle.useless_versions.proofs.Sequences.{asked, read-asked, no-symbols, symbols-laid, long, not-zeros}
 
@@ -274,13 +274,6 @@ unfolding NoUselessReceiveInC
 no-useless-receive-in-c = no-useless-receiving ReceivedInC c-received-is
 
 -- ── one character ────────────────────────────────────────────────────────────
-
--- a contract that names this number for each, and not the same for two
-module _ (told : ℕ → ℕ) (x z : ℕ) (differ : told x ≡ told z → ⊥) (meets : ℕ → ℕ → Type 0) (names : (x y : ℕ) → meets x y → y ≡ told x) where
-  no-fixed-reply : NoFixedReply meets
-  no-fixed-reply f m n h =
-      let past : List ℕ = x ∷ [] in
-      differ (sym (names x (f past x) (m past x)) ∙ h past x one tt ∙ sym (h past z one tt) ∙ names z (f past z) (m past z))
 
 character-is : (x y : ℕ) → CharacterBy x y → y ≡ characterOf x
 character-is _ _ (by-character-of κs a r s p) = p

@@ -15,7 +15,7 @@ use Rattle.coast.proofs.transmissions.coast_write_transmission.Reads as coast-w
 use Rattle.coast.proofs.transmissions.coast_read_transmission.Reads as coast-read-transmission
 use Rattle.coast.proofs.transmissions.coast_write_character.Reads as coast-write-character
 use Rattle.coast.proofs.transmissions.coast_read_character.Reads as coast-read-character
-use Rattle.useless_versions.specs.Versions.{AfterTheFirst, Signs, NoUselessVersion, Anything}
+use Rattle.useless_versions.specs.Versions.{Signs, NoUselessVersion, Anything, NoFixedReply}
 use Rattle.useless_versions.specs.Sequences.{symbolsIn, Miscounted, Lent}
 
 -- ── a transmission ───────────────────────────────────────────────────────────
@@ -76,12 +76,7 @@ pub data ReceivedInC : Lent → Seen → Type 0 where
 unfoldable pub NoUselessReceiveInC : Type 0
 NoUselessReceiveInC = NoUselessVersion Anything (signs symbolsIn) ReceivedInC
 
--- ── one character: it changes nothing and tells no count ─────────────────────
-
--- no fixed reply, not even from the second call on: neither "none", which is the refusal here, nor any other
-abbrev pub NoFixedReply : (ℕ → ℕ → Type 0) → Type 0
-NoFixedReply meets = (f : List ℕ → ℕ → ℕ) → ((past : List ℕ) (x : ℕ) → meets x (f past x))
-    → (n : ℕ) → AfterTheFirst Anything f (λ x y. y ≡ n) → ⊥
+-- ── one character: it changes nothing and tells no count; "none" is the refusal ──
 
 pub data CharacterBy : ℕ → ℕ → Type 0 where
   by-character-of : (κs : Lfts 0) (a : _) (r : _) (s : _) → character-of.Post κs a r s → CharacterBy (a .0) r

@@ -38,3 +38,10 @@ NoUselessVersion {In} {Out} comes v meets =
 -- where anything may be handed in
 abbrev pub Anything : {In : Type 0} → List In → In → Type 0
 Anything past x = Unit {0}
+
+-- of what changes nothing and tells no count: no version that meets a contract has one fixed reply, a refusal or any other, not even from
+-- the second call on
+abbrev pub NoFixedReply : {In Out : Type 0} → (In → Out → Type 0) → Type 0
+NoFixedReply {In} {Out} meets =
+    (f : List In → In → Out) → ((past : List In) (x : In) → meets x (f past x))
+    → (n : Out) → AfterTheFirst Anything f (λ x y. y ≡ n) → ⊥
