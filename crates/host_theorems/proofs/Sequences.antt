@@ -78,6 +78,16 @@ read-as : {r : Passage} → ByReader r → (m : Meaning) → valid m ≡ true �
     → (r .number ≡ 0) × (r .left ≡ meaningBytes m ++ drop meaningSize (r .lent))
 read-as (by-read κs a n s p) m v e h = let w = reads-as (a .0 .now) (a .1 .0 .now) m v e h in (p .0 ∙ w .0, p .1 ∙ w .1)
 
+-- 0 is answered exactly to what the definitions accept, in room enough
+pub read-done : {r : Passage} → ByReader r → answerOf r ≡ 0 → readingOf (r .given) .answer ≡ Done
+read-done (by-read κs a n s p) e = answered (a .0 .now) (a .1 .0 .now) (rw (p .0) at e) .1
+
+pub done-read : {r : Passage} → ByReader r → readingOf (r .given) .answer ≡ Done → meaningSize ≤ length (r .lent) → r .number ≡ 0
+done-read {r} reads e h =
+    let m = readingOf (r .given) .meaning in
+    let x = reads-exactly (r .given) m .0 (ap (λ (d : Answer). record { answer = d; meaning = m }) e) in
+    read-as reads m (x .0) (x .1) h .0
+
 -- what an answer of 0 says
 record WasRead (r : Passage) : Type 0 where
   meaning : Meaning
@@ -165,6 +175,12 @@ was-written (by-write κs a n s p) e =
       symbols = counted (passage b room n (s .1 .0 .now)) m (drop (length (layout m)) room) (x .0) (p .0 ∙ w .0) (p .1 ∙ w .1);
       bytes = λ small. sym (meaning-is-laid-again b small (x .0) .1);
     }
+
+-- what was written is read
+pub written-accepted : {w : Passage} → ByWriter w → answerOf w ≡ 0 → readingOf (written w) .answer ≡ Done
+written-accepted wrote e =
+    let x = was-written wrote e in
+    ap (λ (r : Reading). r .answer) (reads-exactly _ (x .meaning) .1 (x .is-valid, x .symbols))
 
 -- ── both ─────────────────────────────────────────────────────────────────────
 

@@ -7,11 +7,8 @@ use native.Mathlib.Omega.{arith}
 use native.Mathlib.Nat.{zero-add}
 use lib.ListN.{length, getD, take, drop, List·getD-append}
 use lib.Seq.{take-at}
-use Rattle.sequence.specs.declared.Reading.{Reading}
 use Rattle.sequence.specs.Figures.{longest}
-use Rattle.sequence.specs.Layout.{layout}
 use Rattle.reading.proofs.Passed.{long}
-use Rattle.sequence_theorems.proofs.Theorems.{reads-exactly}
 use Rattle.characters.specs.Code.{none}
 use Rattle.transmission.specs.declared.Answer.{Answer}
 use Rattle.transmission.specs.declared.Answer.the-variants.{Done, BadLength, BadSymbol, ShortRoom, NoPhasing, CopiesBad, EndsEarly}
@@ -23,16 +20,16 @@ use Rattle.transmission.specs.Writing.{transmissionWritten}
 use Rattle.transmission.specs.Reading.{symbolsIn, readingAnswer, transmissionRead}
 use Rattle.transmission.proofs.LayoutLaws.{bytes-length, transmission-length}
 use Rattle.transmission.proofs.WritingLaws.{Writable, done-writable}
-use Rattle.transmission_theorems.specs.Statement.{Accepted, ReadAs, replaced, EarlierWhole}
+use Rattle.transmission_theorems.specs.Statement.{ReadAs, replaced, EarlierWhole}
 use Rattle.transmission_theorems.proofs.InRoom.{written-in-room, symbols-at-most, answer-in-room, done-in-longest, read-in-room}
 use Rattle.transmission_theorems.proofs.Theorems.{bytes-read-back, reads-back, sequences-read-back}
 use Rattle.transmission_theorems.proofs.Theorems.{five-made-good, eleven-lost, whole-read, nothing-else}
 use Rattle.coast.specs.Transmissions.{answerWithCount}
-use Rattle.host_theorems.specs.Sequences.{Passage, answerOf, countOf, written, ByWriter, CReadsWhatWasWritten}
+use Rattle.host_theorems.specs.Sequences.{Passage, answerOf, countOf, written, CReadsWhatWasWritten}
 use Rattle.host_theorems.specs.Transmissions.{BySender, by-send, ByReceiver, by-receive, onAir, offAir, Sent, Received, ReadOff}
 use Rattle.host_theorems.specs.Transmissions.{CSendsAll, CReadsBack, CSequencesReadBack, CFiveMadeGood, CElevenLost}
 use Rattle.host_theorems.specs.Transmissions.{CWholeRead, CNothingElse, Withstood, spoiled, cut, amid, CMeaningOnAir, CAnswersOnAir}
-use Rattle.host_theorems.proofs.Sequences.{was-written, c-reads-what-was-written, lives, slice}
+use Rattle.host_theorems.proofs.Sequences.{written-accepted, c-reads-what-was-written, lives, slice}
 
 -- of all answers Done alone has the number 0
 pub done-is : (a : Answer) (count : ℕ) → (answerNumber a + 256 * count) % 256 ≡ 0 → a ≡ Done
@@ -170,12 +167,6 @@ c-nothing-else r by e k h =
     rw there (nothing-else (offAir r) (x .done) k within)
 
 -- ── a meaning over the air ───────────────────────────────────────────────────
-
--- what C's writer wrote is accepted
-written-accepted : {m : Passage} → ByWriter m → answerOf m ≡ 0 → Accepted (written m)
-written-accepted by e =
-    let x = was-written by e in
-    rw (x .symbols) (ap (λ (d : Reading). d .answer) (reads-exactly (layout (x .meaning)) (x .meaning) .1 (x .is-valid, refl)))
 
 withstood : {w r : Passage} {air : List ℕ} → Sent w → Received r → Withstood (onAir w) air → offAir r ≡ air → ReadOff r (w .given)
 unfolding CFiveMadeGood CElevenLost CWholeRead
