@@ -1,0 +1,8 @@
+pub mod LengthLaws
+pub mod OneLength
+pub mod FirstLaws
+pub mod Search
+pub mod FoundLaws
+pub mod Theorems
+pub mod Computed
+pub mod Settled
