@@ -1,5 +1,6 @@
 pub mod WriteLaws
 pub mod CountLaws
+pub mod FindLaws
 pub mod SetUpLaws
 pub mod DigitLaws
 pub mod Theorems

@@ -3,6 +3,7 @@ use mathlib.Core.Path.{_≡_, sym, _∙_}
 use contract.Lifetimes.{Lfts}
 use Rattle.coast.proofs.sequences.coast_read_sequence.Reads as coast-read-sequence
 use Rattle.coast.proofs.sequences.coast_write_sequence.Reads as coast-write-sequence
+use Rattle.coast.proofs.finding.coast_find_sequence.Reads as coast-find-sequence
 use Rattle.coast.proofs.transmissions.coast_write_character.Reads as coast-write-character
 use Rattle.coast.proofs.transmissions.coast_read_character.Reads as coast-read-character
 use Rattle.coast.proofs.transmissions.coast_write_transmission.Reads as coast-write-transmission
@@ -29,6 +30,10 @@ coast-read-sequence-settled κs a r r' s s' p q = (p .0 ∙ sym (q .0), p .1 ∙
 pub coast-write-sequence-settled : (κs : Lfts 2) (a : _) (r r' : _) (s s' : _)
     → coast-write-sequence.Post κs a r s → coast-write-sequence.Post κs a r' s' → (r ≡ r') × (s .1 .0 .now ≡ s' .1 .0 .now)
 coast-write-sequence-settled κs a r r' s s' p q = (p .0 ∙ sym (q .0), p .1 ∙ sym (q .1))
+
+pub coast-find-sequence-settled : (κs : Lfts 2) (a : _) (r r' : _) (s s' : _)
+    → coast-find-sequence.Post κs a r s → coast-find-sequence.Post κs a r' s' → r ≡ r'
+coast-find-sequence-settled κs a r r' s s' p q = p ∙ sym q
 
 pub coast-write-character-settled : (κs : Lfts 0) (a : _) (r r' : _) (s s' : _)
     → coast-write-character.Post κs a r s → coast-write-character.Post κs a r' s' → r ≡ r'

@@ -1,5 +1,6 @@
 pub mod Sequences
 pub mod Transmissions
+pub mod Finding
 pub mod Events
 pub mod Digits
 pub mod Statement

@@ -6,6 +6,7 @@ use mathlib.Core.List.{List, [], _∷_}
 use mathlib.Core.Option.{none, some}
 use Rattle.rules.specs.Rules.Words.{Config, Event}
 use Rattle.rules.specs.Rules.Verdict.{setUpVerdict}
+use Rattle.receivers.specs.Finding.{foundIn}
 use Rattle.station.specs.declared.NextDue.{NextDue}
 use Rattle.station.specs.declared.NextDue.the-variants.{Never, At}
 use Rattle.station.specs.declared.Station.{Station}
@@ -13,6 +14,7 @@ use Rattle.station.specs.declared.Stepped.{Stepped}
 use Rattle.station.specs.Step.{refusal, steppedBy, roomAfter, setUpOf}
 use Rattle.lent_layout.specs.Stations.{sized, current, stationBytes, stationFrom}
 use Rattle.lent_layout.specs.Statement.{FoundAgain}
+use Rattle.coast.specs.Finding.{receiverNumber, foundReturned}
 use Rattle.coast.specs.Events.{packed, returned, stationAfter, roomLeft, stationSetUp, dueReturned, clockReturned}
 
 -- ── any call, on any bytes ───────────────────────────────────────────────────
@@ -44,6 +46,13 @@ abbrev pub TakenApart : Type 0
 TakenApart = (r : Stepped) → r .answer < 256 → r .count < 256
     → (packed r % 256 ≡ r .answer) × (packed r / 256 % 256 ≡ r .count)
     × (packed r / 65536 % 2 ≡ waits (r .due)) × (packed r / 4294967296 ≡ dueTime (r .due))
+
+-- the three parts of the number that the finder returns: its length, 0 where nothing was found, its receiver and its place
+abbrev pub FoundTakenApart : Type 0
+FoundTakenApart = (first second : List ℕ)
+    → (foundReturned (foundIn first second) % 256 ≡ foundIn first second .stretch .count)
+    × (foundReturned (foundIn first second) / 256 % 2 ≡ receiverNumber (foundIn first second .receiver))
+    × (foundReturned (foundIn first second) / 65536 ≡ foundIn first second .stretch .place)
 
 -- ── a host that hands on what it was left ────────────────────────────────────
 
