@@ -4,5 +4,6 @@ pub mod Theorems
 pub mod Refusals
 pub mod Scripted
 pub mod Sequences
+pub mod Finding
 pub mod Characters
 pub mod Transmissions

@@ -4,6 +4,7 @@ pub mod Hosted
 pub mod Entries
 pub mod Sequences
 pub mod Transmissions
+pub mod Finding
 pub mod SetUps
 pub mod Dues
 pub mod Feeds

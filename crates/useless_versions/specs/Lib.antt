@@ -3,6 +3,7 @@ pub mod Events
 pub mod Entries
 pub mod Sequences
 pub mod Transmissions
+pub mod Finding
 pub mod SetUps
 pub mod Dues
 pub mod Feeds
