@@ -1,5 +1,5 @@
-/* The coast station's library for C: the station with its events, the reader and writer of one channel 70 sequence, and those of
- * its characters as they go on the air.
+/* The coast station's library for C: the station with its events, the reader and writer of one channel 70 sequence, its finder in
+ * what two receivers heard, and the reader and writer of its characters as they go on the air.
  * Link libcoast.a, built for x86-64: where tools/install put it, cc host.c $(pkg-config --cflags --libs coast).
  * coast_words.h has helpers over this header: actions taken apart, answers in words.
  *
@@ -31,9 +31,9 @@ extern "C" {
  * a fault is mended. It is no version of the lent layout: COAST_LAYOUT_VERSION is that. A new layout moves MINOR at least: a host
  * need not be changed, but the stations that it kept are refused. So does a field that is added behind the others of an action's
  * payload: a host reads those that it knows, and does not mind a payload that is longer. */
-#define COAST_VERSION "1.5.0"
+#define COAST_VERSION "1.6.0"
 #define COAST_VERSION_MAJOR 1
-#define COAST_VERSION_MINOR 5
+#define COAST_VERSION_MINOR 6
 #define COAST_VERSION_PATCH 0
 
 /* The deepest that any entry reaches into the stack, as measured. */
@@ -95,6 +95,7 @@ extern "C" {
 #define COAST_ANSWER_NO_PHASING 51        /* no phasing found in what the modem handed over */
 #define COAST_ANSWER_COPIES_BAD 52        /* all copies of one symbol were received, and none is good */
 #define COAST_ANSWER_ENDS_EARLY 53        /* of one symbol no copy is good, and one was not received any more */
+#define COAST_ANSWER_NO_SEQUENCE 54       /* neither receiver's bytes hold a sequence: see coast_found_answer */
 
 /* Times are in tenths of a second from the set-up on, up to this one: twelve years and eight months. A host that is to run
  * for longer sets its station up anew before then, at an hour without calls, and counts its time from 0 again. */
@@ -115,6 +116,28 @@ uint32_t coast_read_sequence(const uint8_t *symbols, size_t count, uint8_t *mean
  * a byte of it that its kind does not use is not 0.) Bytes of the room after the sequence stay as they were. The room must
  * have 28 bytes even where the sequence is shorter. */
 uint32_t coast_write_sequence(const uint8_t *meaning, size_t size, uint8_t *room, size_t room_size);
+
+/* Two receivers on the mast: fading kills one aerial at a time. Finds the first sequence in the `first_size` bytes that the first
+ * receiver heard, at `first`, or, where these hold none, in the `second_size` bytes of the second. A sequence is what
+ * coast_read_sequence accepts, whoever is called by it. Each receiver's bytes are symbols in the order heard, with anything before,
+ * between and behind the sequences; where a receiver lost a symbol, its host puts COAST_NO_SYMBOL or any other byte over 127. First is
+ * the one that begins at the earliest place: at one place there is never a second. Where the first receiver heard one, what the second
+ * heard does not count, even at an earlier place; and none is put together from both. Neither is changed, and the two may be the same
+ * bytes.
+ * Nothing is copied: one number tells where the sequence stands. coast_found_answer of it is 0, or 54 where neither holds one
+ * (coast_answer is not for it); coast_found_length is the count of the sequence's bytes, coast_found_receiver 0 for the first and 1
+ * for the second, coast_found_place where it begins in that receiver's bytes, from 0. With 54 these tell the empty stretch: 0 bytes
+ * of the second receiver's, at place 0.
+ * A host that wants all that was heard calls again and again, until 54, with what stands behind the last one found in that receiver's
+ * bytes and with the other's as they were. One that both receivers heard is found in both, and the host hands it on once; what is found
+ * need not be in the order heard. A sequence may begin in one second and end in the next: so of what it handed over last, the host
+ * keeps the last 27 bytes of each receiver, and puts them in front of the next second's.
+ * A place without a 123 costs one look, and no place more than eight readings, one for each length, so that the time grows with the
+ * bytes and no faster. Of either receiver's bytes the first 2^48 are looked at.
+ * Proved: what is found is read by coast_read_sequence; nothing before it in that receiver's bytes is, and where the second receiver is
+ * told, nothing in the first's; what coast_write_sequence wrote is found wherever it stands in the first receiver's bytes, or one before
+ * it there, and so in the second's where the first's hold none; and 54 says that no part of either is a sequence. */
+uint64_t coast_find_sequence(const uint8_t *first, size_t first_size, const uint8_t *second, size_t second_size);
 
 /* Characters: a symbol goes on the air in ten units, its character. A modem that sends and receives units takes and hands over
  * characters: each is a number 0 to 1023, its first unit the lowest bit, and stands in two bytes, the low byte first. Units 1 to 7
@@ -329,7 +352,7 @@ uint64_t coast_call_from_ashore(uint8_t *station, size_t size, uint32_t time, ui
 uint64_t coast_take(uint8_t *station, size_t size, uint32_t time, uint32_t slot, uint8_t *room, size_t room_size);
 uint64_t coast_give_back(uint8_t *station, size_t size, uint32_t time, uint32_t slot, uint8_t *room, size_t room_size);
 
-/* The answer in what an entry returned (coast_read_sequence returns nothing else). */
+/* The answer in what an entry returned (coast_read_sequence returns nothing else), but for coast_find_sequence. */
 static inline uint32_t coast_answer(uint64_t returned) {
     return (uint32_t)(returned & 255u);
 }
@@ -338,6 +361,24 @@ static inline uint32_t coast_answer(uint64_t returned) {
  * that coast_write_transmission wrote. */
 static inline size_t coast_count(uint64_t returned) {
     return (size_t)(returned >> 8 & 255u);
+}
+
+/* What coast_find_sequence returned: how many bytes were found, in which receiver's, and at which place of them. */
+static inline size_t coast_found_length(uint64_t returned) {
+    return (size_t)(returned & 255u);
+}
+
+static inline int coast_found_receiver(uint64_t returned) {
+    return (int)(returned >> 8 & 1u);
+}
+
+static inline size_t coast_found_place(uint64_t returned) {
+    return (size_t)(returned >> 16);
+}
+
+/* COAST_ANSWER_DONE where a sequence was found, else COAST_ANSWER_NO_SEQUENCE. */
+static inline uint32_t coast_found_answer(uint64_t returned) {
+    return coast_found_length(returned) == 0 ? COAST_ANSWER_NO_SEQUENCE : COAST_ANSWER_DONE;
 }
 
 /* Whether a wait runs: 1, or 0. */

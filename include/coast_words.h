@@ -113,6 +113,7 @@ static inline const char *coast_answer_words(uint32_t answer) {
     case COAST_ANSWER_NO_PHASING: return "no phasing found";
     case COAST_ANSWER_COPIES_BAD: return "all copies of a symbol are bad";
     case COAST_ANSWER_ENDS_EARLY: return "the transmission ends early";
+    case COAST_ANSWER_NO_SEQUENCE: return "no sequence in what either receiver heard";
     default: return "no answer of the library";
     }
 }

@@ -37,7 +37,7 @@
     COAST_ANSWER_ACTIONS_SHORT != 30 || COAST_ANSWER_TIME_TOO_LATE != 31 || COAST_ANSWER_TIME_BEFORE_CLOCK != 32 ||              \
     COAST_ANSWER_WAIT_DUE != 33 || COAST_ANSWER_NO_SLOT != 34 || COAST_ANSWER_OPERATOR != 35 || COAST_ANSWER_BAD_SET_UP != 36 || \
     COAST_ANSWER_NO_FREE_SLOT != 37 || COAST_ANSWER_SHIP_ENGAGED != 38 || COAST_ANSWER_NO_PHASING != 51 ||                       \
-    COAST_ANSWER_COPIES_BAD != 52 || COAST_ANSWER_ENDS_EARLY != 53
+    COAST_ANSWER_COPIES_BAD != 52 || COAST_ANSWER_ENDS_EARLY != 53 || COAST_ANSWER_NO_SEQUENCE != 54
 #error "an answer is wrong"
 #endif
 #if COAST_AT_ACTION_KIND != 0 || COAST_AT_ACTION_SLOT != 1 || COAST_AT_ACTION_LENGTH != 2 || COAST_AT_ACTION_PAYLOAD != 4
@@ -52,11 +52,12 @@
 struct others {
     uint32_t (*reads)(const uint8_t *symbols, size_t count, uint8_t *meaning, size_t size);
     uint32_t (*writes)(const uint8_t *meaning, size_t size, uint8_t *room, size_t room_size);
+    uint64_t (*finds)(const uint8_t *first, size_t first_size, const uint8_t *second, size_t second_size);
     uint32_t (*of_character[2])(uint32_t number);
     uint32_t (*of_transmission[2])(const uint8_t *given, size_t size, uint8_t *room, size_t room_size);
-    uint32_t (*answer)(uint64_t returned);
-    size_t (*count)(uint64_t returned);
-    int (*waits)(uint64_t returned);
+    uint32_t (*answer[2])(uint64_t returned);
+    size_t (*count[3])(uint64_t returned);
+    int (*which[2])(uint64_t returned);
     uint32_t (*due)(uint64_t returned);
     uint32_t (*time)(uint64_t returned);
     uint32_t (*number_at)(const uint8_t *bytes);
@@ -74,9 +75,10 @@ struct others {
 
 /* Refused by the compiler where one has another type. */
 extern const struct others others;
-const struct others others = {coast_read_sequence, coast_write_sequence, {coast_write_character, coast_read_character},
-    {coast_write_transmission, coast_read_transmission}, coast_answer, coast_count, coast_waits, coast_due, coast_time,
-    coast_number_at, coast_put_number, coast_character_at, coast_put_character, coast_action_at,
+const struct others others = {coast_read_sequence, coast_write_sequence, coast_find_sequence,
+    {coast_write_character, coast_read_character}, {coast_write_transmission, coast_read_transmission},
+    {coast_answer, coast_found_answer}, {coast_count, coast_found_length, coast_found_place}, {coast_waits, coast_found_receiver},
+    coast_due, coast_time, coast_number_at, coast_put_number, coast_character_at, coast_put_character, coast_action_at,
     {coast_action_kind, coast_action_slot, coast_charge_ship, coast_charge_start, coast_charge_stop, coast_charge_seconds,
         coast_charge_call},
     coast_payload_length, coast_payload, coast_digits_text, coast_dialled,

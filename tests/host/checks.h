@@ -22,4 +22,7 @@ void try_stations(void);
 /* ---- air.c: characters and transmissions ---- */
 void try_the_air(void);
 
+/* ---- mast.c: two receivers ---- */
+void try_the_mast(void);
+
 #endif

@@ -237,5 +237,6 @@ int main(void) {
     try_garbage();
     try_stations();
     try_the_air();
+    try_the_mast();
     return all_as_wanted() ? 0 : 1;
 }

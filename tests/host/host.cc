@@ -1,4 +1,4 @@
-// A host in C++17: sets a station up, hands in each event once, reads a sequence and writes it again.
+// A host in C++17: sets a station up, hands in each event once, reads a sequence, writes it again and finds it.
 #include "../../include/coast_words.h"
 #include "../c/checked.h"
 #include "../c/entries.c"
@@ -65,9 +65,17 @@ bool reads_and_writes() {
     return coast_count(written) == CHECKED_LENGTH && memcmp(symbols, checked[0], CHECKED_LENGTH) == 0;
 }
 
+// Nothing on the first aerial, P1 on the second.
+bool finds() {
+    const uint64_t found = coast_find_sequence(nullptr, 0, checked[0], CHECKED_LENGTH);
+    printf("cpp_host: %u symbols, %s\n", static_cast<unsigned>(coast_found_length(found)),
+        coast_answer_words(coast_found_answer(found)));
+    return coast_found_receiver(found) == 1 && coast_found_place(found) == 0 && coast_found_length(found) == CHECKED_LENGTH;
+}
+
 } // namespace
 
 int main() {
-    const bool played = plays_events(), read = reads_and_writes();
-    return played && read ? 0 : 1;
+    const bool played = plays_events(), read = reads_and_writes(), found = finds();
+    return played && read && found ? 0 : 1;
 }

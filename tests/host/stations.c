@@ -433,7 +433,7 @@ void try_stations(void) {
     try_course(true);
     try_action();
     try_taken_apart();
-    want_words(coast_answer_words, 255, 28);
+    want_words(coast_answer_words, 255, 29);
     want_words(coast_action_words, 255, 10);
     want_words(coast_telecommand_words, 255, 5);
     want_words(coast_reason_words, 255, 11);
