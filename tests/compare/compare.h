@@ -12,7 +12,7 @@
 #define LONGEST 28u
 #define MOST_SYMBOLS 40u /* no sequence longer than this is tried */
 #define MOST_ROOM 64u    /* nor a longer room or meaning */
-#define MOST_ANSWER 53u
+#define MOST_ANSWER 54u
 
 /* ---- tally.c: how often each answer was given ---- */
 struct tally {
