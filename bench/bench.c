@@ -11,11 +11,20 @@ static bool time_transmissions(void) {
     return time_both("one among strays read", read_among_strays, drawn_transmissions) && same;
 }
 
+static bool time_receivers(void) {
+    draw_receivers();
+    bool same = time_both("a KiB of noise searched, by the second", find_in_seconds, drawn_noise);
+    same = time_both("a KiB of noise searched, by 64 KiB", find_in_long_pieces, drawn_noise) && same;
+    same = time_both("a KiB of noise searched, by the MiB", find_in_longer_pieces, drawn_noise) && same;
+    return time_both("a second searched that has a call", find_calls, drawn_calls) && same;
+}
+
 int main(void) {
     draw_sequences();
     bool same = time_both("a read", read_all, drawn);
     same = time_both("a write", write_all, drawn) && same;
     same = time_transmissions() && same;
+    same = time_receivers() && same;
     if (!record_events()) {
         printf("bench: no events\n");
         return 1;

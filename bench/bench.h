@@ -33,6 +33,15 @@ uint64_t read_whole(enum side side);
 uint64_t read_noisy(enum side side);
 uint64_t read_among_strays(enum side side);
 
+/* ---- searches.c: what two receivers heard: noise, by 120 bytes, 64 KiB and a MiB of each, and a call in the second's ---- */
+void draw_receivers(void);
+extern const uint32_t drawn_noise; /* in KiB, so that the one can be held against the other */
+extern const uint32_t drawn_calls;
+uint64_t find_in_seconds(enum side side);
+uint64_t find_in_long_pieces(enum side side);
+uint64_t find_in_longer_pieces(enum side side);
+uint64_t find_calls(enum side side);
+
 /* ---- flipped.c: each unit of each character is flipped or not, by itself ---- */
 void flip_units(uint8_t *bytes, size_t size, uint32_t of_a_thousand);
 

@@ -50,7 +50,9 @@ static unsigned print_depths(enum side side) {
     unsigned deepest[UINT8_MAX + 1u] = {0}; /* by the entry's letter */
     unsigned read = depth_of(read_all, side), written = depth_of(write_all, side);
     unsigned received = more(depth_of(read_noisy, side), depth_of(read_among_strays, side));
-    unsigned sent = depth_of(write_transmissions, side), all = more(more(read, written), more(received, sent));
+    unsigned sent = depth_of(write_transmissions, side),
+             found = more(depth_of(find_in_seconds, side), depth_of(find_calls, side));
+    unsigned all = more(more(more(read, written), more(received, sent)), found);
     for (uint32_t i = 0; i < event_count(); i++) {
         unsigned *most = &deepest[(uint8_t)letter_of(i)];
         *most = more(*most, depth_of_event(side, i));
@@ -58,8 +60,8 @@ static unsigned print_depths(enum side side) {
             if (only_asks(*letter))
                 deepest[(uint8_t)*letter] = more(deepest[(uint8_t)*letter], depth_of_asking(side, *letter));
     }
-    printf("stack in bytes (N next due time, K clock), %s: read %u, write %u, transmission read %u, written %u", names[side],
-        read, written, received, sent);
+    printf("stack in bytes (N next due time, K clock), %s: read %u, write %u, found %u, transmission read %u, written %u",
+        names[side], read, written, found, received, sent);
     for (const char *letter = entry_letters; *letter != '\0'; letter++) {
         printf(", %c %u", *letter, deepest[(uint8_t)*letter]);
         all = more(all, deepest[(uint8_t)*letter]);
@@ -71,6 +73,7 @@ static unsigned print_depths(enum side side) {
 int main(void) {
     draw_sequences();
     draw_transmissions();
+    draw_receivers();
     if (!record_events())
         return 1;
     for (enum side side = LIBRARY; side < SIDES; side++)
