@@ -1,36 +1,23 @@
 """A transmission on its way: sent, spoiled, shown and read, by the library's own entries. A place is that of a character as it was sent."""
-import collections, subprocess
+import collections
 
-from plainly import WRONG_USAGE, NotUnderstood
-from words import RUN, built
+from orders import ask, numbers_of
+from plainly import NotUnderstood
+from rehearse import BELOW
 
 NO_SYMBOL, NO_CHARACTER = 128, 1024   # the library's "none", and what stands for a character that the modem lost
 NO_PHASING = 51
 UNITS = 10
 DX_PHASING, RX_PHASING = 6, 8
 STRAY = '-'                           # the place of a character that was not sent
-BELOW = '      '                      # before words
 PARTS = ['format', *['address'] * 5, 'category', *['self-identification'] * 5, 'first telecommand', 'second telecommand',
          *['channel field'] * 3, 'odd or even']
 
 Character = collections.namedtuple('Character', 'place part sent number')   # sent: the symbol; number: as it was received
 
 
-def ask(order, numbers):
-    """The lines that air.c says to an order."""
-    done = subprocess.run([RUN, 'run', built('air'), order, *map(str, numbers)], stdout=subprocess.PIPE, text=True)
-    if done.returncode == WRONG_USAGE:
-        raise NotUnderstood('a number is too large, or there are too many')
-    done.check_returncode()
-    return done.stdout.splitlines()
-
-
-def numbers_of(row):
-    return [int(word) for word in row.split()]
-
-
 def symbols_of(characters):
-    return numbers_of(ask('symbols', characters)[0])
+    return numbers_of(ask('air', 'symbols', characters)[0])
 
 
 def places(count):
@@ -66,7 +53,7 @@ class Air:
         self.symbols, self.received = [], []
 
     def send(self, *symbols):
-        row, words = ask('write', symbols)
+        row, words = ask('air', 'write', symbols)
         answer, *written = numbers_of(row)
         if answer:
             self.symbols, self.received = [], []
@@ -81,7 +68,7 @@ class Air:
 
     def stray(self, *symbols):
         self.check_on_the_air()
-        characters = zip(symbols, numbers_of(ask('characters', symbols)[0]))
+        characters = zip(symbols, numbers_of(ask('air', 'characters', symbols)[0]))
         return self.receive([Character(STRAY, 'stray', *each) for each in characters] + self.received)
 
     def lose(self, count):
@@ -112,7 +99,7 @@ class Air:
 
     def read(self):
         self.check_on_the_air()
-        row, words, *said = ask('read', [character.number for character in self.received])
+        row, words, *said = ask('air', 'read', [character.number for character in self.received])
         answer, *symbols = numbers_of(row)
         counted = f': {len(symbols)} symbols' + ', as sent' * (symbols == [*self.symbols]) if symbols else ''
         told = self.left(answer) if answer else self.compared(symbols)

@@ -1,11 +1,11 @@
-"""The lessons: their folders with scripts, lines for lessons/air, outputs and pages, and the table of lessons/README.md."""
+"""The lessons: their folders with scripts, lines for tools, outputs and pages, and the table of lessons/README.md."""
 import collections, os, re
 
 from running import ROOT, answers_of, lines_of, shown
 
 FOLDER = os.path.join(ROOT, 'lessons')
 TABLE = os.path.join(FOLDER, 'README.md')
-AIR = os.path.join(FOLDER, 'air')
+LINE_BY_LINE = {'air': '0 ', 'mast': r'0 [01] \d+ \d+ '}   # tools told so; what stands in their answers before a sequence
 NAME = re.compile(r'\d\d-[a-z][a-z0-9]*(-[a-z0-9]+)*')
 ROW = re.compile(r'^\| \[(?P<name>[^\]]*)\]\((?P<link>[^)]*)\) \| (?P<point>.*) \|$', re.M)
 ANSWER = re.compile(r'\d+ \d+ \d+ (?:\d+|-)')
@@ -73,9 +73,13 @@ def scripts(lesson):
     return with_outputs(lesson, r'script(-.+)?', 'script', 'output')
 
 
-def airs(lesson):
-    """What a lesson has lessons/air do, with what that prints."""
-    return with_outputs(lesson, r'air(-(?!output).+)?', 'air', 'air-output')
+def told(lesson):
+    """What a lesson has the tools do that are told line by line, and what they print: the tool of each file, and the file."""
+    return [(tool, file) for tool in LINE_BY_LINE for file in with_outputs(lesson, rf'{tool}(-(?!output).+)?', tool, f'{tool}-output')]
+
+
+def path_of_tool(tool):
+    return os.path.join(FOLDER, tool)
 
 
 def is_reply(line):
