@@ -11,12 +11,14 @@ ghost use Rattle.sequence.specs.Layout.{valid, front, body, layout};
 ghost use Rattle.sequence.specs.Writing.{meaningRefusals, writingAnswer, writtenOf, roomAfter};
 
 mod fields;
+mod identities;
 mod pairs;
 
 use crate::fields::field_first;
 use crate::fields::field_ok;
 use crate::fields::field_second;
 use crate::fields::field_third;
+use crate::identities::identity_symbols;
 use crate::pairs::lay_pairs;
 use crate::pairs::parity_of;
 use sequence::Answer;
@@ -68,23 +70,23 @@ fn front_of(meaning: Meaning) -> [u8; 18]
     requires { ⌜ valid meaning ≡ true ⌝ }
     ensures { λ r. ⌜ r ≡ front meaning ⌝ }
 {
-    let address = meaning.address;
-    let sender = meaning.sender;
+    let address = identity_symbols(meaning.address);
+    let sender = identity_symbols(meaning.sender);
     let field = meaning.field;
     let number = meaning.number;
     [
         FORMAT,
-        (address / 10000000) as u8,
-        (address / 100000 % 100) as u8,
-        (address / 1000 % 100) as u8,
-        (address / 10 % 100) as u8,
-        (address % 10 * 10) as u8,
+        address[0],
+        address[1],
+        address[2],
+        address[3],
+        address[4],
         CATEGORY,
-        (sender / 10000000) as u8,
-        (sender / 100000 % 100) as u8,
-        (sender / 1000 % 100) as u8,
-        (sender / 10 % 100) as u8,
-        (sender % 10 * 10) as u8,
+        sender[0],
+        sender[1],
+        sender[2],
+        sender[3],
+        sender[4],
         meaning.first,
         meaning.second,
         field_first(field),
