@@ -1,11 +1,12 @@
 -- What the room holds once the parts of a sequence are laid one after the other.
 use Prim.Native.Nat.{ℕ, _+_, _/_, _<_, _≤_}
-use mathlib.Core.Path.{_≡_, sym, _∙_}
+use mathlib.Core.Path.{_≡_, refl, sym, _∙_}
 use mathlib.Core.Bool.{true}
 use mathlib.Core.List.{List, [], _∷_, _++_, append-assoc}
 use native.Mathlib.Omega.{arith}
-use lib.ListN.{length, take, drop, getD, set, length-append, length-set}
-use lib.Seq.{paste, paste-zero, take-at, set-at, set-set, take-set-le, drop-set-lt}
+use lib.Bits.{bitXor}
+use lib.ListN.{length, drop, getD, set, length-append, length-set}
+use lib.Seq.{paste, paste-zero, set-at, set-set, take-set-le, drop-set-lt}
 use Rattle.sequence.specs.declared.Meaning.{Meaning}
 use Rattle.sequence.specs.Symbols.{exclusiveOr}
 use Rattle.sequence.specs.Number.{evened, pairsOf}
@@ -44,11 +45,22 @@ body-laid m room laid n ok wide e small h =
     )
     (simp append-assoc)
 
--- and the check symbol behind the body
+-- the check of one list, and of another behind it
+or-behind : (x : ℕ) (a b : List ℕ) → exclusiveOr (exclusiveOr x a) b ≡ exclusiveOr x (a ++ b)
+or-behind x [] b = refl
+or-behind x (s ∷ a) b = or-behind (bitXor x s) a b
+
+-- the check that the front, the pairs and the end of sequence have joined one after the other
+pub check-joined : (m : Meaning) → bitXor (exclusiveOr (exclusiveOr 0 (front m)) (pairsOf (evened (m .number)))) (m .end) ≡ exclusiveOr 0 (body m)
+unfolding body
+check-joined m =
+    or-behind (exclusiveOr 0 (front m)) (pairsOf (evened (m .number))) (m .end ∷ [])
+    ∙ or-behind 0 (front m) (pairsOf (evened (m .number)) ++ (m .end ∷ []))
+
+-- and it is laid behind the body
 pub check-laid : (m : Meaning) (room laid : List ℕ) (x n : ℕ) → n ≡ length (body m) → n < length room → laid ≡ body m ++ drop (length (body m)) room
-    → x ≡ exclusiveOr 0 (take n laid) → set laid n x ≡ layout m ++ drop (length (layout m)) room
+    → x ≡ exclusiveOr 0 (body m) → set laid n x ≡ layout m ++ drop (length (layout m)) room
 unfolding layout
 check-laid m room laid x n e h f g =
     let k : length (body m ++ (exclusiveOr 0 (body m) ∷ [])) ≡ n + 1 = simp length-append (omega arith) in
-    let y : x ≡ exclusiveOr 0 (body m) = g ∙ rw (f, take-at (body m) (drop (length (body m)) room) n (sym e)) in
-    rw (y, f, k, ← e, rest room n h, set-at (body m) _ _ (exclusiveOr 0 (body m)) n (sym e), append-assoc)
+    rw (g, f, k, ← e, rest room n h, set-at (body m) _ _ (exclusiveOr 0 (body m)) n (sym e), append-assoc)

@@ -5,14 +5,16 @@ ghost use mathlib.Core.List.{_++_};
 ghost use Prim.Native.Nat.{_≤_};
 ghost use lib.ListN.{length, drop};
 ghost use Rattle.sequence.specs.Figures.{longest};
+ghost use Rattle.sequence.specs.Symbols.{exclusiveOr};
 ghost use Rattle.sequence.specs.declared.Answer.the-variants.{Done};
 ghost use Rattle.sequence.specs.Refusals.{firstRefusal};
-ghost use Rattle.sequence.specs.Layout.{valid, front, body, layout};
+ghost use Rattle.sequence.specs.Layout.{valid, front, layout};
 ghost use Rattle.sequence.specs.Writing.{meaningRefusals, writingAnswer, writtenOf, roomAfter};
 
 mod fields;
 mod identities;
 mod pairs;
+mod symbols;
 
 use crate::fields::field_first;
 use crate::fields::field_ok;
@@ -21,6 +23,7 @@ use crate::fields::field_third;
 use crate::identities::identity_symbols;
 use crate::pairs::lay_pairs;
 use crate::pairs::parity_of;
+use crate::symbols::lay_symbol;
 use sequence::Answer;
 use sequence::CATEGORY;
 use sequence::FORMAT;
@@ -31,7 +34,6 @@ use sequence::parts::end_ok;
 use sequence::parts::identities_ok;
 use sequence::parts::number_ok;
 use sequence::parts::telecommands_ok;
-use sequence::symbols::exclusive_or;
 
 fn answer_to_meaning(meaning: Meaning) -> Answer
     ensures { λ r. ⌜ r ≡ firstRefusal (meaningRefusals meaning) Done ⌝ }
@@ -96,30 +98,20 @@ fn front_of(meaning: Meaning) -> [u8; 18]
     ]
 }
 
-fn lay_front(meaning: Meaning, room: &mut [u8])
+// Lays those eighteen at the front of the room, and returns their check.
+fn lay_front(meaning: Meaning, room: &mut [u8]) -> u8
     requires { ⌜ (valid meaning ≡ true) × (longest ≤ length (now room)) ⌝ }
+    ensures { λ r. ⌜ r ≡ exclusiveOr 0 (front meaning) ⌝ }
     ensures { λ _. ⌜ now (room .exit) ≡ front meaning ++ drop 18 (now (room .entry)) ⌝ }
 {
     let symbols = front_of(meaning);
+    let mut check: u8 = 0;
     let mut i = 0;
     while i < 18 {
-        room[i] = symbols[i];
+        check = lay_symbol(symbols[i], i, check, room);
         i += 1;
     }
-}
-
-// Lays all but the check symbol at the front of the room, and returns its length.
-fn lay_body(meaning: Meaning, room: &mut [u8]) -> usize
-    requires { ⌜ (valid meaning ≡ true) × (longest ≤ length (now room)) ⌝ }
-    ensures { λ r. ⌜ r ≡ length (body meaning) ⌝ }
-    ensures { λ _. ⌜ now (room .exit) ≡ body meaning ++ drop (length (body meaning)) (now (room .entry)) ⌝ }
-{
-    let number = meaning.number;
-    let end = 18 + (number.count as usize + 1) / 2;
-    lay_front(meaning, room);
-    lay_pairs(number, room);
-    room[end] = meaning.end;
-    end + 1
+    check
 }
 
 // Lays the sequence of a valid meaning at the front of the room, and returns its length.
@@ -128,10 +120,13 @@ fn lay(meaning: Meaning, room: &mut [u8]) -> usize
     ensures { λ r. ⌜ r ≡ length (layout meaning) ⌝ }
     ensures { λ _. ⌜ now (room .exit) ≡ layout meaning ++ drop (length (layout meaning)) (now (room .entry)) ⌝ }
 {
-    let body = lay_body(meaning, room);
-    let check = exclusive_or(&room[..body]);
-    room[body] = check;
-    body + 1
+    let number = meaning.number;
+    let end = 18 + (number.count as usize + 1) / 2;
+    let before_pairs = lay_front(meaning, room);
+    let before_end = lay_pairs(number, before_pairs, room);
+    let check = lay_symbol(meaning.end, end, before_end, room);
+    room[end + 1] = check;
+    end + 2
 }
 
 // Writes one sequence: Done with its length, or the first refusal with nothing written.
