@@ -23,6 +23,7 @@ int main(void) {
     draw_sequences();
     bool same = time_both("a read", read_all, drawn);
     same = time_both("a write", write_all, drawn) && same;
+    same = time_both("a write to a room that no cache holds", write_scattered, scattered_rooms) && same;
     same = time_transmissions() && same;
     same = time_receivers() && same;
     if (!record_events()) {

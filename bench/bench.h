@@ -24,6 +24,8 @@ void draw_sequences(void);
 extern const uint32_t drawn;
 uint64_t read_all(enum side side);
 uint64_t write_all(enum side side);
+extern const uint32_t scattered_rooms; /* in more memory than most processors' caches hold */
+uint64_t write_scattered(enum side side);
 
 /* ---- transmissions.c: transmissions of valid sequences: whole, with bit noise, with strays before and behind ---- */
 void draw_transmissions(void);

@@ -39,6 +39,11 @@ static void print_hundredths(const char *before, unsigned number) {
     printf("%s%u.%02u", before, number / 100u, number % 100u);
 }
 
+static void print_nanoseconds(const char *before, uint64_t quickest, uint32_t pieces) {
+    uint64_t tenths = quickest * 10u / pieces;
+    printf("%s%u.%u ns", before, (unsigned)(tenths / 10u), (unsigned)(tenths % 10u));
+}
+
 bool time_both(const char *what, work *all, uint32_t pieces) {
     uint64_t quickest[SIDES] = {UINT64_MAX, UINT64_MAX};
     unsigned ratios[RUNS];
@@ -56,7 +61,9 @@ bool time_both(const char *what, work *all, uint32_t pieces) {
     print_hundredths("", ratios[RUNS / 2u]);
     print_hundredths(" (", ratios[0]);
     print_hundredths(" to ", ratios[RUNS - 1u]);
-    printf(")  %s: library %u ns, second implementation %u ns\n", what, (unsigned)(quickest[LIBRARY] / pieces),
-        (unsigned)(quickest[SECOND] / pieces));
+    printf(")  %s", what);
+    print_nanoseconds(": library ", quickest[LIBRARY], pieces);
+    print_nanoseconds(", second implementation ", quickest[SECOND], pieces);
+    printf("\n");
     return true;
 }
