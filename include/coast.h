@@ -28,13 +28,13 @@ extern "C" {
  * COAST_.._SIZE a count of bytes. */
 
 /* The library's version: MAJOR moves where a host has to be changed, MINOR where only something is added for it, PATCH where only
- * a fault is mended. It is no version of the lent layout: COAST_LAYOUT_VERSION is that. A new layout moves MINOR at least: a host
- * need not be changed, but the stations that it kept are refused. So does a field that is added behind the others of an action's
- * payload: a host reads those that it knows, and does not mind a payload that is longer. */
-#define COAST_VERSION "1.6.0"
+ * a fault is mended or time is saved. It is no version of the lent layout: COAST_LAYOUT_VERSION is that. A new layout moves MINOR
+ * at least: a host need not be changed, but the stations that it kept are refused. So does a field that is added behind the
+ * others of an action's payload: a host reads those that it knows, and does not mind a payload that is longer. */
+#define COAST_VERSION "1.6.1"
 #define COAST_VERSION_MAJOR 1
 #define COAST_VERSION_MINOR 6
-#define COAST_VERSION_PATCH 0
+#define COAST_VERSION_PATCH 1
 
 /* The deepest that any entry reaches into the stack, as measured. */
 #define COAST_STACK_SIZE 13056
@@ -113,8 +113,8 @@ uint32_t coast_read_sequence(const uint8_t *symbols, size_t count, uint8_t *mean
  * Returns an answer and a count in one number: coast_answer and coast_count take them apart. The answer is 0 and the
  * count, 21 to 28, is that of the symbols written at the front of the room; or the answer is the first of 21, 22, 15, 17,
  * 18, 19, 20 that fits, in this order, and the count is 0. (The field is refused, 18, also where its kind is over 2, or where
- * a byte of it that its kind does not use is not 0.) Bytes of the room after the sequence stay as they were. The room must
- * have 28 bytes even where the sequence is shorter. */
+ * a byte of it that its kind does not use is not 0.) Bytes of the room after the sequence stay as they were, and no byte of
+ * the room is read. The room must have 28 bytes even where the sequence is shorter. */
 uint32_t coast_write_sequence(const uint8_t *meaning, size_t size, uint8_t *room, size_t room_size);
 
 /* Two receivers on the mast: fading kills one aerial at a time. Finds the first sequence in the `first_size` bytes that the first
