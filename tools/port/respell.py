@@ -52,11 +52,13 @@ def readable(file):
 def snake(part):
     if not re.match(r"[a-z]", part) or not HUMP.search(part):
         return part
+    # of `toldBQ` each capital is a word
     return "_".join(p[0].lower() + p[1:] for p in HUMP.split(part))
 
 
 def respelled(word):
-    return "-".join(snake(p) for p in word.split("-"))
+    new = "-".join(snake(p) for p in word.split("-"))
+    return new if new == word else respelled(new)
 
 
 def apart(file, text):
