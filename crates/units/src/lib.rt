@@ -1,5 +1,7 @@
 // The five numbers that are never taken for one another, and the two ways between them.
 // Each holds any number a script may hold, so that a wrong one is judged and never cut.
+#![tactic(auto)]
+
 ghost use Rattle.std.specs.Prelude.{◌≡◌};
 ghost use Rattle.units.specs.Units.{whole_seconds, duration_of};
 
@@ -10,27 +12,27 @@ pub const LIMIT: u32 = 4_000_000_000;
 pub const GREATEST: u32 = 4_294_967_295;
 
 // A time, or a stretch of it, in tenths of a second.
-#[derive(Drop)]
+#[derive(Clone, Copy)]
 pub struct Tenths(pub u32);
 
 // Charged seconds. The field is private: whole_seconds alone makes them.
-#[derive(Drop)]
+#[derive(Clone, Copy)]
 pub struct Seconds(u32);
 
 // A slot's number.
-#[derive(Drop)]
+#[derive(Clone, Copy)]
 pub struct SlotNumber(pub u32);
 
 // A call's number. Document 02, no. 4: "the next call number from 1"; 0 before the first.
-#[derive(Drop)]
+#[derive(Clone, Copy)]
 pub struct CallNumber(pub u32);
 
 // A working channel's number.
-#[derive(Drop)]
+#[derive(Clone, Copy)]
 pub struct Channel(pub u32);
 
 // A duration as an end of call tells it.
-#[derive(Drop)]
+#[derive(Clone, Copy)]
 pub struct Duration {
     pub hours: u8,
     pub minutes: u8,
@@ -38,7 +40,7 @@ pub struct Duration {
 }
 
 // What an end of call can tell of charged seconds.
-#[derive(Drop)]
+#[derive(Clone, Copy)]
 pub enum Lasted {
     Nothing,
     Lasting(Duration),
