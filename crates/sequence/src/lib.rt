@@ -1,4 +1,6 @@
 // One DSC sequence of 21 to 28 symbols: what it means, and the tests of its parts.
+#![tactic(auto)]
+
 ghost use Rattle.std.specs.Prelude.{◌≡◌};
 ghost use Rattle.sequence.specs.Answers.{answer_number, is_done};
 
@@ -62,7 +64,7 @@ pub const END_BQ: u8 = 122;
 pub const END_LAST: u8 = 127;
 
 // What is answered to symbols that are read, or to a meaning that is written.
-#[derive(Drop)]
+#[derive(Clone, Copy)]
 pub enum Answer {
     Done,
     BadLength,
@@ -79,7 +81,7 @@ pub enum Answer {
 }
 
 // What the channel field holds. Behind an end of call it holds no channel, so 90 0 26 is a duration there.
-#[derive(Drop)]
+#[derive(Clone, Copy)]
 pub enum Field {
     Blank,
     Channel(Channel),
@@ -87,14 +89,14 @@ pub enum Field {
 }
 
 // A number of 1 to 16 digits; the unused digits are 0.
-#[derive(Drop)]
+#[derive(Clone, Copy)]
 pub struct Number {
     pub digits: [u8; DIGITS],
     pub count: u8,
 }
 
 // What a sequence means. The sender is its self-identification.
-#[derive(Drop)]
+#[derive(Clone, Copy)]
 pub struct Meaning {
     pub address: u32,
     pub sender: u32,
@@ -106,14 +108,14 @@ pub struct Meaning {
 }
 
 // The answer to symbols that are read, and beside Done their meaning.
-#[derive(Drop)]
+#[derive(Clone, Copy)]
 pub struct Reading {
     pub answer: Answer,
     pub meaning: Meaning,
 }
 
 // The answer to a meaning that is written, and beside Done the count of bytes written.
-#[derive(Drop)]
+#[derive(Clone, Copy)]
 pub struct Written {
     pub answer: Answer,
     pub length: usize,
