@@ -30,7 +30,8 @@ number-back (suc (suc w)) n before rest i h e =
     let low = get_or_at before (n % 256) (low_first (suc w) (n / 256) ++ rest) 0 i e in
     let one : length (before ++ (n % 256 ∷ [])) ≡ i + 1 = length-append before (n % 256 ∷ []) ∙ ap (λ k. k + 1) e in
     let high = number-back (suc w) (n / 256) (before ++ (n % 256 ∷ [])) rest (i + 1) (omega arith) one in
-    rw (low, ← append_snoc before (n % 256) (low_first (suc w) (n / 256) ++ rest), high) (halves n)
+    let back = ap (λ (r : List ℕ). number_at r (i + 1) (suc w)) (sym (append_snoc before (n % 256) (low_first (suc w) (n / 256) ++ rest))) ∙ high in
+    rw low (ap (λ (m : ℕ). n % 256 + 256 * m) back ∙ halves n)
 
 -- ── a list of fields ─────────────────────────────────────────────────────────
 

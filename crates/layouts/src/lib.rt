@@ -1,4 +1,6 @@
 // A layout in bytes is one list of fields, and what is laid out so is read back. Here a number's own bytes.
+#![tactic(auto)]
+
 ghost use Rattle.std.specs.Prelude.{◌≡◌};
 ghost use Rattle.layouts.specs.Fields.{low_first};
 
