@@ -1,4 +1,6 @@
 // The reader: any symbols to their meaning, or to the first refusal in document 01's order.
+#![tactic(auto)]
+
 ghost use Rattle.std.specs.Prelude.{◌≡◌, true};
 ghost use Rattle.sequence.specs.Answers.{is_done};
 ghost use Rattle.sequence.specs.Reading.{answer_of, meaning_of, blank_meaning, reading_of};

@@ -39,7 +39,7 @@ pub(crate) fn format_in(symbols: &[u8]) -> bool
 }
 
 // The five symbols of an identity.
-#[derive(Drop)]
+#[derive(Clone, Copy)]
 struct Five {
     a: u8,
     b: u8,
