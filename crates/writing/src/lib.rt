@@ -1,4 +1,6 @@
 // The writer: a valid meaning to its one sequence in a lent room, or a refusal and the room as it was.
+#![tactic(auto)]
+
 ghost use Rattle.std.specs.Prelude.{◌≡◌, true, ◌++◌, ◌≤◌, length, drop};
 ghost use Rattle.sequence.specs.Figures.{longest};
 ghost use Rattle.sequence.specs.Symbols.{exclusive_or};
