@@ -12,5 +12,5 @@ pub find-settled : (κs : Lfts 2) (a : _) (r r' : _) (s s' : _) → find.Post κ
 find-settled κs a r r' s s' p q = p ∙ sym q
 
 pub find_sequence-settled : (κs : Lfts 1) (a : _) (r r' : _) (s s' : _)
-    → find_sequence.Post κs a r s → find_sequence.Post κs a r' s' → (r.now ≡ r'.now) × (r.ref_ptr ≡ r'.ptr)
+    → find_sequence.Post κs a r s → find_sequence.Post κs a r' s' → (r.now ≡ r'.now) × (r.ref_ptr ≡ r'.ref_ptr)
 find_sequence-settled κs a r r' s s' p q = (p.0 ∙ sym q.0, p.1 ∙ sym q.1)

@@ -1,4 +1,6 @@
 // Two receivers on the mast: the first valid sequence in the bytes of the one or, failing that, of the other.
+#![tactic(auto)]
+
 ghost use Rattle.std.specs.Prelude.{◌≡◌, ◌+◌, ◌≤◌, length};
 ghost use Rattle.sequence.specs.Figures.{shortest};
 ghost use Rattle.receivers.specs.Finding.{begins_with, length_at, found_from, first_in, found_in};
@@ -9,20 +11,20 @@ use sequence::parts::end_ok;
 use sequence::{CATEGORY, FORMAT, LONGEST, SHORTEST};
 
 // Where a stretch of bytes begins, and how many it has; none where nothing was found.
-#[derive(Drop)]
+#[derive(Clone, Copy)]
 pub struct Stretch {
     pub place: usize,
     pub count: usize,
 }
 
-#[derive(Drop)]
+#[derive(Clone, Copy)]
 pub enum Receiver {
     First,
     Second,
 }
 
 // The stretch that was found, and in whose bytes.
-#[derive(Drop)]
+#[derive(Clone, Copy)]
 pub struct Found {
     pub receiver: Receiver,
     pub stretch: Stretch,
@@ -146,8 +148,8 @@ pub fn find(first: &[u8], second: &[u8]) -> Found
 // The bytes of a stretch, as a part of those in which it was found.
 fn part(bytes: &[u8], stretch: Stretch) -> &[u8]
     requires { stretch.place + stretch.count ≤ length bytes.now }
-    ensures result_value { result.now ≡ bytes_of stretch bytes.now }
-    ensures ref_ptr_value { result.ref_ptr ≡ placed_at stretch bytes.entry.ref_ptr }
+    ensures contents { result.now ≡ bytes_of stretch bytes.now }
+    ensures location { result.ref_ptr ≡ placed_at stretch bytes.entry.ref_ptr }
 {
     let start = stretch.place;
     let end = start + stretch.count;
@@ -156,8 +158,8 @@ fn part(bytes: &[u8], stretch: Stretch) -> &[u8]
 
 // The stretch that holds the first valid sequence, not as a copy; where neither receiver's bytes hold one, 54, the empty one.
 pub fn find_sequence<'a>(first: &'a [u8], second: &'a [u8]) -> &'a [u8]
-    ensures result_value { result.now ≡ stretch_found first.now second.now }
-    ensures ref_ptr_value { result.ref_ptr ≡ place_found (found_in first.now second.now) first.entry.ref_ptr second.entry.ref_ptr }
+    ensures contents { result.now ≡ stretch_found first.now second.now }
+    ensures location { result.ref_ptr ≡ place_found (found_in first.now second.now) first.entry.ref_ptr second.entry.ref_ptr }
 {
     let found = find(first, second);
     let receiver = found.receiver;
