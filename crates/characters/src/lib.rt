@@ -1,4 +1,6 @@
 // The ten-unit code: the character of a symbol, and the symbol of a character.
+#![tactic(auto)]
+
 ghost use Rattle.std.specs.Prelude.{◌≡◌};
 ghost use Rattle.characters.specs.Rows.{in_row};
 ghost use Rattle.characters.specs.Code.{character_of, symbol_of, no_character};
