@@ -10,7 +10,7 @@ use lib.ListN.{length}
 use borrow.Author.Tests.{leb-true, leb-false, ltb-true, ltb-false}
 use Rattle.sequence.proofs.Tests.{Either, yes!, no!, which}
 use Rattle.transmission.specs.declared.Start.{Start}
-use Rattle.transmission.specs.Phasing.{phasing_at, start_at, best_of_lem, best_start}
+use Rattle.transmission.specs.Phasing.{phasing_at, start_at, best_of, best_start}
 use Rattle.transmission.proofs.PhasingLaws.{HasRx, start-has-rx, at-most-14, whole-has-first}
 
 -- the best among some starts
@@ -129,11 +129,11 @@ one-best t a b p q =
 
 -- ── the best of the first n places ───────────────────────────────────────────
 
-best-place : (t : List ℕ) (n : ℕ) → (best_of_lem t n).place ≤ n
+best-place : (t : List ℕ) (n : ℕ) → (best_of t n).place ≤ n
 best-place t zero = omega arith
-best-place t (suc n) = go (which (leb (phasing_at t n) (best_of_lem t n).phasing)) (best-place t n)
+best-place t (suc n) = go (which (leb (phasing_at t n) (best_of t n).phasing)) (best-place t n)
   where
-    go : Either (leb (phasing_at t n) (best_of_lem t n).phasing) → (best_of_lem t n).place ≤ n → (best_of_lem t (suc n)).place ≤ suc n
+    go : Either (leb (phasing_at t n) (best_of t n).phasing) → (best_of t n).place ≤ n → (best_of t (suc n)).place ≤ suc n
     go (yes! e) h = rw e (omega arith)
     go (no! e) h = rw e (omega arith)
 
@@ -144,16 +144,16 @@ before_last n q h = go (eq-or-lt_of_le (le_of_suc-le-suc h))
     go (inl e) = inr e
     go (inr l) = inl l
 
-best_of_lem : (t : List ℕ) (n : ℕ) → Best t (λ q. q < n) (best_of_lem t n)
-best_of_lem t zero = none_yet t (λ q. q < 0) (λ q l. omega (arith, l))
-best_of_lem t (suc n) = go (which (leb (phasing_at t n) (best_of_lem t n).phasing)) (best_of_lem t n) (best-place t n)
+best-of : (t : List ℕ) (n : ℕ) → Best t (λ q. q < n) (best_of t n)
+best-of t zero = none_yet t (λ q. q < 0) (λ q l. omega (arith, l))
+best-of t (suc n) = go (which (leb (phasing_at t n) (best_of t n).phasing)) (best-of t n) (best-place t n)
   where
-    go : Either (leb (phasing_at t n) (best_of_lem t n).phasing) → Best t (λ q. q < n) (best_of_lem t n) → (best_of_lem t n).place ≤ n
-        → Best t (λ q. q < suc n) (best_of_lem t (suc n))
-    go (yes! e) b h = rw e (stays t _ _ (best_of_lem t n) n b (before_last n) (leb-true _ _ e) (λ l. absurd (omega (arith, l, h))))
+    go : Either (leb (phasing_at t n) (best_of t n).phasing) → Best t (λ q. q < n) (best_of t n) → (best_of t n).place ≤ n
+        → Best t (λ q. q < suc n) (best_of t (suc n))
+    go (yes! e) b h = rw e (stays t _ _ (best_of t n) n b (before_last n) (leb-true _ _ e) (λ l. absurd (omega (arith, l, h))))
     go (no! e) b h =
-        let l = leb-false (phasing_at t n) (best_of_lem t n).phasing e in
-        rw e (beaten t _ _ (best_of_lem t n) n b (before_last n) (omega arith) (λ k. l) (omega arith))
+        let l = leb-false (phasing_at t n) (best_of t n).phasing e in
+        rw e (beaten t _ _ (best_of t n) n b (before_last n) (omega arith) (λ k. l) (omega arith))
 
 -- every start lies within what was heard
 start-within : (t : List ℕ) (q : ℕ) → 1 ≤ phasing_at t q → q < length t
@@ -165,7 +165,7 @@ best-within t = best-place t (length t)
 
 pub best-start : (t : List ℕ) → Best t Every (best_start t)
 unfolding best_start
-best-start t = best-of-all t (λ q. q < length t) (best_of_lem t (length t)) (best_of_lem t (length t)) (start-within t)
+best-start t = best-of-all t (λ q. q < length t) (best_of t (length t)) (best-of t (length t)) (start-within t)
 
 -- the best of the starts that have an RX character in its place is the best start
 pub best-with-rx : (t : List ℕ) (best : Start) → Best t (HasRx t (length t)) best → best ≡ best_start t

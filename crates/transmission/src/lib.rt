@@ -1,4 +1,6 @@
 // The transmission of one sequence: its characters as they go on the air, and what is answered where it is written or read.
+#![tactic(auto)]
+
 ghost use Rattle.std.specs.Prelude.{◌≡◌};
 ghost use Rattle.transmission.specs.Answers.{answer_number, is_done};
 
@@ -18,7 +20,7 @@ pub const MOST_LOST: usize = 11;
 pub const LONGEST_TRANSMISSION: usize = 74;
 
 // What is answered to symbols that are written as a transmission, or to a transmission that is read.
-#[derive(Drop)]
+#[derive(Clone, Copy)]
 pub enum Answer {
     Done,
     BadLength,
@@ -30,14 +32,14 @@ pub enum Answer {
 }
 
 // The answer, and beside Done the count of characters written, or of symbols read.
-#[derive(Drop)]
+#[derive(Clone, Copy)]
 pub struct Counted {
     pub answer: Answer,
     pub count: usize,
 }
 
 // Where a transmission may start, and how many phasing characters stand in their places there: 0 where that is no phasing.
-#[derive(Drop)]
+#[derive(Clone, Copy)]
 pub struct Start {
     pub place: usize,
     pub phasing: usize,

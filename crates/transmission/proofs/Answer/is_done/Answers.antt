@@ -1,0 +1,4 @@
+use Rattle.transmission.proofs.Answer.is_done.Goals as goal
+
+pub returns : goal.returns
+returns c = rw c.number.ensures
