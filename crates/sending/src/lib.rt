@@ -1,4 +1,6 @@
 // The writer of a transmission: symbols to their characters in a lent room, or a refusal and the room as it was.
+#![tactic(auto)]
+
 ghost use Rattle.std.specs.Prelude.{◌≡◌, ◌∷◌, [], ◌+◌, ◌*◌, ◌≤◌, ◌<◌, length, get_or};
 ghost use Rattle.std.proofs.lemmas.List.Edits.{sets};
 ghost use Rattle.transmission.specs.Layout.{dx, transmission, bytes_of};

@@ -1,0 +1,83 @@
+use Prim.Native.Nat.{◌+◌}
+use mathlib.Core.Path.{◌≡◌, sym, ap, ◌∙◌}
+use native.Mathlib.Omega.{arith}
+use lib.ListN.{length, length-set}
+use Rattle.characters.specs.Code.{character_of}
+use Rattle.transmission.proofs.LayoutLaws.{dx-symbol, rx-format, rx-symbol}
+use Rattle.sending.proofs.LaidLaws.{no-places-laid, place-laid, ends-laid, room-kept}
+use Rattle.sending.proofs.lay_symbols.Goals as goal
+
+pub bounds-symbols-0 : goal.bounds-symbols-0
+bounds-symbols-0 c = omega arith
+
+pub loop-k-init : goal.loop-k-init
+loop-k-init c = let s = c.args.symbols.now in (
+  no-places-laid s c.args.room.now 8,
+  c.character_of-before.ensures ∙ ap character_of (sym (rx-format s 0)),
+  c.character_of-before.ensures ∙ ap character_of (sym (rx-symbol s 0 0)),
+  omega arith,
+  omega (arith, c.requires.least),
+)
+
+pub bounds-symbols-k : goal.bounds-symbols-k
+bounds-symbols-k c = omega arith
+
+pub overflow_add-k : goal.overflow_add-k
+overflow_add-k c = omega arith
+
+pub lay_place-requires : goal.lay_place-requires
+lay_place-requires c = let l = c.loop-k in
+    let same = room-kept c.args.symbols.now c.args.room.now c.requires 8 (7 + l.k) (omega arith) (omega arith) l.invariant.0 in
+    omega arith
+
+pub overflow_add-k-in-loop-k : goal.overflow_add-k-in-loop-k
+overflow_add-k-in-loop-k c = omega arith
+
+pub loop-k-smaller : goal.loop-k-smaller
+loop-k-smaller c = omega arith
+
+pub loop-k-preserved : goal.loop-k-preserved
+loop-k-preserved c = let l = c.loop-k in
+    let s = c.args.symbols.now in
+    let character = c.character_of-character.ensures in
+    let e : 7 + (l.k + 1) ≡ 7 + l.k + 1 = omega arith in
+    let f : 7 + (l.k + 1) ≡ 8 + l.k = omega arith in
+    let g : 8 + (l.k + 1) ≡ 9 + l.k = omega arith in (
+      c.lay_place.ensures
+          ∙ rw (l.invariant.0, e)
+          (place-laid s c.args.room.now c.requires 8 (7 + l.k) _ _ (omega arith) (omega arith)
+          (character ∙ ap character_of (sym (dx-symbol s l.k 0 (omega arith))))
+          l.invariant.1),
+      rw f l.invariant.2,
+      rw g (character ∙ ap character_of (sym (rx-symbol s l.k 0))),
+      omega arith,
+      omega arith,
+    )
+
+pub overflow_add-k-2 : goal.overflow_add-k-2
+overflow_add-k-2 c = omega arith
+
+pub lay_place-requires-2 : goal.lay_place-requires-2
+lay_place-requires-2 c = let l = c.loop-k in
+    let same = room-kept c.args.symbols.now c.args.room.now c.requires 8 (7 + l.k) (omega arith) (omega arith) l.invariant.0 in
+    omega arith
+
+pub overflow_add-k-3 : goal.overflow_add-k-3
+overflow_add-k-3 c = omega arith
+
+pub lay_place-requires-3 : goal.lay_place-requires-3
+lay_place-requires-3 c = let l = c.loop-k in
+    let stored = c.lay_place-2 in
+    let stores : length stored.new.room ≡ length l.room = ap length stored.ensures ∙ simp length-set in
+    let same = room-kept c.args.symbols.now c.args.room.now c.requires 8 (7 + l.k) (omega arith) (omega arith) l.invariant.0 in
+    omega arith
+
+pub returns : goal.returns
+returns c = let l = c.loop-k in
+    c.lay_place-3.ensures
+    ∙ rw (c.lay_place-2.ensures, l.invariant.0)
+    (ends-laid c.args.symbols.now c.args.room.now c.requires l.k _ _ (omega arith) l.invariant.1 l.invariant.2)
+
+pub shape_of-room : goal.shape_of-room
+shape_of-room c = let s = c.args.symbols.now in
+    room-kept s c.args.room.now c.requires 8 (length s + 9) (omega arith) (omega arith) (returns c)
