@@ -1,4 +1,6 @@
 // Where a transmission starts in what was handed in: two bytes a character, behind eleven characters that may have been lost.
+#![tactic(auto)]
+
 ghost use Rattle.std.specs.Prelude.{◌≡◌, ◌+◌, ◌/◌, ◌≤◌, ◌<◌, length};
 ghost use Rattle.transmission.specs.Phasing.{most_lost, characters_of, heard, is_phasing, phasing_at, best_start};
 ghost use Rattle.phasing.specs.Characters.{character_at, standing};
