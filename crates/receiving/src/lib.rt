@@ -1,4 +1,6 @@
 // The reader of a transmission: what a modem hands in to its symbols in a lent room, or a refusal and the room as it was.
+#![tactic(auto)]
+
 ghost use Rattle.std.specs.Prelude.{◌≡◌, ◌++◌, ◌≤◌, length, take, drop};
 ghost use Rattle.sequence.specs.Figures.{longest};
 ghost use Rattle.transmission.specs.Phasing.{characters_of, heard};

@@ -1,0 +1,12 @@
+use Prim.Native.Nat.{◌-◌, ◌≤◌}
+use mathlib.Core.Path.{◌≡◌}
+use lib.ListN.{length}
+use lib.Seq.{paste}
+use Rattle.sequence.specs.Figures.{longest}
+use Rattle.receiving.proofs.lay.Given as goal
+
+abbrev pub invariant-loop-i : goal.invariant-loop-i
+invariant-loop-i l = (l.room ≡ paste l.initial.room 0 l.symbols l.i) × (l.i ≤ l.count) × (length l.room ≡ length l.initial.room) × (length l.symbols ≡ longest)
+
+abbrev pub decreases-loop-i : goal.decreases-loop-i
+decreases-loop-i l = l.count - l.i
