@@ -6,10 +6,10 @@ use mathlib.Core.Option.{Option, none, some}
 use Prim.Native.Nat.{ℕ}
 use lib.Dec.{eqb}
 use Rattle.rules.specs.Rules.Places.{mod_at, drop_at}
-use Rattle.rules.specs.Rules.Words.{Party, is, Mode, Request, Config, Ashore, line_dialled_out, line_lifted, line_hung, carrier_heard, carrier_lost, Happened, heard, signal, operator, answering_on, What, on_slot, Deed, carrier_on, carrier_off, acknowledge, call_ship, unable, dial, release_line, ringing_on, ringing_off, busy_tone, tick, on_channel70, from_ashore, transmitting_on}
+use Rattle.rules.specs.Rules.Words.{Party, is, Request, Config, Ashore, line_dialled_out, line_lifted, line_hung, carrier_heard, carrier_lost, Happened, heard, signal, operator, answering_on, What, on_slot, Deed, carrier_on, carrier_off, acknowledge, call_ship, unable, dial, release_line, ringing_on, ringing_off, busy_tone, tick, on_channel70, from_ashore, transmitting_on}
 use Rattle.rules.specs.Rules.Heard.{Heard, call_request, data_request, bq, working_call, end_of_call, declined, nothing, meaning}
 use Rattle.rules.specs.ListAlone.Book.{Stop, after, offer_time, ringing_time, alike, Begun, Said, silent, told_b_q, told_r_q, settled, Call, quiet, called, dialled, talking, Column, Book, at_places, Place, column}
-use Rattle.rules.specs.ListAlone.Reading.{close, with_gone, dial_out, pick_up, lose, sign_off, hear_said, hear_column, settle, settle_said, begin_ringing, begin_ringing_call, come_up, take_up, rings_back, summon, first_call_up, CountedColumn, goes_on, begins, told, tell, begin_call, dial_up, let_go, hush, join, queued, read, with_wait, again, hear_heard, hear_due, hear, set_now, stop_of, call_of, stops_said, stops_on, stops_due, stops_again, stops_heard, stops_at}
+use Rattle.rules.specs.ListAlone.Reading.{close, dial_out, pick_up, lose, sign_off, hear_said, hear_column, settle, settle_said, begin_ringing, begin_ringing_call, come_up, take_up, rings_back, summon, first_call_up, CountedColumn, goes_on, begins, told, tell, begin_call, dial_up, let_go, hush, join, queued, read, with_wait, again, hear_heard, hear_due, hear, set_now, stop_of, call_of, stops_said, stops_on, stops_due, stops_again, stops_heard, stops_at}
 use Rattle.rules.specs.Rules.Waits.{Wait, of_queue, loss, main, Due}
 
 abbrev pub column-of : Said → Option ℕ → Call → Option ℕ → Column

@@ -1,17 +1,16 @@
 -- No ship stands twice, by counting: what the walk over the events and soundness need of it.
 use mathlib.Core.Path.{◌≡◌, refl, ap}
 use mathlib.Core.List.{List, [], ◌∷◌, map}
-use mathlib.Core.Bool.{Bool, true, false, not}
+use mathlib.Core.Bool.{Bool, true, false}
 use mathlib.Core.Option.{Option, none, some}
 use Prim.Native.Nat.{ℕ, zero, suc, ◌+◌, ◌≤◌}
 use native.Mathlib.Omega.{arith}
-use borrow.Author.Tests.{not-true}
-use Rattle.rules.specs.Rules.Places.{mod_at, lowest, elem, distinct}
-use Rattle.rules.specs.Rules.Words.{Party, is, Request}
+use Rattle.rules.specs.Rules.Places.{mod_at, lowest, distinct}
+use Rattle.rules.specs.Rules.Words.{Party, is}
 use Rattle.rules.specs.Rules.Station.{Dealing, Slot, ship_of, Waiting, Station, the_slot, set_slot, set_queue, new_call, ring_back_of}
 use Rattle.rules.specs.Rules.Sound.{listed, owners}
 use Rattle.rules.specs.Rules.Requests.{to_ring_back, rung_back, freed_for, freed, coast_end, is_of, owns, waits_for}
-use Rattle.rules.proofs.PlaceLaws.{or-false, and-true, shift_none}
+use Rattle.rules.proofs.PlaceLaws.{shift_none}
 use Rattle.rules.proofs.Occurs.{bit, occurs, distinct-occurs, occurs-distinct}
 use Rattle.rules.proofs.Base.{is_same, is_true, rung-first}
 

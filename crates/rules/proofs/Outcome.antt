@@ -6,14 +6,14 @@ use mathlib.Core.Option.{Option, none, some}
 use Prim.Native.Nat.{ℕ}
 use Rattle.units.specs.declared.Lasted.{Lasted}
 use Rattle.rules.specs.Rules.Places.{Each}
-use Rattle.rules.specs.Rules.Words.{Party, is, Request, Config, line_dialled_out, line_lifted, line_hung, carrier_heard, carrier_lost, hand_takes, hand_gives, Happened, heard, signal, operator, off_hook, Deed, carrier_on, carrier_off, acknowledge, call_ship, unable, dial, release_line, ringing_on, ringing_off, busy_tone, Mode, is_answering, is_transmitting, carrier_up}
+use Rattle.rules.specs.Rules.Words.{Party, is, Config, line_dialled_out, line_lifted, line_hung, carrier_heard, carrier_lost, hand_takes, hand_gives, Happened, heard, signal, operator, off_hook, Deed, carrier_on, carrier_off, acknowledge, call_ship, unable, dial, release_line, ringing_on, ringing_off, busy_tone, Mode, is_answering, is_transmitting, carrier_up}
 use Rattle.rules.specs.Rules.Heard.{Heard, call_request, data_request, bq, working_call, end_of_call, declined, nothing, meaning}
 use Rattle.rules.specs.Rules.Actions.{Action, does, over, Ender, the_ship, the_coast}
-use Rattle.rules.specs.Rules.Station.{Kind, first_ring_back, first_call, second_call, ringing, is_called, rings, ring_back_again_of, agreed_at, called_again, ringing_at, Stage, answered_at, dialling, dialled_out, answered, Dealing, Slot, free, taken, pending, busy, held, Station, set_slot, due_after, dialling_wait, reply_wait, hold_wait, carrier_wait}
+use Rattle.rules.specs.Rules.Station.{Kind, first_ring_back, first_call, ringing, is_called, rings, ring_back_again_of, agreed_at, called_again, ringing_at, Stage, answered_at, dialling, dialled_out, answered, Dealing, Slot, free, taken, pending, busy, held, Station, set_slot, due_after, dialling_wait, reply_wait, hold_wait, carrier_wait}
 use Rattle.rules.specs.Rules.Requests.{Out, ignored, also, freed, lasted, end_acts, coast_end}
 use Rattle.rules.specs.Rules.Calls.{dial_now, working_kind, working_on, agreed, starts_ringing, bq_kind, bq_for, dialled_out_stage, dialled_out_on, off_hook_stage, off_hook_on, start_loss, down_on, transmitted, up_kind, up_on, drop_acts, dropped, declined_kind, declined_on, hung_kind, hung_on, call_again, ship_end, say_again, ship_end_on, end_on, take_on, give_on, offer_due, rung_back_again, pending_due, reply_due, main_on, heard_on, happened_on}
 use Rattle.rules.specs.ListAlone.Book.{Stop, Column, Place}
-use Rattle.rules.specs.ListAlone.Reading.{CountedColumn, goes_on, close, with_wait, with_gone, dial_out, pick_up, come_up, lose, sign_off, hear_said, hear_column, settle, tell, summon, dial_up, let_go, hush, leave, stop_of, call_of, stops_said, stops_on}
+use Rattle.rules.specs.ListAlone.Reading.{CountedColumn, goes_on, close, with_wait, dial_out, pick_up, come_up, lose, sign_off, hear_said, hear_column, settle, tell, summon, dial_up, let_go, hush, leave, stop_of, call_of, stops_said, stops_on}
 use Rattle.rules.specs.ListAlone.Repeated.{Dials}
 use Rattle.rules.specs.ListAlone.LineWords.{Word, worded, idle, outward, answer, transmit, word_of}
 use Rattle.rules.specs.Statement.{deeds_of, charges_of, owed}

@@ -18,9 +18,6 @@ use Rattle.rules.specs.Rules.Words.{Mode, simplex, duplex, mode_number, Request,
 use Rattle.rules.specs.Rules.Heard.{Heard, call_request, digits_in, request_in, addressed, meaning}
 use Rattle.rules.specs.Rules.Kinds.{Plain, Means, as_call_request, as_data_request, as_working_call, as_end_of_call, as_bq, as_declined, as_nothing, OnlyThese}
 use Rattle.rules.specs.Rules.Sound.{identity_keeps, config_keeps, number_keeps, request_keeps}
-use Rattle.rules.specs.Rules.Requests.{done}
-use Rattle.rules.specs.Rules.Verdict.{refusals}
-use Rattle.rules.specs.Rules.Bytes.{number_of}
 use Rattle.rules.proofs.PlaceLaws.{and-true}
 use Rattle.rules.proofs.KindLaws.{only-these}
 

@@ -21,7 +21,6 @@ use Rattle.rules.specs.Rules.Actions.{Ender, the_ship, the_coast}
 use Rattle.rules.specs.Rules.Sound.{number_keeps, request_keeps, duration_keeps}
 use Rattle.rules.specs.Rules.Bytes.{padded, number_of, answer_to, able_said, unable_said, lasted_field, end_symbol, over_said}
 use Rattle.rules.proofs.PlaceLaws.{and-true}
-use Rattle.rules.proofs.Spoken.{keeps}
 use Rattle.rules.proofs.Payloads.{padded-length}
 
 -- ── the number ───────────────────────────────────────────────────────────────

@@ -8,7 +8,7 @@ use Prim.Native.Nat.{ℕ, zero, suc, ◌<◌}
 use lib.ListN.{get_or, length}
 use lib.Dec.{eqb}
 use Rattle.rules.specs.Rules.Places.{mod_at, Each}
-use Rattle.rules.specs.Rules.Words.{Request, Ashore, Deed, carrier_on, carrier_off, acknowledge, call_ship, unable, dial, release_line, ringing_on, ringing_off, busy_tone}
+use Rattle.rules.specs.Rules.Words.{Ashore, Deed, carrier_on, carrier_off, acknowledge, call_ship, unable, dial, release_line, ringing_on, ringing_off, busy_tone}
 use Rattle.rules.specs.Rules.Actions.{the_coast, Action}
 use Rattle.rules.specs.Rules.Station.{Dealing, Slot, Waiting, Station, the_slot, set_slot, set_queue, new_call, ring_back_of}
 use Rattle.rules.specs.Rules.Requests.{Out, ignored, also, to_ring_back, rung_back, freed_for, freed, end_acts, coast_end}

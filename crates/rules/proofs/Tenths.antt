@@ -9,12 +9,12 @@ use lib.Dec.{eqb}
 use lib.ListN.{length, replicate}
 use borrow.Author.Tests.{leb-true}
 use Rattle.rules.specs.Rules.Places.{all}
-use Rattle.rules.specs.Rules.Words.{Party, Request, Config, Ashore, What, Event, Deed, carrier_on, carrier_off, acknowledge, call_ship, unable, dial, release_line, ringing_on, ringing_off, busy_tone}
+use Rattle.rules.specs.Rules.Words.{Party, Config, Ashore, What, Event, Deed, carrier_on, carrier_off, acknowledge, call_ship, unable, dial, release_line, ringing_on, ringing_off, busy_tone}
 use Rattle.rules.specs.Rules.Actions.{Charge}
 use Rattle.rules.specs.Rules.Station.{Dealing, Stage, Slot, Station, fresh, answered_at, answered_in}
 use Rattle.rules.specs.Rules.Calls.{act}
 use Rattle.rules.specs.Rules.Verdict.{verdict, play, final}
-use Rattle.rules.specs.ListAlone.Book.{Note, Stop, after, Call, quiet, called, dialled, talking, Book, at_places, blank}
+use Rattle.rules.specs.ListAlone.Book.{Note, Stop, Call, quiet, called, dialled, talking, Book, at_places, blank}
 use Rattle.rules.specs.ListAlone.Reading.{join, read, reads, turn, stops_in, Numbered, numbered, is_talking, talkers, counted, talked, talked_by, falling, moment}
 use Rattle.rules.specs.Statement.{notes, charged, owed, tenths_in, uncharged_from, uncharged_slot, uncharged_slots, uncharged_tenths, TenthsAgree}
 use Rattle.rules.proofs.PlaceLaws.{and-true}

@@ -18,7 +18,7 @@ use Rattle.rules.specs.Rules.Calls.{act}
 use Rattle.rules.specs.Rules.Verdict.{names_ship, names_number, names_engaged, verdict}
 use Rattle.rules.specs.Rules.Actions.{Action}
 use Rattle.rules.specs.ListAlone.Book.{Stop, Column, Book}
-use Rattle.rules.specs.ListAlone.Reading.{closed, moment}
+use Rattle.rules.specs.ListAlone.Reading.{moment}
 use Rattle.rules.specs.ListAlone.LineWords.{Word}
 use Rattle.rules.proofs.Readable.{heard-keeps}
 use Rattle.rules.proofs.Base.{by-slot, seen, slot-taken, slot-lowest}
