@@ -6,14 +6,14 @@ use mathlib.Core.Bool.{Bool, true, false, cond, ◌&&◌}
 use mathlib.Core.Option.{Option, none, some}
 use Prim.Native.Nat.{ℕ, zero, suc, ◌+◌, ◌≤◌, ◌<◌}
 use native.Mathlib.Omega.{arith}
-use lib.Dec.{eqb, leb, ltb}
+use lib.Dec.{eqb, ltb}
 use lib.ListN.{get_or, length, replicate}
-use borrow.Author.Tests.{eq-eqb, eqb-true, eqb-false, ltb-true, ltb-false, lt-ltb, leb-false, leb-true}
-use Rattle.rules.specs.Rules.Places.{mod_at, drop_at, lowest, Each}
+use borrow.Author.Tests.{eq-eqb, eqb-true, ltb-true, ltb-false, leb-false}
+use Rattle.rules.specs.Rules.Places.{mod_at, lowest, Each}
 use Rattle.rules.specs.Rules.Words.{Request, Config, Ashore, ashore_in, What, tick, on_channel70, on_slot, from_ashore, Event, unable}
 use Rattle.rules.specs.Rules.Heard.{Heard, call_request}
-use Rattle.rules.specs.Rules.Actions.{Action, Charge, does, over, charge, Ender, the_ship, the_coast}
-use Rattle.rules.specs.Rules.Station.{Kind, is_offer, is_called, Stage, dialling, dialled_out, answered, answered_at, Dealing, Slot, free, taken, pending, busy, held, call_number_in, is_free, rings, Waiting, Station, the_slot, fresh, set_slot, set_clock, set_queue, none_left, used_up, number_after, next_call, new_call, ring_back_of, offer_of, called_of}
+use Rattle.rules.specs.Rules.Actions.{Action, Charge, Ender, the_ship, the_coast}
+use Rattle.rules.specs.Rules.Station.{Kind, is_offer, is_called, Stage, answered_at, Dealing, Slot, free, taken, pending, busy, held, call_number_in, is_free, rings, Waiting, Station, the_slot, fresh, set_slot, set_clock, set_queue, none_left, used_up, number_after, next_call, new_call, ring_back_of, offer_of, called_of}
 use Rattle.rules.specs.Rules.Requests.{Out, saying, also, to_ring_back, rung_back, freed_for, freed, end_acts, coast_end, slot_of, place_of, stands_at, standing, Standing, nowhere, holds, waits, rule_a, no_number, repeated, afresh, same, rule_b, b_or_c, rule_d, offer, rule_f, rule_g, e_to_g, newcomer, waiting_or_new, d_to_g, redial, requested}
 use Rattle.rules.specs.Rules.Ashore.{ashore_request, called_from}
 use Rattle.rules.specs.Rules.Calls.{drop_acts, heard_on70, act_at, act}
@@ -22,7 +22,7 @@ use Rattle.rules.specs.ListAlone.Book.{Stop, Begun, Column, Book, blank_book, co
 use Rattle.rules.specs.ListAlone.Reading.{Numbered, numbered, read_all, moment, heard_at}
 use Rattle.rules.specs.ListAlone.LineWords.{Word}
 use Rattle.rules.specs.Statement.{charges_of, notes, charged, call_numbers, begun_in, Told107, NumbersFit, ChargesDiffer, NumbersCounted, NumbersHeld, NumbersGiven, NumbersGoOn, UsedUpTold, UsedUpStays}
-use Rattle.rules.proofs.PlaceLaws.{each_set, each_at, each_weaken}
+use Rattle.rules.proofs.PlaceLaws.{each_set, each_weaken}
 use Rattle.rules.proofs.Occurs.{bit, occurs, occurs-append, occurs-distinct}
 use Rattle.rules.proofs.Base.{by-slot, by-kind, by-stage, view, seen, charges-append, next-left, rung-first, slot-taken, slot-each, slot-mapped, fresh-each}
 use Rattle.rules.proofs.Outcome.{Next, stays, becomes, frees, Move, to-dial, to-agree, to-ring, to_drop, to-call, to-rings, to-answer, to-let-go, to-stage, to-lose, to-regain, to-hold, to_end, to-repeat, to-run-out, to_take, to-give, played, leaves, Outcome, passed, moved}

@@ -249,16 +249,16 @@ each_read f q t on b (d ∷ ds) p = (f q on b d p.0, each_read f q t (switched_o
 pub answers-repeat : AnswersRepeat
 unfolding AnswersRepeat
 answers-repeat cfg set es before n after e =
-    each_read (λ q on b d p. p.0) (asked_in n) _ none _ n.deeds ((all-answered cfg es before n after e).fits _ none)
+    each_read {P = Fits cfg (heard_in cfg n) (λ x. last_asked cfg x nothing before)} (λ q on b d p. p.0) (asked_in n) _ none _ n.deeds ((all-answered cfg es before n after e).fits _ none)
 
 -- and the second sending repeats the first
 pub second-sending-repeats : SecondSendingRepeats
 unfolding SecondSendingRepeats
 second-sending-repeats cfg set es before n after e =
-    each_read (λ q on b d p. p.1.0) (asked_in n) _ none _ n.deeds ((all-answered cfg es before n after e).fits _ none)
+    each_read {P = Fits cfg (heard_in cfg n) (λ x. last_asked cfg x nothing before)} (λ q on b d p. p.1.0) (asked_in n) _ none _ n.deeds ((all-answered cfg es before n after e).fits _ none)
 
 -- and the number dialled is the one asked for
 pub dials-asked : DialsAsked
 unfolding DialsAsked
 dials-asked cfg set es before n after e =
-    each_read (λ q on b d p. p.1.1) (asked_in n) _ none _ n.deeds ((all-answered cfg es before n after e).fits _ none)
+    each_read {P = Fits cfg (heard_in cfg n) (λ x. last_asked cfg x nothing before)} (λ q on b d p. p.1.1) (asked_in n) _ none _ n.deeds ((all-answered cfg es before n after e).fits _ none)
