@@ -1,4 +1,6 @@
 // A stored request: who asks for what. What the records of slots, of the queue and of actions share.
+#![tactic(auto)]
+
 pub mod sameness;
 
 ghost use Rattle.std.specs.Prelude.{◌≡◌, min};
@@ -6,14 +8,14 @@ ghost use Rattle.requests.specs.Images.{blank_request};
 
 use sequence::{DIGITS, Number};
 
-#[derive(Drop)]
+#[derive(Clone, Copy)]
 pub enum Mode {
     Simplex,
     Duplex,
 }
 
 // A call request as it is stored: the ship with the station that it calls, and what it asks for.
-#[derive(Drop)]
+#[derive(Clone, Copy)]
 pub struct Request {
     pub number: Number,
     pub mode: Mode,
