@@ -14,7 +14,7 @@ use Rattle.rules.specs.Rules.Words.{Request, Config, unable}
 use Rattle.rules.specs.Rules.Actions.{Action, Ender, the_ship, the_coast, does}
 use Rattle.rules.specs.Rules.Station.{rings, Dealing, Slot, pending, busy, Waiting, Station, the_slot, used_up, answered_at, is_free}
 use Rattle.rules.specs.Rules.Sound.{config_keeps, request_keeps, duration_keeps, slot_keeps, waiting_keeps, queue_room}
-use Rattle.rules.specs.Rules.Requests.{Out, to_ring_back, rung_back, freed_for, freed, lasted, end_acts, coast_end, Standing, nowhere, holds, waits, place_of, no_number_lem, repeated, afresh, rule_d, offer, rule_f, rule_g, e_to_g, newcomer, waiting_or_new, d_to_g, redial, requested}
+use Rattle.rules.specs.Rules.Requests.{Out, to_ring_back, rung_back, freed_for, freed, lasted, end_acts, coast_end, Standing, nowhere, holds, waits, place_of, no_number, repeated, afresh, rule_d, offer, rule_f, rule_g, e_to_g, newcomer, waiting_or_new, d_to_g, redial, requested}
 use Rattle.rules.specs.Rules.Ashore.{slot_to_take, called_from}
 use Rattle.rules.specs.Rules.Calls.{drop_acts}
 use Rattle.rules.specs.ListAlone.Book.{Stop, Column}
@@ -87,8 +87,8 @@ module _ (c : Config) (good : config_keeps c ≡ true) where
     full = unable-speaks c good r kept 102 refl
 
     -- 02, no. 4: no number is left
-    no_number_lem : (st : Station) → Says c (no_number_lem st r)
-    unfolding no_number_lem unable_second
+    no_number_lem : (st : Station) → Says c (no_number st r)
+    unfolding no_number unable_second
     no_number_lem st = (unable-speaks c good r kept 107 refl, tt)
 
     afresh-says : (st : Station) (i : ℕ) → i < length c.channels → Says c (afresh i st r)
@@ -117,7 +117,7 @@ module _ (c : Config) (good : config_keeps c ≡ true) where
 
       d_to_g-says : (k : Option ℕ) → Says c (d_to_g st r k)
       unfolding d_to_g
-      d_to_g-says k = says_if (used_up st) (no_number_lem st r) (waiting_or_new st r k) (no_number_lem st) (waiting_or_new-says k)
+      d_to_g-says k = says_if (used_up st) (no_number st r) (waiting_or_new st r k) (no_number_lem st) (waiting_or_new-says k)
 
     module _ (st : Station) (s : Stored c st) (i : ℕ) where
       redial-says : (o : Dealing) (g : Option ℕ) → i < length c.channels → request_keeps c o.request ≡ true → Says c (redial i o g st r)

@@ -1,4 +1,6 @@
 // The actions that are handed out, each made with its payload.
+#![tactic(auto)]
+
 pub mod deeds;
 pub mod sequences;
 
@@ -18,7 +20,7 @@ pub const ROOM: usize = ACTIONS * BLOCK;
 pub const UNABLE_SLOT: SlotNumber = SlotNumber(255);
 
 // One action: its kind, its slot, how much of its payload counts, and the payload.
-#[derive(Drop)]
+#[derive(Clone, Copy)]
 pub struct Action {
     pub kind: u8,
     pub slot: SlotNumber,
@@ -27,7 +29,7 @@ pub struct Action {
 }
 
 // Who ends a call.
-#[derive(Drop)]
+#[derive(Clone, Copy)]
 pub enum Ender {
     Ship,
     Coast,

@@ -1,0 +1,18 @@
+use Rattle.actions.proofs.ActionLaws.{both}
+use Rattle.actions.specs.Blocks.{action_of, span, charge_bytes}
+use Rattle.units.specs.Units.{whole_seconds}
+use Rattle.actions.specs.Blocks.{action_of}
+use Rattle.rules.specs.Rules.Bytes.{padded}
+use native.Mathlib.Omega.{arith}
+use mathlib.Core.Path.{◌≡◌}
+use Rattle.actions.proofs.deeds.charge.Goals as goal
+
+pub returns-clause-value : goal.returns-clause-value
+unfolding action_of padded
+returns-clause-value c = let a = c.args in
+    let e : c.count-seconds.result ≡ (whole_seconds (span a.start a.stop)).0 = rw (c.count-seconds.ensures, c.whole_seconds-charged.ensures, c.span_of-span.ensures) in
+    rw (← e)
+
+pub returns-clause-result_value : goal.returns-clause-result_value
+returns-clause-result_value c = let a = c.args in
+    (both 7 a.slot.0 (charge_bytes a.ship a.start a.stop a.call) _ (omega arith) (returns-clause-value c)).1
