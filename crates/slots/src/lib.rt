@@ -1,4 +1,6 @@
 // The slots and the waiting ships of a station, and what of a phase decides, in one place, where a new phase is thought of.
+#![tactic(auto)]
+
 pub mod laying;
 pub mod mast;
 pub mod numbers;
@@ -43,14 +45,14 @@ pub const RINGING_WAIT: Tenths = Tenths(600);
 pub const HOLD_WAIT: Tenths = Tenths(40);
 
 // The carrier of a call, and when its absence falls due.
-#[derive(Drop)]
+#[derive(Clone, Copy)]
 pub enum Carrier {
     Present,
     Lost(Tenths),
 }
 
 // Each with its due time; an answered call with the time since when. They stand in the order of their numbers in the lent layout.
-#[derive(Drop)]
+#[derive(Clone, Copy)]
 pub enum Phase {
     Free,
     Offered(Tenths),
@@ -68,7 +70,7 @@ pub enum Phase {
 }
 
 // The time of a phase: none; the due time of a wait, and how long that is; since when a call is answered.
-#[derive(Drop)]
+#[derive(Clone, Copy)]
 pub enum Span {
     Untimed,
     Until(Tenths, Tenths),
@@ -76,7 +78,7 @@ pub enum Span {
 }
 
 // What is told of a slot's line ashore, and of the ship's carrier.
-#[derive(Drop)]
+#[derive(Clone, Copy)]
 pub enum Signal {
     LineDialledOut,
     LineLifted,
@@ -86,13 +88,13 @@ pub enum Signal {
 }
 
 // What the operator's hand does with a slot.
-#[derive(Drop)]
+#[derive(Clone, Copy)]
 pub enum Hand {
     Takes,
     GivesBack,
 }
 
-#[derive(Drop)]
+#[derive(Clone, Copy)]
 pub struct Slot {
     pub request: Request,
     pub channel: Channel,
@@ -100,18 +102,18 @@ pub struct Slot {
     pub phase: Phase,
 }
 
-#[derive(Drop)]
+#[derive(Clone, Copy)]
 pub struct Waiting {
     pub request: Request,
     pub due: Tenths,
 }
 
 // A place in the queue, 0 the oldest's.
-#[derive(Drop)]
+#[derive(Clone, Copy)]
 pub struct QueuePlace(pub u8);
 
 // Which wait falls due: a place in the queue, a slot's carrier loss, a slot's other wait.
-#[derive(Drop)]
+#[derive(Clone, Copy)]
 pub enum Wait {
     Entry(QueuePlace),
     Loss(SlotNumber),
@@ -119,34 +121,34 @@ pub enum Wait {
 }
 
 // When a wait falls due, if it runs.
-#[derive(Drop)]
+#[derive(Clone, Copy)]
 pub enum When {
     Never,
     At(Tenths),
 }
 
-#[derive(Drop)]
+#[derive(Clone, Copy)]
 pub enum Due {
     Never,
     In(Tenths, Wait),
 }
 
 // A slot looked for.
-#[derive(Drop)]
+#[derive(Clone, Copy)]
 pub enum Found {
     At(SlotNumber),
     Nothing,
 }
 
 // A place in the queue looked for.
-#[derive(Drop)]
+#[derive(Clone, Copy)]
 pub enum Place {
     At(QueuePlace),
     Nothing,
 }
 
 // Where a ship stands: in a slot, or at a place in the queue.
-#[derive(Drop)]
+#[derive(Clone, Copy)]
 pub enum Standing {
     Nowhere,
     Holds(SlotNumber),

@@ -6,7 +6,7 @@ ghost use Rattle.slots.specs.Views.{named};
 
 use sequence::parts::is_coast;
 
-#[derive(Drop)]
+#[derive(Clone, Copy)]
 pub struct Mast {
     pub identity: u32,
 }
