@@ -1,4 +1,6 @@
 // A slot or a place looked for: the lowest free, the one whose channel is named, the one where a ship stands or that keeps its request.
+#![tactic(auto)]
+
 ghost use Rattle.std.specs.Prelude.{◌≡◌, ◌<◌};
 ghost use Rattle.std.proofs.Math.Option.{none};
 ghost use Rattle.rules.specs.Rules.Places.{lowest};
