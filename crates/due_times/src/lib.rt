@@ -1,4 +1,6 @@
 // When a wait falls due, and which of two falls due first.
+#![tactic(auto)]
+
 ghost use Rattle.std.specs.Prelude.{◌≡◌, min};
 ghost use Rattle.units.specs.Units.{greatest};
 ghost use Rattle.rules.specs.Rules.Places.{is_some};
