@@ -1,4 +1,6 @@
 // The block of an action, laid into the room that is lent.
+#![tactic(auto)]
+
 ghost use Rattle.std.specs.Prelude.{◌≡◌, min, length};
 ghost use Rattle.actions.specs.Blocks.{action_block};
 ghost use Rattle.blocks.specs.Laid.{lay_count, lay_room};
