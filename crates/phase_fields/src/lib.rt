@@ -1,4 +1,6 @@
 // A phase as the numbers that a lent slot holds of it, and the phase that such numbers stand for.
+#![tactic(auto)]
+
 ghost use Rattle.std.specs.Prelude.{◌≡◌};
 ghost use Rattle.units.specs.declared.Lasted.TheVariants.{Nothing};
 ghost use Rattle.slots.specs.declared.Carrier.TheVariants.{Present};
@@ -8,13 +10,13 @@ ghost use Rattle.phase_fields.specs.Phases.{ashore_from, phase_from};
 use slots::{Carrier, Phase};
 use units::{Duration, GREATEST, Lasted, Tenths};
 
-#[derive(Drop)]
+#[derive(Clone, Copy)]
 pub struct CarrierFields {
     pub mark: u8,
     pub due: u32,
 }
 
-#[derive(Drop)]
+#[derive(Clone, Copy)]
 pub struct LastedFields {
     pub mark: u8,
     pub hours: u8,
@@ -22,7 +24,7 @@ pub struct LastedFields {
     pub seconds: u8,
 }
 
-#[derive(Drop)]
+#[derive(Clone, Copy)]
 pub struct PhaseFields {
     pub kind: u8,
     pub time: u32,
