@@ -1,4 +1,6 @@
 // A sequence's channel field as the numbers that lent bytes hold of it, and the field that such numbers stand for.
+#![tactic(auto)]
+
 ghost use Rattle.std.specs.Prelude.{◌≡◌};
 ghost use Rattle.channel_fields.specs.ChannelFields.{field_bytes, no_field, field_from};
 
@@ -6,7 +8,7 @@ use sequence::Field;
 use units::{Channel, Duration};
 
 // The kind of a channel field, and what it holds.
-#[derive(Drop)]
+#[derive(Clone, Copy)]
 pub struct FieldBytes {
     pub kind: u8,
     pub first: u8,
