@@ -1,4 +1,6 @@
 // Whether no number stands twice.
+#![tactic(auto)]
+
 ghost use Rattle.std.specs.Prelude.{◌≡◌, eqb};
 ghost use Rattle.rules.specs.Rules.Places.{elem, distinct};
 
