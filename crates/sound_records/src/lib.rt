@@ -1,4 +1,6 @@
 // Whether one record of a station keeps document 01's rules: its channel, what it stores, its times, its unused digits.
+#![tactic(auto)]
+
 ghost use Rattle.std.specs.Prelude.{◌≡◌};
 ghost use Rattle.sound_records.specs.Kept.{slot_sound, waiting_sound};
 
