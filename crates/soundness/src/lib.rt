@@ -1,4 +1,6 @@
 // What a station is held to beside its single records: identity, clock, counts, and channels of which none stands twice.
+#![tactic(auto)]
+
 ghost use Rattle.std.specs.Prelude.{◌≡◌, ◌<◌};
 ghost use Rattle.rules.specs.Rules.Sound.{channels_keep, config_keeps};
 ghost use Rattle.requests.specs.Views.{viewed};
