@@ -1,4 +1,6 @@
 // What a sequence says to a station: its kind, and who asks for what.
+#![tactic(auto)]
+
 ghost use Rattle.std.specs.Prelude.{◌≡◌, ◌||◌};
 ghost use Rattle.sequence.specs.Figures.{first_simplex, first_duplex, end_last};
 ghost use Rattle.rules.specs.Rules.Words as W;
@@ -20,7 +22,7 @@ use slots::{Found, SLOTS, Slot};
 use units::SlotNumber;
 
 // Document 01's kinds of sequences, and 02's "BQ with 104"; another BQ names the channel of a slot.
-#[derive(Drop)]
+#[derive(Clone, Copy)]
 pub enum HeardKind {
     CallRequest,
     DataRequest,
@@ -32,7 +34,7 @@ pub enum HeardKind {
 }
 
 // The request of a kind that asks for nothing tells who sent it.
-#[derive(Drop)]
+#[derive(Clone, Copy)]
 pub struct Heard {
     pub kind: HeardKind,
     pub request: Request,
