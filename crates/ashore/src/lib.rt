@@ -1,4 +1,6 @@
 // What a caller ashore asks for: judged, and stored as a request.
+#![tactic(auto)]
+
 ghost use Rattle.std.specs.Prelude.{◌≡◌, min};
 ghost use Rattle.sequence.specs.Figures.{most_digits};
 ghost use Rattle.rules.specs.Rules.Bytes.{number_of};
@@ -10,6 +12,9 @@ ghost use Rattle.ashore.specs.Stored.{stored_digit, stored_digits, request_from}
 use requests::{Mode, Request};
 use sequence::{DIGITS, FIRST_DUPLEX, FIRST_SIMPLEX, Number, UNTOLD};
 use slots::mast::Mast;
+
+// "19 for a bad number": a digit is 0 to 9
+const LARGEST_DIGIT: u32 = 9;
 
 // "The mode is 100 or 101".
 pub fn is_mode(mode: u32) -> bool
@@ -30,7 +35,7 @@ pub fn digits_keep(digits: &[u32]) -> bool
     }
     let mut i = 0;
     while i < digits.len() {
-        if 9 < digits[i] {
+        if LARGEST_DIGIT < digits[i] {
             return false;
         }
         i += 1;
