@@ -1,4 +1,6 @@
 // Which event is refused: the tests, in document 01's order, by what is seen of the station.
+#![tactic(auto)]
+
 ghost use Rattle.std.specs.Prelude.{◌≡◌};
 ghost use Rattle.std.proofs.Math.Option.{none};
 ghost use Rattle.sequence.specs.Answers.{answer_number, is_done};
@@ -12,7 +14,7 @@ use slots::Due;
 use units::{LIMIT, SlotNumber, Tenths};
 
 // Of a station: whether it is sound, its clock, how many slots it has, the wait that falls due first.
-#[derive(Drop)]
+#[derive(Clone, Copy)]
 pub struct Look {
     pub sound: bool,
     pub clock: Tenths,
@@ -20,7 +22,7 @@ pub struct Look {
     pub due: Due,
 }
 
-#[derive(Drop)]
+#[derive(Clone, Copy)]
 pub enum Verdict {
     Accepted,
     Refused(u8),
