@@ -1,18 +1,20 @@
 // What an event does to a station, as a value: an outcome names one slot and the queue, and holds no station.
+#![tactic(auto)]
+
 pub mod parts;
 
 use slots::{Phase, QueuePlace};
 use units::{Lasted, Tenths};
 
 // How far the call of a slot has come: nobody has answered, or somebody since then.
-#[derive(Drop)]
+#[derive(Clone, Copy)]
 pub enum Talk {
     Unanswered,
     Since(Tenths),
 }
 
 // What an event does. It holds no request: whose is meant is the slot's own, the one asked, or the oldest waiting ship's.
-#[derive(Drop)]
+#[derive(Clone, Copy)]
 pub enum Outcome {
     Ignored, // answered 1, all others 0
     Passes, // a tick with nothing due
@@ -40,7 +42,7 @@ pub enum Outcome {
 }
 
 // What becomes of the slot: another phase of its own call, or a new call for the one asked or the oldest waiting ship.
-#[derive(Drop)]
+#[derive(Clone, Copy)]
 pub enum Turn {
     Stays,
     Own(Phase),
@@ -49,7 +51,7 @@ pub enum Turn {
 }
 
 // What becomes of the queue: a ship leaves it, the one asked joins it with a due time, or asks for something else.
-#[derive(Drop)]
+#[derive(Clone, Copy)]
 pub enum QueueChange {
     Same,
     Leaves(QueuePlace),
