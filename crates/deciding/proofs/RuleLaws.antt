@@ -14,7 +14,7 @@ use Rattle.rules.specs.Rules.Waits.{of_queue}
 use Rattle.rules.specs.Rules.Station as R
 use Rattle.rules.specs.Rules.Station.{set_clock, kind_wait, reply_wait, carrier_wait, queue_wait, is_free, used_up}
 use Rattle.rules.specs.Rules.Requests.{ignored, coast_end, same, rule_a, no_number, afresh, rule_b, rule_c, rule_f, rule_g, redial, b_or_c, e_to_g, newcomer, waiting_or_new, d_to_g}
-use Rattle.rules.specs.Rules.Calls.{working_on, working_kind, bq_for, bq_kind, agreed, starts_ringing, dropped, declined_on, declined_kind, dialled_out_on, dialled_out_stage, off_hook_on, off_hook_stage, start_loss, down_on, up_on, up_kind, ship_end, ship_end_on, end_on, hung_on, hung_kind, signal_on, take_on, give_on, hand_on, pending_due, reply_due, main_on, fire, ticked}
+use Rattle.rules.specs.Rules.Calls.{working_on, working_kind, bq_for, bq_kind, agreed, dropped, declined_on, declined_kind, dialled_out_on, dialled_out_stage, off_hook_on, off_hook_stage, start_loss, down_on, up_on, up_kind, ship_end, ship_end_on, end_on, hung_on, hung_kind, signal_on, take_on, give_on, hand_on, pending_due, reply_due, main_on, fire, ticked}
 use Rattle.requests.specs.declared.Mode.{Mode}
 use Rattle.requests.specs.declared.Mode.TheVariants.{Simplex, Duplex}
 use Rattle.requests.specs.Views.{mode_of}

@@ -1,5 +1,7 @@
 // What each event does: by the slot's phase, and for a ship that stands nowhere; what the documents do not name is ignored. No rule
 // holds a station.
+#![tactic(auto)]
+
 ghost use Rattle.std.specs.Prelude.{◌≡◌};
 ghost use Rattle.deciding.specs.Decides.{dialled_out_by, off_hook_by, up_by, loss_from, down_by, coast_end_by, hung_by, working_by};
 ghost use Rattle.deciding.specs.Decides.{ship_end_by, bq_by};
