@@ -31,7 +31,7 @@ use Rattle.telling.specs.Tells.{scene_view, telling, free_say, close_of, say_of,
 -- ── one after the other ──────────────────────────────────────────────────────
 
 -- block number k to block number n, and the room before and after
-abbrev Tells : Scene → List Action → ℕ → List ℕ → ℕ → List ℕ → Type 0
+abbrev pub Tells : Scene → List Action → ℕ → List ℕ → ℕ → List ℕ → Type 0
 Tells s acts k room n after = (n ≡ (telling s acts k room).next) × (after ≡ (telling s acts k room).room)
 
 abbrev Lays : Made → ℕ → List ℕ → ℕ → List ℕ → Type 0

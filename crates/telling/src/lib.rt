@@ -1,4 +1,6 @@
 // What an outcome tells: the blocks of its actions, laid straight into the lent room.
+#![tactic(auto)]
+
 ghost use Rattle.std.specs.Prelude.{◌≡◌};
 ghost use Rattle.actions.specs.Blocks.{action_block};
 ghost use Rattle.actions.specs.Sent.{ender_of, sent_on};
@@ -19,7 +21,7 @@ use requests::Request;
 use units::{CallNumber, Channel, Lasted, SlotNumber, Tenths};
 
 // All that is asked of a station to carry an outcome out.
-#[derive(Drop)]
+#[derive(Clone, Copy)]
 pub struct Scene {
     pub clock: Tenths,
     pub slot: SlotNumber,
@@ -32,7 +34,7 @@ pub struct Scene {
 }
 
 // How the call of the slot is closed.
-#[derive(Drop)]
+#[derive(Clone, Copy)]
 enum Close {
     Leaves,
     CarrierOff,
@@ -41,7 +43,7 @@ enum Close {
     Again(Lasted),
 }
 
-#[derive(Drop)]
+#[derive(Clone, Copy)]
 enum Word {
     Dials,
     CallsOwn,
@@ -54,7 +56,7 @@ enum Word {
 }
 
 // What is then sent or dialled, with the carrier as it is or switched on.
-#[derive(Drop)]
+#[derive(Clone, Copy)]
 enum Say {
     Nothing,
     Plain(Word),
