@@ -21,7 +21,7 @@ use Rattle.blocks.specs.Laid.{Laid}
 use Rattle.blocks.proofs.LaidLaws.{laid-append}
 use Rattle.outcomes.specs.declared.Outcome.{Outcome}
 use Rattle.outcomes.specs.declared.Outcome.TheVariants.{Ignored, Passes, Turns, Dials, RingsBackAgain, Frees, Clears, CoastEnds, ShipEnds, SaysAgain, Repeats, Renews, Redials, Offers, Joins, Replaces, Unable, Drops, Calls, CallsAgain, StartsRinging, Transmits, DropsCall}
-use Rattle.outcomes.specs.Does.{goes_on_lem, out_of, without_slot, behind, whole_of}
+use Rattle.outcomes.specs.Does.{goes_on, out_of, without_slot, behind, whole_of}
 use Rattle.station.specs.declared.Station.{Station}
 use Rattle.station.specs.declared.Stepped.{Stepped}
 use Rattle.station.specs.Model.{model_of, config_of, image_of}
@@ -65,7 +65,7 @@ freed-fits c i st f = back (used_up st)
     back false = go st.queue f.few_wait f.short_queue
 
 -- what goes on behind frees the slot first
-on-frees : (i : ℕ) (own : R.Dealing) (q : Request) (st : R.Station) (o : Outcome) → cond (goes_on_lem o) (out_of i own q o st).next (freed i st).next ≡ (freed i st).next
+on-frees : (i : ℕ) (own : R.Dealing) (q : Request) (st : R.Station) (o : Outcome) → cond (goes_on o) (out_of i own q o st).next (freed i st).next ≡ (freed i st).next
 unfolding out_of coast_end
 on-frees i own q st Ignored = refl
 on-frees i own q st Passes = refl
@@ -99,7 +99,7 @@ freed-clock i st = go (to_ring_back st)
     go [] = refl
     go (w ∷ q) = refl
 
-module _ (s : Station) (t : Tenths) (i : SlotNumber) (q : Request) (o : Outcome) (on : goes_on_lem o ≡ true) where
+module _ (s : Station) (t : Tenths) (i : SlotNumber) (q : Request) (o : Outcome) (on : goes_on o ≡ true) where
   frees : (out_at s t i q o).next ≡ (freed i.0 (set_clock t.0 (model_of s))).next
   unfolding out_at
   frees = rw on at (on-frees i.0 (own_of s i.0) q (set_clock t.0 (model_of s)) o)
@@ -137,16 +137,16 @@ module _ (s : Station) (t : Tenths) (i : SlotNumber) (q : Request) (o : Outcome)
 -- ── and what goes on behind it ───────────────────────────────────────────────
 
 module _ (s : Station) (t : Tenths) (i : SlotNumber) (q : Request) (o : Outcome) where
-  pub ended : goes_on_lem o ≡ false → whole_at s t i q o ≡ out_at s t i q o
+  pub ended : goes_on o ≡ false → whole_at s t i q o ≡ out_at s t i q o
   unfolding whole_at out_at
   ended h = ends_there i.0 (own_of s i.0) q o (set_clock t.0 (model_of s)) h
 
-  followed : goes_on_lem o ≡ true → whole_at s t i q o ≡ also (out_at s t i q o).acts (without_slot q (out_at s t i q o).next)
+  followed : goes_on o ≡ true → whole_at s t i q o ≡ also (out_at s t i q o).acts (without_slot q (out_at s t i q o).next)
   unfolding whole_at whole_of behind out_at
   followed h = rw h
 
   -- the outcome p of the slot j goes on, for a ship that has no slot
-  module _ (on : goes_on_lem o ≡ true) (next : Station) (left : model_of next ≡ (out_at s t i q o).next) (clock : (out_at s t i q o).next.clock ≡ t.0)
+  module _ (on : goes_on o ≡ true) (next : Station) (left : model_of next ≡ (out_at s t i q o).next) (clock : (out_at s t i q o).next.clock ≡ t.0)
       (j : SlotNumber) (p : Outcome) (goes : (u : ℕ) (own : R.Dealing) → out_of j.0 own q p (set_clock u (model_of next)) ≡ without_slot q (set_clock u (model_of next))) where
     goes-is : out_at next t j q p ≡ without_slot q (out_at s t i q o).next
     unfolding out_at

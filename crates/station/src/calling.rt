@@ -49,6 +49,8 @@ impl Station {
     }
 
     // d to g, for a ship that has no slot.
+    // Called, not inlined: its copies of a station are off the stack again when the outcome is enacted.
+    #[inline(never)]
     fn without_slot(self, request: Request) -> Choice
         ensures { (t : ℕ) (own : Dealing)
             → out_of result.slot.0 own (request_of request) result.outcome (set_clock t (model_of self))
@@ -166,6 +168,8 @@ impl Station {
     }
 
     // What was heard, at the time t.
+    // Called, not inlined, as `without_slot` is.
+    #[inline(never)]
     fn choice(self, time: Tenths, heard: Heard) -> Choice
         requires { time.0 ≤ limit }
         ensures { chosen_at self time result heard.request ≡ heard_on70 (model_at self time) (heard_of heard) }

@@ -1,4 +1,6 @@
 // The station of the rack, by value: set-up, and one method for each kind of event.
+#![tactic(auto)]
+
 mod applying;
 mod calling;
 mod enacting;
@@ -18,7 +20,7 @@ use slots::{Hand, QUEUE_ROOM, SLOTS, Signal, Slot, Waiting};
 use units::{CallNumber, SlotNumber, Tenths};
 
 // One slot for each of `count` channels, and `waiting` ships, oldest first. As its fields stand here, the compiler copies a station less.
-#[derive(Drop)]
+#[derive(Clone, Copy)]
 pub struct Station {
     pub clock: Tenths,
     pub mast: Mast,
@@ -29,14 +31,14 @@ pub struct Station {
     pub waiting: u8,
 }
 
-#[derive(Drop)]
+#[derive(Clone, Copy)]
 pub enum NextDue {
     Never,
     At(Tenths),
 }
 
 // What an event hands back: the next station, the next due time, the answer's number, the count of actions.
-#[derive(Drop)]
+#[derive(Clone, Copy)]
 pub struct Stepped {
     pub station: Station,
     pub due: NextDue,
@@ -45,21 +47,21 @@ pub struct Stepped {
 }
 
 // What set-up hands back: the answer's number, and with 36 the blank station.
-#[derive(Drop)]
+#[derive(Clone, Copy)]
 pub struct SetUp {
     pub answer: u8,
     pub station: Station,
 }
 
 // What happens on a slot and is no sequence.
-#[derive(Drop)]
+#[derive(Clone, Copy)]
 pub enum Plain {
     Signal(Signal),
     Hand(Hand),
 }
 
 // What is done, and to which slot.
-#[derive(Drop)]
+#[derive(Clone, Copy)]
 struct Choice {
     slot: SlotNumber,
     outcome: Outcome,
