@@ -1,4 +1,6 @@
 // The station in bytes that a host lends: laid out by one list of fields, and read back.
+#![tactic(auto)]
+
 ghost use Rattle.std.specs.Prelude.{◌≡◌, ◌+◌, ◌*◌, ◌≤◌, length};
 ghost use Rattle.layouts.specs.Fields.{decode, laid};
 ghost use Rattle.layouts.specs.Records.{records_at};

@@ -1,0 +1,18 @@
+use native.Mathlib.Omega.{arith}
+use native.Mathlib.Nat.{add-zero}
+use Rattle.lent_layout.specs.Layout.{request_fields, waiting_fields}
+use Rattle.lent_layout.specs.Numbers.{waiting_from}
+use Rattle.layouts.proofs.RecordLaws.{decode-further}
+use Rattle.lent_layout.proofs.records.waiting_at.Goals as goal
+
+pub request_at-request-requires : goal.request_at-request-requires
+unfolding waiting_fields request_fields
+request_at-request-requires c = omega arith
+
+pub four_at-requires : goal.four_at-requires
+unfolding waiting_fields request_fields
+four_at-requires c = omega arith
+
+pub returns : goal.returns
+unfolding waiting_from waiting_fields
+returns c = rw (decode-further request_fields c.args.bytes.now c.args.place 4 0, add-zero c.args.place, c.four_at.ensures, c.request_at-request.ensures)
