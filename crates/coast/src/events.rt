@@ -39,8 +39,7 @@ pub(crate) fn hand_back(stepped: Stepped, station: &mut [u8]) -> u64
 }
 
 // The time has come.
-#[unsafe(no_mangle)]
-pub extern "C" fn coast_tick(station: &mut [u8], time: u32, room: &mut [u8]) -> u64
+pub fn coast_tick(station: &mut [u8], time: u32, room: &mut [u8]) -> u64
     ensures value { result ≡ returned station.old (event_at time tick room.old) }
     ensures station_kept { station.new ≡ station_after station.old (event_at time tick room.old) }
     ensures room_written { room.new ≡ room_left station.old room.old (event_at time tick room.old) }
@@ -51,8 +50,7 @@ pub extern "C" fn coast_tick(station: &mut [u8], time: u32, room: &mut [u8]) -> 
 }
 
 // A sequence was heard on channel 70.
-#[unsafe(no_mangle)]
-pub extern "C" fn coast_heard_on_channel_70(
+pub fn coast_heard_on_channel_70(
     station: &mut [u8],
     time: u32,
     symbols: &[u8],
@@ -70,8 +68,7 @@ pub extern "C" fn coast_heard_on_channel_70(
 }
 
 // A sequence was heard on a slot's working channel.
-#[unsafe(no_mangle)]
-pub extern "C" fn coast_heard_on_slot(
+pub fn coast_heard_on_slot(
     station: &mut [u8],
     time: u32,
     slot: u32,
@@ -101,8 +98,7 @@ fn plainly(what: Plain, station: &mut [u8], time: u32, slot: u32, room: &mut [u8
 }
 
 // The ship's carrier comes.
-#[unsafe(no_mangle)]
-pub extern "C" fn coast_carrier_up(station: &mut [u8], time: u32, slot: u32, room: &mut [u8]) -> u64
+pub fn coast_carrier_up(station: &mut [u8], time: u32, slot: u32, room: &mut [u8]) -> u64
     ensures value { result ≡ returned station.old (slot_at time slot carrier_up room.old) }
     ensures station_kept { station.new ≡ station_after station.old (slot_at time slot carrier_up room.old) }
     ensures room_written { room.new ≡ room_left station.old room.old (slot_at time slot carrier_up room.old) }
@@ -117,13 +113,7 @@ pub extern "C" fn coast_carrier_up(station: &mut [u8], time: u32, slot: u32, roo
 }
 
 // The ship's carrier goes.
-#[unsafe(no_mangle)]
-pub extern "C" fn coast_carrier_down(
-    station: &mut [u8],
-    time: u32,
-    slot: u32,
-    room: &mut [u8],
-) -> u64
+pub fn coast_carrier_down(station: &mut [u8], time: u32, slot: u32, room: &mut [u8]) -> u64
     ensures value { result ≡ returned station.old (slot_at time slot carrier_down room.old) }
     ensures station_kept { station.new ≡ station_after station.old (slot_at time slot carrier_down room.old) }
     ensures room_written { room.new ≡ room_left station.old room.old (slot_at time slot carrier_down room.old) }
@@ -138,13 +128,7 @@ pub extern "C" fn coast_carrier_down(
 }
 
 // Ashore the exchange has dialled the number.
-#[unsafe(no_mangle)]
-pub extern "C" fn coast_dialling_ended(
-    station: &mut [u8],
-    time: u32,
-    slot: u32,
-    room: &mut [u8],
-) -> u64
+pub fn coast_dialling_ended(station: &mut [u8], time: u32, slot: u32, room: &mut [u8]) -> u64
     ensures value { result ≡ returned station.old (slot_at time slot dialling_ended room.old) }
     ensures station_kept { station.new ≡ station_after station.old (slot_at time slot dialling_ended room.old) }
     ensures room_written { room.new ≡ room_left station.old room.old (slot_at time slot dialling_ended room.old) }
@@ -159,8 +143,7 @@ pub extern "C" fn coast_dialling_ended(
 }
 
 // Ashore the handset is lifted.
-#[unsafe(no_mangle)]
-pub extern "C" fn coast_off_hook(station: &mut [u8], time: u32, slot: u32, room: &mut [u8]) -> u64
+pub fn coast_off_hook(station: &mut [u8], time: u32, slot: u32, room: &mut [u8]) -> u64
     ensures value { result ≡ returned station.old (slot_at time slot off_hook room.old) }
     ensures station_kept { station.new ≡ station_after station.old (slot_at time slot off_hook room.old) }
     ensures room_written { room.new ≡ room_left station.old room.old (slot_at time slot off_hook room.old) }
@@ -169,8 +152,7 @@ pub extern "C" fn coast_off_hook(station: &mut [u8], time: u32, slot: u32, room:
 }
 
 // Ashore it is put down.
-#[unsafe(no_mangle)]
-pub extern "C" fn coast_on_hook(station: &mut [u8], time: u32, slot: u32, room: &mut [u8]) -> u64
+pub fn coast_on_hook(station: &mut [u8], time: u32, slot: u32, room: &mut [u8]) -> u64
     ensures value { result ≡ returned station.old (slot_at time slot on_hook room.old) }
     ensures station_kept { station.new ≡ station_after station.old (slot_at time slot on_hook room.old) }
     ensures room_written { room.new ≡ room_left station.old room.old (slot_at time slot on_hook room.old) }
@@ -179,8 +161,7 @@ pub extern "C" fn coast_on_hook(station: &mut [u8], time: u32, slot: u32, room: 
 }
 
 // The operator takes a free slot.
-#[unsafe(no_mangle)]
-pub extern "C" fn coast_take(station: &mut [u8], time: u32, slot: u32, room: &mut [u8]) -> u64
+pub fn coast_take(station: &mut [u8], time: u32, slot: u32, room: &mut [u8]) -> u64
     ensures value { result ≡ returned station.old (slot_at time slot takes room.old) }
     ensures station_kept { station.new ≡ station_after station.old (slot_at time slot takes room.old) }
     ensures room_written { room.new ≡ room_left station.old room.old (slot_at time slot takes room.old) }
@@ -189,8 +170,7 @@ pub extern "C" fn coast_take(station: &mut [u8], time: u32, slot: u32, room: &mu
 }
 
 // The operator gives a taken slot back.
-#[unsafe(no_mangle)]
-pub extern "C" fn coast_give_back(station: &mut [u8], time: u32, slot: u32, room: &mut [u8]) -> u64
+pub fn coast_give_back(station: &mut [u8], time: u32, slot: u32, room: &mut [u8]) -> u64
     ensures value { result ≡ returned station.old (slot_at time slot gives_back room.old) }
     ensures station_kept { station.new ≡ station_after station.old (slot_at time slot gives_back room.old) }
     ensures room_written { room.new ≡ room_left station.old room.old (slot_at time slot gives_back room.old) }

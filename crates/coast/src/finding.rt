@@ -39,8 +39,7 @@ fn in_one_number(found: Found) -> u64
 }
 
 // Returns the length of the stretch that was found, its receiver and its place, in one number; the length 0 says 54.
-#[unsafe(no_mangle)]
-pub extern "C" fn coast_find_sequence(first: &[u8], second: &[u8]) -> u64
+pub fn coast_find_sequence(first: &[u8], second: &[u8]) -> u64
     ensures { result ≡ found_returned (found_in (in_reach first.now) (in_reach second.now)) }
 {
     in_one_number(find(in_reach(first), in_reach(second)))

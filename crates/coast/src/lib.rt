@@ -1,4 +1,6 @@
-// All that a host in C calls, on numbers and byte slices; include/coast.h declares it.
+// All that a host in C calls, on numbers and byte slices; include/coast.h declares it, and the crate coast_c exports it.
+#![tactic(auto)]
+
 pub mod events;
 pub mod finding;
 pub mod sequences;

@@ -8,8 +8,7 @@ use sequence::LONGEST;
 use writing::write;
 
 // Reads a sequence into a meaning's lent bytes.
-#[unsafe(no_mangle)]
-pub extern "C" fn coast_read_sequence(symbols: &[u8], meaning: &mut [u8]) -> u32
+pub fn coast_read_sequence(symbols: &[u8], meaning: &mut [u8]) -> u32
     ensures value { result ≡ read_answer symbols.now (length meaning.old) }
     ensures meaning_written { meaning.new ≡ meaning_after symbols.now meaning.old }
 {
@@ -28,8 +27,7 @@ pub extern "C" fn coast_read_sequence(symbols: &[u8], meaning: &mut [u8]) -> u32
 }
 
 // Writes the sequence of a meaning in bytes, and returns the answer and 256 times the count of bytes written.
-#[unsafe(no_mangle)]
-pub extern "C" fn coast_write_sequence(meaning: &[u8], room: &mut [u8]) -> u32
+pub fn coast_write_sequence(meaning: &[u8], room: &mut [u8]) -> u32
     ensures value { result ≡ write_answer meaning.now (length room.old) }
     ensures room_written { room.new ≡ room_after_writing meaning.now room.old }
 {

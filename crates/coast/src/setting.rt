@@ -27,8 +27,7 @@ fn channels_in(bytes: &[u8]) -> [Channel; SLOTS]
 }
 
 // Sets a station up in a station's lent bytes: a slot for each channel, one a byte, in the list's order.
-#[unsafe(no_mangle)]
-pub extern "C" fn coast_set_up(identity: u32, channels: &[u8], station: &mut [u8]) -> u64
+pub fn coast_set_up(identity: u32, channels: &[u8], station: &mut [u8]) -> u64
     ensures value { result ≡ set_up_returned (given identity channels.now) station.old }
     ensures station_kept { station.new ≡ station_set_up (given identity channels.now) station.old }
 {
@@ -53,8 +52,7 @@ pub extern "C" fn coast_set_up(identity: u32, channels: &[u8], station: &mut [u8
 }
 
 // When the station must be handed a tick at the latest.
-#[unsafe(no_mangle)]
-pub extern "C" fn coast_next_due(station: &[u8]) -> u64
+pub fn coast_next_due(station: &[u8]) -> u64
     ensures { result ≡ due_returned (station_from station.now) }
 {
     let by_value = station_from(station);
@@ -65,8 +63,7 @@ pub extern "C" fn coast_next_due(station: &[u8]) -> u64
 }
 
 // The station's clock, from which a host goes on that comes back.
-#[unsafe(no_mangle)]
-pub extern "C" fn coast_clock(station: &[u8]) -> u64
+pub fn coast_clock(station: &[u8]) -> u64
     ensures { result ≡ clock_returned (station_from station.now) }
 {
     let by_value = station_from(station);

@@ -33,8 +33,7 @@ fn numbers_in(digits: &[u8]) -> [u32; LOOKED_AT]
 }
 
 // Ashore somebody calls a ship, in a mode; the digits, one a byte, are the caller's own number.
-#[unsafe(no_mangle)]
-pub extern "C" fn coast_call_from_ashore(
+pub fn coast_call_from_ashore(
     station: &mut [u8],
     time: u32,
     ship: u32,

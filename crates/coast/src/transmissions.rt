@@ -11,8 +11,7 @@ use sending::write_transmission;
 use sequence::LAST_SYMBOL;
 
 // The character of a symbol; of a number over 127 the first that is no character.
-#[unsafe(no_mangle)]
-pub extern "C" fn coast_write_character(symbol: u32) -> u32
+pub fn coast_write_character(symbol: u32) -> u32
     ensures { result ≡ character_of symbol }
 {
     if (LAST_SYMBOL as u32) < symbol {
@@ -22,8 +21,7 @@ pub extern "C" fn coast_write_character(symbol: u32) -> u32
 }
 
 // The symbol of a character, or none.
-#[unsafe(no_mangle)]
-pub extern "C" fn coast_read_character(character: u32) -> u32
+pub fn coast_read_character(character: u32) -> u32
     ensures { result ≡ symbol_of character }
 {
     if (NO_CHARACTER as u32) <= character {
@@ -33,8 +31,7 @@ pub extern "C" fn coast_read_character(character: u32) -> u32
 }
 
 // Writes the transmission of a sequence, and returns the answer and 256 times the count of characters written.
-#[unsafe(no_mangle)]
-pub extern "C" fn coast_write_transmission(symbols: &[u8], room: &mut [u8]) -> u32
+pub fn coast_write_transmission(symbols: &[u8], room: &mut [u8]) -> u32
     ensures value { result ≡ answer_with_count (transmission_written symbols.now (length room.old)) }
     ensures room_written { room.new ≡ room_after_writing symbols.now room.old }
 {
@@ -45,8 +42,7 @@ pub extern "C" fn coast_write_transmission(symbols: &[u8], room: &mut [u8]) -> u
 }
 
 // Reads a transmission, and returns the answer and 256 times the count of symbols read.
-#[unsafe(no_mangle)]
-pub extern "C" fn coast_read_transmission(characters: &[u8], room: &mut [u8]) -> u32
+pub fn coast_read_transmission(characters: &[u8], room: &mut [u8]) -> u32
     ensures value { result ≡ answer_with_count (transmission_read characters.now (length room.old)) }
     ensures room_written { room.new ≡ room_after_reading characters.now room.old }
 {
