@@ -7,6 +7,9 @@ ghost use Rattle.lines.specs.Readable.{says_form, says};
 use crate::{Command, Form};
 use slots::{Hand, Signal};
 
+// "a symbol over 255 .. : 40"
+const LARGEST_SYMBOL: u32 = 255;
+
 pub(crate) fn command_of(letter: u8) -> Command
     ensures { result ≡ command_of letter }
 {
@@ -32,7 +35,7 @@ fn are_symbols(numbers: &[u32]) -> bool
 {
     let mut i = 0;
     while i < numbers.len() {
-        if 255 < numbers[i] {
+        if LARGEST_SYMBOL < numbers[i] {
             return false;
         }
         i += 1;

@@ -7,6 +7,9 @@ ghost use Rattle.lines.specs.Found.{means, Within};
 
 use crate::{Field, Numbers};
 
+// "another number over 4,294,967,295 .. : 40"
+const LARGEST_NUMBER: u64 = 4294967295;
+
 fn is_digit(byte: u8) -> bool
     ensures { result ≡ is_digit byte }
 {
@@ -27,7 +30,7 @@ fn digits_from(text: &[u8], start: usize, before: u32) -> Field
             return Field::Number(value, i);
         }
         let more = value as u64 * 10 + (byte - 48) as u64;
-        if 4294967295 < more {
+        if LARGEST_NUMBER < more {
             return Field::Nothing;
         }
         value = more as u32;

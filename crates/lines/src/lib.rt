@@ -1,4 +1,6 @@
 // The lines of a script: what one says.
+#![tactic(auto)]
+
 ghost use Rattle.std.specs.Prelude.{◌≡◌, ◌≤◌};
 ghost use Rattle.std.proofs.Math.Option.{none};
 ghost use Rattle.lines.specs.Readable.{reads_as, line_image};
@@ -14,7 +16,7 @@ use slots::{Hand, Signal};
 pub const LONGEST_LINE: usize = 200;
 
 // What the letter of a line names; a line that is no event's is unreadable.
-#[derive(Drop)]
+#[derive(Clone, Copy)]
 pub enum Command {
     Unreadable,
     SetUp,
@@ -22,7 +24,7 @@ pub enum Command {
 }
 
 // What happens at its time, by the fields behind that: symbols, a slot with symbols, a slot, a ship with mode and digits, or nothing.
-#[derive(Drop)]
+#[derive(Clone, Copy)]
 pub enum Form {
     Symbols,
     SlotSymbols,
@@ -33,7 +35,7 @@ pub enum Form {
 }
 
 // What a line says: its command, and so many numbers behind the letter.
-#[derive(Drop)]
+#[derive(Clone, Copy)]
 pub struct Line {
     pub command: Command,
     pub count: usize,
@@ -41,7 +43,7 @@ pub struct Line {
 }
 
 // Numbers one space apart, where they are that.
-#[derive(Drop)]
+#[derive(Clone, Copy)]
 struct Numbers {
     readable: bool,
     count: usize,
@@ -49,7 +51,7 @@ struct Numbers {
 }
 
 // A number with the place behind it.
-#[derive(Drop)]
+#[derive(Clone, Copy)]
 enum Field {
     Nothing,
     Number(u32, usize),
