@@ -1,4 +1,6 @@
 // What a script prints.
+#![tactic(auto)]
+
 ghost use Rattle.std.specs.Prelude.{◌≡◌};
 ghost use Rattle.printing.specs.Replies.{reply_text, put_text, put_length};
 
