@@ -1,4 +1,6 @@
 // The script: lines in, answers out, with no station or one.
+#![tactic(auto)]
+
 mod desks;
 mod sessions;
 mod texts;
@@ -7,7 +9,7 @@ use lines::LONGEST_LINE;
 use station::Station;
 
 // No station, or one.
-#[derive(Drop)]
+#[derive(Clone, Copy)]
 pub struct Desk {
     pub stands: bool,
     pub station: Station,
@@ -17,20 +19,20 @@ pub struct Desk {
 pub const KEPT_BYTES: usize = LONGEST_LINE + 1;
 
 // The line so far, as much of it as is kept.
-#[derive(Drop)]
+#[derive(Clone, Copy)]
 pub struct Text {
     pub length: usize,
     pub bytes: [u8; KEPT_BYTES],
 }
 
-#[derive(Drop)]
+#[derive(Clone, Copy)]
 pub struct Session {
     pub desk: Desk,
     pub text: Text,
 }
 
 // What feeding hands back: how many bytes were used, how many bytes of answer stand in the room, and the next session.
-#[derive(Drop)]
+#[derive(Clone, Copy)]
 pub struct Fed {
     pub used: usize,
     pub count: usize,
@@ -38,7 +40,7 @@ pub struct Fed {
 }
 
 // What became of a line.
-#[derive(Drop)]
+#[derive(Clone, Copy)]
 struct Handled {
     answer: u8,
     count: u8,
