@@ -11,7 +11,7 @@ use Rattle.sequence.specs.Symbols.{within}
 use Rattle.sequence.proofs.Tests.{both_true}
 use Rattle.characters.specs.Code.{none}
 use Rattle.transmission.specs.Layout.{dx_phasing, rx_phasing}
-use Rattle.transmission.specs.Phasing.{heard_at, in_place_lem, dx_good, rx_good}
+use Rattle.transmission.specs.Phasing.{heard_at, in_place, dx_good, rx_good}
 
 -- the symbols of phasing
 abbrev pub of_phasing : ℕ → Bool
@@ -30,9 +30,9 @@ abbrev pub passing : (ℕ → ℕ → Bool) → List ℕ → ℕ → ℕ
 passing test [] place = 0
 passing test (symbol ∷ wanted) place = cond (test place symbol) 1 0 + passing test wanted (place + 2)
 
-in_place_lem : (t wanted : List ℕ) (place : ℕ) → in_place_lem t wanted place ≡ passing (λ q v. eqb (heard_at t q) v) wanted place
-in_place_lem t [] place = refl
-in_place_lem t (symbol ∷ wanted) place = ap (λ (n : ℕ). cond (eqb (heard_at t place) symbol) 1 0 + n) (in_place_lem t wanted (place + 2))
+in-place : (t wanted : List ℕ) (place : ℕ) → in_place t wanted place ≡ passing (λ q v. eqb (heard_at t q) v) wanted place
+in-place t [] place = refl
+in-place t (symbol ∷ wanted) place = ap (λ (n : ℕ). cond (eqb (heard_at t place) symbol) 1 0 + n) (in-place t wanted (place + 2))
 
 one_more : (a b : Bool) → (a ≡ true → b ≡ true) → cond a 1 0 ≤ cond b 1 0
 one_more false b h = omega arith
@@ -64,8 +64,8 @@ module _ (t : List ℕ) (start : ℕ) (test : ℕ → ℕ → Bool) where
   at_most h =
       let grows =
       passing-grows (λ q v. eqb (heard_at t q) v) test start 0 (λ q v l e. rw (zero-add q) (h q v l (eqb-true _ _ e))) in (
-        rw (in_place_lem t dx_phasing start) (rw (add-zero start) at (grows dx_phasing 0 dx-of-phasing)),
-        rw (in_place_lem t rx_phasing (start + 1)) (grows rx_phasing 1 rx-of-phasing),
+        rw (in-place t dx_phasing start) (rw (add-zero start) at (grows dx_phasing 0 dx-of-phasing)),
+        rw (in-place t rx_phasing (start + 1)) (grows rx_phasing 1 rx-of-phasing),
       )
 
   pub at_least : ((q symbol : ℕ) → of_phasing symbol ≡ true → test q symbol ≡ true → heard_at t (start + q) ≡ symbol)
@@ -74,6 +74,6 @@ module _ (t : List ℕ) (start : ℕ) (test : ℕ → ℕ → Bool) where
   at_least h =
       let grows =
       passing-grows test (λ q v. eqb (heard_at t q) v) 0 start (λ q v l e. eq-eqb _ _ (h q v l (rw (zero-add q) at e))) in (
-        rw (in_place_lem t dx_phasing start) (rw (add-zero start) at (grows dx_phasing 0 dx-of-phasing)),
-        rw (in_place_lem t rx_phasing (start + 1)) (grows rx_phasing 1 rx-of-phasing),
+        rw (in-place t dx_phasing start) (rw (add-zero start) at (grows dx_phasing 0 dx-of-phasing)),
+        rw (in-place t rx_phasing (start + 1)) (grows rx_phasing 1 rx-of-phasing),
       )

@@ -17,7 +17,7 @@ use Rattle.characters.proofs.CodeLaws.{NoneOrGood, none-or-good}
 use Rattle.transmission.specs.declared.Answer.TheVariants.{Done}
 use Rattle.transmission.specs.Answers.{is_done}
 use Rattle.transmission.specs.Phasing.{most_lost, heard, heard_at}
-use Rattle.transmission.specs.Copies.{copies_of, first_good_lem, symbol_at, symbols_from, copies_there}
+use Rattle.transmission.specs.Copies.{copies_of, first_good, symbol_at, symbols_from, copies_there}
 use Rattle.transmission.specs.Reading.{start_in, count_in, symbols_in, phasing_in, unread}
 use Rattle.transmission.specs.Reading.{copies_in, whole_in, reading_refusals, reading_answer}
 use Rattle.transmission.proofs.HeardLaws.{good-is-there, length-heard, heard-lost, heard-there}
@@ -32,12 +32,12 @@ record StandsAt (t places : List ℕ) (symbol : ℕ) : Type 0 where
   pub first : FirstOf t place places
   pub holds : heard_at t place ≡ symbol
 
-stands : (t places : List ℕ) → (first_good_lem t places ≡ none → ⊥) → StandsAt t places (first_good_lem t places)
+stands : (t places : List ℕ) → (first_good t places ≡ none → ⊥) → StandsAt t places (first_good t places)
 stands t [] bad = absurd (bad refl)
 stands t (place ∷ places) bad = go (which (eqb (heard_at t place) none)) (stands t places)
   where
-    go : Either (eqb (heard_at t place) none) → ((first_good_lem t places ≡ none → ⊥) → StandsAt t places (first_good_lem t places))
-        → StandsAt t (place ∷ places) (first_good_lem t (place ∷ places))
+    go : Either (eqb (heard_at t place) none) → ((first_good t places ≡ none → ⊥) → StandsAt t places (first_good t places))
+        → StandsAt t (place ∷ places) (first_good t (place ∷ places))
     go (yes! e) later =
         let l = later (rw e at bad) in
         rw e (record { place = l.place; first = behind (eqb-true _ _ e) l.first; holds = l.holds })
@@ -68,7 +68,7 @@ module _ (characters : List ℕ) (place : ℕ) (good : heard_at (heard character
           record {
             place = place - most_lost;
             there = omega (arith, not-lost, good-is-there (heard characters) place good, length-heard characters);
-            first_good_lem = rw its-place first;
+            first_good = rw its-place first;
             its-character = sym h.1 ∙ ap character_of its-symbol;
             is-symbol = rw its-symbol at h.0;
           }
