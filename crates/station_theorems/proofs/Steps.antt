@@ -13,7 +13,7 @@ use Rattle.rules.specs.Rules.Words.{Request, Config, ashore_in, Event, Signal, l
 use Rattle.rules.specs.Rules.Places.{Each}
 use Rattle.rules.specs.Rules.Station as R
 use Rattle.rules.specs.Rules.Station.{set_clock}
-use Rattle.rules.specs.Rules.Requests.{Out, ignored}
+use Rattle.rules.specs.Rules.Requests.{ignored}
 use Rattle.rules.specs.Rules.Calls.{act}
 use Rattle.rules.specs.Rules.Verdict.{refusals, verdict}
 use Rattle.rules.specs.Rules.Bytes.{blocks}
@@ -40,6 +40,7 @@ use Rattle.station_theorems.specs.Statement.{out_in, laid_out, RefusalsLeaveAll,
 use Rattle.station_theorems.proofs.ReadBack.{actions-back, deeds-back, shown-back, laid-back}
 use contract.Lifetimes.{Lfts}
 use denote.Ref.{Bor}
+use denote.MutBor.{MutBor}
 use Rattle.units.specs.declared.Tenths.{Tenths}
 use Rattle.units.specs.declared.SlotNumber.{SlotNumber}
 
@@ -72,14 +73,18 @@ lives = ([], life)
 abbrev pub lent : List ℕ → Bor (List ℕ)
 lent l = record { ref_ptr = (0, 0); now = l }
 
+-- and one that may be written through
+abbrev pub lent_mut : List ℕ → MutBor (List ℕ)
+lent_mut l = record { ref_ptr = (0, 0); ghost_name = 0; now = l }
+
 -- and one for every event on every station
 module _ (s : Station) (room : List ℕ) (time : ℕ) where
   abbrev timed : Tenths
   timed = record { 0 = time }
 
   -- the parameters of an event on a slot
-  abbrev onto : ℕ → List ℕ → Station × (Tenths × (SlotNumber × (Bor (List ℕ) × Unit {0})))
-  onto i l = (s, (timed, (record { 0 = i }, (lent l, tt))))
+  abbrev onto : ℕ → List ℕ → Station × (Tenths × (SlotNumber × (MutBor (List ℕ) × Unit {0})))
+  onto i l = (s, (timed, (record { 0 = i }, (lent_mut l, tt))))
 
   abbrev pub step_for : What → Step
   step_for w = step_of (event_at time w room) s room (stepped_by s (event_at time w room)) (room_after s room (event_at time w room))
@@ -92,13 +97,13 @@ module _ (s : Station) (room : List ℕ) (time : ℕ) where
   on-slot i (signal carrier_lost) = by-carrier-down life (onto i room) _ (onto i _) (refl, refl)
   on-slot i (operator hand_takes) = by-take-slot life (onto i room) _ (onto i _) (refl, refl)
   on-slot i (operator hand_gives) = by-give-back life (onto i room) _ (onto i _) (refl, refl)
-  on-slot i (heard m) = by-heard-on-slot lives (s, (timed, (record { 0 = i }, (lent m, (lent room, tt))))) _ (s, (timed, (record { 0 = i }, (lent m, (lent _, tt))))) (refl, refl)
+  on-slot i (heard m) = by-heard-on-slot lives (s, (timed, (record { 0 = i }, (lent m, (lent_mut room, tt))))) _ (s, (timed, (record { 0 = i }, (lent m, (lent_mut _, tt))))) (refl, refl)
 
   pub step-allowed : (w : What) → Allowed (step_for w)
-  step-allowed tick = by-tick life (s, (timed, (lent room, tt))) _ (s, (timed, (lent _, tt))) (refl, refl)
-  step-allowed (on_channel70 m) = by-heard-on-channel-70 lives (s, (timed, (lent m, (lent room, tt)))) _ (s, (timed, (lent m, (lent _, tt)))) (refl, refl)
+  step-allowed tick = by-tick life (s, (timed, (lent_mut room, tt))) _ (s, (timed, (lent_mut _, tt))) (refl, refl)
+  step-allowed (on_channel70 m) = by-heard-on-channel-70 lives (s, (timed, (lent m, (lent_mut room, tt)))) _ (s, (timed, (lent m, (lent_mut _, tt)))) (refl, refl)
   step-allowed (on_slot i h) = on-slot i h
-  step-allowed (from_ashore a) = by-call-from-ashore lives (s, (timed, (a.ship, (a.mode, (lent a.digits, (lent room, tt)))))) _ (s, (timed, (a.ship, (a.mode, (lent a.digits, (lent _, tt)))))) (refl, refl)
+  step-allowed (from_ashore a) = by-call-from-ashore lives (s, (timed, (a.ship, (a.mode, (lent a.digits, (lent_mut room, tt)))))) _ (s, (timed, (a.ship, (a.mode, (lent a.digits, (lent_mut _, tt)))))) (refl, refl)
 
 -- every signal and either hand: what holds of each
 abbrev pub signals : List Signal
