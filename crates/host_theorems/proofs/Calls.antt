@@ -9,7 +9,7 @@ use lib.Dec.{leb, eqb}
 use lib.ListN.{length}
 use borrow.Author.Tests.{le-leb, leb-true, ltb-true, eqb-true}
 use contract.Lifetimes.{Lfts}
-use denote.Ref.{Bor}
+use denote.MutBor.{MutBor}
 use Rattle.sequence.specs.Symbols.{within, all_at_most}
 use Rattle.sequence.specs.Identity.{is_ship}
 use Rattle.sequence.specs.Answers.{is_done}
@@ -28,7 +28,7 @@ use Rattle.station.specs.Step.{event_at, ashore_of, stepped_by}
 use Rattle.lent_layout.specs.Stations.{station_from}
 use Rattle.coast.specs.Events.{packed, returned, station_after, room_left}
 use Rattle.coast.proofs.Theorems.{taken-apart}
-use Rattle.station_theorems.proofs.Steps.{lives, lent}
+use Rattle.station_theorems.proofs.Steps.{lives, lent, lent_mut}
 use Rattle.host_theorems.specs.Calls.{Call, call_of, WhatInC, HappenedInC, Entered, by-tick, by-heard-on-channel-70, by-heard-on-slot, by-carrier-up, by-carrier-down, by-dialling-ended, by-off-hook, by-on-hook, by-take-slot, by-give-back, by-call-from-ashore}
 use Rattle.host_theorems.specs.Sequences.{InBytes}
 use Rattle.host_theorems.specs.Scripts.{AcceptedIsInC}
@@ -84,8 +84,8 @@ module _ (b room : List ℕ) (time : ℕ) where
   call_for w = call_of (event_at time w room) b room (returned b (event_at time w room)) (station_after b (event_at time w room)) (room_left b room (event_at time w room))
 
   -- the parameters of an event on a slot
-  abbrev onto : ℕ → List ℕ → List ℕ → Bor (List ℕ) × (ℕ × (ℕ × (Bor (List ℕ) × Unit {0})))
-  onto i bytes l = (lent bytes, (time, (i, (lent l, tt))))
+  abbrev onto : ℕ → List ℕ → List ℕ → MutBor (List ℕ) × (ℕ × (ℕ × (MutBor (List ℕ) × Unit {0})))
+  onto i bytes l = (lent_mut bytes, (time, (i, (lent_mut l, tt))))
 
   on-slot : (i : ℕ) (h : Happened) → Entered (call_for (on_slot i h))
   on-slot i (signal line_dialled_out) = by-dialling-ended lives (onto i b room) _ (onto i _ _) (refl, (refl, refl))
@@ -95,13 +95,13 @@ module _ (b room : List ℕ) (time : ℕ) where
   on-slot i (signal carrier_lost) = by-carrier-down lives (onto i b room) _ (onto i _ _) (refl, (refl, refl))
   on-slot i (operator hand_takes) = by-take-slot lives (onto i b room) _ (onto i _ _) (refl, (refl, refl))
   on-slot i (operator hand_gives) = by-give-back lives (onto i b room) _ (onto i _ _) (refl, (refl, refl))
-  on-slot i (heard m) = by-heard-on-slot more-lives (lent b, (time, (i, (lent m, (lent room, tt))))) _ (lent _, (time, (i, (lent m, (lent _, tt))))) (refl, (refl, refl))
+  on-slot i (heard m) = by-heard-on-slot more-lives (lent_mut b, (time, (i, (lent m, (lent_mut room, tt))))) _ (lent_mut _, (time, (i, (lent m, (lent_mut _, tt))))) (refl, (refl, refl))
 
   pub call-entered : (w : What) → Entered (call_for w)
-  call-entered tick = by-tick lives (lent b, (time, (lent room, tt))) _ (lent _, (time, (lent _, tt))) (refl, (refl, refl))
-  call-entered (on_channel70 m) = by-heard-on-channel-70 more-lives (lent b, (time, (lent m, (lent room, tt)))) _ (lent _, (time, (lent m, (lent _, tt)))) (refl, (refl, refl))
+  call-entered tick = by-tick lives (lent_mut b, (time, (lent_mut room, tt))) _ (lent_mut _, (time, (lent_mut _, tt))) (refl, (refl, refl))
+  call-entered (on_channel70 m) = by-heard-on-channel-70 more-lives (lent_mut b, (time, (lent m, (lent_mut room, tt)))) _ (lent_mut _, (time, (lent m, (lent_mut _, tt)))) (refl, (refl, refl))
   call-entered (on_slot i h) = on-slot i h
-  call-entered (from_ashore a) = by-call-from-ashore more-lives (lent b, (time, (a.ship, (a.mode, (lent a.digits, (lent room, tt)))))) _ (lent _, (time, (a.ship, (a.mode, (lent a.digits, (lent _, tt)))))) (refl, (refl, refl))
+  call-entered (from_ashore a) = by-call-from-ashore more-lives (lent_mut b, (time, (a.ship, (a.mode, (lent a.digits, (lent_mut room, tt)))))) _ (lent_mut _, (time, (a.ship, (a.mode, (lent a.digits, (lent_mut _, tt)))))) (refl, (refl, refl))
 
 -- ── what the rules accept C can hand in ──────────────────────────────────────
 

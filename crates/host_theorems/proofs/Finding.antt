@@ -1,5 +1,5 @@
 -- The finder that C calls: what its number says of the bytes.
-use Prim.Native.Nat.{ℕ, ◌+◌, ◌≤◌, ◌<◌}
+use Prim.Native.Nat.{ℕ, ◌≤◌, ◌<◌}
 use mathlib.Core.Path.{◌≡◌, refl, sym, ap, ◌∙◌}
 use mathlib.Core.Logic.{◌↔◌}
 use mathlib.Core.List.{List, ◌++◌}
@@ -15,7 +15,7 @@ use Rattle.lent_layout.specs.Meanings.{meaning_size}
 use Rattle.coast.specs.Finding.{receiver_number, found_returned}
 use Rattle.coast.proofs.FindLaws.{all-in-reach, found-taken-apart}
 use Rattle.host_theorems.specs.Sequences.{Passage, answer_of, written, ByWriter, CAnswersEveryInput}
-use Rattle.host_theorems.specs.Finding.{Find, ByFinder, by-find, length_of, receiver_of, place_of, heard, stretch, ReadAt, HoldsNone}
+use Rattle.host_theorems.specs.Finding.{Find, ByFinder, by-find, length_of, receiver_of, place_of, heard, ReadAt, HoldsNone}
 use Rattle.host_theorems.specs.Finding.{CFoundIsRead, CNothingEarlier, CEmptyExactly, COneLength, CWrittenFound, CFindsInAll}
 use Rattle.host_theorems.proofs.Sequences.{read_done, done-read, written-accepted, lives, slice, c-answers-every-input}
 

@@ -13,7 +13,7 @@ use Rattle.station.specs.Step.{channel_number, given, set_up_of}
 use Rattle.lent_layout.specs.Stations.{sized, station_bytes}
 use Rattle.lent_layout.proofs.FoundAgain.{handed-out-is-found-again}
 use Rattle.coast.specs.Events.{set_up_returned, station_set_up}
-use Rattle.station_theorems.proofs.Steps.{lives, lent}
+use Rattle.station_theorems.proofs.Steps.{lives, lent, lent_mut}
 use Rattle.host_theorems.specs.Calls.{Call, SetUpIn, by-set-up, HandsOn}
 use Rattle.host_theorems.specs.Scripts.{EveryScriptIsHosted}
 use Rattle.host_theorems.proofs.Calls.{call_for, call-entered}
@@ -52,7 +52,7 @@ numbers (n ∷ l) = ap (λ r. n ∷ r) (numbers l)
 begun : (identity : ℕ) (l : List ℕ) → set_up_verdict (given identity l) ≡ none → (b : List ℕ) → sized b ≡ true
     → SetUpIn (given identity l) (station_set_up (given identity l) b)
 unfolding set_up_returned
-begun identity l v b w = by-set-up lives (identity, (lent l, (lent b, tt))) 0 (identity, (lent l, (lent _, tt))) (rw (w, v), refl) refl
+begun identity l v b w = by-set-up lives (identity, (lent l, (lent_mut b, tt))) 0 (identity, (lent l, (lent_mut _, tt))) (rw (w, v), refl) refl
 
 pub every-script-is-hosted : EveryScriptIsHosted
 unfolding EveryScriptIsHosted

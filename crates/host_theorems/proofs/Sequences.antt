@@ -11,6 +11,7 @@ use lib.Seq.{take_at}
 use borrow.Author.Tests.{le-leb, leb-true}
 use contract.Lifetimes.{Lfts}
 use denote.Ref.{Bor}
+use denote.MutBor.{MutBor}
 use Rattle.sequence.specs.declared.Answer.{Answer}
 use Rattle.sequence.specs.declared.Answer.TheVariants.{Done, BadLength, BadSymbol, BadCheck, BadFormat, BadIdentities, BadCategory, BadTelecommands, BadField, BadNumber, BadEnd, ShortRoom}
 use Rattle.sequence.specs.declared.Meaning.{Meaning}
@@ -230,9 +231,13 @@ lives = ([], ([], tt))
 abbrev pub slice : List ℕ → Bor (List ℕ)
 slice l = record { ref_ptr = (0, 0); now = l }
 
+-- and one that may be written through
+abbrev pub slice_mut : List ℕ → MutBor (List ℕ)
+slice_mut l = record { ref_ptr = (0, 0); ghost_name = 0; now = l }
+
 pub c-answers-every-input : CAnswersEveryInput
 unfolding CAnswersEveryInput
 c-answers-every-input given lent = (
-  record { call = _; is_call = by_read lives (slice given, (slice lent, tt)) _ (slice given, (slice _, tt)) (refl, refl); is-given = refl; is-lent = refl },
-  record { call = _; is_call = by-write lives (slice given, (slice lent, tt)) _ (slice given, (slice _, tt)) (refl, refl); is-given = refl; is-lent = refl },
+  record { call = _; is_call = by_read lives (slice given, (slice_mut lent, tt)) _ (slice given, (slice_mut _, tt)) (refl, refl); is-given = refl; is-lent = refl },
+  record { call = _; is_call = by-write lives (slice given, (slice_mut lent, tt)) _ (slice given, (slice_mut _, tt)) (refl, refl); is-given = refl; is-lent = refl },
 )

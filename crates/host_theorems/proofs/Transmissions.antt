@@ -29,7 +29,7 @@ use Rattle.host_theorems.specs.Sequences.{Passage, answer_of, count_of, written,
 use Rattle.host_theorems.specs.Transmissions.{BySender, by-send, ByReceiver, by-receive, on_air, off_air, Sent, Received, ReadOff}
 use Rattle.host_theorems.specs.Transmissions.{CSendsAll, CReadsBack, CSequencesReadBack, CFiveMadeGood, CElevenLost}
 use Rattle.host_theorems.specs.Transmissions.{CWholeRead, CNothingElse, Withstood, spoiled, cut, amid, CMeaningOnAir, CAnswersOnAir}
-use Rattle.host_theorems.proofs.Sequences.{written-accepted, c-reads-what-was-written, lives, slice}
+use Rattle.host_theorems.proofs.Sequences.{written-accepted, c-reads-what-was-written, lives, slice, slice_mut}
 
 -- of all answers Done alone has the number 0
 pub done-is : (a : Answer) (count : ℕ) → (answer_number a + 256 * count) % 256 ≡ 0 → a ≡ Done
@@ -193,13 +193,13 @@ unfolding CAnswersOnAir
 c-answers-on-air given lent = (
   record {
     call = _;
-    is_call = by-send lives (slice given, (slice lent, tt)) _ (slice given, (slice _, tt)) (refl, refl);
+    is_call = by-send lives (slice given, (slice_mut lent, tt)) _ (slice given, (slice_mut _, tt)) (refl, refl);
     is-given = refl;
     is-lent = refl;
   },
   record {
     call = _;
-    is_call = by-receive lives (slice given, (slice lent, tt)) _ (slice given, (slice _, tt)) (refl, refl);
+    is_call = by-receive lives (slice given, (slice_mut lent, tt)) _ (slice given, (slice_mut _, tt)) (refl, refl);
     is-given = refl;
     is-lent = refl;
   },
