@@ -14,7 +14,7 @@ use Rattle.station.specs.declared.Station.{Station}
 use Rattle.station.specs.Step.{refusal, stepped_by, room_after}
 use Rattle.lent_layout.specs.Stations.{station_from}
 use Rattle.coast.specs.Events.{returned, room_left}
-use Rattle.coast.proofs.Theorems.{taken-apart, accepted-leaves-its-station, left_is}
+use Rattle.coast.proofs.Theorems.{taken-apart, accepted-leaves-its-station}
 use Rattle.station_theorems.proofs.Laid.{refusal_is}
 use Rattle.station_theorems.proofs.Steps.{step-allowed}
 use Rattle.host_theorems.specs.Calls as Host

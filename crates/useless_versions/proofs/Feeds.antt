@@ -30,9 +30,9 @@ use Rattle.script.specs.declared.Desk.{Desk}
 use Rattle.script.specs.declared.Fed.{Fed}
 use Rattle.script.specs.declared.Session.{Session}
 use Rattle.script.specs.declared.Text.{Text}
-use Rattle.script.specs.Answering.{desk, unchanged, after_set_up, after_event, asked_for, handled_for, blocks_for, clock_of, due_of, no_blocks, desk_after, reply_to}
-use Rattle.script.specs.Session.{no_text_lem, add_byte, add_bytes, says_text, before_feed, begun, answered, text_with, fed_with, room_with}
-use Rattle.station_theorems.proofs.Steps.{lives, lent}
+use Rattle.script.specs.Answering.{unchanged, after_set_up, after_event, asked_for, handled_for, blocks_for, clock_of, due_of, no_blocks, desk_after, reply_to}
+use Rattle.script.specs.Session.{no_text, add_byte, add_bytes, says_text, before_feed, begun, answered, text_with, fed_with, room_with}
+use Rattle.station_theorems.proofs.Steps.{lives, lent, lent_mut}
 use Rattle.useless_versions.specs.Feeds.{Feeding, Answered, FedBy, by-feed, Talked, begins, goes_on, Ends, Comes, printed_by, number_from, behind_space, line_feeds, signs, NoUselessFeed}
 use Rattle.useless_versions.proofs.ShutOut.{one, shut_out}
 use Rattle.useless_versions.proofs.Events.{set-up}
@@ -94,7 +94,7 @@ empty-ends s = record { ends = omega arith; roomy = big }
 abbrev said_s : Option Said
 said_s = some (set_up_said 2001234 (26 ∷ []))
 
-read-s : says_text (add_bytes no_text_lem (take (before_feed letter_s) letter_s)) ≡ said_s
+read-s : says_text (add_bytes no_text (take (before_feed letter_s) letter_s)) ≡ said_s
 unfolding add_byte says_text reads_as scan command_of is_digit
 read-s = refl
 
@@ -109,7 +109,7 @@ told-40 : (t n : ℕ) (d : NextDue) (blocks : List ℕ) → number_from 0 (reply
 unfolding reply_text head_text decimal shortened ten_digits is_digit
 told-40 t n d blocks = refl
 
-module _ (s : Session) (fresh : s.text ≡ no_text_lem) where
+module _ (s : Session) (fresh : s.text ≡ no_text) where
   says-s : said_in (feeding s letter_s) ≡ said_s
   says-s = ap (λ (t : Text). says_text (add_bytes t (take (before_feed letter_s) letter_s))) fresh ∙ read-s
 
@@ -292,13 +292,13 @@ next = back.fed.session
 
 talked : Talked (first ∷ []) next
 talked =
-    let fed = by-feed lives (begun, (lent (10 ∷ []), (lent first.room, tt))) _ (begun, (lent (10 ∷ []), (lent _, tt))) (refl, refl) in
+    let fed = by-feed lives (begun, (lent (10 ∷ []), (lent_mut first.room, tt))) _ (begun, (lent (10 ∷ []), (lent_mut _, tt))) (refl, refl) in
     goes_on [] first back (begins tt tt begun tt refl) fed
 
 next-is : next ≡ (answering first).session
 next-is = ap (λ (f : Fed). f.session) (fed-whole first (empty-ends begun))
 
-no_text_lem : next.text ≡ no_text_lem
+no_text_lem : next.text ≡ no_text
 no_text_lem = ap (λ (s : Session). s.text) next-is
 
 none-stands : next.desk.stands ≡ false
