@@ -1,4 +1,6 @@
 // Calls what no script can reach, and compares: stations made by hand, rooms, the last call numbers, and the writer's refusals.
+#![tactic(auto)]
+
 mod numbers;
 mod rooms;
 mod stations;
@@ -9,30 +11,30 @@ use crate::numbers::try_numbers;
 use crate::rooms::try_rooms;
 use crate::unsound::try_soundness;
 use crate::writer::try_writer;
+use std::io;
 
-fn say(text: &[u8]) {
-    io::write_all(1, text);
+fn say(rt: &impl Print, text: &[u8]) -> io::Result<()> {
+    rt.write_all(text)
 }
 
 // A case: its title, and the number given beside the number wanted.
-fn answered(title: &[u8], given: u8, wanted: u8) {
-    say(title);
+fn answered(rt: &impl Print, title: &[u8], given: u8, wanted: u8) -> io::Result<()> {
+    say(rt, title)?;
     if given == wanted {
-        say(b": ok\n");
-        return;
+        return say(rt, b": ok\n");
     }
-    say(b": WRONG, the answer was ");
-    io::print_decimal(1, given as u64);
-    say(b"\n");
+    say(rt, b": WRONG, the answer was ")?;
+    rt.print(given)?;
+    say(rt, b"\n")
 }
 
-fn main() {
-    say(b"stations made by hand\n");
-    try_soundness();
-    say(b"rooms\n");
-    try_rooms();
-    say(b"the last call numbers\n");
-    try_numbers();
-    say(b"the writer\n");
-    try_writer();
+fn main(rt: HostRuntime) -> io::Result<()> {
+    say(&rt, b"stations made by hand\n")?;
+    try_soundness(&rt)?;
+    say(&rt, b"rooms\n")?;
+    try_rooms(&rt)?;
+    say(&rt, b"the last call numbers\n")?;
+    try_numbers(&rt)?;
+    say(&rt, b"the writer\n")?;
+    try_writer(&rt)
 }

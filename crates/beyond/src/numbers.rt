@@ -3,6 +3,7 @@ use crate::answered;
 use crate::rooms::request;
 use crate::stations::busy_behind;
 use station::Station;
+use std::io;
 use units::Tenths;
 
 const LAST: u32 = 4294967295;
@@ -64,35 +65,60 @@ fn called_from_ashore(last: u32, ship: u32) -> u8 {
     stepped.answer
 }
 
-pub(crate) fn try_numbers() {
+pub(crate) fn try_numbers(rt: &impl Print) -> io::Result<()> {
     answered(
+        rt,
         b"with one number left rule c gives seven actions",
         redialled(ONE_LEFT),
         7,
-    );
+    )?;
     answered(
+        rt,
         b"the ring-back has the last number",
         last_rung_back(busy_behind(ONE_LEFT)),
         1,
-    );
-    answered(b"its caller is told 107", redialled_told(ONE_LEFT, 6), 107);
-    answered(b"with none left rule c gives five", redialled(LAST), 5);
-    answered(b"and its caller is told 107", redialled_told(LAST, 4), 107);
+    )?;
     answered(
+        rt,
+        b"its caller is told 107",
+        redialled_told(ONE_LEFT, 6),
+        107,
+    )?;
+    answered(rt, b"with none left rule c gives five", redialled(LAST), 5)?;
+    answered(
+        rt,
+        b"and its caller is told 107",
+        redialled_told(LAST, 4),
+        107,
+    )?;
+    answered(
+        rt,
         b"with one left a freed slot rings back: six",
         lost(ONE_LEFT),
         6,
-    );
-    answered(b"with none left nobody is rung back: four", lost(LAST), 4);
+    )?;
     answered(
+        rt,
+        b"with none left nobody is rung back: four",
+        lost(LAST),
+        4,
+    )?;
+    answered(
+        rt,
         b"a caller ashore takes the last number",
         called_from_ashore(ONE_LEFT, 200056791),
         0,
-    );
+    )?;
     answered(
+        rt,
         b"37 a caller ashore with none left",
         called_from_ashore(LAST, 200056791),
         37,
-    );
-    answered(b"38 before that", called_from_ashore(LAST, 200056789), 38);
+    )?;
+    answered(
+        rt,
+        b"38 before that",
+        called_from_ashore(LAST, 200056789),
+        38,
+    )
 }

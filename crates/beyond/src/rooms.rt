@@ -3,6 +3,7 @@ use crate::answered;
 use crate::stations::{busy, named};
 use check::same;
 use station::{Station, Stepped};
+use std::io;
 use units::Tenths;
 
 // What a case gets in place of an answer where a byte was written that should have stayed.
@@ -64,23 +65,30 @@ fn most_actions() -> u8 {
     stepped.count
 }
 
-pub(crate) fn try_rooms() {
+pub(crate) fn try_rooms(rt: &impl Print) -> io::Result<()> {
     let unsound = ticked_in(named(200056789), Tenths(1000), 319);
     let late = busy_in(Tenths(4000000001), 319);
-    answered(b"30 a room of 319 bytes", busy_in(Tenths(1000), 319), 30);
-    answered(b"30 no room at all", busy_in(Tenths(1000), 0), 30);
     answered(
+        rt,
+        b"30 a room of 319 bytes",
+        busy_in(Tenths(1000), 319),
+        30,
+    )?;
+    answered(rt, b"30 no room at all", busy_in(Tenths(1000), 0), 30)?;
+    answered(
+        rt,
         b"a room of 320 bytes is enough",
         busy_in(Tenths(1000), 320),
         0,
-    );
+    )?;
     answered(
+        rt,
         b"six actions, and the bytes after them stay",
         busy_in(Tenths(1451), 320),
         0,
-    );
-    answered(b"eight actions are the most: rule c", most_actions(), 8);
-    answered(b"29 before 30", unsound, 29);
-    answered(b"30 before 31", late, 30);
-    answered(b"30 before 32", busy_in(Tenths(999), 319), 30);
+    )?;
+    answered(rt, b"eight actions are the most: rule c", most_actions(), 8)?;
+    answered(rt, b"29 before 30", unsound, 29)?;
+    answered(rt, b"30 before 31", late, 30)?;
+    answered(rt, b"30 before 32", busy_in(Tenths(999), 319), 30)
 }

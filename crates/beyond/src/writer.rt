@@ -3,6 +3,7 @@ use crate::answered;
 use crate::rooms::{CHANGED, untouched_from};
 use crate::stations::{no_number, number_of};
 use sequence::{Field, Meaning, Number, Written};
+use std::io;
 use units::Channel;
 use writing::write;
 
@@ -49,7 +50,7 @@ fn on_channel(first: u8, channel: Channel) -> u8 {
     written(2001234, first, Field::Channel(channel), usual(), 117)
 }
 
-fn try_alone() {
+fn try_alone(rt: &impl Print) -> io::Result<()> {
     let short = written_in(27, 2001234, 101, Field::Blank, usual(), 117);
     let ships = written(200056790, 101, Field::Blank, usual(), 117);
     let unknown = written(2001234, 110, Field::Blank, usual(), 117);
@@ -59,19 +60,20 @@ fn try_alone() {
     let past = with_number(number_of(17, 0));
     let open = written(2001234, 101, Field::Blank, usual(), 118);
     answered(
+        rt,
         b"the writer writes the sequence's own bytes",
         with_number(usual()),
         0,
-    );
-    answered(b"21 a room of 27 bytes", short, 21);
-    answered(b"15 two ships", ships, 15);
-    answered(b"17 first telecommand 110", unknown, 17);
-    answered(b"18 channel 70", calling, 18);
-    answered(b"18 a channel in an end of call", ended, 18);
-    answered(b"19 no digit", with_number(no_number()), 19);
-    answered(b"19 an unused digit that is not 0", longer, 19);
-    answered(b"19 seventeen digits", past, 19);
-    answered(b"20 end of sequence 118", open, 20);
+    )?;
+    answered(rt, b"21 a room of 27 bytes", short, 21)?;
+    answered(rt, b"15 two ships", ships, 15)?;
+    answered(rt, b"17 first telecommand 110", unknown, 17)?;
+    answered(rt, b"18 channel 70", calling, 18)?;
+    answered(rt, b"18 a channel in an end of call", ended, 18)?;
+    answered(rt, b"19 no digit", with_number(no_number()), 19)?;
+    answered(rt, b"19 an unused digit that is not 0", longer, 19)?;
+    answered(rt, b"19 seventeen digits", past, 19)?;
+    answered(rt, b"20 end of sequence 118", open, 20)
 }
 
 // Each has channel 16 in its field, no number, and end of sequence 118.
@@ -80,24 +82,36 @@ fn refused(length: usize, address: u32, first: u8) -> u8 {
     written_in(length, address, first, field, no_number(), 118)
 }
 
-fn try_order() {
+fn try_order(rt: &impl Print) -> io::Result<()> {
     let last = written(2001234, 101, Field::Blank, no_number(), 118);
     answered(
+        rt,
         b"21 before 15 and the rest",
         refused(27, 200056790, 110),
         21,
-    );
+    )?;
     answered(
+        rt,
         b"15 before 17 and the rest",
         refused(28, 200056790, 110),
         15,
-    );
-    answered(b"17 before 18 and the rest", refused(28, 2001234, 110), 17);
-    answered(b"18 before 19 and the rest", refused(28, 2001234, 101), 18);
-    answered(b"19 before 20", last, 19);
+    )?;
+    answered(
+        rt,
+        b"17 before 18 and the rest",
+        refused(28, 2001234, 110),
+        17,
+    )?;
+    answered(
+        rt,
+        b"18 before 19 and the rest",
+        refused(28, 2001234, 101),
+        18,
+    )?;
+    answered(rt, b"19 before 20", last, 19)
 }
 
-pub(crate) fn try_writer() {
-    try_alone();
-    try_order();
+pub(crate) fn try_writer(rt: &impl Print) -> io::Result<()> {
+    try_alone(rt)?;
+    try_order(rt)
 }

@@ -3,26 +3,27 @@ ghost use Rattle.std.specs.Prelude.{◌+◌, ◌≤◌, length};
 
 use crate::saying::say_title;
 use crate::tallies::one_more;
-use crate::{Tally, Trial};
+use crate::{ANSWER_ROOM, Tally, Trial};
 use script::Session;
+use std::io;
 
-#[derive(Drop)]
+#[derive(Clone, Copy)]
 struct Progress {
     number: u64,
     trial: Trial,
     tally: Tally,
 }
 
-#[derive(Drop)]
+#[derive(Clone, Copy)]
 struct Turn {
     session: Session,
     progress: Progress,
 }
 
-#[derive(Drop)]
+#[derive(Clone, Copy)]
 struct Handed {
     session: Session,
-    answer: [u8; 4096],
+    answer: [u8; ANSWER_ROOM],
     count: usize,
 }
 
@@ -59,37 +60,43 @@ impl Progress {
         }
     }
 
-    fn title(self, row: &[u8]) -> Progress {
+    fn title(self, rt: &impl Print, row: &[u8]) -> io::Result<Progress> {
         let trial = self.trial;
-        let tally = trial.close(self.number, self.tally);
-        say_title(row);
-        Progress {
+        let tally = trial.close(rt, self.number, self.tally)?;
+        say_title(rt, row)?;
+        Ok(Progress {
             number: one_more(self.number),
             trial: Trial::fresh(true),
             tally: tally,
-        }
+        })
     }
 
-    fn answered(self, answer: [u8; 4096], count: usize) -> Progress {
+    fn answered(
+        self,
+        rt: &impl Print,
+        answer: [u8; ANSWER_ROOM],
+        count: usize,
+    ) -> io::Result<Progress> {
         let trial = self.trial;
-        self.with(trial.all_named(self.number).answered(answer, count))
+        let named = trial.all_named(rt, self.number)?;
+        Ok(self.with(named.answered(answer, count)))
     }
 
-    fn take(self, mark: u8, row: &[u8]) -> Progress {
+    fn take(self, rt: &impl Print, mark: u8, row: &[u8]) -> io::Result<Progress> {
         let trial = self.trial;
         if mark == b'<' {
-            return self.with(trial.name(self.number, row));
+            return Ok(self.with(trial.name(rt, self.number, row)?));
         }
         if mark == b'\n' {
-            return self.with(trial);
+            return Ok(self.with(trial));
         }
-        self.with(trial.fault(self.number))
+        Ok(self.with(trial.fault(rt, self.number)?))
     }
 }
 
 // What stands behind the mark of a row is handed to the session, a line of its script.
 fn hand_in(session: Session, row: &[u8]) -> Handed {
-    let mut answer = io::buffer();
+    let mut answer = [0; ANSWER_ROOM];
     if row.len() < 2 {
         return Handed {
             session: session,
@@ -106,53 +113,53 @@ fn hand_in(session: Session, row: &[u8]) -> Handed {
     }
 }
 
-fn one_row(session: Session, progress: Progress, row: &[u8]) -> Turn {
+fn one_row(rt: &impl Print, session: Session, progress: Progress, row: &[u8]) -> io::Result<Turn> {
     let mark = mark_of(row);
     if mark == b'#' {
         let fresh = Session::begin();
-        return Turn {
+        return Ok(Turn {
             session: fresh,
-            progress: progress.title(row),
-        };
+            progress: progress.title(rt, row)?,
+        });
     }
     if mark == b'>' {
         let handed = hand_in(session, row);
         let next = handed.session;
         let answer = handed.answer;
-        return Turn {
+        return Ok(Turn {
             session: next,
-            progress: progress.answered(answer, handed.count),
-        };
+            progress: progress.answered(rt, answer, handed.count)?,
+        });
     }
-    Turn {
+    Ok(Turn {
         session: session,
-        progress: progress.take(mark, row),
-    }
+        progress: progress.take(rt, mark, row)?,
+    })
 }
 
-fn read_all(progress: Progress, table: &[u8]) -> Progress {
+fn read_all(rt: &impl Print, progress: Progress, table: &[u8]) -> io::Result<Progress> {
     let mut session = Session::begin();
     let mut current = progress;
     let mut start = 0;
     while start < table.len() {
         let end = row_end(table, start);
-        let turn = one_row(session, current, &table[start..end]);
+        let turn = one_row(rt, session, current, &table[start..end])?;
         let next_session = turn.session;
         let next = turn.progress;
         session = next_session;
         current = next;
         start = end;
     }
-    current
+    Ok(current)
 }
 
-pub(crate) fn run_table(tally: Tally, table: &[u8]) -> Tally {
+pub(crate) fn run_table(rt: &impl Print, tally: Tally, table: &[u8]) -> io::Result<Tally> {
     let first = Progress {
         number: 1,
         trial: Trial::fresh(false),
         tally: tally,
     };
-    let last = read_all(first, table);
+    let last = read_all(rt, first, table)?;
     let trial = last.trial;
-    trial.close(last.number, last.tally)
+    trial.close(rt, last.number, last.tally)
 }

@@ -1,6 +1,7 @@
 // Right and wrong cases are counted, and their counts printed.
 use crate::Tally;
 use crate::saying::{say, say_number};
+use std::io;
 
 pub(crate) fn one_more(count: u64) -> u64 {
     if count == u64::MAX {
@@ -10,12 +11,12 @@ pub(crate) fn one_more(count: u64) -> u64 {
 }
 
 impl Tally {
-    pub(crate) fn right(self) -> Tally {
-        say(b"ok\n");
-        Tally {
+    pub(crate) fn right(self, rt: &impl Print) -> io::Result<Tally> {
+        say(rt, b"ok\n")?;
+        Ok(Tally {
             cases: one_more(self.cases),
             wrong: self.wrong,
-        }
+        })
     }
 
     // What went wrong was printed already.
@@ -26,16 +27,16 @@ impl Tally {
         }
     }
 
-    pub(crate) fn missing(self, path: &[u8]) -> Tally {
-        say(path);
-        say(b": WRONG, it cannot be read whole\n");
-        self.wrong()
+    pub(crate) fn missing(self, rt: &impl Print, path: &str) -> io::Result<Tally> {
+        say(rt, path.as_bytes())?;
+        say(rt, b": WRONG, it cannot be read whole\n")?;
+        Ok(self.wrong())
     }
 
-    pub(crate) fn print(self) {
-        say_number(self.cases);
-        say(b" cases, ");
-        say_number(self.wrong);
-        say(b" wrong\n");
+    pub(crate) fn print(self, rt: &impl Print) -> io::Result<()> {
+        say_number(rt, self.cases)?;
+        say(rt, b" cases, ")?;
+        say_number(rt, self.wrong)?;
+        say(rt, b" wrong\n")
     }
 }

@@ -1,7 +1,8 @@
 // One case: each answer is compared with the rows that name it.
 use crate::saying::{say, say_first, say_number};
-use crate::{Tally, Trial};
+use crate::{ANSWER_ROOM, Tally, Trial};
 use check::same;
+use std::io;
 
 // Whether the answer goes on with what stands behind the mark of a row.
 fn goes_on(answer: &[u8], named: usize, row: &[u8]) -> bool {
@@ -23,7 +24,7 @@ fn behind(named: usize, row: &[u8]) -> usize {
     if row.len() < 2 {
         return named;
     }
-    if 4096 < named {
+    if ANSWER_ROOM < named {
         return named;
     }
     named + (row.len() - 2)
@@ -34,40 +35,40 @@ impl Trial {
         Trial {
             open: open,
             right: true,
-            answer: io::buffer(),
+            answer: [0; ANSWER_ROOM],
             count: 0,
             named: 0,
         }
     }
 
     // The first fault of a case is printed, with the whole answer that was given.
-    pub(crate) fn fault(self, number: u64) -> Trial {
+    pub(crate) fn fault(self, rt: &impl Print, number: u64) -> io::Result<Trial> {
         let answer = self.answer;
         let count = self.count;
         if self.right {
-            say(b"WRONG at line ");
-            say_number(number);
-            say(b", where the answer is\n");
-            say_first(&answer, count);
+            say(rt, b"WRONG at line ")?;
+            say_number(rt, number)?;
+            say(rt, b", where the answer is\n")?;
+            say_first(rt, &answer, count)?;
         }
-        Trial {
+        Ok(Trial {
             open: true,
             right: false,
             answer: answer,
             count: count,
             named: count,
-        }
+        })
     }
 
     // All of the last answer must be named before another line is handed in and before a case ends.
-    pub(crate) fn all_named(self, number: u64) -> Trial {
+    pub(crate) fn all_named(self, rt: &impl Print, number: u64) -> io::Result<Trial> {
         if self.named == self.count {
-            return self;
+            return Ok(self);
         }
-        self.fault(number)
+        self.fault(rt, number)
     }
 
-    pub(crate) fn answered(self, answer: [u8; 4096], count: usize) -> Trial {
+    pub(crate) fn answered(self, answer: [u8; ANSWER_ROOM], count: usize) -> Trial {
         Trial {
             open: true,
             right: self.right,
@@ -77,32 +78,32 @@ impl Trial {
         }
     }
 
-    pub(crate) fn name(self, number: u64, row: &[u8]) -> Trial {
+    pub(crate) fn name(self, rt: &impl Print, number: u64, row: &[u8]) -> io::Result<Trial> {
         let answer = self.answer;
         if !goes_on(&answer, self.named, row) {
-            return self.fault(number);
+            return self.fault(rt, number);
         }
-        Trial {
+        Ok(Trial {
             open: self.open,
             right: self.right,
             answer: answer,
             count: self.count,
             named: behind(self.named, row),
-        }
+        })
     }
 
     // The end of a case; one that handed nothing in shows nothing.
-    pub(crate) fn close(self, number: u64, tally: Tally) -> Tally {
+    pub(crate) fn close(self, rt: &impl Print, number: u64, tally: Tally) -> io::Result<Tally> {
         if !self.open {
-            return tally;
+            return Ok(tally);
         }
-        let last = self.all_named(number);
+        let last = self.all_named(rt, number)?;
         if last.right && 0 < last.count {
-            return tally.right();
+            return tally.right(rt);
         }
         if last.right {
-            say(b"WRONG, nothing is handed in\n");
+            say(rt, b"WRONG, nothing is handed in\n")?;
         }
-        tally.wrong()
+        Ok(tally.wrong())
     }
 }

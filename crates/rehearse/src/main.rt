@@ -1,34 +1,42 @@
 // Standard input to standard output: each line's answer is written before more input is asked for.
-use script::Session;
+#![tactic(auto)]
 
-#[derive(Drop)]
+use script::Session;
+use std::io;
+use std::io::Read;
+
+// The bytes that are read at once, and the room for an answer.
+const ROOM: usize = 4096;
+
+#[derive(Clone, Copy)]
 struct Moved {
     session: Session,
     used: usize,
 }
 
-#[derive(Drop)]
+#[derive(Clone, Copy)]
 struct Turn {
     session: Session,
     more: bool,
 }
 
-fn show(text: &[u8], count: usize) {
+fn show(rt: &impl Print, text: &[u8], count: usize) -> io::Result<()> {
     if count <= text.len() {
-        io::write_all(1, &text[..count]);
+        return rt.write_all(&text[..count]);
     }
+    Ok(())
 }
 
 // Feeds bytes up to the end of a line, and writes what the session answers.
-fn feed_line(session: Session, bytes: &[u8]) -> Moved {
-    let mut out = io::buffer();
+fn feed_line(rt: &impl Print, session: Session, bytes: &[u8]) -> io::Result<Moved> {
+    let mut out = [0u8; ROOM];
     let fed = session.feed(bytes, &mut out);
-    show(&out, fed.count);
+    show(rt, &out, fed.count)?;
     let next = fed.session;
-    Moved {
+    Ok(Moved {
         session: next,
         used: fed.used,
-    }
+    })
 }
 
 fn ahead(start: usize, used: usize, end: usize) -> usize {
@@ -42,60 +50,57 @@ fn ahead(start: usize, used: usize, end: usize) -> usize {
 }
 
 // Each turn uses a byte at least, so as many turns as bytes are enough.
-fn feed_all(session: Session, bytes: &[u8]) -> Session {
+fn feed_all(rt: &impl Print, session: Session, bytes: &[u8]) -> io::Result<Session> {
     let end = bytes.len();
     let mut current = session;
     let mut start = 0;
     let mut left = end;
     while 0 < left {
         if end <= start {
-            return current;
+            return Ok(current);
         }
-        let moved = feed_line(current, &bytes[start..]);
+        let moved = feed_line(rt, current, &bytes[start..])?;
         let next = moved.session;
         current = next;
         start = ahead(start, moved.used, end);
         left -= 1;
     }
-    current
+    Ok(current)
 }
 
-fn one_turn(session: Session) -> Turn {
-    let mut input = io::buffer();
-    let got = libc::read(0, &mut input);
-    if got <= 0 {
-        return Turn {
+fn one_turn(rt: &(impl Input + Print), session: Session) -> io::Result<Turn> {
+    let mut input = [0u8; ROOM];
+    let count = rt.reader().read(&mut input)?;
+    if count == 0 {
+        return Ok(Turn {
             session: session,
             more: false,
-        };
+        });
     }
-    let count = io::count(got, &input);
-    let next = feed_all(session, &input[..count]);
-    Turn {
+    let next = feed_all(rt, session, &input[..count])?;
+    Ok(Turn {
         session: next,
         more: true,
-    }
+    })
 }
 
-// Nothing says that the input ends, so the turns are counted down from a number that no run uses up.
-fn run(session: Session) -> Session {
+// Nothing says that the input ends, so the turns are counted up to a number that no run reaches.
+fn run(rt: &(impl Input + Print), session: Session) -> io::Result<Session> {
     let mut current = session;
-    let mut turns = u64::MAX;
-    while 0 < turns {
-        let turn = one_turn(current);
+    for _ in 0..u64::MAX {
+        let turn = one_turn(rt, current)?;
         let next = turn.session;
         current = next;
         if !turn.more {
-            return current;
+            return Ok(current);
         }
-        turns -= 1;
     }
-    current
+    Ok(current)
 }
 
-fn main() {
-    let last = run(Session::begin());
-    let mut out = io::buffer();
+fn main(rt: HostRuntime) -> io::Result<()> {
+    let last = run(&rt, Session::begin())?;
+    let mut out = [0u8; ROOM];
     let fed = last.finish(&mut out);
-    show(&out, fed.count);
+    show(&rt, &out, fed.count)
 }
