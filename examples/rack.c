@@ -10,7 +10,7 @@
 #include "kept.h"
 #include "words.h"
 
-/* As <stdio.h> has them: the toolchain's compiler, which builds this on Arm, comes without the C library's headers. */
+/* As <stdio.h> has them: the toolchain's compiler, which can build this too, comes without the C library's headers. */
 extern int printf(const char *, ...);
 extern int dprintf(int, const char *, ...);
 extern int fflush(void *);

@@ -8,21 +8,21 @@ WIDTH, HEIGHT, STEP = 960, 1120, 100
 LEFT, RIGHT, FULL, HALF = 20, 540, 400, 230
 # A step: its function and crate, where it stands, what it does, the definitions that its contract names.
 STEPS = {
-    'coast_heard_on_slot': ('coast', LEFT, 1, FULL, 'the entry for this kind of event', ['returned', 'stationAfter', 'roomLeft']),
-    'station_from': ('lent_layout', LEFT, 2, FULL, 'bytes to a station by value', ['stationFrom']),
-    'heard_on_slot': ('station', LEFT, 3, FULL, 'the method for this kind of event', ['steppedBy', 'roomAfter']),
-    'read': ('reading', LEFT, 4, FULL, 'symbols to their meaning', ['readingOf']),
+    'coast_heard_on_slot': ('coast', LEFT, 1, FULL, 'the entry for this kind of event', ['returned', 'station_after', 'room_left']),
+    'station_from': ('lent_layout', LEFT, 2, FULL, 'bytes to a station by value', ['station_from']),
+    'heard_on_slot': ('station', LEFT, 3, FULL, 'the method for this kind of event', ['stepped_by', 'room_after']),
+    'read': ('reading', LEFT, 4, FULL, 'symbols to their meaning', ['reading_of']),
     'looked': ('station', LEFT, 5, FULL, 'is it sound, and which wait is due first', ['Sees']),
-    'judge_slot, and_read': ('gate', LEFT, 6, FULL, "the refusals, in document 01's order", ['askedOnSlot', 'firstRefusal', 'andThen']),
-    'heard_in': ('hearing', LEFT, 7, FULL, 'which kind of sequence, and who asks for what', ['heardOf', 'addressed']),
-    'by_kind': ('station', LEFT, 8, FULL, 'which rule it is for', ['byKind']),
-    'working_call': ('deciding', LEFT, 9, FULL, "an outcome, by the slot's phase", ['workingBy']),
-    'enact': ('station', RIGHT, 9, FULL, 'the outcome is carried out', ['outAt', 'handedBack', 'roomLaid']),
-    'tell': ('telling', RIGHT, 8, FULL, 'its actions are laid into the room', ['telling', 'actsOf']),
-    'turn_of, queue_change': ('outcomes', RIGHT, 7, FULL, 'what becomes of the slot, and of the queue', ['turnOf', 'queueChange']),
-    'refused': ('station', RIGHT, 6, HALF, 'the station as it was', ['dueImage']),
+    'judge_slot, and_read': ('gate', LEFT, 6, FULL, "the refusals, in document 01's order", ['asked_on_slot', 'first_refusal', 'and_then']),
+    'heard_in': ('hearing', LEFT, 7, FULL, 'which kind of sequence, and who asks for what', ['heard_of', 'addressed']),
+    'by_kind': ('station', LEFT, 8, FULL, 'which rule it is for', ['by_kind']),
+    'working_call': ('deciding', LEFT, 9, FULL, "an outcome, by the slot's phase", ['working_by']),
+    'enact': ('station', RIGHT, 9, FULL, 'the outcome is carried out', ['out_at', 'handed_back', 'room_laid']),
+    'tell': ('telling', RIGHT, 8, FULL, 'its actions are laid into the room', ['telling', 'acts_of']),
+    'turn_of, queue_change': ('outcomes', RIGHT, 7, FULL, 'what becomes of the slot, and of the queue', ['turn_of', 'queue_change']),
+    'refused': ('station', RIGHT, 6, HALF, 'the station as it was', ['due_image']),
     'hand_back': ('coast', RIGHT, 2, FULL, 'one number: answer, count, next due time', ['packed', 'kept']),
-    'lay_station': ('lent_layout', RIGHT, 1, FULL, 'the next station to bytes, if accepted', ['stationLaid']),
+    'lay_station': ('lent_layout', RIGHT, 1, FULL, 'the next station to bytes, if accepted', ['station_laid']),
 }
 CALLS = {  # what each calls
     'coast_heard_on_slot': ['station_from', 'heard_on_slot', 'hand_back'],
@@ -31,8 +31,8 @@ CALLS = {  # what each calls
 }
 # Where definitions and laws say what the picture says of them: a file, what stands there, and the names in that line.
 SAID = {
-    'crates/deciding/proofs/RuleLaws.antt': ('pub working-is : ', ['outOf', 'workingBy', 'workingOn']),
-    'crates/station/specs/Step.antt': ('steppedBy s e = ', ['act', 'refusal']),
+    'crates/deciding/proofs/RuleLaws.antt': ('pub working-is : ', ['out_of', 'working_by', 'working_on']),
+    'crates/station/specs/Step.antt': ('stepped_by s e = ', ['act', 'refusal']),
 }
 NOTES = ['In brackets the crate, below it the definitions that', "the contract names. stepped_by is the rules' own act,",
          'or their refusal.']
@@ -102,7 +102,7 @@ def draw_arrows(drawing):
 
 
 def draw_rule(drawing):
-    rule = ['workingOn (rules)', 'the rule itself: a definition, and no code', 'law working-is: what the outcome means (out_of)']
+    rule = ['working_on (rules)', 'the rule itself: a definition, and no code', 'law working-is: what the outcome means (out_of)']
     drawing.box((LEFT, height(10), FULL, 74), rule, 'freed')
     drawing.arrow('an arrow', [(LEFT + FULL / 2, height(9) + 74), (LEFT + FULL / 2, height(10))])
     drawing.text(RIGHT, height(10) + 19, NOTES, 'start')

@@ -10,21 +10,21 @@ from words import EVENTS, PHASES, QUEUE, lasting, listed, word
 WIDTH, HEIGHT = 1000, 1496
 PLACES = {  # left, top, width, height
     'taken': (20, 30, 110, 60), 'free': (250, 30, 230, 60), 'freed': (602, 30, 220, 60), 'offered': (250, 180, 230, 350),
-    'firstRingBack': (602, 195, 220, 60), 'secondRingBack': (602, 335, 220, 60), 'acknowledged': (602, 470, 220, 70),
-    'firstCall': (612, 835, 190, 50), 'secondCall': (612, 945, 190, 50), 'ringing': (612, 1062, 190, 50),
-    'dialling': (250, 660, 230, 80), 'dialledOut': (250, 830, 230, 60), 'answered': (250, 1015, 230, 90), 'held': (250, 1285, 230, 80),
+    'first_ring_back': (602, 195, 220, 60), 'second_ring_back': (602, 335, 220, 60), 'acknowledged': (602, 470, 220, 70),
+    'first_call': (612, 835, 190, 50), 'second_call': (612, 945, 190, 50), 'ringing': (612, 1062, 190, 50),
+    'dialling': (250, 660, 230, 80), 'dialled_out': (250, 830, 230, 60), 'answered': (250, 1015, 230, 90), 'held': (250, 1285, 230, 80),
 }
 GROUPS = {  # phases in one frame, and where it stands; a frame around another comes first
-    'ring-back': (['firstRingBack', 'secondRingBack'], (592, 180, 240, 230)),
-    'ashore': (['firstCall', 'secondCall', 'ringing'], (592, 812, 230, 316)), 'called': (['firstCall', 'secondCall'], (602, 823, 210, 184)),
-    'call': (['dialling', 'dialledOut', 'answered'], (240, 640, 335, 585)),
+    'ring-back': (['first_ring_back', 'second_ring_back'], (592, 180, 240, 230)),
+    'ashore': (['first_call', 'second_call', 'ringing'], (592, 812, 230, 316)), 'called': (['first_call', 'second_call'], (602, 823, 210, 184)),
+    'call': (['dialling', 'dialled_out', 'answered'], (240, 640, 335, 585)),
 }
 FREED = {  # on which side the slot is freed, and how high that arrow runs, or how far to the right
-    'taken': ('down', 75), 'offered': ('left', 355), 'secondRingBack': ('right', 365), 'acknowledged': ('right', 505),
-    'ashore': ('right', 890), 'secondCall': ('right', 970), 'ringing': ('right', 1087),
-    'dialling': ('left', 700), 'dialledOut': ('left', 860), 'call': ('left', 1165), 'held': ('left', 1325),
+    'taken': ('down', 75), 'offered': ('left', 355), 'second_ring_back': ('right', 365), 'acknowledged': ('right', 505),
+    'ashore': ('right', 890), 'second_call': ('right', 970), 'ringing': ('right', 1087),
+    'dialling': ('left', 700), 'dialled_out': ('left', 860), 'call': ('left', 1165), 'held': ('left', 1325),
 }
-STUBS = {('free', 'firstCall'): 706}  # arrows that begin at their phase's name once more, and how high that stands
+STUBS = {('free', 'first_call'): 706}  # arrows that begin at their phase's name once more, and how high that stands
 # Arrows that do not simply go from the middle of one side to the middle of another.
 AT = {('offered', 'dialling'): 285, ('call', 'offered'): 405}
 BENT = {
@@ -181,7 +181,7 @@ def draw_queue(drawing, rules, rung_back):
     rows = {}
     for text, event, where in queue_rows(rules):
         rows[text] = (word(EVENTS, event), [one for one in where if one not in UNSAID])
-    joins, asks, leaves, oldest = (QUEUE[name] for name in ('++', 'modAt', 'dropAt', 'queue.∷.1'))
+    joins, asks, leaves, oldest = (QUEUE[name] for name in ('++', 'mod_at', 'drop_at', 'queue.∷.1'))
     if set(rows) != {joins, asks, leaves, oldest}:
         raise NotUnderstood(f'no place for what becomes of the queue: {set(rows)}')
     x, y, width, height = QUEUE_PLACE

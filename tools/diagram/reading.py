@@ -48,13 +48,16 @@ class Parser:
         return ('lambda', names, self.expression())
 
     def application(self):
-        found, given = self.atom(), []
+        found, given = self.projected(), []
         while self.tokens and not self.at(')', '}', ';', '.', *set.union(*OPERATORS)):
-            if self.tokens[0].startswith('.'):
-                found, given = ('field', call(found, given), self.next()[1:]), []
-            else:
-                given.append(self.atom())
+            given.append(self.projected())
         return call(found, given)
+
+    def projected(self):
+        found = self.atom()
+        while self.tokens and self.tokens[0].startswith('.') and not self.at('.'):
+            found = ('field', found, self.next()[1:])
+        return found
 
     def atom(self):
         if self.at('('):

@@ -102,9 +102,9 @@ class Rules:
         """The waits that run in a slot, each with its cases: what was asked, and how long it is."""
         listed = Built('∷', [slot, Built('[]')])
         running = {}
-        for _, dues in self.ways(lambda way: list(dues_in(way, way.run('slotTable', [Unknown('place'), listed])))):
+        for _, dues in self.ways(lambda way: list(dues_in(way, way.run('slot_table', [Unknown('place'), listed])))):
             running.update(dues)
-        lengths = self.noted('slotFits', slot)
+        lengths = self.noted('slot_fits', slot)
         unknown = {due for _, noted in lengths for due, _ in noted} ^ set(running)
         if unknown:
             raise NotUnderstood(f'a wait without its length, or a length without its wait: {unknown}')
@@ -112,14 +112,14 @@ class Rules:
 
     def queue_waits(self):
         """How long a ship waits in the queue: one length, whatever else."""
-        [(_, [(_, length)])] = self.noted('placeFits', Unknown('waiting'))
+        [(_, [(_, length)])] = self.noted('place_fits', Unknown('waiting'))
         return length
 
     # ── events ────────────────────────────────────────────────────────────────
 
     def stepped(self, slot, outcome):
         """For each event its cases: what was asked beside the event, and the outcome."""
-        station = {'clock': Unknown('clock'), 'slots': Slots(slot), 'queue': Unknown('queue'), 'lastCall': Unknown('last call')}
+        station = {'clock': Unknown('clock'), 'slots': Slots(slot), 'queue': Unknown('queue'), 'last_call': Unknown('last call')}
         given, cases = [Unknown('config'), station, Unknown('event')], {}
         for asked, result in self.ways(lambda way: outcome(way, way.run('step', given))):
             event = ' '.join(answer for question, answer in asked if is_event(question))
@@ -147,7 +147,7 @@ class Rules:
 
     def check_waits(self, phase, slot):
         """A wait that an event begins is as long as soundness says."""
-        begun = {int(length) for length in re.findall(r'dueAfter [^()]* (\d+)', slot)}
+        begun = {int(length) for length in re.findall(r'due_after [^()]* (\d+)', slot)}
         known = {length for cases in self.waits[phase].values() for _, length in cases}
         if begun - known:
             raise NotUnderstood(f'in the phase {phase} an event begins a wait of {begun}, and soundness allows {known}')

@@ -3,13 +3,13 @@ from reading import NotUnderstood
 from running import Built, Unknown
 
 # What every accepted event passes, whatever the slot's phase; and a call number is left.
-PASSED = {'sound': 'true', 'overtaken': 'false', 'slotThere': 'true', 'isDone': 'true', 'namesShip': 'true', 'namesMode': 'true',
-          'namesNumber': 'true', 'usedUp': 'false'}
+PASSED = {'sound': 'true', 'overtaken': 'false', 'slot_there': 'true', 'is_done': 'true', 'names_ship': 'true', 'names_mode': 'true',
+          'names_number': 'true', 'used_up': 'false'}
 WITHIN = ['leb room_needed event .room', 'leb event .time limit', 'leb clock event .time']
 # Not looked into: who asks for what, what the symbols say, when and how long.
-CLOSED = ['is', 'isFor', 'same', 'ltb', 'length', 'meaning', 'ashoreRequest', 'dueAfter', 'lasted', 'roomNeeded', 'limit']
+CLOSED = ['is', 'is_for', 'same', 'ltb', 'length', 'meaning', 'ashore_request', 'due_after', 'lasted', 'room_needed', 'limit']
 # Where a lookup may find a slot, if this one passes and if not: a ship is looked for here alone, and of the free ones the lowest is found.
-LOOKUPS = {'owns': (['here'], ['none']), 'keepsFor': (['here'], ['none']), 'isFree': (['here', 'elsewhere'], ['none', 'elsewhere'])}
+LOOKUPS = {'owns': (['here'], ['none']), 'keeps_for': (['here'], ['none']), 'is_free': (['here', 'elsewhere'], ['none', 'elsewhere'])}
 
 
 class Slots:
@@ -25,7 +25,7 @@ def closed(name):
 
 def same_party(way, one, other):
     """Of a sequence it is asked from whom it is, of a caller ashore for whom."""
-    return closed('isFor' if way.shown(one).startswith('ashoreRequest') else 'is')(way, one, other)
+    return closed('is_for' if way.shown(one).startswith('ashore_request') else 'is')(way, one, other)
 
 
 def at_most(way, *given):
@@ -42,7 +42,7 @@ def slot_at(way, slots, place, otherwise):
 def changed_at(way, change, place, held):
     held = way.value(held)
     if not isinstance(held, Slots):
-        return Unknown(f'{way.shown(held)} modAt')
+        return Unknown(f'{way.shown(held)} mod_at')
     return held if way.shown(place) == 'elsewhere' else Slots(way.apply(change, [held.slot]))
 
 
@@ -68,12 +68,12 @@ UNOPENED = {
     **{name: closed(name) for name in CLOSED},
     **{name: lambda way, *given, answer=answer: Built(answer) for name, answer in PASSED.items()},
     'fires': lambda way, time, station: Unknown('event .wait'),
-    'nextCall': lambda way, station: Unknown('next call'),
+    'next_call': lambda way, station: Unknown('next call'),
     'cond': lambda way, test, one, other: one if way.holds(test) else other,
     'not': lambda way, test: Built('false' if way.holds(test) else 'true'),
     '&&': lambda way, test, other: other if way.holds(test) else Built('false'),
     '||': lambda way, test, other: Built('true') if way.holds(test) else other,
     '++': lambda way, queue, others: Unknown(f'{way.shown(queue)} ++'),
-    'dropAt': lambda way, place, queue: Unknown(f'{way.shown(queue)} dropAt'),
-    'is': same_party, 'leb': at_most, 'getD': slot_at, 'modAt': changed_at, 'lowest': lowest, 'fits': fitting,
+    'drop_at': lambda way, place, queue: Unknown(f'{way.shown(queue)} drop_at'),
+    'is': same_party, 'leb': at_most, 'get_or': slot_at, 'mod_at': changed_at, 'lowest': lowest, 'fits': fitting,
 }
