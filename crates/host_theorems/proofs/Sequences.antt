@@ -11,7 +11,6 @@ use lib.Seq.{take_at}
 use borrow.Author.Tests.{le-leb, leb-true}
 use contract.Lifetimes.{Lfts}
 use denote.Ref.{Bor}
-use denote.MutBor.{MutBor}
 use Rattle.sequence.specs.declared.Answer.{Answer}
 use Rattle.sequence.specs.declared.Answer.TheVariants.{Done, BadLength, BadSymbol, BadCheck, BadFormat, BadIdentities, BadCategory, BadTelecommands, BadField, BadNumber, BadEnd, ShortRoom}
 use Rattle.sequence.specs.declared.Meaning.{Meaning}
@@ -24,6 +23,7 @@ use Rattle.sequence.specs.Reading.{done_with, reading_of}
 use Rattle.sequence.specs.Writing.{writing_answer, written_of, room_after}
 use Rattle.sequence.proofs.Tests.{Either, yes!, no!, which}
 use Rattle.sequence.proofs.Paste.{paste-front}
+use Rattle.station_theorems.proofs.Steps.{lent_mut}
 use Rattle.sequence_theorems.proofs.Theorems.{reads-exactly, one-meaning, reads-what-was-written, writes-what-was-read}
 use Rattle.layouts.specs.Fields.{laid}
 use Rattle.lent_layout.specs.Meanings.{meaning_bytes, meaning_from, meaning_laid, meaning_size}
@@ -231,13 +231,9 @@ lives = ([], ([], tt))
 abbrev pub slice : List ℕ → Bor (List ℕ)
 slice l = record { ref_ptr = (0, 0); now = l }
 
--- and one that may be written through
-abbrev pub slice_mut : List ℕ → MutBor (List ℕ)
-slice_mut l = record { ref_ptr = (0, 0); ghost_name = 0; now = l }
-
 pub c-answers-every-input : CAnswersEveryInput
 unfolding CAnswersEveryInput
 c-answers-every-input given lent = (
-  record { call = _; is_call = by_read lives (slice given, (slice_mut lent, tt)) _ (slice given, (slice_mut _, tt)) (refl, refl); is-given = refl; is-lent = refl },
-  record { call = _; is_call = by-write lives (slice given, (slice_mut lent, tt)) _ (slice given, (slice_mut _, tt)) (refl, refl); is-given = refl; is-lent = refl },
+  record { call = _; is_call = by_read lives (slice given, (lent_mut lent, tt)) _ (slice given, (lent_mut _, tt)) (refl, refl); is-given = refl; is-lent = refl },
+  record { call = _; is_call = by-write lives (slice given, (lent_mut lent, tt)) _ (slice given, (lent_mut _, tt)) (refl, refl); is-given = refl; is-lent = refl },
 )

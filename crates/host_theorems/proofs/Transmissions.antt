@@ -10,6 +10,7 @@ use lib.Seq.{take_at}
 use Rattle.sequence.specs.Figures.{longest}
 use Rattle.reading.proofs.Passed.{long}
 use Rattle.characters.specs.Code.{none}
+use Rattle.station_theorems.proofs.Steps.{lent_mut}
 use Rattle.transmission.specs.declared.Answer.{Answer}
 use Rattle.transmission.specs.declared.Answer.TheVariants.{Done, BadLength, BadSymbol, ShortRoom, NoPhasing, CopiesBad, EndsEarly}
 use Rattle.transmission.specs.declared.Counted.{Counted}
@@ -29,7 +30,7 @@ use Rattle.host_theorems.specs.Sequences.{Passage, answer_of, count_of, written,
 use Rattle.host_theorems.specs.Transmissions.{BySender, by-send, ByReceiver, by-receive, on_air, off_air, Sent, Received, ReadOff}
 use Rattle.host_theorems.specs.Transmissions.{CSendsAll, CReadsBack, CSequencesReadBack, CFiveMadeGood, CElevenLost}
 use Rattle.host_theorems.specs.Transmissions.{CWholeRead, CNothingElse, Withstood, spoiled, cut, amid, CMeaningOnAir, CAnswersOnAir}
-use Rattle.host_theorems.proofs.Sequences.{written-accepted, c-reads-what-was-written, lives, slice, slice_mut}
+use Rattle.host_theorems.proofs.Sequences.{written-accepted, c-reads-what-was-written, lives, slice}
 
 -- of all answers Done alone has the number 0
 pub done-is : (a : Answer) (count : ℕ) → (answer_number a + 256 * count) % 256 ≡ 0 → a ≡ Done
@@ -193,13 +194,13 @@ unfolding CAnswersOnAir
 c-answers-on-air given lent = (
   record {
     call = _;
-    is_call = by-send lives (slice given, (slice_mut lent, tt)) _ (slice given, (slice_mut _, tt)) (refl, refl);
+    is_call = by-send lives (slice given, (lent_mut lent, tt)) _ (slice given, (lent_mut _, tt)) (refl, refl);
     is-given = refl;
     is-lent = refl;
   },
   record {
     call = _;
-    is_call = by-receive lives (slice given, (slice_mut lent, tt)) _ (slice given, (slice_mut _, tt)) (refl, refl);
+    is_call = by-receive lives (slice given, (lent_mut lent, tt)) _ (slice given, (lent_mut _, tt)) (refl, refl);
     is-given = refl;
     is-lent = refl;
   },
