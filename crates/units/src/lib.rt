@@ -12,38 +12,31 @@ pub const LIMIT: u32 = 4_000_000_000;
 pub const GREATEST: u32 = 4_294_967_295;
 
 // A time, or a stretch of it, in tenths of a second.
-#[derive(Clone, Copy)]
+#[derive(Clone, Copy, PartialEq, Eq, PartialOrd, Ord)]
 pub struct Tenths(pub u32);
 
 // Charged seconds. The field is private: whole_seconds alone makes them.
-#[derive(Clone, Copy)]
+#[derive(Clone, Copy, PartialEq, Eq, PartialOrd, Ord)]
 pub struct Seconds(u32);
 
 // A slot's number.
-#[derive(Clone, Copy)]
+#[derive(Clone, Copy, PartialEq, Eq, PartialOrd, Ord)]
 pub struct SlotNumber(pub u32);
 
 // A call's number. Document 02, no. 4: "the next call number from 1"; 0 before the first.
-#[derive(Clone, Copy)]
+#[derive(Clone, Copy, PartialEq, Eq, PartialOrd, Ord)]
 pub struct CallNumber(pub u32);
 
 // A working channel's number.
-#[derive(Clone, Copy)]
+#[derive(Clone, Copy, PartialEq, Eq, PartialOrd, Ord)]
 pub struct Channel(pub u32);
 
 // A duration as an end of call tells it.
-#[derive(Clone, Copy)]
+#[derive(Clone, Copy, PartialEq, Eq)]
 pub struct Duration {
     pub hours: u8,
     pub minutes: u8,
     pub seconds: u8,
-}
-
-// What an end of call can tell of charged seconds.
-#[derive(Clone, Copy)]
-pub enum Lasted {
-    Nothing,
-    Lasting(Duration),
 }
 
 impl Tenths {
@@ -64,7 +57,7 @@ impl Seconds {
     }
 
     // Hours, minutes and seconds; from 100 hours on there is no place for them.
-    pub fn duration(self) -> Lasted
+    pub fn duration(self) -> Option<Duration>
         ensures { result ≡ duration_of self }
     {
         let whole = self.0;
@@ -72,12 +65,12 @@ impl Seconds {
             let hours = (whole / 3600) as u8;
             let minutes = (whole / 60 % 60) as u8;
             let seconds = (whole % 60) as u8;
-            return Lasted::Lasting(Duration {
-                hours: hours,
-                minutes: minutes,
-                seconds: seconds,
+            return Some(Duration {
+                hours,
+                minutes,
+                seconds,
             });
         }
-        Lasted::Nothing
+        None
     }
 }
