@@ -1,7 +1,9 @@
 -- What the records of slots and queue stand for.
-use Rattle.std.specs.Prelude.{ℕ, List, []}
+use Rattle.std.specs.Prelude.{ℕ, List, [], Option as Optional, Some, None}
 use Rattle.std.proofs.Math.Option.{Option, none, some}
 use Rattle.units.specs.declared.Channel.{Channel}
+use Rattle.units.specs.declared.SlotNumber.{SlotNumber}
+use Rattle.units.specs.declared.Tenths.{Tenths}
 use Rattle.rules.specs.Rules.Words as W
 use Rattle.rules.specs.Rules.Words.{line_dialled_out, line_lifted, line_hung, carrier_heard, carrier_lost, hand_takes, hand_gives}
 use Rattle.rules.specs.Rules.Waits as T
@@ -23,14 +25,8 @@ use Rattle.slots.specs.declared.mast.Mast.{Mast}
 use Rattle.slots.specs.declared.Waiting.{Waiting}
 use Rattle.slots.specs.declared.Wait.{Wait}
 use Rattle.slots.specs.declared.Wait.TheVariants.{Entry, Loss, Main}
-use Rattle.slots.specs.declared.When.{When}
-use Rattle.slots.specs.declared.When.TheVariants as H
 use Rattle.slots.specs.declared.Due.{Due}
-use Rattle.slots.specs.declared.Due.TheVariants.{Never, In}
-use Rattle.slots.specs.declared.Found.{Found}
-use Rattle.slots.specs.declared.Found.TheVariants.{At, Nothing}
-use Rattle.slots.specs.declared.Place.{Place}
-use Rattle.slots.specs.declared.Place.TheVariants as P
+use Rattle.slots.specs.declared.QueuePlace.{QueuePlace}
 use Rattle.slots.specs.declared.Standing.{Standing}
 use Rattle.slots.specs.declared.Standing.TheVariants.{Nowhere, Holds, Waits}
 use Rattle.slots.specs.Phases.{phase_view}
@@ -85,21 +81,21 @@ wait_view (Entry k) = of_queue k.0
 wait_view (Loss i) = loss i.0
 wait_view (Main i) = main i.0
 
-abbrev pub when_view : When → Option ℕ
-when_view H.Never = none
-when_view (H.At t) = some t.0
+abbrev pub when_view : Optional Tenths → Option ℕ
+when_view None = none
+when_view (Some t) = some t.0
 
-abbrev pub due_view : Due → Option T.Due
-due_view Never = none
-due_view (In t w) = some (record { what = wait_view w; at = t.0 })
+abbrev pub due_view : Optional Due → Option T.Due
+due_view None = none
+due_view (Some d) = some (record { what = wait_view d.wait; at = d.at.0 })
 
-abbrev pub found_view : Found → Option ℕ
-found_view (At i) = some i.0
-found_view Nothing = none
+abbrev pub found_view : Optional SlotNumber → Option ℕ
+found_view None = none
+found_view (Some i) = some i.0
 
-abbrev pub place_view : Place → Option ℕ
-place_view (P.At k) = some k.0
-place_view P.Nothing = none
+abbrev pub place_view : Optional QueuePlace → Option ℕ
+place_view None = none
+place_view (Some k) = some k.0
 
 abbrev pub standing_view : Standing → Q.Standing
 standing_view Nowhere = nowhere

@@ -120,31 +120,11 @@ pub enum Wait {
     Main(SlotNumber),
 }
 
-// When a wait falls due, if it runs.
+// A wait, and when it falls due.
 #[derive(Clone, Copy)]
-pub enum When {
-    Never,
-    At(Tenths),
-}
-
-#[derive(Clone, Copy)]
-pub enum Due {
-    Never,
-    In(Tenths, Wait),
-}
-
-// A slot looked for.
-#[derive(Clone, Copy)]
-pub enum Found {
-    At(SlotNumber),
-    Nothing,
-}
-
-// A place in the queue looked for.
-#[derive(Clone, Copy)]
-pub enum Place {
-    At(QueuePlace),
-    Nothing,
+pub struct Due {
+    pub at: Tenths,
+    pub wait: Wait,
 }
 
 // Where a ship stands: in a slot, or at a place in the queue.
@@ -322,35 +302,35 @@ pub fn carrier_in(phase: Phase) -> Carrier
     }
 }
 
-fn loss_when(carrier: Carrier) -> When
+fn loss_when(carrier: Carrier) -> Option<Tenths>
     ensures { when_view result ≡ carrier_of carrier }
 {
     match carrier {
-        Carrier::Present => When::Never,
-        Carrier::Lost(due) => When::At(due),
+        Carrier::Present => None,
+        Carrier::Lost(due) => Some(due),
     }
 }
 
 // When the carrier's absence in a slot falls due.
-pub fn loss_of(slot: Slot) -> When
+pub fn loss_of(slot: Slot) -> Option<Tenths>
     ensures { when_view result ≡ loss_due (slot_view slot) }
 {
     let phase = slot.phase;
     loss_when(carrier_in(phase))
 }
 
-fn main_when(span: Span) -> When
+fn main_when(span: Span) -> Option<Tenths>
     ensures { when_view result ≡ due_in span }
 {
     match span {
-        Span::Untimed => When::Never,
-        Span::Until(due, _) => When::At(due),
-        Span::Since(_) => When::Never,
+        Span::Untimed => None,
+        Span::Until(due, _) => Some(due),
+        Span::Since(_) => None,
     }
 }
 
 // When the other wait of a slot falls due.
-pub fn main_of(slot: Slot) -> When
+pub fn main_of(slot: Slot) -> Option<Tenths>
     ensures { when_view result ≡ main_due (slot_view slot) }
 {
     let phase = slot.phase;
