@@ -8,7 +8,7 @@ ghost use Rattle.requests.specs.Images.{blank_request};
 
 use sequence::{DIGITS, Number};
 
-#[derive(Clone, Copy)]
+#[derive(Clone, Copy, PartialEq, Eq)]
 pub enum Mode {
     Simplex,
     Duplex,
@@ -43,6 +43,6 @@ pub fn blank_request() -> Request
         station: 0,
         mode: Mode::Simplex,
         second: 0,
-        number: number,
+        number,
     }
 }

@@ -3,10 +3,10 @@ use Rattle.requests.specs.Views.{request_of}
 use Rattle.rules.specs.Rules.Words.{is}
 use Rattle.requests.proofs.sameness.is_by.Goals as goal
 
-pub returns-then-ship-stored_ship : goal.returns-then-ship-stored_ship
+pub returns-then-ship-request : goal.returns-then-ship-request
 unfolding is request_of
-returns-then-ship-stored_ship c = rw (eq-eqb _ _ c.if-ship-stored_ship.true)
+returns-then-ship-request c = rw (eq-eqb _ _ c.if-ship-request.true)
 
-pub returns : goal.returns
+pub returns-else-ship-request : goal.returns-else-ship-request
 unfolding is request_of
-returns c = rw (ne_eqb _ _ c.if-ship-stored_ship.false)
+returns-else-ship-request c = rw (ne_eqb _ _ c.if-ship-request.false)

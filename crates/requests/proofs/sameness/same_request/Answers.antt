@@ -1,21 +1,40 @@
-use borrow.Author.Tests.{eq-eqb, ne_eqb}
-use Rattle.requests.specs.Views.{request_of}
-use Rattle.rules.specs.Rules.Requests.{same}
-use mathlib.Core.Path.{sym, ◌∙◌}
+use mathlib.Core.Path.{◌≡◌, refl, sym, ◌∙◌}
+use denote.Enum.Bare.{sameb}
+use Rattle.rules.specs.Rules.Requests.{same, same_mode}
+use Rattle.requests.specs.contracts.Mode.{the_type}
+use Rattle.requests.specs.declared.Mode.{Mode}
+use Rattle.requests.specs.declared.Mode.TheVariants.{Simplex, Duplex}
+use Rattle.requests.specs.Views.{request_of, mode_of}
 use Rattle.requests.proofs.sameness.same_request.Goals as goal
+use Rattle.requests.proofs.sameness.same_request.Goals.{then-is_by, else-is_by, then-eq, else-eq}
 
-pub returns-then-not-is_by : goal.returns-then-not-is_by
-unfolding same request_of
-returns-then-not-is_by c = rw (sym c.is_by.ensures ∙ c.if-not-is_by.true)
+modes : (a b : Mode) → sameb the_type a b ≡ same_mode (mode_of a) (mode_of b)
+modes Simplex Simplex = refl
+modes Simplex Duplex = refl
+modes Duplex Simplex = refl
+modes Duplex Duplex = refl
 
-pub returns-then-not-same_mode : goal.returns-then-not-same_mode
+pub returns-then-asked-stored_second : goal.returns-then-asked-stored_second
 unfolding same request_of
-returns-then-not-same_mode c = rw (sym c.is_by.ensures ∙ c.if-not-is_by.false, sym c.same_mode.ensures ∙ c.if-not-same_mode.true)
+returns-then-asked-stored_second c = elim c.if-eq.branch [
+  | then-eq v ↦ elim c.if-is_by.branch [
+    | then-is_by w ↦
+        rw (sym c.is_by.ensures ∙ w.if-is_by.true, ← modes, sym w.eq.ensures ∙ sym w.value-is ∙ v.if-eq.true, sym v.value-is ∙ c.if-asked-stored_second.true, ← c.same_number.ensures)
+    | else-is_by w ↦ cc
+  ]
+  | else-eq v ↦ cc
+]
 
-pub returns-then-second-stored_second : goal.returns-then-second-stored_second
+pub returns-else-asked-stored_second : goal.returns-else-asked-stored_second
 unfolding same request_of
-returns-then-second-stored_second c = rw (sym c.is_by.ensures ∙ c.if-not-is_by.false, sym c.same_mode.ensures ∙ c.if-not-same_mode.false, eq-eqb _ _ c.if-second-stored_second.true, ← c.same_number.ensures)
-
-pub returns : goal.returns
-unfolding same request_of
-returns c = rw (sym c.is_by.ensures ∙ c.if-not-is_by.false, sym c.same_mode.ensures ∙ c.if-not-same_mode.false, ne_eqb _ _ c.if-second-stored_second.false)
+returns-else-asked-stored_second c = elim c.if-eq.branch [
+  | then-eq v ↦ elim c.if-is_by.branch [
+    | then-is_by w ↦
+        rw (sym c.is_by.ensures ∙ w.if-is_by.true, ← modes, sym w.eq.ensures ∙ sym w.value-is ∙ v.if-eq.true, sym v.value-is ∙ c.if-asked-stored_second.false, c.if-asked-stored_second.false)
+    | else-is_by w ↦ cc
+  ]
+  | else-eq v ↦ elim c.if-is_by.branch [
+    | then-is_by w ↦ rw (sym c.is_by.ensures ∙ w.if-is_by.true, ← modes, sym w.eq.ensures ∙ sym w.value-is ∙ v.if-eq.false, c.if-asked-stored_second.false)
+    | else-is_by w ↦ rw (sym c.is_by.ensures ∙ w.if-is_by.false, c.if-asked-stored_second.false)
+  ]
+]
