@@ -3,10 +3,8 @@ use mathlib.Core.Path.{◌≡◌, refl, sym, ◌∙◌}
 use mathlib.Core.Bool.{Bool, true, false, not, cond, ◌&&◌}
 use mathlib.Core.List.{List, [], ◌∷◌}
 use borrow.Author.Tests.{not-true, not-false}
-use Rattle.sequence.specs.declared.Answer.{Answer}
-use Rattle.sequence.specs.declared.Answer.TheVariants.{Done}
 use Rattle.sequence.specs.Refusals.{Row, row, first_refusal, all_hold}
-use Rattle.sequence.specs.Answers.{is_done}
+use Rattle.sequence.specs.Answers.{Answer, done, is_done}
 use Rattle.sequence.proofs.Tests.{both_true}
 
 -- `if !test(s) { return .. }`: what the test ensures of its result, and what the branch says of it
@@ -50,5 +48,5 @@ kind-held kind (r ∷ rows) last n e =
     go true n later t = later t
     go false n later t = sym n ∙ t
 
-pub done_held : (rows : List (Row Answer)) → none_refuses is_done rows ≡ true → is_done (first_refusal rows Done) ≡ true → all_hold rows ≡ true
-done_held rows n e = kind-held is_done rows Done n e
+pub done_held : (rows : List (Row Answer)) → none_refuses is_done rows ≡ true → is_done (first_refusal rows done) ≡ true → all_hold rows ≡ true
+done_held rows n e = kind-held is_done rows done n e

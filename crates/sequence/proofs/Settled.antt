@@ -1,8 +1,7 @@
 -- Any two results that meet a contract are equal.
 use mathlib.Core.Path.{◌≡◌, sym, ◌∙◌}
 use contract.Lifetimes.{Lfts}
-use Rattle.sequence.proofs.Answer.number.Reads as Answer-number
-use Rattle.sequence.proofs.Answer.is_done.Reads as Answer-is_done
+use Rattle.sequence.proofs.Refusal.number.Reads as Refusal-number
 use Rattle.sequence.proofs.symbols.at.Reads as at
 use Rattle.sequence.proofs.symbols.all_at_most.Reads as all_at_most
 use Rattle.sequence.proofs.symbols.exclusive_or.Reads as exclusive_or
@@ -16,11 +15,8 @@ use Rattle.sequence.proofs.parts.duration_ok.Reads as duration_ok
 use Rattle.sequence.proofs.parts.number_ok.Reads as number_ok
 use Rattle.sequence.proofs.parts.end_ok.Reads as end_ok
 
-pub Answer-number-settled : (κs : Lfts 0) (a : _) (r r' : _) (s s' : _) → Answer-number.Post κs a r s → Answer-number.Post κs a r' s' → r ≡ r'
-Answer-number-settled κs a r r' s s' p q = p ∙ sym q
-
-pub Answer-is_done-settled : (κs : Lfts 0) (a : _) (r r' : _) (s s' : _) → Answer-is_done.Post κs a r s → Answer-is_done.Post κs a r' s' → r ≡ r'
-Answer-is_done-settled κs a r r' s s' p q = p ∙ sym q
+pub Refusal-number-settled : (κs : Lfts 0) (a : _) (r r' : _) (s s' : _) → Refusal-number.Post κs a r s → Refusal-number.Post κs a r' s' → r ≡ r'
+Refusal-number-settled κs a r r' s s' p q = p ∙ sym q
 
 pub at-settled : (κs : Lfts 1) (a : _) (r r' : _) (s s' : _) → at.Post κs a r s → at.Post κs a r' s' → r ≡ r'
 at-settled κs a r r' s s' p q = p ∙ sym q

@@ -1,15 +1,14 @@
 -- What the reader answers to any symbols: the first refusal of document 01's order, or the meaning.
-use Rattle.std.specs.Prelude.{ℕ, ◌+◌, ◌-◌, ◌*◌, ◌/◌, ◌%◌, Bool, true, cond, ◌&&◌, List, [], ◌∷◌, ◌++◌, leb, eqb, length, get_or, take, drop, replicate}
-use Rattle.sequence.specs.declared.Answer.{Answer}
-use Rattle.sequence.specs.declared.Answer.TheVariants.{Done, BadLength, BadSymbol, BadCheck, BadFormat, BadIdentities}
-use Rattle.sequence.specs.declared.Answer.TheVariants.{BadCategory, BadTelecommands, BadField, BadNumber, BadEnd}
+use Rattle.std.specs.Prelude.{ℕ, ◌+◌, ◌-◌, ◌*◌, ◌/◌, ◌%◌, Bool, true, cond, ◌&&◌, List, [], ◌∷◌, ◌++◌, leb, eqb, length, get_or, take, drop, replicate, Some, Result}
+use Rattle.sequence.specs.declared.Refusal.TheVariants.{BadLength, BadSymbol, BadCheck, BadFormat, BadIdentities}
+use Rattle.sequence.specs.declared.Refusal.TheVariants.{BadCategory, BadTelecommands, BadField, BadNumber, BadEnd}
 use Rattle.sequence.specs.declared.Field.{Field}
 use Rattle.sequence.specs.declared.Field.TheVariants.{Blank, Channel, Duration}
 use Rattle.sequence.specs.declared.Number.{Number}
 use Rattle.sequence.specs.declared.Meaning.{Meaning}
-use Rattle.sequence.specs.declared.Reading.{Reading}
+use Rattle.sequence.specs.declared.Refusal.{Refusal}
 use Rattle.sequence.specs.Refusals.{Row, row, first_refusal}
-use Rattle.sequence.specs.Answers.{is_done}
+use Rattle.sequence.specs.Answers.{Answer, done, is_done, answered}
 use Rattle.sequence.specs.Figures.{shortest, longest, last_symbol, format, category, first_over}
 use Rattle.sequence.specs.Figures.{untold, channel_told, odd_count, even_count, last_pair, most_digits}
 use Rattle.sequence.specs.Symbols.{within, all_at_most, exclusive_or}
@@ -106,20 +105,20 @@ end_in s = end_ok (get_or s (length s - 2) 0)
 -- the table of refusals, in its order
 unfoldable pub refusals : List ℕ → List (Row Answer)
 refusals s =
-    row (length_in s) BadLength
-    ∷ row (all_at_most last_symbol s) BadSymbol
-    ∷ row (check_in s) BadCheck
-    ∷ row (format_in s) BadFormat
-    ∷ row (identities_in s) BadIdentities
-    ∷ row (category_in s) BadCategory
-    ∷ row (telecommands_in s) BadTelecommands
-    ∷ row (field_in s) BadField
-    ∷ row (number_in s) BadNumber
-    ∷ row (end_in s) BadEnd
+    row (length_in s) (Some BadLength)
+    ∷ row (all_at_most last_symbol s) (Some BadSymbol)
+    ∷ row (check_in s) (Some BadCheck)
+    ∷ row (format_in s) (Some BadFormat)
+    ∷ row (identities_in s) (Some BadIdentities)
+    ∷ row (category_in s) (Some BadCategory)
+    ∷ row (telecommands_in s) (Some BadTelecommands)
+    ∷ row (field_in s) (Some BadField)
+    ∷ row (number_in s) (Some BadNumber)
+    ∷ row (end_in s) (Some BadEnd)
     ∷ []
 
 unfoldable pub answer_of : List ℕ → Answer
-answer_of s = first_refusal (refusals s) Done
+answer_of s = first_refusal (refusals s) done
 
 -- what symbols that pass every test mean
 unfoldable pub meaning_of : List ℕ → Meaning
@@ -147,8 +146,9 @@ blank_meaning =
       end = 0;
     }
 
-abbrev pub done_with : Meaning → Reading
-done_with m = record { answer = Done; meaning = m }
+unfoldable pub meaning_read : List ℕ → Meaning
+meaning_read s = cond (is_done (answer_of s)) (meaning_of s) blank_meaning
 
-unfoldable pub reading_of : List ℕ → Reading
-reading_of s = record { answer = answer_of s; meaning = cond (is_done (answer_of s)) (meaning_of s) blank_meaning }
+-- the first refusal, or with none the meaning
+unfoldable pub reading_of : List ℕ → Result Meaning Refusal
+reading_of s = answered (answer_of s) (meaning_of s)

@@ -2,7 +2,7 @@
 #![tactic(auto)]
 
 ghost use Rattle.std.specs.Prelude.{◌≡◌};
-ghost use Rattle.sequence.specs.Answers.{answer_number, is_done};
+ghost use Rattle.sequence.specs.Answers.{refusal_number};
 
 pub mod parts;
 pub mod symbols;
@@ -63,11 +63,10 @@ pub const END_BQ: u8 = 122;
 
 pub const END_LAST: u8 = 127;
 
-// What is answered to symbols that are read, or to a meaning that is written.
-#[derive(Clone, Copy)]
-pub enum Answer {
-    Done,
-    BadLength,
+// Why symbols are not read, or a meaning is not written: each by document 01's number.
+#[derive(Clone, Copy, PartialEq, Eq)]
+pub enum Refusal {
+    BadLength = 11,
     BadSymbol,
     BadCheck,
     BadFormat,
@@ -76,8 +75,8 @@ pub enum Answer {
     BadTelecommands,
     BadField,
     BadNumber,
-    BadEnd,
-    ShortRoom,
+    BadEnd = 20,
+    ShortRoom = 21,
 }
 
 // What the channel field holds. Behind an end of call it holds no channel, so 90 0 26 is a duration there.
@@ -107,44 +106,11 @@ pub struct Meaning {
     pub end: u8,
 }
 
-// The answer to symbols that are read, and beside Done their meaning.
-#[derive(Clone, Copy)]
-pub struct Reading {
-    pub answer: Answer,
-    pub meaning: Meaning,
-}
-
-// The answer to a meaning that is written, and beside Done the count of bytes written.
-#[derive(Clone, Copy)]
-pub struct Written {
-    pub answer: Answer,
-    pub length: usize,
-}
-
-impl Answer {
+impl Refusal {
     // Document 01's number.
     pub fn number(self) -> u8
-        ensures { result ≡ answer_number self }
+        ensures { result ≡ refusal_number self }
     {
-        match self {
-            Answer::Done => 0,
-            Answer::BadLength => 11,
-            Answer::BadSymbol => 12,
-            Answer::BadCheck => 13,
-            Answer::BadFormat => 14,
-            Answer::BadIdentities => 15,
-            Answer::BadCategory => 16,
-            Answer::BadTelecommands => 17,
-            Answer::BadField => 18,
-            Answer::BadNumber => 19,
-            Answer::BadEnd => 20,
-            Answer::ShortRoom => 21,
-        }
-    }
-
-    pub fn is_done(self) -> bool
-        ensures { result ≡ is_done self }
-    {
-        self.number() == 0
+        self as u8
     }
 }
