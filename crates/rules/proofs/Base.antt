@@ -7,7 +7,8 @@ use Prim.Native.Nat.{ℕ, suc, ◌*◌, ◌+◌, ◌≤◌, zero, ◌<◌}
 use lib.Dec.{eqb, leb}
 use lib.ListN.{get_or-map, get_or, length, replicate, length-replicate}
 use borrow.Author.Tests.{eq-eqb, eqb-true, leb-true, le-leb}
-use Rattle.units.specs.declared.Lasted.{Lasted}
+use Rattle.units.specs.declared.Duration.{Duration}
+use Rattle.std.specs.Prelude.{Option as Optional}
 use Rattle.rules.specs.Rules.Words.{Party, is, Mode, simplex, duplex, Request, Ashore, Deed, Config}
 use Rattle.rules.specs.Rules.Actions.{Action, does, over, charge}
 use Rattle.rules.specs.Rules.Station.{by_slot, ship_of, Kind, offered, first_ring_back, second_ring_back, acknowledged, first_call, second_call, ringing, Slot, free, taken, pending, busy, held, Waiting, Station, the_slot, set_slot, used_up, next_call, carrier_wait, loss_due, stage_due, main_due, slot_table, table, fires, answered_at, answered_in, Dealing, Stage, dialling, dialled_out, answered, fresh, due_after, kind_wait, dialling_wait, reply_wait, hold_wait, is_free, offer_of, ring_back_of, ring_back_again_of, agreed_at, called_of, called_again, ringing_at, is_called}
@@ -24,7 +25,7 @@ use native.Mathlib.Omega.{arith}
 -- ── a law on every slot, on every kind before the dialling, on every stage of a call ──
 
 pub by-slot : (P : Slot → Type 0) → P free → P taken → ((k : Kind) (r : Dealing) (d : ℕ) → P (pending k r d)) → ((r : Dealing) (g : Stage) (c : Option ℕ) → P (busy r g c))
-    → ((r : Dealing) (n : Lasted) (d : ℕ) → P (held r n d)) → (s : Slot) → P s
+    → ((r : Dealing) (n : Optional Duration) (d : ℕ) → P (held r n d)) → (s : Slot) → P s
 by-slot P a b f g h free = a
 by-slot P a b f g h taken = b
 by-slot P a b f g h (pending k r d) = f k r d

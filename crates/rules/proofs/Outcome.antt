@@ -4,7 +4,8 @@ use mathlib.Core.List.{List, [], ◌∷◌, map}
 use mathlib.Core.Bool.{Bool, true, false, cond, ◌&&◌}
 use mathlib.Core.Option.{Option, none, some}
 use Prim.Native.Nat.{ℕ}
-use Rattle.units.specs.declared.Lasted.{Lasted}
+use Rattle.units.specs.declared.Duration.{Duration}
+use Rattle.std.specs.Prelude.{Option as Optional}
 use Rattle.rules.specs.Rules.Places.{Each}
 use Rattle.rules.specs.Rules.Words.{Party, is, Config, line_dialled_out, line_lifted, line_hung, carrier_heard, carrier_lost, hand_takes, hand_gives, Happened, heard, signal, operator, off_hook, Deed, carrier_on, carrier_off, acknowledge, call_ship, unable, dial, release_line, ringing_on, ringing_off, busy_tone, Mode, is_answering, is_transmitting, carrier_up}
 use Rattle.rules.specs.Rules.Heard.{Heard, call_request, data_request, bq, working_call, end_of_call, declined, nothing, meaning}
@@ -55,9 +56,9 @@ pub data Move (i t : ℕ) : Slot → Next → List Action → Type 0 where
       → Move i t (busy r g c) (becomes (held r (lasted (answered_at g) t) (due_after t hold_wait))) (end_acts i the_ship r (answered_at g) t)
   to_end : (r : Dealing) (g : Stage) (c : Option ℕ) → Move i t (busy r g c) frees (end_acts i the_coast r (answered_at g) t)
   -- in its hold
-  to-repeat : (r : Dealing) (n : Lasted) (d : ℕ)
+  to-repeat : (r : Dealing) (n : Optional Duration) (d : ℕ)
       → Move i t (held r n d) stays (does (carrier_on i) ∷ over i the_ship r.request.who r.request.number n ∷ does (carrier_off i) ∷ [])
-  to-run-out : (r : Dealing) (n : Lasted) (d : ℕ) → Move i t (held r n d) frees []
+  to-run-out : (r : Dealing) (n : Optional Duration) (d : ℕ) → Move i t (held r n d) frees []
   -- the operator's
   to_take : Move i t free (becomes taken) []
   to-give : Move i t taken frees []

@@ -7,7 +7,8 @@ use Prim.Native.Nat.{ℕ, zero, suc, ◌*◌, ◌/◌, ◌%◌, ◌≤◌}
 use native.Mathlib.Omega.{arith}
 use lib.Dec.{eqb, leb}
 use borrow.Author.Tests.{leb-true}
-use Rattle.units.specs.declared.Lasted.{Lasted}
+use Rattle.units.specs.declared.Duration.{Duration}
+use Rattle.std.specs.Prelude.{Option as Optional}
 use Rattle.sequence.specs.Symbols.{within}
 use Rattle.sequence.specs.Identity.{is_ship}
 use lib.ListN.{length, take, length-append, length-take}
@@ -104,7 +105,7 @@ module _ (cfg : Config) where
   unfolding payload_of unable_said answer_to
   unable-slim n x digits = sent-length (unable_said n x digits) digits refl
 
-  pub over-slim : (i : ℕ) (a : Ender) (x : Party) (digits : List ℕ) (n : Lasted) → Slim cfg (over i a x digits n)
+  pub over-slim : (i : ℕ) (a : Ender) (x : Party) (digits : List ℕ) (n : Optional Duration) → Slim cfg (over i a x digits n)
   unfolding payload_of over_said answer_to
   over-slim i a x digits n = sent-length (over_said a x digits n) digits refl
 

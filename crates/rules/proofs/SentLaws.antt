@@ -7,8 +7,8 @@ use lib.Dec.{leb, leb-zero}
 use lib.ListN.{length, drop}
 use borrow.Author.Tests.{eqb-true}
 use Rattle.units.specs.declared.Channel.{Channel as ChannelNumber}
-use Rattle.units.specs.declared.Lasted.{Lasted}
-use Rattle.units.specs.declared.Lasted.TheVariants.{Nothing, Lasting}
+use Rattle.units.specs.declared.Duration.{Duration}
+use Rattle.std.specs.Prelude.{Option as Optional, Some, None}
 use Rattle.sequence.specs.declared.Field.{Field}
 use Rattle.sequence.specs.declared.Field.TheVariants.{Blank, Channel}
 use Rattle.sequence.specs.Symbols.{within, all_at_most}
@@ -65,10 +65,10 @@ over-telecommands : telecommands_ok 105 126 ≡ true
 unfolding telecommands_ok is_call
 over-telecommands = refl
 
-lasted-fits : (n : Lasted) → duration_keeps n ≡ true → field_ok 105 (lasted_field n) ≡ true
+lasted-fits : (n : Optional Duration) → duration_keeps n ≡ true → field_ok 105 (lasted_field n) ≡ true
 unfolding duration_keeps field_ok
-lasted-fits Nothing h = refl
-lasted-fits (Lasting d) h = h
+lasted-fits None h = refl
+lasted-fits (Some d) h = h
 
 ender-ok : (a : Ender) → end_ok (end_symbol a) ≡ true
 unfolding end_ok
@@ -101,6 +101,6 @@ module _ (cfg : Config) (coast : (n : ℕ) → Ours cfg n → is_coast n ≡ tru
   able-valid n h end e = answer-valid r.who (mode_number r.mode) r.second (Channel n) r.number end parts.ship parts.station (mode-second r.mode r.second parts.second) (mode-field r.mode n h) parts.number e
 
   -- the end of a call
-  pub over-valid : (a : Ender) (n : Lasted) → duration_keeps n ≡ true → valid (over_said a r.who r.number n) ≡ true
+  pub over-valid : (a : Ender) (n : Optional Duration) → duration_keeps n ≡ true → valid (over_said a r.who r.number n) ≡ true
   unfolding over_said
   over-valid a n h = answer-valid r.who 105 126 (lasted_field n) r.number (end_symbol a) parts.ship parts.station over-telecommands (lasted-fits n h) parts.number (ender-ok a)

@@ -10,7 +10,7 @@ use lib.ListN.{length}
 use borrow.Author.Tests.{leb-true, le-leb}
 use Rattle.units.specs.Units.{whole_seconds, duration_of}
 use Rattle.units.specs.declared.Seconds.{Seconds}
-use Rattle.units.specs.declared.Lasted.TheVariants.{Nothing, Lasting}
+use Rattle.std.specs.Prelude.{Some, None}
 use Rattle.sequence.specs.Field.{duration_ok}
 use Rattle.rules.specs.Rules.Places.{mod_at, drop_at, all}
 use Rattle.rules.specs.Rules.Words.{Request, Config}
@@ -34,7 +34,7 @@ duration-keeps : (s : Seconds) → duration_keeps (duration_of s) ≡ true
 unfolding duration_keeps duration_ok
 duration-keeps s = go (leb s.0 359999) refl
   where
-    go : (b : Bool) → leb s.0 359999 ≡ b → duration_keeps (cond b (Lasting (record { hours = s.0 / 3600; minutes = s.0 / 60 % 60; seconds = s.0 % 60 })) Nothing) ≡ true
+    go : (b : Bool) → leb s.0 359999 ≡ b → duration_keeps (cond b (Some (record { hours = s.0 / 3600; minutes = s.0 / 60 % 60; seconds = s.0 % 60 })) None) ≡ true
     go true e = let h = leb-true s.0 359999 e in rw (le-leb (s.0 / 3600) 99 (omega arith), le-leb (s.0 / 60 % 60) 59 (omega arith), le-leb (s.0 % 60) 59 (omega arith)) refl
     go false e = refl
 

@@ -1,8 +1,8 @@
 -- The actions handed out: the deeds, the end of a call with its duration, and the charge.
-use Rattle.std.specs.Prelude.{ℕ, List, [], ◌∷◌}
+use Rattle.std.specs.Prelude.{ℕ, List, [], ◌∷◌, Option as Optional}
 use Rattle.units.specs.declared.Tenths.{Tenths}
 use Rattle.units.specs.declared.Seconds.{Seconds}
-use Rattle.units.specs.declared.Lasted.{Lasted}
+use Rattle.units.specs.declared.Duration.{Duration}
 use Rattle.rules.specs.Rules.Words.{Party, Deed}
 
 -- tenths and charged seconds are records of their own
@@ -28,5 +28,5 @@ pub data Ender : Type 0 where
 
 pub data Action : Type 0 where
   does : Deed → Action
-  over : ℕ → Ender → Party → List ℕ → Lasted → Action  -- 105/126 on the working channel: slot, who ended, the ship, its number, duration
+  over : ℕ → Ender → Party → List ℕ → Optional Duration → Action  -- 105/126 on the working channel: slot, who ended, the ship, its number, duration
   charge : Charge → Action

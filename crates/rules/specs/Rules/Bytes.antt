@@ -1,8 +1,7 @@
 -- Actions handed out: the sequences that are sent, and the 40 bytes of an action.
-use Rattle.std.specs.Prelude.{List, [], ◌∷◌, ◌++◌, ℕ, zero, suc, ◌/◌, ◌%◌, length, get_or}
+use Rattle.std.specs.Prelude.{List, [], ◌∷◌, ◌++◌, ℕ, zero, suc, ◌/◌, ◌%◌, length, get_or, Option as Optional, Some, None}
 use Rattle.units.specs.declared.Channel.{Channel as ChannelNumber}
-use Rattle.units.specs.declared.Lasted.{Lasted}
-use Rattle.units.specs.declared.Lasted.TheVariants.{Nothing, Lasting}
+use Rattle.units.specs.declared.Duration.{Duration as DurationTold}
 use Rattle.sequence.specs.declared.Field.{Field}
 use Rattle.sequence.specs.declared.Field.TheVariants.{Blank, Channel, Duration}
 use Rattle.sequence.specs.declared.Number.{Number}
@@ -38,9 +37,9 @@ able_said channel end r = answer_to r.who (mode_number r.mode) r.second (Channel
 unfoldable pub unable_said : ℕ → Party → List ℕ → Meaning
 unable_said second x digits = answer_to x first_unable second Blank digits end_bq
 
-abbrev pub lasted_field : Lasted → Field
-lasted_field Nothing = Blank
-lasted_field (Lasting d) = Duration d
+abbrev pub lasted_field : Optional DurationTold → Field
+lasted_field None = Blank
+lasted_field (Some d) = Duration d
 
 -- "with BQ" at the ship's end, "with 127" at the coast's
 abbrev pub end_symbol : Ender → ℕ
@@ -48,7 +47,7 @@ end_symbol the_ship = end_bq
 end_symbol the_coast = end_last
 
 -- "send 105/126 .. and the duration"; "the number sent is the stored request's"
-unfoldable pub over_said : Ender → Party → List ℕ → Lasted → Meaning
+unfoldable pub over_said : Ender → Party → List ℕ → Optional DurationTold → Meaning
 over_said e x digits n = answer_to x first_over untold (lasted_field n) digits (end_symbol e)
 
 -- ── the bytes ────────────────────────────────────────────────────────────────

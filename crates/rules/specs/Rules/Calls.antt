@@ -1,8 +1,8 @@
 -- What each other event does: working call, BQ, call from ashore, dialling ended, off-hook, carrier, both ends, operator, and a wait that
 -- falls due. One function for an event, a clause for each phase of the slot.
-use Rattle.std.specs.Prelude.{List, [], ◌∷◌, ◌++◌, Bool, true, false, cond, not, ℕ}
+use Rattle.std.specs.Prelude.{List, [], ◌∷◌, ◌++◌, Bool, true, false, cond, not, ℕ, Option as Optional}
 use Rattle.std.proofs.Math.Option.{Option, none, some}
-use Rattle.units.specs.declared.Lasted.{Lasted}
+use Rattle.units.specs.declared.Duration.{Duration}
 use Rattle.rules.specs.Rules.Places.{drop_at}
 use Rattle.rules.specs.Rules.Words.{Party, is, Mode, Request, Config}
 use Rattle.rules.specs.Rules.Words.{Signal, line_dialled_out, line_lifted, line_hung, carrier_heard, carrier_lost}
@@ -204,7 +204,7 @@ ship_end i r b st =
     }
 
 -- "in the hold: carrier on, the same answer sent, carrier off; the wait unchanged"
-unfoldable pub say_again : ℕ → Request → Lasted → Station → Out
+unfoldable pub say_again : ℕ → Request → Optional Duration → Station → Out
 say_again i r n st =
     record {
       answer = 0;

@@ -1,10 +1,9 @@
 -- A call request, rules a to g; before them what they rest on:
 -- a slot freed with its ring-back, the coast's end of a call, where a ship stands.
-use Rattle.std.specs.Prelude.{List, [], ◌∷◌, ◌++◌, Bool, true, false, cond, ◌&&◌, ℕ, ◌-◌, eqb, ltb, length}
+use Rattle.std.specs.Prelude.{List, [], ◌∷◌, ◌++◌, Bool, true, false, cond, ◌&&◌, ℕ, ◌-◌, eqb, ltb, length, Option as Optional, None}
 use Rattle.std.proofs.Math.Option.{Option, none, some}
 use Rattle.units.specs.Units.{whole_seconds, duration_of}
-use Rattle.units.specs.declared.Lasted.{Lasted}
-use Rattle.units.specs.declared.Lasted.TheVariants.{Nothing}
+use Rattle.units.specs.declared.Duration.{Duration}
 use Rattle.rules.specs.Rules.Places.{mod_at, lowest}
 use Rattle.rules.specs.Rules.Words.{Party, is, Mode, simplex, duplex, Request}
 use Rattle.rules.specs.Rules.Words.{Deed, carrier_on, carrier_off, acknowledge, call_ship, unable, release_line}
@@ -67,8 +66,8 @@ bill i o none t = []
 bill i o (some b) t = charge (charge_of i o.request.who.ship b t (whole_seconds (record { 0 = t - b })).0 o.call_number) ∷ []
 
 -- "Duration: whole seconds, rounded down; unanswered, or 100 hours and over: 126s"
-abbrev pub lasted : Option ℕ → ℕ → Lasted
-lasted none t = Nothing
+abbrev pub lasted : Option ℕ → ℕ → Optional Duration
+lasted none t = None
 lasted (some b) t = duration_of (whole_seconds (record { 0 = t - b }))
 
 -- "charge if answered, release line, send 105/126 with .. and the duration, carrier off"

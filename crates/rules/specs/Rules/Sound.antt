@@ -1,9 +1,8 @@
 -- Which station is sound: 01, "It is sound if ..", one definition for each part of that sentence.
-use Rattle.std.specs.Prelude.{List, [], ◌∷◌, map, Bool, true, ◌&&◌, ℕ, eqb, leb, length}
+use Rattle.std.specs.Prelude.{List, [], ◌∷◌, map, Bool, true, ◌&&◌, ℕ, eqb, leb, length, Option as Optional, Some, None}
 use Rattle.std.proofs.Math.Option.{Option, none, some}
 use Rattle.units.specs.declared.Channel.{Channel}
-use Rattle.units.specs.declared.Lasted.{Lasted}
-use Rattle.units.specs.declared.Lasted.TheVariants.{Nothing, Lasting}
+use Rattle.units.specs.declared.Duration.{Duration}
 use Rattle.sequence.specs.Figures.{least_second, last_second, most_digits}
 use Rattle.sequence.specs.Identity.{is_ship, is_coast}
 use Rattle.sequence.specs.Symbols.{within, all_at_most}
@@ -45,9 +44,9 @@ request_keeps c r = is_ship r.who.ship
     && number_keeps r.number))
 
 -- "hold durations": none, or "hours 0 to 99, minutes and seconds 0 to 59"
-unfoldable pub duration_keeps : Lasted → Bool
-duration_keeps Nothing = true
-duration_keeps (Lasting d) = duration_ok d
+unfoldable pub duration_keeps : Optional Duration → Bool
+duration_keeps None = true
+duration_keeps (Some d) = duration_ok d
 
 abbrev pub slot_keeps : Config → Slot → Bool
 slot_keeps c free = true

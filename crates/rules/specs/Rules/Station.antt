@@ -1,7 +1,7 @@
 -- Time and the slots: what a station holds, its waits, and which of them a tick fires.
-use Rattle.std.specs.Prelude.{List, [], ◌∷◌, map, Bool, true, false, cond, ℕ, suc, ◌+◌, leb, length, get_or, replicate}
+use Rattle.std.specs.Prelude.{List, [], ◌∷◌, map, Bool, true, false, cond, ℕ, suc, ◌+◌, leb, length, get_or, replicate, Option as Optional}
 use Rattle.std.proofs.Math.Option.{Option, none, some}
-use Rattle.units.specs.declared.Lasted.{Lasted}
+use Rattle.units.specs.declared.Duration.{Duration}
 use Rattle.rules.specs.Rules.Places.{mod_at}
 use Rattle.rules.specs.Rules.Words.{Party, Mode, simplex, duplex, Request, Config}
 use Rattle.rules.specs.Rules.Waits.{loss, main, Due, running, earliest, if_due, queue_table}
@@ -66,7 +66,7 @@ pub data Slot : Type 0 where
   taken : Slot  -- by the operator
   pending : Kind → Dealing → ℕ → Slot  -- with its due time
   busy : Dealing → Stage → Option ℕ → Slot  -- with the due time of the carrier wait: none where the carrier is present
-  held : Dealing → Lasted → ℕ → Slot  -- the hold after a ship's end of call: the duration told, the due time
+  held : Dealing → Optional Duration → ℕ → Slot  -- the hold after a ship's end of call: the duration told, the due time
 
 -- before its line is dialled or answered, or after: a hold and a taken slot are nobody's
 abbrev pub by_slot : {A : Type 0} → A → (Kind → Dealing → A) → (Dealing → Stage → Option ℕ → A) → Slot → A

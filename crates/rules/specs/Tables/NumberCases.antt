@@ -1,7 +1,6 @@
 -- A case for each sentence of 02's no. 4, a number for every call: which numbers a short script gives, and what it prints once they are used up.
-use Rattle.std.specs.Prelude.{List, [], ◌∷◌, ◌++◌, map, ℕ, length, replicate}
+use Rattle.std.specs.Prelude.{List, [], ◌∷◌, ◌++◌, map, ℕ, length, replicate, None}
 use Rattle.std.proofs.Math.Option.{none, some}
-use Rattle.units.specs.declared.Lasted.TheVariants.{Nothing}
 use Rattle.rules.specs.Rules.Words.{simplex, duplex, mode_number, Event}
 use Rattle.rules.specs.Rules.Station.{offered, first_ring_back, acknowledged, first_call, ringing, answered, Slot, free, taken}
 use Rattle.rules.specs.Rules.Station.{call_number_in, Waiting, Station, fresh}
@@ -250,7 +249,7 @@ abbrev pub used_up_freed : Row
 used_up_freed = record {
   computed = tells (exhausted (taken ∷ []) (waits eight 2000 ∷ [])) (restores 1000 0 ∷ ticks 2000 ∷ [])
       ++ tells (exhausted (pending acknowledged (from seven duplex) 1161 ∷ []) (waits eight 2000 ∷ [])) (ticks 1161 ∷ [])
-      ++ tells (exhausted (held (from seven duplex) Nothing 1041 ∷ []) (waits eight 2000 ∷ [])) (ticks 1041 ∷ []);
+      ++ tells (exhausted (held (from seven duplex) None 1041 ∷ []) (waits eight 2000 ∷ [])) (ticks 1041 ∷ []);
   expected = (0 ∷ 1000 ∷ 0 ∷ 2000 ∷ []) ∷ (0 ∷ 2000 ∷ 0 ∷ []) ∷ (4294967295 ∷ 0 ∷ []) ∷ []
       ∷ (0 ∷ 1161 ∷ 1 ∷ 2000 ∷ []) ∷ (2 ∷ 0 ∷ []) ∷ (4294967295 ∷ 0 ∷ []) ∷ (eight ∷ 101 ∷ [])
       ∷ (0 ∷ 1041 ∷ 0 ∷ 2000 ∷ []) ∷ (4294967295 ∷ 0 ∷ []) ∷ (eight ∷ 101 ∷ []) ∷ [];

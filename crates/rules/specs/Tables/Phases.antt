@@ -1,7 +1,6 @@
 -- Which events are named for which phase: a slot of the ship 200000007 in each phase, and everything that may happen to it.
-use Rattle.std.specs.Prelude.{List, [], ◌∷◌, map, ℕ}
+use Rattle.std.specs.Prelude.{List, [], ◌∷◌, map, ℕ, None}
 use Rattle.std.proofs.Math.Option.{none, some}
-use Rattle.units.specs.declared.Lasted.TheVariants.{Nothing}
 use Rattle.sequence.specs.declared.Field.TheVariants.{Blank, Channel}
 use Rattle.rules.specs.Rules.Words.{simplex, duplex, Request, heard, dialling_ended, off_hook, on_hook, carrier_up, carrier_down}
 use Rattle.rules.specs.Rules.Words.{takes, gives_back, What, tick, on_channel70, on_slot, Event}
@@ -268,7 +267,7 @@ phases =
     }
     -- in its hold
     ∷ record {
-      slot = held asked Nothing 1020;
+      slot = held asked None 1020;
       gives = (0 ∷ []) ∷ (1 ∷ []) ∷ (0 ∷ 1 ∷ 4 ∷ 2 ∷ [])
           ∷ (1 ∷ []) ∷ (1 ∷ []) ∷ (1 ∷ []) ∷ (1 ∷ []) ∷ (1 ∷ [])
           ∷ (35 ∷ []) ∷ (35 ∷ [])

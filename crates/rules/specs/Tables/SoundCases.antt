@@ -1,8 +1,7 @@
 -- Which station is sound and which is not: a case for each part of 01's sentence, and for each bound on both its sides.
-use Rattle.std.specs.Prelude.{List, [], ◌∷◌, ℕ, replicate}
+use Rattle.std.specs.Prelude.{List, [], ◌∷◌, ℕ, replicate, Option as Optional, Some, None}
 use Rattle.std.proofs.Math.Option.{Option, none, some}
-use Rattle.units.specs.declared.Lasted.{Lasted}
-use Rattle.units.specs.declared.Lasted.TheVariants.{Nothing, Lasting}
+use Rattle.units.specs.declared.Duration.{Duration}
 use Rattle.rules.specs.Rules.Words.{Mode, simplex, duplex, Request, Config}
 use Rattle.rules.specs.Rules.Station.{Kind, offered, first_ring_back, second_ring_back, acknowledged, first_call, second_call, ringing}
 use Rattle.rules.specs.Rules.Station.{dialling, dialled_out, answered}
@@ -21,8 +20,8 @@ asking x s m second digits = record { who = record { ship = x; station = s }; mo
 abbrev pub from : ℕ → Mode → Request
 from x m = asking x 2001234 m 126 usual
 
-abbrev pub lasting : ℕ → ℕ → ℕ → Lasted
-lasting h m s = Lasting (record { hours = h; minutes = m; seconds = s })
+abbrev pub lasting : ℕ → ℕ → ℕ → Optional Duration
+lasting h m s = Some (record { hours = h; minutes = m; seconds = s })
 
 -- each kind of a slot before its line is dialled
 abbrev pub kinds : List Kind
@@ -120,7 +119,7 @@ stored_cases =
     -- in a call
     ∷ unsound (with (busy (asking seven 2001235 duplex 126 usual) (answered 900) none))
     -- in a hold
-    ∷ unsound (with (held (asking seven 2001235 duplex 126 usual) Nothing 1041))
+    ∷ unsound (with (held (asking seven 2001235 duplex 126 usual) None 1041))
     -- in the queue
     ∷ unsound (queued (record { request = asking seven 2001235 duplex 126 usual; due = 9000 } ∷ []))
     -- a hold of 99 59 59
@@ -167,9 +166,9 @@ count_cases =
     ∷ sounds (asked (station 2)
     (holding (pending ringing (from seven duplex) 1601 ∷ pending first_call (from eight duplex) 1051 ∷ []) []))
     -- a called ship may have a slot in its hold
-    ∷ sounds (asked (station 2) (holding (held (from seven duplex) Nothing 1041 ∷ pending first_call (from seven duplex) 1051 ∷ []) []))
+    ∷ sounds (asked (station 2) (holding (held (from seven duplex) None 1041 ∷ pending first_call (from seven duplex) 1051 ∷ []) []))
     -- a ship in its hold may wait, and may have a slot
-    ∷ sounds (asked (station 2) (holding (held (from seven duplex) Nothing 1041 ∷ pending offered (from seven duplex) 1161 ∷ []) []))
+    ∷ sounds (asked (station 2) (holding (held (from seven duplex) None 1041 ∷ pending offered (from seven duplex) 1161 ∷ []) []))
     ∷ []
 
 -- each due time, and each answered start
@@ -268,13 +267,13 @@ time_cases =
     -- one tenth further
     ∷ unsound (with (busy (from seven simplex) (answered 900) (some 1452)))
     -- a hold, from the clock
-    ∷ sounds (with (held (from seven duplex) Nothing 1000))
+    ∷ sounds (with (held (from seven duplex) None 1000))
     -- before it
-    ∷ unsound (with (held (from seven duplex) Nothing 999))
+    ∷ unsound (with (held (from seven duplex) None 999))
     -- to the clock plus its wait and 1
-    ∷ sounds (with (held (from seven duplex) Nothing 1041))
+    ∷ sounds (with (held (from seven duplex) None 1041))
     -- one tenth further
-    ∷ unsound (with (held (from seven duplex) Nothing 1042))
+    ∷ unsound (with (held (from seven duplex) None 1042))
     -- a queue entry, from the clock
     ∷ sounds (queued (waits seven 1000 ∷ []))
     -- before it
