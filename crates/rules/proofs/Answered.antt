@@ -7,10 +7,10 @@ use Prim.Native.Nat.{ℕ}
 use native.Mathlib.Omega.{arith}
 use lib.Dec.{leb, eqb}
 use borrow.Author.Tests.{leb-true, eq-eqb}
-use Rattle.sequence.specs.declared.Answer.{Answer}
-use Rattle.sequence.specs.declared.Answer.TheVariants.{Done, BadLength, BadSymbol, BadCheck, BadFormat, BadIdentities, BadCategory, BadTelecommands, BadField, BadNumber, BadEnd, ShortRoom}
+use Rattle.std.specs.Prelude.{Some, None}
+use Rattle.sequence.specs.declared.Refusal.TheVariants.{BadLength, BadSymbol, BadCheck, BadFormat, BadIdentities, BadCategory, BadTelecommands, BadField, BadNumber, BadEnd, ShortRoom}
 use Rattle.sequence.specs.Refusals.{Row, first_refusal}
-use Rattle.sequence.specs.Answers.{answer_number, is_done}
+use Rattle.sequence.specs.Answers.{Answer, answer_number, is_done}
 use Rattle.rules.specs.Rules.Places.{all, Each, elem}
 use Rattle.rules.specs.Rules.Words.{Config, Event}
 use Rattle.rules.specs.Rules.Station.{Station}
@@ -49,18 +49,18 @@ module _ (p : ℕ → Bool) (others : all p other_numbers ≡ true) where
   row-such k h b f = one-such k (other k h)
 
   read-such : (a : Answer) → is_done a ≡ false → p (answer_number a) ≡ true
-  read-such Done f = cc
-  read-such BadLength f = other 11 refl
-  read-such BadSymbol f = other 12 refl
-  read-such BadCheck f = other 13 refl
-  read-such BadFormat f = other 14 refl
-  read-such BadIdentities f = other 15 refl
-  read-such BadCategory f = other 16 refl
-  read-such BadTelecommands f = other 17 refl
-  read-such BadField f = other 18 refl
-  read-such BadNumber f = other 19 refl
-  read-such BadEnd f = other 20 refl
-  read-such ShortRoom f = other 21 refl
+  read-such None f = cc
+  read-such (Some BadLength) f = other 11 refl
+  read-such (Some BadSymbol) f = other 12 refl
+  read-such (Some BadCheck) f = other 13 refl
+  read-such (Some BadFormat) f = other 14 refl
+  read-such (Some BadIdentities) f = other 15 refl
+  read-such (Some BadCategory) f = other 16 refl
+  read-such (Some BadTelecommands) f = other 17 refl
+  read-such (Some BadField) f = other 18 refl
+  read-such (Some BadNumber) f = other 19 refl
+  read-such (Some BadEnd) f = other 20 refl
+  read-such (Some ShortRoom) f = other 21 refl
 
   pub refused-such : (c : Config) (st : Station) (e : Event) → (sound c st ≡ false → p 29 ≡ true) → (n : ℕ) → verdict c st e ≡ some n → p n ≡ true
   unfolding verdict refusals

@@ -8,7 +8,7 @@ use native.Mathlib.Omega.{arith}
 use lib.ListN.{get_or, length}
 use lib.Dec.{eqb}
 use Rattle.sequence.specs.Answers.{is_done}
-use Rattle.sequence.specs.Reading.{reading_of}
+use Rattle.sequence.specs.Reading.{answer_of}
 use Rattle.rules.specs.Rules.Places.{mod_at, drop_at, is_some}
 use Rattle.rules.specs.Rules.Words.{Party, Request, Config, Ashore, What, tick, on_channel70, on_slot, from_ashore, ashore_in, Event, is_answering, is_transmitting}
 use Rattle.rules.specs.Rules.Waits.{Wait, of_queue, loss, main, Due}
@@ -109,7 +109,7 @@ act-effect cfg st t (on_slot i h) = rw (column-is i st (the_slot st i) refl) (to
 -- ── what else is told of an event by its kind ────────────────────────────────
 
 -- what channel 70 says is the meaning of symbols that the reader accepts, or nothing
-pub heard-at : (cfg : Config) (P : Heard → Type 0) (w : What) → is_done (read_in w) ≡ true → P nothing → ((m : List ℕ) → is_done (reading_of m).answer ≡ true → P (meaning cfg m)) → P (heard_at cfg w)
+pub heard-at : (cfg : Config) (P : Heard → Type 0) (w : What) → is_done (read_in w) ≡ true → P nothing → ((m : List ℕ) → is_done (answer_of m) ≡ true → P (meaning cfg m)) → P (heard_at cfg w)
 heard-at cfg P tick d z f = z
 heard-at cfg P (on_channel70 m) d z f = f m d
 heard-at cfg P (on_slot i h) d z f = z

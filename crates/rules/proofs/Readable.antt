@@ -21,17 +21,17 @@ use Rattle.rules.specs.Rules.Sound.{identity_keeps, config_keeps, number_keeps, 
 use Rattle.rules.proofs.PlaceLaws.{and-true}
 use Rattle.rules.proofs.KindLaws.{only-these}
 
--- ── what the reader's answer Done says ───────────────────────────────────────
+-- ── what it says that the reader refuses nothing ─────────────────────────────
 
 record Passed (s : List ℕ) : Type 0 where
   sized : S.length_in s ≡ true
   named : S.identities_in s ≡ true
   ordered : S.telecommands_in s ≡ true
   numbered : S.number_in s ≡ true
-  meant : (S.reading_of s).meaning ≡ S.meaning_of s
+  meant : (S.meaning_read s) ≡ S.meaning_of s
 
-passed : (s : List ℕ) → is_done (S.reading_of s).answer ≡ true → Passed s
-unfolding S.reading_of S.answer_of S.refusals
+passed : (s : List ℕ) → is_done (S.answer_of s) ≡ true → Passed s
+unfolding S.meaning_read S.answer_of S.refusals
 passed s h =
     let r = done_held (S.refusals s) refl h in
     let a = and-true (S.length_in s) _ r in
@@ -122,8 +122,8 @@ second-in duplex second h = h
 
 -- ── the request ──────────────────────────────────────────────────────────────
 
-module _ (cfg : Config) (keeps : config_keeps cfg ≡ true) (s : List ℕ) (done : is_done (S.reading_of s).answer ≡ true) where
-  kept : (w : Mode) → Plain cfg 117 (mode_number w) (S.reading_of s).meaning → request_keeps cfg (request_in w (S.reading_of s).meaning) ≡ true
+module _ (cfg : Config) (keeps : config_keeps cfg ≡ true) (s : List ℕ) (done : is_done (S.answer_of s) ≡ true) where
+  kept : (w : Mode) → Plain cfg 117 (mode_number w) (S.meaning_read s) → request_keeps cfg (request_in w (S.meaning_read s)) ≡ true
   unfolding request_keeps config_keeps identity_keeps S.identities_in S.telecommands_in S.number_in S.pairs_ok S.meaning_of
   kept w plain =
       let p = passed s done in
@@ -139,10 +139,10 @@ module _ (cfg : Config) (keeps : config_keeps cfg ≡ true) (s : List ℕ) (done
 
   pub heard-keeps : (r : Request) → meaning cfg s ≡ call_request r → request_keeps cfg r ≡ true
   unfolding meaning OnlyThese
-  heard-keeps r e = go (addressed cfg (S.reading_of s).meaning) (only-these cfg (S.reading_of s).meaning) e
+  heard-keeps r e = go (addressed cfg (S.meaning_read s)) (only-these cfg (S.meaning_read s)) e
     where
-      go : (h : Heard) → Means cfg (S.reading_of s).meaning h → h ≡ call_request r → request_keeps cfg r ≡ true
-      go _ (as_call_request w p) e = let y : request_in w (S.reading_of s).meaning ≡ r = cc in rw (← y) (kept w p)
+      go : (h : Heard) → Means cfg (S.meaning_read s) h → h ≡ call_request r → request_keeps cfg r ≡ true
+      go _ (as_call_request w p) e = let y : request_in w (S.meaning_read s) ≡ r = cc in rw (← y) (kept w p)
       go _ (as_data_request p) e = cc
       go _ (as_working_call w p) e = cc
       go _ (as_end_of_call p) e = cc

@@ -7,7 +7,7 @@ use Rattle.sequence.specs.declared.Field.TheVariants.{Blank, Channel, Duration}
 use Rattle.sequence.specs.declared.Number.{Number}
 use Rattle.sequence.specs.declared.Meaning.{Meaning}
 use Rattle.sequence.specs.Figures.{first_simplex, first_duplex, first_data, first_unable, first_over, end_rq, end_bq, end_last}
-use Rattle.sequence.specs.Reading.{reading_of}
+use Rattle.sequence.specs.Reading.{meaning_read}
 use Rattle.rules.specs.Rules.Places.{lowest}
 use Rattle.rules.specs.Rules.Words.{Party, Mode, simplex, duplex, Request, Config, ours}
 
@@ -79,4 +79,4 @@ addressed c m = cond (ours c m.address) (kind_of c m) nothing
 
 -- what symbols say that the reader accepts
 unfoldable pub meaning : Config → List ℕ → Heard
-meaning c s = addressed c (reading_of s).meaning
+meaning c s = addressed c (meaning_read s)

@@ -48,7 +48,7 @@ unfolding rules_open is_ship is_coast identities_ok identity_pairs identity_of i
     Reader.identity_pairs_at Reader.identities_in Reader.category_in Reader.telecommands_in Reader.blank_symbols Reader.channel_symbols
     Reader.duration_symbols Reader.field_symbols Reader.field_of Reader.field_in Reader.pairs_in Reader.parity_ok Reader.pairs_ok
     Reader.number_in Reader.zero_before Reader.sixteen Reader.number_of Reader.end_in Reader.refusals Reader.answer_of Reader.meaning_of
-    Reader.blank_meaning Reader.reading_of identity_keeps channels_keep config_keeps one_slot_each number_keeps request_keeps duration_keeps
+    Reader.blank_meaning Reader.meaning_read identity_keeps channels_keep config_keeps one_slot_each number_keeps request_keeps duration_keeps
     no_ship_twice stored_keeps times_fit sound refusals verdict set_up_verdict step play final block block_of padded answer_to able_said
     unable_said over_said payload_of printed last_printed
 runs_open = tt

@@ -1,6 +1,6 @@
 -- A call request, rules a to g; before them what they rest on:
 -- a slot freed with its ring-back, the coast's end of a call, where a ship stands.
-use Rattle.std.specs.Prelude.{List, [], ◌∷◌, ◌++◌, Bool, true, false, cond, ◌&&◌, ℕ, ◌-◌, eqb, ltb, length, Option as Optional, None}
+use Rattle.std.specs.Prelude.{Option as Optional, None, List, [], ◌∷◌, ◌++◌, Bool, true, false, cond, ◌&&◌, ℕ, ◌-◌, eqb, ltb, length}
 use Rattle.std.proofs.Math.Option.{Option, none, some}
 use Rattle.units.specs.Units.{whole_seconds, duration_of}
 use Rattle.units.specs.declared.Duration.{Duration}

@@ -1,5 +1,5 @@
 -- Which station is sound: 01, "It is sound if ..", one definition for each part of that sentence.
-use Rattle.std.specs.Prelude.{List, [], ◌∷◌, map, Bool, true, ◌&&◌, ℕ, eqb, leb, length, Option as Optional, Some, None}
+use Rattle.std.specs.Prelude.{Option as Optional, Some, None, List, [], ◌∷◌, map, Bool, true, ◌&&◌, ℕ, eqb, leb, length}
 use Rattle.std.proofs.Math.Option.{Option, none, some}
 use Rattle.units.specs.declared.Channel.{Channel}
 use Rattle.units.specs.declared.Duration.{Duration}

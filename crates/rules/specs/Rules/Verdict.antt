@@ -1,11 +1,9 @@
 -- Answer numbers: which event is refused, by the first test that fails; and a run, in which the accepted events are done.
 use Rattle.std.specs.Prelude.{List, [], ◌∷◌, Bool, true, false, not, ◌&&◌, ℕ, ◌*◌, leb, ltb, length}
 use Rattle.std.proofs.Math.Option.{Option, none, some}
-use Rattle.sequence.specs.declared.Answer.{Answer}
-use Rattle.sequence.specs.declared.Answer.TheVariants.{Done}
 use Rattle.sequence.specs.Refusals.{Row, row, first_refusal}
-use Rattle.sequence.specs.Answers.{answer_number, is_done}
-use Rattle.sequence.specs.Reading.{reading_of}
+use Rattle.sequence.specs.Answers.{Answer, done, answer_number, is_done}
+use Rattle.sequence.specs.Reading.{answer_of}
 use Rattle.sequence.specs.Identity.{is_ship}
 use Rattle.rules.specs.Rules.Places.{is_some}
 use Rattle.rules.specs.Rules.Words.{Config, Hand, Happened, What, happens, slot_in, symbols_on, symbols_in, hand_in, Ashore}
@@ -40,10 +38,10 @@ slot_there n w = is_there n (slot_in w)
 
 -- 11 to 20: "the event's sequence": the reader's answer
 abbrev pub reader_says : List ℕ → Answer
-reader_says m = (reading_of m).answer
+reader_says m = answer_of m
 
 abbrev pub read_of : Option (List ℕ) → Answer
-read_of none = Done
+read_of none = done
 read_of (some m) = reader_says m
 
 abbrev pub read_on : Happened → Answer

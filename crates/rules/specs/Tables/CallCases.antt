@@ -1,6 +1,6 @@
 -- A case for each other event, and for ticks: what the last event of a short script prints.
 use Rattle.std.specs.Prelude.{List, [], ◌∷◌}
-use Rattle.sequence.specs.Reading.{reading_of}
+use Rattle.sequence.specs.Reading.{meaning_read}
 use Rattle.rules.specs.Rules.Words.{simplex, duplex, carrier_on, dial}
 use Rattle.rules.specs.Rules.Actions.{does, charge, charge_of}
 use Rattle.rules.specs.Rules.Bytes.{payload_of, block_of}
@@ -183,7 +183,7 @@ ship_end_stranger = record {
 -- 90 0 26 in an end of call: ninety hours and 26 seconds, no channel; and with a field it is no end of a ship's call
 abbrev pub ninety_hours : Row
 ninety_hours = record {
-  computed = field_told (reading_of ninety).meaning.field ∷ gives 1 (calls 100 seven duplex ∷ works 200 0 seven ∷ says_on 300 0 ninety ∷ []);
+  computed = field_told (meaning_read ninety).field ∷ gives 1 (calls 100 seven duplex ∷ works 200 0 seven ∷ says_on 300 0 ninety ∷ []);
   expected = (90 ∷ 0 ∷ 26 ∷ []) ∷ (1 ∷ 300 ∷ 0 ∷ 801 ∷ []) ∷ [];
 }
 
