@@ -1,12 +1,10 @@
 -- What one turn of a scan over an array does to the earliest wait.
 use Prim.Native.Nat.{ℕ, suc, ◌+◌, ◌-◌, ◌<◌, ◌≤◌, min}
-use mathlib.Core.Bool.{Bool, true, false, cond}
 use mathlib.Core.List.{List, [], ◌∷◌, map}
 use mathlib.Core.Option.{Option, none, some}
 use mathlib.Core.Path.{◌≡◌, refl, ap}
 use native.Mathlib.Omega.{arith}
 use lib.ListN.{length, get_or}
-use Rattle.rules.specs.Rules.Places.{is_some}
 use Rattle.rules.specs.Rules.Waits as T
 use Rattle.rules.specs.Rules.Waits.{loss, main, of_queue, sooner, earliest, running, queue_table}
 use Rattle.rules.specs.Rules.Station.{loss_due, main_due, slot_table}
@@ -44,7 +42,3 @@ queue-down n l i z y h k p =
 
 pub queue-none : (n : ℕ) (l : List Waiting) (i : ℕ) (z : Option T.Due) → i ≡ min n (length l) → z ≡ queue_joined i (map due_of (left waiting_view n l i)) z
 queue-none n l i z h = rw (left-none waiting_view n l i (omega arith))
-
-pub some-if : {A : Type 0} (b : Bool) (a : A) → b ≡ is_some (cond b (some a) none)
-some-if true a = refl
-some-if false a = refl

@@ -11,8 +11,8 @@ ghost use Rattle.slots.specs.Views.{slot_view, wait_view, when_view, due_view};
 ghost use Rattle.due_times.specs.Joins.{join_due};
 
 use requests::Mode;
-use slots::{Due, Slot, Wait, When, loss_of, main_of};
-use units::{GREATEST, SlotNumber, Tenths};
+use slots::{Due, Slot, Wait, loss_of, main_of};
+use units::{SlotNumber, Tenths};
 
 // "join it, wait 9000"
 pub const QUEUE_WAIT: Tenths = Tenths(9000);
@@ -27,55 +27,35 @@ pub fn carrier_wait(mode: Mode) -> Tenths
     }
 }
 
-const LAST: u64 = GREATEST as u64;
-
 // When a wait falls due that begins at `start`; the greatest time stands for all that lie past it.
 pub fn due_after(start: Tenths, wait: Tenths) -> Tenths
     ensures { result.0 ≡ min (due_after start.0 wait.0) greatest }
 {
-    let due = start.0 as u64 + (wait.0 as u64 + 1);
-    if due <= LAST {
-        return Tenths(due as u32);
-    }
-    Tenths(GREATEST)
+    Tenths(start.0.saturating_add(wait.0).saturating_add(1))
 }
 
-// The same wait, put together anew: handed on whole, it takes its unused bytes along, and an event takes longer.
-fn anew(due: Due) -> Due
-    ensures { result ≡ due }
-{
-    match due {
-        Due::Never => Due::Never,
-        Due::In(time, wait) => Due::In(time, wait),
-    }
-}
-
-// The wait that falls due at that time, or `first` where that falls due before it.
-pub fn sooner_of(time: Tenths, wait: Wait, first: Due) -> Due
-    ensures { due_view result ≡ sooner (record { what = wait_view wait; at = time.0 }) (due_view first) }
+// The wait, or `first` where that falls due before it.
+pub fn sooner_of(due: Due, first: Option<Due>) -> Option<Due>
+    ensures { due_view result ≡ sooner (record { what = wait_view due.wait; at = due.at.0 }) (due_view first) }
 {
     match first {
-        Due::Never => Due::In(time, wait),
-        Due::In(moment, earlier) => if time.0 <= moment.0 {
-            Due::In(time, wait)
-        } else {
-            Due::In(moment, earlier)
-        },
+        Some(earlier) if earlier.at < due.at => first,
+        _ => Some(due),
     }
 }
 
 // The same of a wait that may run.
-fn sooner_when(when: When, wait: Wait, first: Due) -> Due
+fn sooner_when(when: Option<Tenths>, wait: Wait, first: Option<Due>) -> Option<Due>
     ensures { due_view result ≡ join_due (wait_view wait) (when_view when) (due_view first) }
 {
     match when {
-        When::Never => anew(first),
-        When::At(moment) => sooner_of(moment, wait, first),
+        None => first,
+        Some(at) => sooner_of(Due { at, wait }, first),
     }
 }
 
 // The same of the carrier's absence in a slot.
-pub fn loss_due(slot: Slot, number: SlotNumber, first: Due) -> Due
+pub fn loss_due(slot: Slot, number: SlotNumber, first: Option<Due>) -> Option<Due>
     ensures { due_view result ≡ join_due (loss number.0) (loss_due (slot_view slot)) (due_view first) }
 {
     let when = loss_of(slot);
@@ -83,7 +63,7 @@ pub fn loss_due(slot: Slot, number: SlotNumber, first: Due) -> Due
 }
 
 // The same of a slot's other wait.
-pub fn main_due(slot: Slot, number: SlotNumber, first: Due) -> Due
+pub fn main_due(slot: Slot, number: SlotNumber, first: Option<Due>) -> Option<Due>
     ensures { due_view result ≡ join_due (main number.0) (main_due (slot_view slot)) (due_view first) }
 {
     let when = main_of(slot);
@@ -91,24 +71,14 @@ pub fn main_due(slot: Slot, number: SlotNumber, first: Due) -> Due
 }
 
 // The wait, where it falls due by that time.
-pub fn due_by(due: Due, time: Tenths) -> Due
+pub fn due_by(due: Option<Due>, time: Tenths) -> Option<Due>
     ensures { due_view result ≡ if_due time.0 (due_view due) }
 {
-    match due {
-        Due::Never => due,
-        Due::In(moment, wait) => if moment.0 <= time.0 {
-            Due::In(moment, wait)
-        } else {
-            Due::Never
-        },
-    }
+    due.filter(|wait| wait.at <= time)
 }
 
-pub fn falls_due(due: Due, time: Tenths) -> bool
+pub fn falls_due(due: Option<Due>, time: Tenths) -> bool
     ensures { result ≡ is_some (if_due time.0 (due_view due)) }
 {
-    match due {
-        Due::Never => false,
-        Due::In(moment, _) => moment.0 <= time.0,
-    }
+    due_by(due, time).is_some()
 }
