@@ -1,4 +1,4 @@
--- What an answer of Done says: every test of the table holds; and the other way round.
+-- What it says that nothing is refused: every test of the table holds; and the other way round.
 use Prim.Native.Nat.{ℕ, ◌-◌, ◌≤◌}
 use mathlib.Core.Path.{◌≡◌, refl}
 use mathlib.Core.Bool.{true, false}
@@ -7,8 +7,7 @@ use native.Mathlib.Omega.{arith}
 use lib.Dec.{leb}
 use lib.ListN.{length, get_or}
 use borrow.Author.Tests.{leb-true, ne_eqb}
-use Rattle.sequence.specs.declared.Answer.TheVariants.{Done}
-use Rattle.sequence.specs.Answers.{is_done}
+use Rattle.sequence.specs.Answers.{done as nothing_refused, is_done}
 use Rattle.sequence.specs.Symbols.{all_at_most}
 use Rattle.sequence.specs.Layout.{end_ok}
 use Rattle.sequence.specs.Reading.{length_in, check_in, format_in, identities_in, category_in, telecommands_in, field_in, number_in, end_in, refusals, answer_of}
@@ -63,10 +62,10 @@ passed s e =
       end = k.0;
     }
 
-pub done : (s : List ℕ) → Passed s → answer_of s ≡ Done
+pub done : (s : List ℕ) → Passed s → answer_of s ≡ nothing_refused
 unfolding answer_of refusals
 done s p =
-    all_held (refusals s) Done
+    all_held (refusals s) nothing_refused
     (rw (p.long, p.symbols, p.check, p.format, p.identities, p.category, p.telecommands, p.field, p.number, p.end))
 
 -- "digit pairs, each 0 to 99" are no ends

@@ -1,8 +1,8 @@
 // The reader: any symbols to their meaning, or to the first refusal in document 01's order.
 #![tactic(auto)]
 
-ghost use Rattle.std.specs.Prelude.{◌≡◌, true};
-ghost use Rattle.sequence.specs.Answers.{is_done};
+ghost use Rattle.std.specs.Prelude.{◌≡◌, true, false, MatchResult};
+ghost use Rattle.sequence.specs.Answers.{done};
 ghost use Rattle.sequence.specs.Reading.{answer_of, meaning_of, blank_meaning, reading_of};
 
 mod digits;
@@ -14,47 +14,34 @@ use crate::places::{
     length_in, number_in, telecommands_in,
 };
 use sequence::symbols::{all_at_most, at};
-use sequence::{Answer, DIGITS, Field, LAST_SYMBOL, Meaning, Number, Reading};
+use sequence::{DIGITS, Field, LAST_SYMBOL, Meaning, Number, Refusal};
 
-fn answer_to(symbols: &[u8]) -> Answer
-    ensures { result ≡ answer_of symbols.now }
+fn held(test: bool, refusal: Refusal) -> Result<(), Refusal>
+    ensures { MatchResult result (λ _. test ≡ true) (λ r. (test ≡ false) × (r ≡ refusal)) }
 {
-    if !length_in(symbols) {
-        return Answer::BadLength;
-    }
-    if !all_at_most(symbols, LAST_SYMBOL) {
-        return Answer::BadSymbol;
-    }
-    if !check_in(symbols) {
-        return Answer::BadCheck;
-    }
-    if !format_in(symbols) {
-        return Answer::BadFormat;
-    }
-    if !identities_in(symbols) {
-        return Answer::BadIdentities;
-    }
-    if !category_in(symbols) {
-        return Answer::BadCategory;
-    }
-    if !telecommands_in(symbols) {
-        return Answer::BadTelecommands;
-    }
-    if !field_in(symbols) {
-        return Answer::BadField;
-    }
-    if !number_in(symbols) {
-        return Answer::BadNumber;
-    }
-    if !end_in(symbols) {
-        return Answer::BadEnd;
-    }
-    Answer::Done
+    if test { Ok(()) } else { Err(refusal) }
+}
+
+// The tests, in document 01's order.
+#[tactic(auto, unfolding(sequence::specs::Reading::answer_of, sequence::specs::Reading::refusals))]
+fn tested(symbols: &[u8]) -> Result<(), Refusal>
+    ensures { MatchResult result (λ _. answer_of symbols.now ≡ done) (λ r. answer_of symbols.now ≡ Some r) }
+{
+    held(length_in(symbols), Refusal::BadLength)?;
+    held(all_at_most(symbols, LAST_SYMBOL), Refusal::BadSymbol)?;
+    held(check_in(symbols), Refusal::BadCheck)?;
+    held(format_in(symbols), Refusal::BadFormat)?;
+    held(identities_in(symbols), Refusal::BadIdentities)?;
+    held(category_in(symbols), Refusal::BadCategory)?;
+    held(telecommands_in(symbols), Refusal::BadTelecommands)?;
+    held(field_in(symbols), Refusal::BadField)?;
+    held(number_in(symbols), Refusal::BadNumber)?;
+    held(end_in(symbols), Refusal::BadEnd)
 }
 
 // What symbols that pass every test mean.
 fn meaning_of(symbols: &[u8]) -> Meaning
-    requires { is_done (answer_of symbols.now) ≡ true }
+    requires { answer_of symbols.now ≡ done }
     ensures { result ≡ meaning_of symbols.now }
 {
     let last = symbols.len() - 2;
@@ -64,10 +51,10 @@ fn meaning_of(symbols: &[u8]) -> Meaning
     Meaning {
         address: identity_at(symbols, 1),
         sender: identity_at(symbols, 7),
-        first: first,
+        first,
         second: at(symbols, 13),
-        field: field,
-        number: number,
+        field,
+        number,
         end: at(symbols, last),
     }
 }
@@ -86,26 +73,16 @@ pub fn blank_meaning() -> Meaning
         first: 0,
         second: 0,
         field: Field::Blank,
-        number: number,
+        number,
         end: 0,
     }
 }
 
-// Reads one sequence: Done with its meaning, or the first refusal with the blank meaning.
-pub fn read(symbols: &[u8]) -> Reading
+// Reads one sequence: its meaning, or the first refusal.
+#[tactic(auto, unfolding(sequence::specs::Reading::reading_of))]
+pub fn read(symbols: &[u8]) -> Result<Meaning, Refusal>
     ensures { result ≡ reading_of symbols.now }
 {
-    let answer = answer_to(symbols);
-    if answer.is_done() {
-        let meaning = meaning_of(symbols);
-        return Reading {
-            answer: answer,
-            meaning: meaning,
-        };
-    }
-    let meaning = blank_meaning();
-    Reading {
-        answer: answer,
-        meaning: meaning,
-    }
+    tested(symbols)?;
+    Ok(meaning_of(symbols))
 }

@@ -1,3 +1,5 @@
+use Rattle.sequence.specs.Answers.{is_done}
+use mathlib.Core.Path.{ap}
 use Rattle.reading.proofs.Passed.{long-enough}
 use Rattle.sequence.specs.Reading.{meaning_of, pairs_in}
 use lib.ListN.{length, length-take, length-drop}
@@ -7,16 +9,16 @@ use Prim.Native.Nat.{◌-◌}
 use Rattle.reading.proofs.meaning_of.Goals as goal
 
 pub overflow_sub-last : goal.overflow_sub-last
-overflow_sub-last c = omega (arith, long-enough _ c.requires)
+overflow_sub-last c = omega (arith, long-enough _ (ap is_done c.requires))
 
 pub slice_bounds-number_of-count : goal.slice_bounds-number_of-count
-slice_bounds-number_of-count c = omega (arith, long-enough _ c.requires)
+slice_bounds-number_of-count c = omega (arith, long-enough _ (ap is_done c.requires))
 
 pub slice_bounds-number_of-start : goal.slice_bounds-number_of-start
-slice_bounds-number_of-start c = omega (arith, long-enough _ c.requires)
+slice_bounds-number_of-start c = omega (arith, long-enough _ (ap is_done c.requires))
 
 pub number_of-number-requires : goal.number_of-number-requires
-number_of-number-requires c = let h = long-enough _ c.requires in (simp (length-take, length-drop) (omega arith), simp (length-take, length-drop) (omega arith))
+number_of-number-requires c = let h = long-enough _ (ap is_done c.requires) in (simp (length-take, length-drop) (omega arith), simp (length-take, length-drop) (omega arith))
 
 pub returns : goal.returns
 unfolding meaning_of pairs_in
