@@ -1,8 +1,7 @@
 -- A phase: what it stands for, how it is laid out, and what of it decides.
-use Rattle.std.specs.Prelude.{ℕ, Bool, true, false, leb}
+use Rattle.std.specs.Prelude.{ℕ, Bool, true, false, leb, Option as Optional, None}
 use Rattle.std.proofs.Math.Option.{Option, none, some}
-use Rattle.units.specs.declared.Lasted.{Lasted}
-use Rattle.units.specs.declared.Lasted.TheVariants.{Nothing}
+use Rattle.units.specs.declared.Duration.{Duration}
 use Rattle.rules.specs.Rules.Station as R
 use Rattle.rules.specs.Rules.Station.{free, taken, pending, busy, held, offered, first_ring_back, second_ring_back, acknowledged}
 use Rattle.rules.specs.Rules.Station.{first_call, second_call, ringing}
@@ -139,20 +138,20 @@ answered_since (CalledAgain t) = none
 answered_since (Ringing t) = none
 
 -- the duration that a hold tells
-abbrev pub lasted_in : Phase → Lasted
-lasted_in Free = Nothing
-lasted_in (Offered t) = Nothing
-lasted_in (RingBack t) = Nothing
-lasted_in (RingBackAgain t) = Nothing
-lasted_in (Acknowledged t) = Nothing
-lasted_in (Dialling t c) = Nothing
-lasted_in (DialledOut t c) = Nothing
-lasted_in (Answered t c) = Nothing
+abbrev pub lasted_in : Phase → Optional Duration
+lasted_in Free = None
+lasted_in (Offered t) = None
+lasted_in (RingBack t) = None
+lasted_in (RingBackAgain t) = None
+lasted_in (Acknowledged t) = None
+lasted_in (Dialling t c) = None
+lasted_in (DialledOut t c) = None
+lasted_in (Answered t c) = None
 lasted_in (Hold t n) = n
-lasted_in Taken = Nothing
-lasted_in (Called t) = Nothing
-lasted_in (CalledAgain t) = Nothing
-lasted_in (Ringing t) = Nothing
+lasted_in Taken = None
+lasted_in (Called t) = None
+lasted_in (CalledAgain t) = None
+lasted_in (Ringing t) = None
 
 -- its time, and how long its wait is
 abbrev pub span_of : Phase → Span

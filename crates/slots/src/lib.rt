@@ -11,7 +11,7 @@ ghost use Rattle.slots.specs.Phases.{carrier_of, stored, owned, called_in, laste
 ghost use Rattle.slots.specs.Views.{slot_view, when_view};
 
 use requests::Request;
-use units::{CallNumber, Channel, Lasted, SlotNumber, Tenths};
+use units::{CallNumber, Channel, Duration, SlotNumber, Tenths};
 
 // "1 to 16 distinct channels .., one slot each"
 pub const SLOTS: usize = 16;
@@ -61,7 +61,7 @@ pub enum Phase {
     Acknowledged(Tenths),
     Dialling(Tenths, Carrier),
     Answered(Tenths, Carrier),
-    Hold(Tenths, Lasted),
+    Hold(Tenths, Option<Duration>),
     Taken,
     DialledOut(Tenths, Carrier),
     Called(Tenths),
@@ -241,23 +241,23 @@ pub fn is_taken(slot: Slot) -> bool
 }
 
 // The duration that a hold tells.
-pub fn lasted_in(phase: Phase) -> Lasted
+pub fn lasted_in(phase: Phase) -> Option<Duration>
     ensures { result ≡ lasted_in phase }
 {
     match phase {
-        Phase::Free => Lasted::Nothing,
-        Phase::Offered(_) => Lasted::Nothing,
-        Phase::RingBack(_) => Lasted::Nothing,
-        Phase::RingBackAgain(_) => Lasted::Nothing,
-        Phase::Acknowledged(_) => Lasted::Nothing,
-        Phase::Dialling(_, _) => Lasted::Nothing,
-        Phase::DialledOut(_, _) => Lasted::Nothing,
-        Phase::Answered(_, _) => Lasted::Nothing,
+        Phase::Free => None,
+        Phase::Offered(_) => None,
+        Phase::RingBack(_) => None,
+        Phase::RingBackAgain(_) => None,
+        Phase::Acknowledged(_) => None,
+        Phase::Dialling(_, _) => None,
+        Phase::DialledOut(_, _) => None,
+        Phase::Answered(_, _) => None,
         Phase::Hold(_, lasted) => lasted,
-        Phase::Taken => Lasted::Nothing,
-        Phase::Called(_) => Lasted::Nothing,
-        Phase::CalledAgain(_) => Lasted::Nothing,
-        Phase::Ringing(_) => Lasted::Nothing,
+        Phase::Taken => None,
+        Phase::Called(_) => None,
+        Phase::CalledAgain(_) => None,
+        Phase::Ringing(_) => None,
     }
 }
 
