@@ -2,25 +2,22 @@
 use mathlib.Core.Bool.{Bool, true, false, ◌&&◌, cond}
 use mathlib.Core.List.{List, [], ◌∷◌}
 use mathlib.Core.Option.{none, some}
-use mathlib.Core.Path.{◌≡◌, refl, sym}
-use Prim.Native.Nat.{ℕ, ◌+◌, ◌-◌, ◌<◌, ◌≤◌}
+use mathlib.Core.Path.{◌≡◌, refl, sym, ap}
+use Rattle.std.specs.List.{list_all}
+use Prim.Native.Nat.{ℕ, ◌-◌, ◌≤◌}
 use lib.Dec.{leb, eqb}
 use native.Mathlib.Omega.{arith}
-use lib.ListN.{length, take, drop, get_or, length-drop}
+use lib.ListN.{length, take, drop, length-drop}
 use lib.Seq.{take_all}
-use borrow.Author.Tests.{le-leb, lt-leb, ne_eqb}
+use borrow.Author.Tests.{le-leb, ne_eqb}
 use Rattle.rules.specs.Rules.Places.{all, is_some}
-use Rattle.sequence.proofs.Rest.{rest}
 use Rattle.lines.specs.declared.Form.{Form}
 use Rattle.lines.specs.Lines.{Said, is_symbol}
 use Rattle.lines.specs.Readable.{says_set_up, says_slot, says_symbols, says_slot_symbols, says_call, says_time}
 
-module _ (s : List ℕ) (i : ℕ) (h : i < length s) where
-  pub symbol-here : get_or s i 0 ≤ 255 → all is_symbol (drop (i + 1) s) ≡ all is_symbol (drop i s)
-  symbol-here k = rw (rest s i h, le-leb _ _ k)
-
-  pub no-symbol-here : 255 < get_or s i 0 → all is_symbol (drop i s) ≡ false
-  no-symbol-here k = rw (rest s i h, lt-leb _ _ k)
+pub all-listed : (p : ℕ → Bool) (l : List ℕ) → list_all p l ≡ all p l
+all-listed p [] = refl
+all-listed p (x ∷ l) = ap (λ b. p x && b) (all-listed p l)
 
 of-symbols : (b : Bool) (said : Said) → is_some (cond b (some said) none) ≡ b
 of-symbols true said = refl

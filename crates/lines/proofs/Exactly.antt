@@ -9,6 +9,8 @@ use lib.ListN.{length}
 use borrow.Author.Tests.{le-leb, leb-true}
 use Rattle.rules.specs.Rules.Places.{all}
 use Rattle.sequence.proofs.Tests.{Either, yes!, no!, which}
+use Rattle.std.specs.Prelude.{Option as Optional, Some, None}
+use Rattle.lines.specs.declared.Command.{Command}
 use Rattle.lines.specs.Decimal.{value_of}
 use Rattle.lines.specs.Lines.{Said, letter_of, command_of, numbers_of, spaced, LineOf, is_number, in_range}
 use Rattle.lines.specs.Readable.{between, scan, says, says_of, line_says, reads_as}
@@ -19,26 +21,26 @@ use Rattle.lines.proofs.FieldLaws.{Fields, fields_read, fields-of}
 -- ── what is read is a line of the event ──────────────────────────────────────
 
 module _ (b : ℕ) (t : List ℕ) (said : Said) where
-  by-numbers : (ns : List ℕ) → scan between t ≡ some ns → says (command_of b) ns ≡ some said → LineOf said (b ∷ t) × (in_range said ≡ true)
-  by-numbers ns s e =
-      let f : Fields t ns = fields-of t ns s in
-      let k = said-by (command_of b) ns said e in (
+  by-numbers : (k : Command) (ns : List ℕ) → command_of b ≡ Some k → scan between t ≡ some ns → says k ns ≡ some said → LineOf said (b ∷ t) × (in_range said ≡ true)
+  by-numbers k ns c s e =
+      let f : Fields t ns = fields-of t ns s in (
         record {
           fields = f.fields;
           decimals = f.decimals;
-          numbers = f.values ∙ sym k.numbers;
-          written = rw (← its-letter b ns said e, ← f.written);
+          numbers = f.values ∙ sym (said-by k ns said e).numbers;
+          written = rw (← its-letter b k ns said c e, ← f.written);
         },
-        in-range (command_of b) ns said f.small e,
+        in-range k ns said f.small e,
       )
 
-  of_fields : (o : Option (List ℕ)) → scan between t ≡ o → says_of (command_of b) o ≡ some said → LineOf said (b ∷ t) × (in_range said ≡ true)
-  of_fields none s e = absurd (no-some e)
-  of_fields (some ns) s e = by-numbers ns s e
+  of_fields : (c : Optional Command) (o : Option (List ℕ)) → command_of b ≡ c → scan between t ≡ o → says_of c o ≡ some said → LineOf said (b ∷ t) × (in_range said ≡ true)
+  of_fields None o c s e = absurd (no-some e)
+  of_fields (Some k) none c s e = absurd (no-some e)
+  of_fields (Some k) (some ns) c s e = by-numbers k ns c s e
 
 of-line : (text : List ℕ) (said : Said) → line_says text ≡ some said → LineOf said text × (in_range said ≡ true)
 of-line [] said e = absurd (no-some e)
-of-line (b ∷ t) said e = of_fields b t said (scan between t) refl e
+of-line (b ∷ t) said e = of_fields b t said (command_of b) (scan between t) refl refl e
 
 sound : (text : List ℕ) (said : Said) → reads_as text ≡ some said → Readable said text
 unfolding reads_as

@@ -1,7 +1,7 @@
 -- The numbers of a line that have been read, and those that are left.
 use mathlib.Core.List.{List, [], ◌∷◌, ◌++◌, append_assoc, append-nil}
-use mathlib.Core.Bool.{true}
 use mathlib.Core.Option.{Option, none, some}
+use Rattle.std.specs.Prelude.{Some}
 use mathlib.Core.Path.{◌≡◌, refl, sym, ◌∙◌, ap}
 use Prim.Native.Nat.{ℕ, ◌+◌, ◌*◌, ◌≤◌}
 use native.Mathlib.Omega.{arith}
@@ -51,7 +51,7 @@ module _ (s : List ℕ) where
           rest = sym (one_more g.numbers v (scan between (drop next s))) ∙ ap (behind g.numbers) (sym e) ∙ g.rest;
         }
 
-    pub got-all : length s ≤ i → record { readable = true; count = count; all = array } ≡ numbers_image (scan between s)
+    pub got-all : length s ≤ i → Some (record { count = count; all = array }) ≡ numbers_image (scan between s)
     unfolding scan
     got-all h =
         let e : scan between s ≡ some g.numbers = sym g.rest ∙ rw (drop_of_length-le s {i = i} h, append-nil) in

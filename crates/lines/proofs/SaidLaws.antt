@@ -1,9 +1,9 @@
 -- What a command says, and the letter that names a command.
 use mathlib.Core.Bool.{Bool, true, false, cond, ◌&&◌}
 use mathlib.Core.List.{List, [], ◌∷◌}
-use mathlib.Core.Logic.{◌⊎◌, inl, inr, ⊎_elim}
 use mathlib.Core.Option.{none, some}
 use mathlib.Core.Path.{◌≡◌, refl, sym, ◌∙◌}
+use Rattle.std.specs.Prelude.{Option as Optional, Some, None}
 use Prim.Native.Nat.{ℕ}
 use native.Mathlib.Omega.{arith}
 use lib.Dec.{eqb}
@@ -16,9 +16,9 @@ use Rattle.slots.specs.declared.Hand.TheVariants.{Takes, GivesBack}
 use Rattle.lines.specs.declared.Form.{Form}
 use Rattle.lines.specs.declared.Form.TheVariants.{Symbols, SlotSymbols, Signalled, Operated, Called, Alone}
 use Rattle.lines.specs.declared.Command.{Command}
-use Rattle.lines.specs.declared.Command.TheVariants.{Unreadable, SetUp, Happens}
+use Rattle.lines.specs.declared.Command.TheVariants.{SetUp, Happens}
 use Rattle.lines.specs.Lines.{Said, sets_up, happens, what_letter, set_up_letter, letter_of, form_what, form_letter, forms, command_among, command_of, symbols_in, what_numbers, numbers_of, set_up_said, is_symbol, is_number, what_in_range, in_range}
-use Rattle.lines.specs.Readable.{says_slot, says}
+use Rattle.lines.specs.Readable.{says_slot, says, says_of}
 
 pub no-some : {A : Type 0} {x : A} → none ≡ some x → ⊥
 no-some e = let z : ◌≡◌ {A = ℕ} 0 1 = cc in omega arith
@@ -26,7 +26,7 @@ no-some e = let z : ◌≡◌ {A = ℕ} 0 1 = cc in omega arith
 -- ── every letter ─────────────────────────────────────────────────────────────
 
 -- the letter of what a form says names that form
-pub names-form : (f : Form) (slot : ℕ) (symbols : List ℕ) → command_of (what_letter (form_what f slot symbols)) ≡ Happens f
+pub names-form : (f : Form) (slot : ℕ) (symbols : List ℕ) → command_of (what_letter (form_what f slot symbols)) ≡ Some (Happens f)
 unfolding command_of
 names-form Symbols slot symbols = refl
 names-form SlotSymbols slot symbols = refl
@@ -57,13 +57,12 @@ by_form P h (from_ashore a) = h Called a.ship (a.mode ∷ a.digits)
 -- ── of the command that its letter names, with its numbers ───────────────────
 
 abbrev letter_for : Command → ℕ
-letter_for Unreadable = 0
 letter_for SetUp = set_up_letter
 letter_for (Happens f) = form_letter f
 
 pub record SaidBy (k : Command) (ns : List ℕ) (said : Said) : Type 0 where
   pub letter : letter_for k ≡ letter_of said
-  pub command : command_of (letter_of said) ≡ k
+  pub command : command_of (letter_of said) ≡ Some k
   pub numbers : numbers_of said ≡ ns
 
 the_same : {k : Command} {ns : List ℕ} {x said : Said} → SaidBy k ns x → some x ≡ some said → SaidBy k ns said
@@ -93,7 +92,6 @@ slot-said-by f (time ∷ slot ∷ more ∷ rest) said s e = absurd (no-some e)
 
 pub said-by : (k : Command) (ns : List ℕ) (said : Said) → says k ns ≡ some said → SaidBy k ns said
 unfolding command_of
-said-by Unreadable ns said e = absurd (no-some e)
 said-by SetUp [] said e = absurd (no-some e)
 said-by SetUp (n ∷ ns) said e = the_same (record { letter = refl; command = refl; numbers = refl }) e
 said-by (Happens Symbols) [] said e = absurd (no-some e)
@@ -113,18 +111,19 @@ said-by (Happens Alone) (time ∷ more ∷ rest) said e = absurd (no-some e)
 
 -- ── from a command to its letter ─────────────────────────────────────────────
 
-abbrev Named : ℕ → Command → Type 0
-Named b k = (k ≡ Unreadable) ⊎ (letter_for k ≡ b)
+abbrev Named : ℕ → Optional Command → Type 0
+Named b None = Unit {0}
+Named b (Some k) = letter_for k ≡ b
 
-named_more : (b n : ℕ) (k rest : Command) → letter_for k ≡ n → Named b rest → Named b (cond (eqb b n) k rest)
+named_more : (b n : ℕ) (k : Command) (rest : Optional Command) → letter_for k ≡ n → Named b rest → Named b (cond (eqb b n) (Some k) rest)
 named_more b n k rest l r = go (which (eqb b n))
   where
-    go : Either (eqb b n) → Named b (cond (eqb b n) k rest)
-    go (yes! e) = rw e (inr (l ∙ sym (eqb-true b n e)))
+    go : Either (eqb b n) → Named b (cond (eqb b n) (Some k) rest)
+    go (yes! e) = rw e (l ∙ sym (eqb-true b n e))
     go (no! e) = rw e r
 
 named-among : (b : ℕ) (fs : List Form) → Named b (command_among b fs)
-named-among b [] = inl refl
+named-among b [] = tt
 named-among b (f ∷ fs) = named_more b (form_letter f) (Happens f) (command_among b fs) refl (named-among b fs)
 
 named : (b : ℕ) → Named b (command_of b)
@@ -132,12 +131,8 @@ unfolding command_of
 named b = named_more b set_up_letter SetUp (command_among b forms) refl (named-among b forms)
 
 -- only its own letter names a command that says something
-pub its-letter : (b : ℕ) (ns : List ℕ) (said : Said) → says (command_of b) ns ≡ some said → b ≡ letter_of said
-its-letter b ns said e =
-    ⊎_elim
-    (λ u. absurd (no-some (rw u at e)))
-    (λ l. sym l ∙ (said-by (command_of b) ns said e).letter)
-    (named b)
+pub its-letter : (b : ℕ) (k : Command) (ns : List ℕ) (said : Said) → command_of b ≡ Some k → says k ns ≡ some said → b ≡ letter_of said
+its-letter b k ns said c e = let l : letter_for k ≡ b = rw c at (named b) in sym l ∙ (said-by k ns said e).letter
 
 -- ── what is in range is said ─────────────────────────────────────────────────
 
@@ -153,12 +148,12 @@ form-said time (Operated h) slot symbols e = refl
 form-said time Called slot symbols e = refl
 form-said time Alone slot symbols e = refl
 
-pub said_of : (said : Said) → in_range said ≡ true → says (command_of (letter_of said)) (numbers_of said) ≡ some said
+pub said_of : (said : Said) → in_range said ≡ true → says_of (command_of (letter_of said)) (some (numbers_of said)) ≡ some said
 unfolding command_of
 said_of (sets_up a) e = refl
 said_of (happens time what) e =
     by_form
-    (λ w. in_range (happens time w) ≡ true → says (command_of (what_letter w)) (numbers_of (happens time w)) ≡ some (happens time w))
+    (λ w. in_range (happens time w) ≡ true → says_of (command_of (what_letter w)) (some (numbers_of (happens time w))) ≡ some (happens time w))
     (λ f slot symbols e. rw (names-form f slot symbols) (form-said time f slot symbols e))
     what e
 
@@ -198,7 +193,6 @@ slot-in f (time ∷ slot ∷ more ∷ rest) said s n e = absurd (no-some e)
 
 pub in-range : (k : Command) (ns : List ℕ) (said : Said) → all is_number ns ≡ true → says k ns ≡ some said → in_range said ≡ true
 unfolding in_range
-in-range Unreadable ns said n e = absurd (no-some e)
 in-range SetUp [] said n e = absurd (no-some e)
 in-range SetUp (x ∷ ns) said n e = let q : set_up_said x ns ≡ said = cc in rw (← q) n
 in-range (Happens Symbols) [] said n e = absurd (no-some e)

@@ -2,6 +2,7 @@
 -- H on-hook, M take, F give back; T time"; of document 02, no. 1: "letter P, time and slot", no. 2: "letter C: time, ship, mode, the
 -- caller's digits one by one".
 use Rattle.std.specs.Prelude.{Bool, true, cond, ◌&&◌, List, [], ◌∷◌, ◌++◌, map, ◌≡◌, ℕ, leb, eqb, get_or, drop}
+use Rattle.std.specs.Prelude.{Option as Optional, Some, None}
 use Rattle.rules.specs.Rules.Places.{all}
 use Rattle.rules.specs.Rules.Words.{Happened, heard, signal, operator, What, tick, on_channel70, on_slot, from_ashore}
 use Rattle.rules.specs.Rules.Words.{line_dialled_out, line_lifted, line_hung, carrier_heard, carrier_lost, hand_takes, hand_gives}
@@ -11,7 +12,7 @@ use Rattle.slots.specs.Views.{signal_view, hand_view}
 use Rattle.lines.specs.declared.Form.{Form}
 use Rattle.lines.specs.declared.Form.TheVariants.{Symbols, SlotSymbols, Signalled, Operated, Called, Alone}
 use Rattle.lines.specs.declared.Command.{Command}
-use Rattle.lines.specs.declared.Command.TheVariants.{Unreadable, SetUp, Happens}
+use Rattle.lines.specs.declared.Command.TheVariants.{SetUp, Happens}
 use Rattle.lines.specs.Decimal.{is_decimal, value_of}
 
 -- what a set-up asks for, its channels as numbers
@@ -70,12 +71,12 @@ forms =
     ∷ Operated Takes ∷ Operated GivesBack
     ∷ Called ∷ Alone ∷ []
 
-abbrev pub command_among : ℕ → List Form → Command
-command_among letter [] = Unreadable
-command_among letter (form ∷ more) = cond (eqb letter (form_letter form)) (Happens form) (command_among letter more)
+abbrev pub command_among : ℕ → List Form → Optional Command
+command_among letter [] = None
+command_among letter (form ∷ more) = cond (eqb letter (form_letter form)) (Some (Happens form)) (command_among letter more)
 
-unfoldable pub command_of : ℕ → Command
-command_of letter = cond (eqb letter set_up_letter) SetUp (command_among letter forms)
+unfoldable pub command_of : ℕ → Optional Command
+command_of letter = cond (eqb letter set_up_letter) (Some SetUp) (command_among letter forms)
 
 -- ── the fields ───────────────────────────────────────────────────────────────
 

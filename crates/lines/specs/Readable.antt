@@ -1,13 +1,14 @@
 -- What a line is read as, and the record that holds it.
-use Rattle.std.specs.Prelude.{true, false, cond, List, [], ◌∷◌, ℕ, ◌+◌, ◌-◌, ◌*◌, leb, eqb, length}
+use Rattle.std.specs.Prelude.{cond, List, [], ◌∷◌, ◌≡◌, ℕ, ◌+◌, ◌-◌, ◌*◌, leb, eqb, length}
+use Rattle.std.specs.Prelude.{Option as Optional, Some, None}
 use Rattle.std.proofs.Math.Option.{Option, none, some}
 use Rattle.rules.specs.Rules.Places.{all}
 use Rattle.rules.specs.Rules.Bytes.{padded}
 use Rattle.lines.specs.declared.Form.{Form}
 use Rattle.lines.specs.declared.Form.TheVariants.{Symbols, SlotSymbols, Signalled, Operated, Called, Alone}
 use Rattle.lines.specs.declared.Command.{Command}
-use Rattle.lines.specs.declared.Command.TheVariants.{Unreadable, SetUp, Happens}
-use Rattle.lines.specs.declared.Line.{Line}
+use Rattle.lines.specs.declared.Command.TheVariants.{SetUp, Happens}
+use Rattle.lines.specs.declared.line.Line.{Line}
 use Rattle.lines.specs.declared.Numbers.{Numbers}
 use Rattle.lines.specs.Decimal.{is_digit}
 use Rattle.lines.specs.Lines.{Said, happens, letter_of, form_what, command_of, numbers_of, set_up_said, is_symbol, is_number}
@@ -80,13 +81,13 @@ says_form Called ns = says_call Called ns
 says_form Alone ns = says_time Alone ns
 
 abbrev pub says : Command → List ℕ → Option Said
-says Unreadable ns = none
 says SetUp ns = says_set_up ns
 says (Happens f) ns = says_form f ns
 
-abbrev pub says_of : Command → Option (List ℕ) → Option Said
-says_of command none = none
-says_of command (some ns) = says command ns
+abbrev pub says_of : Optional Command → Option (List ℕ) → Option Said
+says_of None ns = none
+says_of (Some command) none = none
+says_of (Some command) (some ns) = says command ns
 
 abbrev pub line_says : List ℕ → Option Said
 line_says [] = none
@@ -102,15 +103,18 @@ reads_as text = cond (leb (length text) longest_line) (line_says text) none
 -- ── as records ───────────────────────────────────────────────────────────────
 
 -- the numbers of a line, of which there are at most 99
-abbrev pub numbers_image : Option (List ℕ) → Numbers
-numbers_image none = record { readable = false; count = 0; all = padded 0 100 [] }
-numbers_image (some ns) = record { readable = true; count = length ns; all = padded 0 100 ns }
+abbrev pub numbers_image : Option (List ℕ) → Optional Numbers
+numbers_image none = None
+numbers_image (some ns) = Some (record { count = length ns; all = padded 0 100 ns })
 
-abbrev pub line_image : Option Said → Line
-line_image none = record { command = Unreadable; count = 0; numbers = padded 0 100 [] }
-line_image (some said) =
-    record {
-      command = command_of (letter_of said);
-      count = length (numbers_of said);
-      numbers = padded 0 100 (numbers_of said);
-    }
+pub record HoldsSaid (line : Line) (said : Said) : Type 0 where
+  pub command : Some line.command ≡ command_of (letter_of said)
+  pub count : line.count ≡ length (numbers_of said)
+  pub numbers : line.numbers ≡ padded 0 100 (numbers_of said)
+
+-- a line is handed back where a line says something, and it holds that
+abbrev pub ReadAs : Optional Line → Option Said → Type 0
+ReadAs None none = Unit {0}
+ReadAs None (some said) = ⊥
+ReadAs (Some line) none = ⊥
+ReadAs (Some line) (some said) = HoldsSaid line said

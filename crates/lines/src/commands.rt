@@ -10,37 +10,31 @@ use slots::{Hand, Signal};
 // "a symbol over 255 .. : 40"
 const LARGEST_SYMBOL: u32 = 255;
 
-pub(crate) fn command_of(letter: u8) -> Command
+pub(crate) fn command_of(letter: u8) -> Option<Command>
     ensures { result ≡ command_of letter }
 {
-    match letter {
-        b'S' => Command::SetUp,
-        b'Q' => Command::Happens(Form::Symbols),
-        b'W' => Command::Happens(Form::SlotSymbols),
-        b'U' => Command::Happens(Form::Signalled(Signal::CarrierHeard)),
-        b'D' => Command::Happens(Form::Signalled(Signal::CarrierLost)),
-        b'P' => Command::Happens(Form::Signalled(Signal::LineDialledOut)),
-        b'O' => Command::Happens(Form::Signalled(Signal::LineLifted)),
-        b'H' => Command::Happens(Form::Signalled(Signal::LineHung)),
-        b'M' => Command::Happens(Form::Operated(Hand::Takes)),
-        b'F' => Command::Happens(Form::Operated(Hand::GivesBack)),
-        b'C' => Command::Happens(Form::Called),
-        b'T' => Command::Happens(Form::Alone),
-        _ => Command::Unreadable,
-    }
+    let form = match letter {
+        b'S' => return Some(Command::SetUp),
+        b'Q' => Form::Symbols,
+        b'W' => Form::SlotSymbols,
+        b'U' => Form::Signalled(Signal::CarrierHeard),
+        b'D' => Form::Signalled(Signal::CarrierLost),
+        b'P' => Form::Signalled(Signal::LineDialledOut),
+        b'O' => Form::Signalled(Signal::LineLifted),
+        b'H' => Form::Signalled(Signal::LineHung),
+        b'M' => Form::Operated(Hand::Takes),
+        b'F' => Form::Operated(Hand::GivesBack),
+        b'C' => Form::Called,
+        b'T' => Form::Alone,
+        _ => return None,
+    };
+    Some(Command::Happens(form))
 }
 
 fn are_symbols(numbers: &[u32]) -> bool
     ensures { result ≡ all is_symbol numbers.now }
 {
-    let mut i = 0;
-    while i < numbers.len() {
-        if LARGEST_SYMBOL < numbers[i] {
-            return false;
-        }
-        i += 1;
-    }
-    true
+    numbers.iter().all(|n| *n <= LARGEST_SYMBOL)
 }
 
 // Whether so many numbers stand, and symbols behind them.
@@ -72,7 +66,6 @@ pub(crate) fn fits(command: Command, numbers: &[u32]) -> bool
     ensures { result ≡ is_some (says command numbers.now) }
 {
     match command {
-        Command::Unreadable => false,
         Command::SetUp => 1 <= numbers.len(),
         Command::Happens(form) => form_fits(form, numbers),
     }

@@ -1,24 +1,23 @@
 // The lines of a script: what one says.
 #![tactic(auto)]
 
-ghost use Rattle.std.specs.Prelude.{◌≡◌, ◌≤◌};
-ghost use Rattle.std.proofs.Math.Option.{none};
-ghost use Rattle.lines.specs.Readable.{reads_as, line_image};
+ghost use Rattle.lines.specs.Readable.{reads_as, ReadAs};
 
 mod commands;
 mod fields;
+mod line;
 
 use crate::commands::{command_of, fits};
 use crate::fields::numbers_in;
+pub use crate::line::Line;
 use slots::{Hand, Signal};
 
 // "one over 200 characters .. : 40"
 pub const LONGEST_LINE: usize = 200;
 
-// What the letter of a line names; a line that is no event's is unreadable.
+// What the letter of a line names.
 #[derive(Clone, Copy)]
 pub enum Command {
-    Unreadable,
     SetUp,
     Happens(Form),
 }
@@ -34,63 +33,31 @@ pub enum Form {
     Alone,
 }
 
-// What a line says: its command, and so many numbers behind the letter.
-#[derive(Clone, Copy)]
-pub struct Line {
-    pub command: Command,
-    pub count: usize,
-    pub numbers: [u32; 100],
-}
-
-// Numbers one space apart, where they are that.
+// Numbers one space apart.
 #[derive(Clone, Copy)]
 struct Numbers {
-    readable: bool,
     count: usize,
     all: [u32; 100],
 }
 
-// A number with the place behind it.
-#[derive(Clone, Copy)]
-enum Field {
-    Nothing,
-    Number(u32, usize),
-}
-
-fn unreadable() -> Line
-    ensures { result ≡ line_image none }
-{
-    Line {
-        command: Command::Unreadable,
-        count: 0,
-        numbers: [0u32; 100],
-    }
-}
-
-// What a line says, without its line feed.
-pub fn read(text: &[u8]) -> Line
-    ensures value { result ≡ line_image (reads_as text.now) }
-    ensures count_bound { result.count ≤ 99 }
+// What a line says, without its line feed; none where it is unreadable.
+pub fn read(text: &[u8]) -> Option<Line>
+    ensures { ReadAs result (reads_as text.now) }
 {
     if LONGEST_LINE < text.len() {
-        return unreadable();
+        return None;
     }
-    if text.len() == 0 {
-        return unreadable();
-    }
-    let command = command_of(text[0]);
-    let found = numbers_in(&text[1..]);
-    let numbers = found.all;
+    let (letter, fields) = text.split_first()?;
+    let command = command_of(*letter)?;
+    let found = numbers_in(fields)?;
     let count = found.count;
-    if !found.readable {
-        return unreadable();
-    }
+    let numbers = found.all;
     if !fits(command, &numbers[..count]) {
-        return unreadable();
+        return None;
     }
-    Line {
-        command: command,
-        count: count,
-        numbers: numbers,
-    }
+    Some(Line {
+        command,
+        count,
+        numbers,
+    })
 }

@@ -1,29 +1,12 @@
-use mathlib.Core.Path.{refl, sym, ◌∙◌}
-use native.Mathlib.Omega.{arith}
-use lib.ListN.{drop_of_length-le}
-use Rattle.lines.proofs.CommandLaws.{symbol-here, no-symbol-here}
+use mathlib.Core.Path.{◌∙◌}
+use Rattle.std.proofs.Common.{rules, tests}
+use Rattle.std.proofs.lemmas.Iterator.{YieldsList-from_slice}
+use Rattle.std.proofs.lemmas.Iterator.Search.{all_from_yields_List}
+use Rattle.lines.specs.Lines.{is_symbol}
+use Rattle.lines.proofs.CommandLaws.{all-listed}
 use Rattle.lines.proofs.commands.are_symbols.Goals as goal
 
-pub loop-i-init : goal.loop-i-init
-loop-i-init c = (refl, omega arith)
-
-pub offset_bounds-numbers-i : goal.offset_bounds-numbers-i
-offset_bounds-numbers-i c = omega arith
-
-pub bounds-numbers-i : goal.bounds-numbers-i
-bounds-numbers-i c = omega arith
-
-pub returns-then-numbers-i-gt-LARGEST_SYMBOL : goal.returns-then-numbers-i-gt-LARGEST_SYMBOL
-returns-then-numbers-i-gt-LARGEST_SYMBOL c = sym (no-symbol-here _ _ c.loop-i-test.true c.if-numbers-i-gt-LARGEST_SYMBOL.true) ∙ c.loop-i.invariant.0
-
-pub overflow_add-i : goal.overflow_add-i
-overflow_add-i c = omega arith
-
-pub loop-i-smaller : goal.loop-i-smaller
-loop-i-smaller c = omega arith
-
-pub loop-i-preserved : goal.loop-i-preserved
-loop-i-preserved c = (symbol-here _ _ c.loop-i-test.true c.if-numbers-i-gt-LARGEST_SYMBOL.false ∙ c.loop-i.invariant.0, omega arith)
-
 pub returns : goal.returns
-returns c = rw (drop_of_length-le _ c.loop-i-test.false) at c.loop-i.invariant.0
+returns c =
+    all_from_yields_List is_symbol _ _ _ c.all.ensures.ran (YieldsList-from_slice c.args.numbers.now cc) (λ x b q k. search (rules, tests))
+    ∙ all-listed is_symbol c.args.numbers.now
