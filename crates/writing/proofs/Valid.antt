@@ -1,16 +1,17 @@
 -- What is known of a valid meaning: its parts, and the lengths of what is laid.
 use Prim.Native.Nat.{ℕ, ◌+◌, ◌/◌, ◌≤◌}
-use mathlib.Core.Path.{◌≡◌, refl}
+use mathlib.Core.Path.{◌≡◌, refl, ap}
 use mathlib.Core.Bool.{Bool, true, false, cond, ◌&&◌}
 use mathlib.Core.List.{◌∷◌}
 use native.Mathlib.Omega.{arith}
 use lib.Dec.{leb}
 use lib.ListN.{length, length-append}
 use borrow.Author.Tests.{leb-true}
-use Rattle.sequence.specs.declared.Answer.TheVariants.{Done, ShortRoom}
+use Rattle.std.specs.Prelude.{Some}
+use Rattle.sequence.specs.declared.Refusal.TheVariants.{ShortRoom}
 use Rattle.sequence.specs.declared.Meaning.{Meaning}
 use Rattle.sequence.specs.Refusals.{row, first_refusal}
-use Rattle.sequence.specs.Answers.{is_done}
+use Rattle.sequence.specs.Answers.{done, is_done}
 use Rattle.sequence.specs.Identity.{is_ship, is_coast, identities_ok}
 use Rattle.sequence.specs.Field.{telecommands_ok, field_ok}
 use Rattle.sequence.specs.Number.{number_ok, evened, pairs_of}
@@ -40,14 +41,14 @@ pub whole : (m : Meaning) → Parts m → valid m ≡ true
 unfolding valid
 whole m p = rw (p.identities, p.telecommands, p.field, p.number) p.end
 
--- the writer's answer to a meaning with room enough is Done exactly where the meaning is valid
-pub valid-done : (m : Meaning) → valid m ≡ true → first_refusal (meaning_refusals m) Done ≡ Done
+-- the writer's answer to a meaning with room enough is done exactly where the meaning is valid
+pub valid-done : (m : Meaning) → valid m ≡ true → first_refusal (meaning_refusals m) done ≡ done
 unfolding meaning_refusals
 valid-done m e =
     let p = parts m e in
-    all_held (meaning_refusals m) Done (rw (p.identities, p.telecommands, p.field, p.number, p.end))
+    all_held (meaning_refusals m) done (rw (p.identities, p.telecommands, p.field, p.number, p.end))
 
-pub done-valid : (m : Meaning) → is_done (first_refusal (meaning_refusals m) Done) ≡ true → valid m ≡ true
+pub done-valid : (m : Meaning) → is_done (first_refusal (meaning_refusals m) done) ≡ true → valid m ≡ true
 unfolding meaning_refusals
 done-valid m e =
     let a = both_true (identities_ok m.address m.sender) _ (done_held (meaning_refusals m) refl e) in
@@ -60,8 +61,11 @@ done-valid m e =
 pub written : (m : Meaning) (room : ℕ) → is_done (writing_answer m room) ≡ true → (valid m ≡ true) × (28 ≤ room)
 unfolding writing_answer meaning_refusals
 written m room e =
-    let h = both_true (leb 28 room) _ (done_held (row (leb 28 room) ShortRoom ∷ meaning_refusals m) refl e) in
-    (done-valid m (rw (all_held (meaning_refusals m) Done h.1) refl), leb-true _ _ h.0)
+    let h = both_true (leb 28 room) _ (done_held (row (leb 28 room) (Some ShortRoom) ∷ meaning_refusals m) refl e) in
+    (done-valid m (rw (all_held (meaning_refusals m) done h.1) refl), leb-true _ _ h.0)
+
+pub accepted : (m : Meaning) (room : ℕ) → writing_answer m room ≡ done → (valid m ≡ true) × (28 ≤ room)
+accepted m room e = written m room (ap is_done e)
 
 -- no identity has more than nine digits
 ship-le : (n : ℕ) → is_ship n ≡ true → n ≤ 799999999

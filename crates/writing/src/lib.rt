@@ -1,13 +1,12 @@
 // The writer: a valid meaning to its one sequence in a lent room, or a refusal and the room as it was.
 #![tactic(auto)]
 
-ghost use Rattle.std.specs.Prelude.{◌≡◌, true, ◌++◌, ◌≤◌, length, drop};
+ghost use Rattle.std.specs.Prelude.{◌≡◌, true, false, ◌++◌, ◌≤◌, length, drop, MatchResult};
 ghost use Rattle.sequence.specs.Figures.{longest};
 ghost use Rattle.sequence.specs.Symbols.{exclusive_or};
-ghost use Rattle.sequence.specs.declared.Answer.TheVariants.{Done};
-ghost use Rattle.sequence.specs.Refusals.{first_refusal};
+ghost use Rattle.sequence.specs.Answers.{done};
 ghost use Rattle.sequence.specs.Layout.{valid, front, layout};
-ghost use Rattle.sequence.specs.Writing.{meaning_refusals, writing_answer, written_of, room_after};
+ghost use Rattle.sequence.specs.Writing.{writing_answer, written_of, room_after};
 
 mod fields;
 mod identities;
@@ -19,38 +18,31 @@ use crate::identities::identity_symbols;
 use crate::pairs::{lay_pairs, parity_of};
 use crate::symbols::lay_symbol;
 use sequence::parts::{end_ok, identities_ok, number_ok, telecommands_ok};
-use sequence::{Answer, CATEGORY, FORMAT, LONGEST, Meaning, Written};
+use sequence::{CATEGORY, FORMAT, LONGEST, Meaning, Refusal};
 
-fn answer_to_meaning(meaning: Meaning) -> Answer
-    ensures { result ≡ first_refusal (meaning_refusals meaning) Done }
+fn held(test: bool, refusal: Refusal) -> Result<(), Refusal>
+    ensures { MatchResult result (λ _. test ≡ true) (λ r. (test ≡ false) × (r ≡ refusal)) }
 {
-    if !identities_ok(meaning.address, meaning.sender) {
-        return Answer::BadIdentities;
-    }
-    if !telecommands_ok(meaning.first, meaning.second) {
-        return Answer::BadTelecommands;
-    }
-    let field = meaning.field;
-    if !field_ok(meaning.first, field) {
-        return Answer::BadField;
-    }
-    let number = meaning.number;
-    if !number_ok(number) {
-        return Answer::BadNumber;
-    }
-    if !end_ok(meaning.end) {
-        return Answer::BadEnd;
-    }
-    Answer::Done
+    if test { Ok(()) } else { Err(refusal) }
 }
 
-fn answer_to(meaning: Meaning, room: usize) -> Answer
-    ensures { result ≡ writing_answer meaning room }
+// The tests of the room and of the meaning, in document 01's order.
+#[tactic(auto, unfolding(sequence::specs::Writing::writing_answer, sequence::specs::Writing::meaning_refusals))]
+fn tested(meaning: Meaning, room: usize) -> Result<(), Refusal>
+    ensures { MatchResult result (λ _. writing_answer meaning room ≡ done) (λ r. writing_answer meaning room ≡ Some r) }
 {
-    if room < LONGEST {
-        return Answer::ShortRoom;
-    }
-    answer_to_meaning(meaning)
+    held(LONGEST <= room, Refusal::ShortRoom)?;
+    held(
+        identities_ok(meaning.address, meaning.sender),
+        Refusal::BadIdentities,
+    )?;
+    held(
+        telecommands_ok(meaning.first, meaning.second),
+        Refusal::BadTelecommands,
+    )?;
+    held(field_ok(meaning.first, meaning.field), Refusal::BadField)?;
+    held(number_ok(meaning.number), Refusal::BadNumber)?;
+    held(end_ok(meaning.end), Refusal::BadEnd)
 }
 
 // The eighteen symbols before the digit pairs.
@@ -115,21 +107,12 @@ fn lay(meaning: Meaning, room: &mut [u8]) -> usize
     end + 2
 }
 
-// Writes one sequence: Done with its length, or the first refusal with nothing written.
-pub fn write(meaning: Meaning, room: &mut [u8]) -> Written
+// Writes one sequence and gives its length, or gives the first refusal with nothing written.
+#[tactic(auto, unfolding(sequence::specs::Writing::written_of, sequence::specs::Writing::room_after))]
+pub fn write(meaning: Meaning, room: &mut [u8]) -> Result<usize, Refusal>
     ensures value { result ≡ written_of meaning (length room.old) }
     ensures room_written { room.new ≡ room_after meaning room.old }
 {
-    let answer = answer_to(meaning, room.len());
-    if answer.is_done() {
-        let length = lay(meaning, room);
-        return Written {
-            answer: answer,
-            length: length,
-        };
-    }
-    Written {
-        answer: answer,
-        length: 0,
-    }
+    tested(meaning, room.len())?;
+    Ok(lay(meaning, room))
 }
