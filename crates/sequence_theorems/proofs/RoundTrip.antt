@@ -9,6 +9,7 @@ use lib.Dec.{leb}
 use lib.ListN.{length, take, drop, get_or, length-append, length-take, length-drop, drop_of_length-le, take-append-drop}
 use lib.Seq.{take_at, drop_at, get_or-append_seam, get_or-drop, drop-drop}
 use borrow.Author.Tests.{le-leb, eq-eqb, leb-true, eqb-true}
+use Rattle.std.specs.Prelude.{Ok}
 use Rattle.sequence.specs.declared.Meaning.{Meaning}
 use Rattle.sequence.specs.Answers.{is_done}
 use Rattle.sequence.specs.Symbols.{all_at_most, exclusive_or}
@@ -16,7 +17,7 @@ use Rattle.sequence.specs.Identity.{identities_ok}
 use Rattle.sequence.specs.Field.{field_first, field_second, field_third}
 use Rattle.sequence.specs.Number.{pairs_of, evened, parity}
 use Rattle.sequence.specs.Layout.{valid, front, body, layout}
-use Rattle.sequence.specs.Reading.{length_in, identity_at, identity_pairs_at, pairs_in, check_in, format_in, identities_in, category_in, telecommands_in, field_in, number_in, end_in, answer_of, meaning_of, done_with, reading_of}
+use Rattle.sequence.specs.Reading.{length_in, identity_at, identity_pairs_at, pairs_in, check_in, format_in, identities_in, category_in, telecommands_in, field_in, number_in, end_in, answer_of, meaning_of, reading_of}
 use Rattle.sequence.proofs.Rest.{rest}
 use Rattle.sequence.proofs.Tests.{both_true}
 use Rattle.reading.proofs.Passed.{Passed, passed, done, long}
@@ -168,7 +169,7 @@ module _ (m : Meaning) (ok : valid m ≡ true) where
       (unfold layout body front in rw ((kept m.first m.field (parts m ok).field).same, number_same m.number (parts m ok).number))
 
   -- reading the layout gives the meaning back
-  pub reads-back : reading_of (layout m) ≡ done_with m
+  pub reads-back : reading_of (layout m) ≡ Ok m
   unfolding reading_of
   reads-back = rw (done (layout m) all-passed, same)
 

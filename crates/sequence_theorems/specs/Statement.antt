@@ -1,16 +1,15 @@
 -- "Each valid sequence has one meaning, each valid meaning one sequence",
 -- over the definitions that the reader's and the writer's contracts cite.
-use Rattle.std.specs.Prelude.{ℕ, ◌≤◌, ◌≡◌, ◌↔◌, true, List, length, take}
+use Rattle.std.specs.Prelude.{ℕ, ◌≤◌, ◌≡◌, ◌↔◌, true, List, length, take, Ok}
 use Rattle.sequence.specs.Figures.{longest}
-use Rattle.sequence.specs.declared.Answer.TheVariants.{Done}
 use Rattle.sequence.specs.declared.Meaning.{Meaning}
 use Rattle.sequence.specs.Layout.{valid, layout}
-use Rattle.sequence.specs.Reading.{done_with, reading_of}
+use Rattle.sequence.specs.Reading.{reading_of}
 use Rattle.sequence.specs.Writing.{written_of, room_after}
 
--- the reader answers 0 with a meaning exactly where the meaning is valid and the symbols are its layout
+-- the reader gives a meaning exactly where the meaning is valid and the symbols are its layout
 abbrev pub ReadsExactly : Type 0
-ReadsExactly = (s : List ℕ) (m : Meaning) → (reading_of s ≡ done_with m) ↔ ((valid m ≡ true) × (s ≡ layout m))
+ReadsExactly = (s : List ℕ) (m : Meaning) → (reading_of s ≡ Ok m) ↔ ((valid m ≡ true) × (s ≡ layout m))
 
 -- so two valid meanings with one sequence are one meaning
 abbrev pub OneMeaning : Type 0
@@ -18,17 +17,15 @@ OneMeaning = (m n : Meaning) → valid m ≡ true → valid n ≡ true → layou
 
 -- and two sequences that are read as one meaning are one sequence
 abbrev pub OneSequence : Type 0
-OneSequence = (m : Meaning) (s t : List ℕ) → reading_of s ≡ done_with m → reading_of t ≡ done_with m → s ≡ t
+OneSequence = (m : Meaning) (s t : List ℕ) → reading_of s ≡ Ok m → reading_of t ≡ Ok m → s ≡ t
 
 -- reading the bytes that were written gives the meaning back
 abbrev pub ReadsWhatWasWritten : Type 0
 ReadsWhatWasWritten =
-    (m : Meaning) (room : List ℕ) → (written_of m (length room)).answer ≡ Done
-    → reading_of (take (written_of m (length room)).length (room_after m room)) ≡ done_with m
+    (m : Meaning) (room : List ℕ) (n : ℕ) → written_of m (length room) ≡ Ok n → reading_of (take n (room_after m room)) ≡ Ok m
 
 -- writing a meaning that was read gives the same symbols back
 abbrev pub WritesWhatWasRead : Type 0
 WritesWhatWasRead =
-    (s room : List ℕ) → (reading_of s).answer ≡ Done → longest ≤ length room
-    → (written_of (reading_of s).meaning (length room) ≡ record { answer = Done; length = length s })
-    × (take (length s) (room_after (reading_of s).meaning room) ≡ s)
+    (s room : List ℕ) (m : Meaning) → reading_of s ≡ Ok m → longest ≤ length room
+    → (written_of m (length room) ≡ Ok (length s)) × (take (length s) (room_after m room) ≡ s)
