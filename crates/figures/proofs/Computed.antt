@@ -23,7 +23,7 @@ use Rattle.figures.specs.Bounds.{bounds}
 
 -- each test of a sequence's parts on both sides of its bounds
 pub bounds-computed : map (λ l. l.computed) bounds ≡ map (λ l. l.expected) bounds
-unfolding is_ship is_coast identities_ok identity_pairs identity_of is_call unable_second telecommands_ok channel_ok duration_ok field_ok number_ok parity evened end_ok valid front body layout Reader.length_in Reader.check_in Reader.format_in Reader.identity_at Reader.identity_pairs_at Reader.identities_in Reader.category_in Reader.telecommands_in Reader.blank_symbols Reader.channel_symbols Reader.duration_symbols Reader.field_symbols Reader.field_of Reader.field_in Reader.pairs_in Reader.parity_ok Reader.pairs_ok Reader.number_in Reader.zero_before Reader.sixteen Reader.number_of Reader.end_in Reader.refusals Reader.answer_of Reader.meaning_of Reader.blank_meaning Reader.reading_of meaning_refusals writing_answer written_of room_after
+unfolding is_ship is_coast identities_ok identity_pairs identity_of is_call unable_second telecommands_ok channel_ok duration_ok field_ok number_ok parity evened end_ok valid front body layout Reader.length_in Reader.check_in Reader.format_in Reader.identity_at Reader.identity_pairs_at Reader.identities_in Reader.category_in Reader.telecommands_in Reader.blank_symbols Reader.channel_symbols Reader.duration_symbols Reader.field_symbols Reader.field_of Reader.field_in Reader.pairs_in Reader.parity_ok Reader.pairs_ok Reader.number_in Reader.zero_before Reader.sixteen Reader.number_of Reader.end_in Reader.refusals Reader.answer_of Reader.meaning_of Reader.blank_meaning Reader.meaning_read Reader.reading_of meaning_refusals writing_answer written_of room_after
 bounds-computed = refl
 
 -- events: on both sides of a boundary, and in other slots, places and stations

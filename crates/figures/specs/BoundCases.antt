@@ -1,7 +1,6 @@
 -- Rows on both sides of a boundary, and for what the other tables see only in its usual value: other slots, places, stations,
 -- second telecommands, kinds of sequence.
-use Rattle.std.specs.Prelude.{List, [], ◌∷◌, ◌++◌, map, Bool, cond, ℕ, replicate, take, drop}
-use Rattle.units.specs.declared.Lasted.TheVariants.{Nothing}
+use Rattle.std.specs.Prelude.{List, [], ◌∷◌, ◌++◌, map, Bool, cond, ℕ, replicate, take, drop, None}
 use Rattle.sequence.specs.declared.Field.{Field}
 use Rattle.sequence.specs.declared.Field.TheVariants.{Blank, Channel}
 use Rattle.sequence.specs.Layout.{valid, layout}
@@ -1158,15 +1157,15 @@ refused38_behind = record {
 -- 38: the second slot is in its hold; in another ship's hold it is not
 abbrev pub refused38_held_second : Row
 refused38_held_second = record {
-  computed = called_in 2 (holding (free ∷ held (from seven duplex) Nothing 1041 ∷ []) []) seven
-      ++ called_in 2 (holding (free ∷ held (from eight duplex) Nothing 1041 ∷ []) []) seven;
+  computed = called_in 2 (holding (free ∷ held (from seven duplex) None 1041 ∷ []) []) seven
+      ++ called_in 2 (holding (free ∷ held (from eight duplex) None 1041 ∷ []) []) seven;
   expected = (38 ∷ 1000 ∷ 0 ∷ 1041 ∷ []) ∷ (0 ∷ 1000 ∷ 2 ∷ 1041 ∷ []) ∷ (1 ∷ 0 ∷ []) ∷ (3 ∷ 0 ∷ call_seven26) ∷ [];
 }
 
 -- 37: both slots are in use, one by another ship's hold, one by the operator
 abbrev pub refused37_held : Row
 refused37_held = record {
-  computed = called_in 2 (holding (taken ∷ held (from eight duplex) Nothing 1041 ∷ []) []) seven;
+  computed = called_in 2 (holding (taken ∷ held (from eight duplex) None 1041 ∷ []) []) seven;
   expected = (37 ∷ 1000 ∷ 0 ∷ 1041 ∷ []) ∷ [];
 }
 
@@ -1248,7 +1247,7 @@ numbers_kept = record {
 -- one block after the other
 abbrev pub blocks_shown : Row
 blocks_shown = record {
-  computed = blocks (station 1) (does (carrier_on 0) ∷ over 1 the_ship (from seven duplex).who usual Nothing ∷
+  computed = blocks (station 1) (does (carrier_on 0) ∷ over 1 the_ship (from seven duplex).who usual None ∷
       charge (paid 0 2 67305985 1 2 3 5).it ∷
       does (carrier_on 3) ∷ []) ∷ [];
   expected = ((1 ∷ 0 ∷ 0 ∷ 0 ∷ replicate 36 0) ++ (4 ∷ 1 ∷ 24 ∷ 0 ∷ (over_seven ++ replicate 12 0)) ++ (7 ∷ 2 ∷ 20 ∷ 0 ∷ 1 ∷ 2 ∷ 3 ∷
@@ -1316,7 +1315,7 @@ bound_sounds =
     -- a ship waits and has a slot, behind one that is taken
     ∷ unsound (asked (station 2) (holding (taken ∷ pending offered (from seven duplex) 1051 ∷ []) (waits seven 2000 ∷ [])))
     -- behind a hold
-    ∷ unsound (asked (station 2) (holding (held (from eight duplex) Nothing 1041 ∷ pending offered (from seven duplex) 1161 ∷
+    ∷ unsound (asked (station 2) (holding (held (from eight duplex) None 1041 ∷ pending offered (from seven duplex) 1161 ∷
     []) (waits seven 2000 ∷ [])))
     -- behind a slot and a place of others
     ∷ unsound (asked (station 2) (holding (pending offered (from nine duplex) 1161 ∷ pending offered (from seven duplex) 1161 ∷

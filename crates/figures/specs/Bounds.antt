@@ -1,23 +1,22 @@
 -- Each test of a sequence's parts on both sides of its bounds, and the refusals of reader and writer in their order.
-use Rattle.std.specs.Prelude.{ℕ, suc, ◌-◌, Bool, true, false, cond, List, [], ◌∷◌, ◌++◌, map, length, take, drop, replicate}
+use Rattle.std.specs.Prelude.{ℕ, suc, ◌-◌, Bool, true, false, cond, List, [], ◌∷◌, ◌++◌, map, length, take, drop, replicate, Option as Optional, Some, None, Result, Ok, Err}
 use Rattle.units.specs.declared.Channel.{Channel as ChannelNumber}
 use Rattle.units.specs.Units.{whole_seconds, duration_of}
 use Rattle.units.specs.declared.Duration.{Duration as Span}
-use Rattle.units.specs.declared.Lasted.{Lasted}
-use Rattle.units.specs.declared.Lasted.TheVariants.{Nothing, Lasting}
-use Rattle.sequence.specs.declared.Answer.TheVariants.{Done, BadLength}
+use Rattle.sequence.specs.declared.Refusal.{Refusal}
+use Rattle.sequence.specs.declared.Refusal.TheVariants.{BadLength}
 use Rattle.sequence.specs.declared.Field.{Field}
 use Rattle.sequence.specs.declared.Field.TheVariants.{Blank, Channel, Duration}
 use Rattle.sequence.specs.declared.Number.{Number}
 use Rattle.sequence.specs.declared.Meaning.{Meaning}
 use Rattle.sequence.specs.Refusals.{row, all_hold}
-use Rattle.sequence.specs.Answers.{answer_number, is_done}
+use Rattle.sequence.specs.Answers.{done, answer_number, is_done}
 use Rattle.sequence.specs.Symbols.{all_at_most, exclusive_or}
 use Rattle.sequence.specs.Identity.{is_ship, is_coast, identities_ok, identity_symbols, identity_pairs, identity_of}
 use Rattle.sequence.specs.Field.{is_call, telecommands_ok, channel_ok, duration_ok, field_ok}
 use Rattle.sequence.specs.Number.{number_ok, parity}
 use Rattle.sequence.specs.Layout.{end_ok, valid, layout}
-use Rattle.sequence.specs.Reading.{length_in, check_in, blank_symbols, channel_symbols, field_symbols, parity_ok, pairs_ok, reading_of}
+use Rattle.sequence.specs.Reading.{length_in, check_in, blank_symbols, channel_symbols, field_symbols, parity_ok, pairs_ok, meaning_read, reading_of}
 use Rattle.sequence.specs.Writing.{writing_answer, written_of, room_after}
 
 -- ── how a bound is written ───────────────────────────────────────────────────
@@ -69,10 +68,19 @@ abbrev pub meant : Meaning → List ℕ
 meant m = m.address ∷ m.sender ∷ m.first ∷ m.second ∷ (field_told m.field ++ m.number.count ∷ (m.number.digits ++ m.end ∷
     []))
 
+-- a result as numbers: 0 and what the value is told by, or the refusal's number
+abbrev pub result_told : {A : Type 0} → (A → List ℕ) → Result A Refusal → List ℕ
+result_told f (Ok a) = 0 ∷ f a
+result_told f (Err r) = answer_number (Some r) ∷ []
+
+abbrev pub number_told : {A : Type 0} → Result A Refusal → ℕ
+number_told (Ok a) = 0
+number_told (Err r) = answer_number (Some r)
+
 -- seconds as a duration; nothing where there is none
-abbrev pub duration_told : Lasted → List ℕ
-duration_told Nothing = []
-duration_told (Lasting d) = d.hours ∷ d.minutes ∷ d.seconds ∷ []
+abbrev pub duration_told : Optional Span → List ℕ
+duration_told None = []
+duration_told (Some d) = d.hours ∷ d.minutes ∷ d.seconds ∷ []
 
 abbrev pub lasts : ℕ → List ℕ
 lasts n = duration_told (duration_of (record { 0 = n }))
@@ -143,10 +151,10 @@ parts =
     0 ∷ [])
     ∷ gives (lasts 359999 ++ lasts 360000) (99 ∷ 59 ∷ 59 ∷ [])
     -- only 0 is done
-    ∷ holds (is_done Done ∷ is_done BadLength ∷ []) (1 ∷ 0 ∷ [])
+    ∷ holds (is_done done ∷ is_done (Some BadLength) ∷ []) (1 ∷ 0 ∷ [])
     -- a table of refusals holds where each row does
-    ∷ holds (all_hold (row true Done ∷ row true Done ∷ []) ∷ all_hold (row true Done ∷ row false Done ∷ []) ∷ all_hold (row false Done ∷
-    row true Done ∷ []) ∷ []) (1 ∷ 0 ∷ 0 ∷ [])
+    ∷ holds (all_hold (row true done ∷ row true done ∷ []) ∷ all_hold (row true done ∷ row false done ∷ []) ∷ all_hold (row false done ∷
+    row true done ∷ []) ∷ []) (1 ∷ 0 ∷ 0 ∷ [])
     ∷ []
 
 -- ── the layout ───────────────────────────────────────────────────────────────
@@ -204,7 +212,7 @@ abbrev pub pairs : ℕ → List ℕ
 pairs n = checked (take 17 p1 ++ 106 ∷ (replicate n 42 ++ 117 ∷ []))
 
 abbrev pub answers : List (List ℕ) → List ℕ → Bound
-answers c e = gives (map (λ s. answer_number (reading_of s).answer) c) e
+answers c e = gives (map (λ s. number_told (reading_of s)) c) e
 
 abbrev pub readings : List Bound
 readings =
@@ -257,10 +265,11 @@ readings =
     ∷ answers (with 6 99 (with 12 103 p1) ∷ with 12 103 (with 14 125 p1) ∷ with 14 125 (with 17 104 p1) ∷
     with 17 104 (with 22 116 p1) ∷ []) (16 ∷ 17 ∷ 18 ∷ 19 ∷ [])
     -- what is meant; with a refusal "no value"
-    ∷ gives (meant (reading_of p1).meaning) (meant request)
-    ∷ gives (meant (reading_of longest_symbols).meaning) (meant longest)
-    ∷ gives (meant (reading_of shortest_symbols).meaning) (meant shortest)
-    ∷ gives (meant (reading_of (with 22 116 p1)).meaning) (0 ∷ 0 ∷ 0 ∷ 0 ∷ 0 ∷ 0 ∷ (replicate 16 0 ++ 0 ∷ []))
+    ∷ gives (result_told meant (reading_of p1)) (0 ∷ meant request)
+    ∷ gives (meant (meaning_read p1)) (meant request)
+    ∷ gives (meant (meaning_read longest_symbols)) (meant longest)
+    ∷ gives (meant (meaning_read shortest_symbols)) (meant shortest)
+    ∷ gives (meant (meaning_read (with 22 116 p1))) (0 ∷ 0 ∷ 0 ∷ 0 ∷ 0 ∷ 0 ∷ (replicate 16 0 ++ 0 ∷ []))
     ∷ []
 
 -- ── the writer ───────────────────────────────────────────────────────────────
@@ -284,8 +293,8 @@ writings =
     ∷ writes (meaning 2001234 200056789 104 103 (Channel (channel 26)) (number 0 (replicate 16 0)) 117 ∷
     meaning 2001234 200056789 101 126 Blank (number 0 (replicate 16 0)) 118 ∷ []) (18 ∷ 19 ∷ [])
     -- how much is written, and "it writes only the sequence's own bytes"
-    ∷ gives ((written_of request 28).length ∷ (written_of longest 28).length ∷ (written_of request 27).length ∷ []) (24 ∷ 28 ∷ 0 ∷ [])
-    ∷ gives (answer_number (written_of request 28).answer ∷ answer_number (written_of request 27).answer ∷ []) (0 ∷ 21 ∷ [])
+    ∷ gives (result_told (λ n. n ∷ []) (written_of request 28) ++ result_told (λ n. n ∷ []) (written_of longest 28)) (0 ∷ 24 ∷ 0 ∷ 28 ∷ [])
+    ∷ gives (result_told (λ n. n ∷ []) (written_of request 27)) (21 ∷ [])
     ∷ gives (room_after request (replicate 30 7)) (p1 ++ replicate 6 7)
     ∷ gives (room_after request (replicate 27 7)) (replicate 27 7)
     ∷ []

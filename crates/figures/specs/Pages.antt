@@ -1,7 +1,6 @@
 -- What the list alone tells after each entry: its book, its line's words, its stops and its tenths.
-use Rattle.std.specs.Prelude.{List, [], ◌∷◌, ◌++◌, map, Bool, true, false, cond, ℕ, ◌+◌, length, get_or, take, replicate}
+use Rattle.std.specs.Prelude.{List, [], ◌∷◌, ◌++◌, map, Bool, true, false, cond, ℕ, ◌+◌, length, get_or, take, replicate, None}
 use Rattle.std.proofs.Math.Option.{Option, none, some}
-use Rattle.units.specs.declared.Lasted.TheVariants.{Nothing}
 use Rattle.sequence.specs.declared.Field.TheVariants.{Blank}
 use Rattle.rules.specs.Rules.Words.{Party, Mode, simplex, duplex, mode_number, Request, Config, Ashore, Event}
 use Rattle.rules.specs.Rules.Words.{Deed, carrier_on, carrier_off, acknowledge, call_ship, unable, dial, release_line}
@@ -1304,7 +1303,7 @@ last_asked_never = record {
 abbrev pub given : List Action
 given = does (carrier_on 0) ∷ does (carrier_off 0) ∷ does (acknowledge 0 (from seven duplex)) ∷ does (call_ship 0 (from seven duplex)) ∷
     does (unable 103 party usual) ∷ does (dial 0 usual) ∷ does (release_line 0) ∷ does (ringing_on 0) ∷ does (ringing_off 0) ∷
-    does (busy_tone 0) ∷ over 0 the_ship party usual Nothing ∷
+    does (busy_tone 0) ∷ over 0 the_ship party usual None ∷
     charge (paid 0 0 seven 1 2 3 4).it ∷
     does (dial 1 usual) ∷ []
 
