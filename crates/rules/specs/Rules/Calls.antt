@@ -1,6 +1,6 @@
 -- What each other event does: working call, BQ, call from ashore, dialling ended, off-hook, carrier, both ends, operator, and a wait that
 -- falls due. One function for an event, a clause for each phase of the slot.
-use Rattle.std.specs.Prelude.{List, [], ◌∷◌, ◌++◌, Bool, true, false, cond, not, ℕ, Option as Optional}
+use Rattle.std.specs.Prelude.{Option as Optional, List, [], ◌∷◌, ◌++◌, Bool, true, false, cond, not, ℕ}
 use Rattle.std.proofs.Math.Option.{Option, none, some}
 use Rattle.units.specs.declared.Duration.{Duration}
 use Rattle.rules.specs.Rules.Places.{drop_at}
