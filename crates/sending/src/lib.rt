@@ -3,6 +3,7 @@
 
 ghost use Rattle.std.specs.Prelude.{◌≡◌, ◌∷◌, [], ◌+◌, ◌*◌, ◌≤◌, ◌<◌, length, get_or};
 ghost use Rattle.std.proofs.lemmas.List.Edits.{sets};
+ghost use Rattle.transmission.specs.Answers.{answered};
 ghost use Rattle.transmission.specs.Layout.{dx, transmission, bytes_of};
 ghost use Rattle.transmission.specs.Writing.{writing_answer, transmission_written, transmission_laid, room_after_writing};
 ghost use Rattle.sending.specs.Laid.{Fit, places_laid};
@@ -11,26 +12,23 @@ use characters::character_of;
 use sequence::symbols::all_at_most;
 use sequence::{LAST_SYMBOL, LONGEST, SHORTEST};
 use transmission::{
-    Answer, Counted, DX_PHASING, DX_PHASING_SYMBOL, FIRST_RX_PHASING_SYMBOL, LONGEST_TRANSMISSION,
-    RX_PHASING,
+    DX_PHASING, DX_PHASING_SYMBOL, FIRST_RX_PHASING_SYMBOL, LONGEST_TRANSMISSION, RX_PHASING,
+    Refusal,
 };
 
-fn answer_to(symbols: &[u8], room: usize) -> Answer
-    ensures { result ≡ writing_answer symbols.now room }
+fn judge(symbols: &[u8], room: usize) -> Result<(), Refusal>
+    ensures { result ≡ answered (writing_answer symbols.now room) tt }
 {
     if room < 2 * LONGEST_TRANSMISSION {
-        return Answer::ShortRoom;
+        return Err(Refusal::ShortRoom);
     }
-    if symbols.len() < SHORTEST {
-        return Answer::BadLength;
-    }
-    if LONGEST < symbols.len() {
-        return Answer::BadLength;
+    if symbols.len() < SHORTEST || LONGEST < symbols.len() {
+        return Err(Refusal::BadLength);
     }
     if !all_at_most(symbols, LAST_SYMBOL) {
-        return Answer::BadSymbol;
+        return Err(Refusal::BadSymbol);
     }
-    Answer::Done
+    Ok(())
 }
 
 // Lays the two characters of a place, each low byte first.
@@ -100,21 +98,11 @@ fn lay(symbols: &[u8], room: &mut [u8]) -> usize
     2 * (symbols.len() + 9)
 }
 
-// Writes one transmission: Done with its count of characters, or the first refusal with nothing written.
-pub fn write_transmission(symbols: &[u8], room: &mut [u8]) -> Counted
+// Writes one transmission, and returns its count of characters; or the first refusal, with nothing written.
+pub fn write_transmission(symbols: &[u8], room: &mut [u8]) -> Result<usize, Refusal>
     ensures value { result ≡ transmission_written symbols.now (length room.old) }
     ensures room_written { room.new ≡ room_after_writing symbols.now room.old }
 {
-    let answer = answer_to(symbols, room.len());
-    if answer.is_done() {
-        let count = lay(symbols, room);
-        return Counted {
-            answer: answer,
-            count: count,
-        };
-    }
-    Counted {
-        answer: answer,
-        count: 0,
-    }
+    judge(symbols, room.len())?;
+    Ok(lay(symbols, room))
 }

@@ -1,3 +1,4 @@
+pub mod AnsweredLaws
 pub mod LayoutLaws
 pub mod WritingLaws
 pub mod HeardLaws

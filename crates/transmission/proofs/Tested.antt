@@ -8,9 +8,9 @@ use lib.ListN.{length, take, drop}
 use Rattle.characters.specs.Code.{none}
 use Rattle.sequence.specs.Figures.{longest}
 use Rattle.sequence.specs.Refusals.{row, first_refusal}
-use Rattle.transmission.specs.declared.Answer.{Answer}
-use Rattle.transmission.specs.declared.Answer.TheVariants.{Done, ShortRoom, NoPhasing, CopiesBad, EndsEarly}
-use Rattle.transmission.specs.Answers.{answer_number, is_done}
+use Rattle.std.specs.Prelude.{Some}
+use Rattle.transmission.specs.declared.Refusal.TheVariants.{ShortRoom, NoPhasing, CopiesBad, EndsEarly}
+use Rattle.transmission.specs.Answers.{Answer, done, answer_number, answer_told, count_told, is_done, answered}
 use Rattle.transmission.specs.Layout.{bytes_of}
 use Rattle.transmission.specs.Phasing.{characters_of, heard}
 use Rattle.transmission.specs.Copies.{symbol_at, symbols_from, count_of, copies_there}
@@ -22,16 +22,16 @@ use Rattle.transmission.specs.Cases.{ReadCase, handed, expected_of, computed_of}
 abbrev answer_from : List ℕ → ℕ → ℕ → ℕ → Answer
 answer_from t start n room =
     first_refusal
-    (row (leb longest room) ShortRoom
-    ∷ row (phasing_in t) NoPhasing
-    ∷ row (all_in_row (λ k. not (eqb (symbol_at t start k) none && copies_there t start k)) 0 n) CopiesBad
-    ∷ row (all_in_row (λ k. not (eqb (symbol_at t start k) none && not (copies_there t start k))) 0 n) EndsEarly
+    (row (leb longest room) (Some ShortRoom)
+    ∷ row (phasing_in t) (Some NoPhasing)
+    ∷ row (all_in_row (λ k. not (eqb (symbol_at t start k) none && copies_there t start k)) 0 n) (Some CopiesBad)
+    ∷ row (all_in_row (λ k. not (eqb (symbol_at t start k) none && not (copies_there t start k))) 0 n) (Some EndsEarly)
     ∷ [])
-    Done
+    done
 
 -- answer, count and room
 abbrev told_of : Answer → ℕ → List ℕ → List ℕ → List ℕ
-told_of answer n symbols room = answer_number answer ∷ cond (is_done answer) n 0 ∷ cond (is_done answer) (take n symbols ++ drop n room) room
+told_of answer n symbols room = answer_number (answer_told (answered answer n)) ∷ count_told (answered answer n) ∷ cond (is_done answer) (take n symbols ++ drop n room) room
 
 abbrev read_from : List ℕ → ℕ → List ℕ → List ℕ → List ℕ
 read_from t start symbols room = told_of (answer_from t start (count_of symbols) (length room)) (count_of symbols) symbols room

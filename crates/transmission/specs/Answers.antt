@@ -1,16 +1,40 @@
--- The documents' number of each answer.
-use Rattle.std.specs.Prelude.{ℕ, Bool, eqb}
-use Rattle.transmission.specs.declared.Answer.{Answer}
-use Rattle.transmission.specs.declared.Answer.TheVariants.{Done, BadLength, BadSymbol, ShortRoom, NoPhasing, CopiesBad, EndsEarly}
+-- The documents' number of each answer: a refusal, or done.
+use Rattle.std.specs.Prelude.{ℕ, Bool, true, false, Option, Some, None, Result, Ok, Err}
+use Rattle.transmission.specs.declared.Refusal.{Refusal}
+use Rattle.transmission.specs.declared.Refusal.TheVariants.{BadLength, BadSymbol, ShortRoom, NoPhasing, CopiesBad, EndsEarly}
+
+abbrev pub refusal_number : Refusal → ℕ
+refusal_number BadLength = 11
+refusal_number BadSymbol = 12
+refusal_number ShortRoom = 21
+refusal_number NoPhasing = 51
+refusal_number CopiesBad = 52
+refusal_number EndsEarly = 53
+
+abbrev pub Answer : Type 0
+Answer = Option Refusal
+
+abbrev pub done : Answer
+done = None
 
 abbrev pub answer_number : Answer → ℕ
-answer_number Done = 0
-answer_number BadLength = 11
-answer_number BadSymbol = 12
-answer_number ShortRoom = 21
-answer_number NoPhasing = 51
-answer_number CopiesBad = 52
-answer_number EndsEarly = 53
+answer_number None = 0
+answer_number (Some r) = refusal_number r
 
 abbrev pub is_done : Answer → Bool
-is_done a = eqb (answer_number a) 0
+is_done None = true
+is_done (Some r) = false
+
+-- what is handed back with an answer: a value beside done, or the refusal
+abbrev pub answered : {A : Type 0} → Answer → A → Result A Refusal
+answered None a = Ok a
+answered (Some r) a = Err r
+
+-- the answer in what was handed back, and the count: 0 beside a refusal
+abbrev pub answer_told : Result ℕ Refusal → Answer
+answer_told (Ok n) = done
+answer_told (Err r) = Some r
+
+abbrev pub count_told : Result ℕ Refusal → ℕ
+count_told (Ok n) = n
+count_told (Err r) = 0

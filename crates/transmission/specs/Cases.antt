@@ -1,9 +1,9 @@
 -- Transmissions written, started and read, worked out by hand: cases.
-use Rattle.std.specs.Prelude.{ℕ, ◌-◌, List, [], ◌∷◌, ◌++◌, map, length, take, drop, set, replicate}
+use Rattle.std.specs.Prelude.{ℕ, ◌-◌, Result, List, [], ◌∷◌, ◌++◌, map, length, take, drop, set, replicate}
 use Rattle.characters.specs.Code.{character_of, none}
 use Rattle.characters.specs.Cases.{Case, gives}
-use Rattle.transmission.specs.declared.Counted.{Counted}
-use Rattle.transmission.specs.Answers.{answer_number}
+use Rattle.transmission.specs.declared.Refusal.{Refusal}
+use Rattle.transmission.specs.Answers.{answer_number, answer_told, count_told}
 use Rattle.transmission.specs.Layout.{sent, transmission, bytes_of}
 use Rattle.transmission.specs.Writing.{transmission_written, room_after_writing}
 use Rattle.transmission.specs.Phasing.{characters_of, heard, best_start}
@@ -26,8 +26,8 @@ p1_sent =
 
 -- ── writing ──────────────────────────────────────────────────────────────────
 
-abbrev pub counted : Counted → List ℕ
-counted c = answer_number c.answer ∷ c.count ∷ []
+abbrev pub counted : Result ℕ Refusal → List ℕ
+counted c = answer_number (answer_told c) ∷ count_told c ∷ []
 
 abbrev pub writes : List ℕ → ℕ → List ℕ → Case
 writes s room expected = gives (counted (transmission_written s room)) expected

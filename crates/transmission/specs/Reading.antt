@@ -1,12 +1,11 @@
 -- What the reader of a transmission answers, and what the room then holds.
-use Rattle.std.specs.Prelude.{ℕ, zero, suc, Bool, true, cond, not, ◌&&◌, List, [], ◌∷◌, ◌++◌, leb, eqb, length, take, drop}
+use Rattle.std.specs.Prelude.{ℕ, zero, suc, Bool, true, cond, not, ◌&&◌, Result, Some, List, [], ◌∷◌, ◌++◌, leb, eqb, length, take, drop}
 use Rattle.characters.specs.Code.{none}
 use Rattle.sequence.specs.Figures.{longest}
 use Rattle.sequence.specs.Refusals.{Row, row, first_refusal}
-use Rattle.transmission.specs.declared.Answer.{Answer}
-use Rattle.transmission.specs.declared.Answer.TheVariants.{Done, ShortRoom, NoPhasing, CopiesBad, EndsEarly}
-use Rattle.transmission.specs.declared.Counted.{Counted}
-use Rattle.transmission.specs.Answers.{is_done}
+use Rattle.transmission.specs.declared.Refusal.{Refusal}
+use Rattle.transmission.specs.declared.Refusal.TheVariants.{ShortRoom, NoPhasing, CopiesBad, EndsEarly}
+use Rattle.transmission.specs.Answers.{Answer, done, is_done, answered}
 use Rattle.transmission.specs.Phasing.{heard, best_start, characters_of}
 use Rattle.transmission.specs.Copies.{symbol_at, symbols_from, count_of, copies_there}
 
@@ -44,22 +43,19 @@ whole_in t = all_in_row (λ k. not (unread t k && not (copies_there t (start_in 
 -- 21, a room under 28 symbols, first; then 51, 52, 53, "tested in that order"
 unfoldable pub reading_refusals : List ℕ → ℕ → List (Row Answer)
 reading_refusals t room =
-    row (leb longest room) ShortRoom
-    ∷ row (phasing_in t) NoPhasing
-    ∷ row (copies_in t) CopiesBad
-    ∷ row (whole_in t) EndsEarly
+    row (leb longest room) (Some ShortRoom)
+    ∷ row (phasing_in t) (Some NoPhasing)
+    ∷ row (copies_in t) (Some CopiesBad)
+    ∷ row (whole_in t) (Some EndsEarly)
     ∷ []
 
 unfoldable pub reading_answer : List ℕ → ℕ → Answer
-reading_answer t room = first_refusal (reading_refusals t room) Done
+reading_answer t room = first_refusal (reading_refusals t room) done
 
--- the answer to what was handed in, with the count of symbols read
-unfoldable pub transmission_read : List ℕ → ℕ → Counted
+-- of what was handed in, the count of symbols read, or the refusal
+unfoldable pub transmission_read : List ℕ → ℕ → Result ℕ Refusal
 transmission_read bytes room =
-    record {
-      answer = reading_answer (heard (characters_of bytes)) room;
-      count = cond (is_done (reading_answer (heard (characters_of bytes)) room)) (count_in (heard (characters_of bytes))) 0;
-    }
+    answered (reading_answer (heard (characters_of bytes)) room) (count_in (heard (characters_of bytes)))
 
 -- a refusal leaves the room untouched
 unfoldable pub room_after_reading : List ℕ → List ℕ → List ℕ
