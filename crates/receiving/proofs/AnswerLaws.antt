@@ -1,25 +1,35 @@
 -- What is answered, step by step, and what the room then holds.
 use Prim.Native.Nat.{ℕ, ◌+◌, ◌*◌, ◌/◌, ◌≤◌, ◌<◌}
 use mathlib.Core.Path.{◌≡◌, sym, ap, ◌∙◌}
-use mathlib.Core.Bool.{true, false}
+use mathlib.Core.Bool.{Bool, true, false, cond}
 use mathlib.Core.List.{List, ◌++◌}
 use native.Mathlib.Omega.{arith}
+use lib.Dec.{ltb, eqb}
 use lib.ListN.{length, get_or, take, drop}
-use borrow.Author.Tests.{lt-leb, le-leb, lt-ltb, le-ltb, eq-eqb, ne_eqb}
+use lib.Seq.{length-take-le}
+use borrow.Author.Tests.{lt-leb, le-leb, lt-ltb, le-ltb, ltb-false}
+use Rattle.std.specs.Prelude.{Some, None, Err, Ok}
+use Rattle.std.specs.List.{position, position_or_len}
+use Rattle.std.proofs.lemmas.List.{get_or-take}
+use Rattle.std.proofs.lemmas.List.Quantifiers.{position-Some}
+use Rattle.std.proofs.lemmas.List.Sums.{fails_before_first}
 use Rattle.sequence.specs.Figures.{longest}
-use Rattle.transmission.specs.declared.Answer.{Answer}
-use Rattle.transmission.specs.declared.Answer.TheVariants.{Done, ShortRoom, NoPhasing, CopiesBad, EndsEarly}
+use Rattle.sequence.proofs.Tests.{Either, yes!, no!, which}
+use Rattle.characters.specs.Code.{none}
+use Rattle.transmission.specs.declared.Refusal.{Refusal}
+use Rattle.transmission.specs.declared.Refusal.TheVariants.{ShortRoom, NoPhasing, CopiesBad, EndsEarly}
 use Rattle.transmission.specs.declared.Start.{Start}
-use Rattle.transmission.specs.Answers.{is_done}
+use Rattle.transmission.specs.Answers.{done}
 use Rattle.transmission.specs.Phasing.{characters_of, most_lost, heard, best_start}
-use Rattle.transmission.specs.Copies.{symbol_at, symbols_from, count_of, copies_there}
+use Rattle.transmission.specs.Copies.{symbols_from, count_of, copies_there}
 use Rattle.transmission.specs.Reading.{start_in, count_in, symbols_in, phasing_in, unread, reading_refusals, reading_answer}
 use Rattle.transmission.specs.Reading.{transmission_read, room_after_reading}
+use Rattle.transmission.proofs.AnswerLaws.{refused}
 use Rattle.transmission.proofs.HeardLaws.{length-heard-bytes}
 use Rattle.transmission.proofs.BestLaws.{best-within}
-use Rattle.transmission.proofs.SymbolLaws.{symbol-there, count_most}
+use Rattle.transmission.proofs.SymbolLaws.{symbols-length, symbol-there, count_most}
 use Rattle.transmission.proofs.CopyLaws.{all-copies, all_whole, copies-bad, no-copies-bad, ends-early}
-use Rattle.receiving.specs.Copies.{FirstUnread, answer_to_copies}
+use Rattle.receiving.specs.Copies.{answer_to_copies}
 
 pub start-most : (bytes : List ℕ) → start_in (heard (characters_of bytes)) ≤ most_lost + length bytes / 2
 unfolding start_in
@@ -32,68 +42,95 @@ start-found t best e = rw e
 pub count_fits : (symbols : List ℕ) (count : ℕ) → count ≡ count_of symbols → count ≤ longest
 count_fits symbols count e = omega (arith, e, count_most symbols)
 
+module _ (t all : List ℕ) (start count : ℕ) (a : all ≡ symbols_from t start) (n : count ≡ count_of all) where
+  pub there_all : count ≤ length all
+  there_all = omega (arith, count_fits all count n, ap length a, symbols-length t start)
+
+  -- the symbols up to the end and the one behind it, in a room
+  module _ (s : start ≡ start_in t) where
+    pub count-those : count ≡ count_in t
+    unfolding count_in
+    count-those = n ∙ rw (a, s)
+
+    pub those-in : take count all ≡ symbols_in t
+    unfolding symbols_in
+    those-in = rw (count-those, a, s)
+
+    pub laid_in : (left room : List ℕ) → left ≡ take count all → left ++ drop count room ≡ symbols_in t ++ drop (count_in t) room
+    laid_in left room e = rw (e, those-in, count-those)
+
 -- ── 52 and 53 ────────────────────────────────────────────────────────────────
 
-module _ (t symbols : List ℕ) (start count : ℕ) (s : start ≡ start_in t) (all : symbols ≡ symbols_from t start)
-    (n : count ≡ count_of symbols) where
-  symbols-in : symbols ≡ symbols_from t (start_in t)
-  symbols-in = all ∙ ap (symbols_from t) s
+pub symbols_count : (t : List ℕ) → length (symbols_in t) ≡ count_in t
+unfolding symbols_in count_in
+symbols_count t =
+    length-take-le (count_in t) (symbols_from t (start_in t)) (omega (arith, count_most (symbols_from t (start_in t)), symbols-length t (start_in t)))
 
-  pub count-in : count ≡ count_in t
-  unfolding count_in
-  count-in = n ∙ ap count_of symbols-in
+pub count-in-most : (t : List ℕ) → count_in t ≤ longest
+unfolding count_in
+count-in-most t = count_most (symbols_from t (start_in t))
 
-  pub laid_in : (room : List ℕ) → take count symbols ++ drop count room ≡ symbols_in t ++ drop (count_in t) room
-  unfolding symbols_in
-  laid_in room = rw (← count-in, ← symbols-in)
+-- no test before the first place, and none at all, is passed
+none_before : (test : ℕ → Bool) (l : List ℕ) (j : ℕ) → position test l ≡ None → j < length l → test (get_or l j 0) ≡ false
+none_before test l j e h = go (which (ltb (position_or_len test l) (length l)))
+  where
+    go : Either (ltb (position_or_len test l) (length l)) → test (get_or l j 0) ≡ false
+    go (yes! f) = let g : cond true (Some (position_or_len test l)) None ≡ None = rw f at e in (cc)
+    go (no! f) = fails_before_first test l j 0 (omega (arith, ltb-false (position_or_len test l) (length l) f))
 
-  symbol-in : (j : ℕ) → j < count → get_or symbols j 0 ≡ symbol_at t (start_in t) j
-  symbol-in j h =
-      ap (λ (l : List ℕ). get_or l j 0) symbols-in ∙ symbol-there t (start_in t) j (omega (arith, count_fits symbols count n))
+module _ (t symbols : List ℕ) (start : ℕ) (s : start ≡ start_in t) (all : symbols ≡ symbols_in t) where
+  count-in : length symbols ≡ count_in t
+  count-in = rw all (symbols_count t)
 
-  module _ (k : ℕ) (f : FirstUnread symbols count k) where
+  read-there : (j : ℕ) → j < count_in t → unread t j ≡ eqb (get_or symbols j 0) none
+  unfolding unread symbols_in count_in
+  read-there j h =
+      rw (all, get_or-take (count_in t) (symbols_from t (start_in t)) j 0 h)
+      (ap (λ (k : ℕ). eqb k none) (sym (symbol-there t (start_in t) j (omega (arith, h, count_most (symbols_from t (start_in t)))))))
+
+  pub all-good : position (λ symbol. eqb symbol none) symbols ≡ None → done ≡ answer_to_copies t
+  all-good e = rw (all-copies t (count_in t) read (omega arith), all_whole t (count_in t) read (omega arith))
+    where
+      read : (j : ℕ) → j < count_in t → unread t j ≡ false
+      read j h = read-there j h ∙ none_before (λ symbol. eqb symbol none) symbols j e (omega (arith, count-in))
+
+  module _ (k : ℕ) (e : position (λ symbol. eqb symbol none) symbols ≡ Some k) where
+    pub inside : k < count_in t
+    inside = omega (arith, (position-Some (λ symbol. eqb symbol none) symbols k 0 e).0, count-in)
+
+    unread-there : unread t k ≡ true
+    unread-there = read-there k inside ∙ (position-Some (λ symbol. eqb symbol none) symbols k 0 e).1
+
     read-before : (j : ℕ) → j < k → unread t j ≡ false
-    unfolding unread
-    read-before j h = ne_eqb _ _ (λ e. f.read-before j h (symbol-in j (omega (arith, f.within)) ∙ e))
+    read-before j h = read-there j (omega (arith, inside)) ∙ (position-Some (λ symbol. eqb symbol none) symbols k 0 e).2 j h
 
-    unread-there : k < count → unread t k ≡ true
-    unfolding unread
-    unread-there h = eq-eqb _ _ (sym (symbol-in k h) ∙ f.unread-there h)
+    there : (end : ℕ) → length t ≡ end → start + 19 + 2 * k < end → copies_there t (start_in t) k ≡ true
+    unfolding copies_there
+    there end e l = rw (← s) (lt-ltb (start + 19 + 2 * k) (length t) (omega arith))
 
-    pub all-good : count ≤ k → Done ≡ answer_to_copies t
-    all-good h = rw (all-copies t k read-before (omega (arith, count-in)), all_whole t k read-before (omega (arith, count-in)))
+    not_there : (end : ℕ) → length t ≡ end → end ≤ start + 19 + 2 * k → copies_there t (start_in t) k ≡ false
+    unfolding copies_there
+    not_there end e l = rw (← s) (le-ltb (start + 19 + 2 * k) (length t) (omega arith))
 
-    module _ (h : k < count) where
-      there : (end : ℕ) → length t ≡ end → start + 19 + 2 * k < end → copies_there t (start_in t) k ≡ true
-      unfolding copies_there
-      there end e l = rw (← s) (lt-ltb (start + 19 + 2 * k) (length t) (omega arith))
+    pub all-bad : (end : ℕ) → length t ≡ end → start + 19 + 2 * k < end → Some CopiesBad ≡ answer_to_copies t
+    all-bad end e l = rw (copies-bad t k read-before inside unread-there (there end e l))
 
-      not_there : (end : ℕ) → length t ≡ end → end ≤ start + 19 + 2 * k → copies_there t (start_in t) k ≡ false
-      unfolding copies_there
-      not_there end e l = rw (← s) (le-ltb (start + 19 + 2 * k) (length t) (omega arith))
-
-      inside : k < count_in t
-      inside = omega (arith, count-in)
-
-      pub all-bad : (end : ℕ) → length t ≡ end → start + 19 + 2 * k < end → CopiesBad ≡ answer_to_copies t
-      all-bad end e l = rw (copies-bad t k read-before inside (unread-there h) (there end e l))
-
-      pub one-missing : (end : ℕ) → length t ≡ end → end ≤ start + 19 + 2 * k → EndsEarly ≡ answer_to_copies t
-      one-missing end e l =
-          rw (
-            no-copies-bad t k read-before inside (unread-there h) (not_there end e l),
-            ends-early t k read-before inside (unread-there h) (not_there end e l),
-          )
+    pub one-missing : (end : ℕ) → length t ≡ end → end ≤ start + 19 + 2 * k → Some EndsEarly ≡ answer_to_copies t
+    one-missing end e l =
+        rw (
+          no-copies-bad t k read-before inside unread-there (not_there end e l),
+          ends-early t k read-before inside unread-there (not_there end e l),
+        )
 
 -- ── the answer ───────────────────────────────────────────────────────────────
 
 module _ (t : List ℕ) (room : ℕ) where
-  pub room-short : room < longest → reading_answer t room ≡ ShortRoom
+  pub room-short : room < longest → reading_answer t room ≡ Some ShortRoom
   unfolding reading_answer reading_refusals
   room-short h = rw (lt-leb longest room h)
 
   module _ (h : longest ≤ room) (best : Start) (b : best ≡ best_start t) where
-    pub phasing-not-found : best.phasing ≡ 0 → reading_answer t room ≡ NoPhasing
+    pub phasing-not-found : best.phasing ≡ 0 → reading_answer t room ≡ Some NoPhasing
     unfolding reading_answer reading_refusals phasing_in
     phasing-not-found e = rw (le-leb longest room h, ← b, e)
 
@@ -103,14 +140,15 @@ module _ (t : List ℕ) (room : ℕ) where
 
 -- ── what is handed back ──────────────────────────────────────────────────────
 
-module _ (bytes room : List ℕ) (answer : Answer) (e : reading_answer (heard (characters_of bytes)) (length room) ≡ answer) where
-  pub refused : is_done answer ≡ false
-      → (record { answer = answer; count = 0 } ≡ transmission_read bytes (length room)) × (room ≡ room_after_reading bytes room)
+module _ (bytes room : List ℕ) where
+  pub refusal-read : (r : Refusal) → reading_answer (heard (characters_of bytes)) (length room) ≡ Some r
+      → (Err r ≡ transmission_read bytes (length room)) × (room ≡ room_after_reading bytes room)
   unfolding transmission_read room_after_reading
-  refused no-symbols = (rw (e, no-symbols), rw (e, no-symbols))
+  refusal-read r e = (rw e, rw (e, refused r))
 
-  pub read_done : is_done answer ≡ true → (count : ℕ) (laid : List ℕ) → count ≡ count_in (heard (characters_of bytes))
-      → laid ≡ symbols_in (heard (characters_of bytes)) ++ drop (count_in (heard (characters_of bytes))) room
-      → (record { answer = answer; count = count } ≡ transmission_read bytes (length room)) × (laid ≡ room_after_reading bytes room)
+  pub symbols-read : reading_answer (heard (characters_of bytes)) (length room) ≡ done
+      → (count : ℕ) (left : List ℕ) → count ≡ count_in (heard (characters_of bytes))
+      → left ≡ symbols_in (heard (characters_of bytes)) ++ drop (count_in (heard (characters_of bytes))) room
+      → (Ok count ≡ transmission_read bytes (length room)) × (left ≡ room_after_reading bytes room)
   unfolding transmission_read room_after_reading
-  read_done d count laid n l = (rw (e, d, n), rw (e, d) l)
+  symbols-read e count left n l = (rw (e, n), rw e l)

@@ -1,9 +1,10 @@
 // The symbols of a transmission that starts at a place of what was heard.
-ghost use Rattle.std.specs.Prelude.{◌≡◌, [], ◌∷◌, ◌+◌, ◌/◌, ◌≤◌, ◌<◌, length};
+ghost use Rattle.std.specs.Prelude.{◌≡◌, [], ◌∷◌, ◌+◌, ◌/◌, ◌≤◌, ◌<◌, ◌==◌, length, position};
 ghost use Rattle.sequence.specs.Figures.{longest};
+ghost use Rattle.characters.specs.Code.{none};
 ghost use Rattle.transmission.specs.Phasing.{most_lost, characters_of, heard, heard_at};
 ghost use Rattle.transmission.specs.Copies.{first_good, symbol_at, symbols_from, count_of};
-ghost use Rattle.receiving.specs.Copies.{IsTable, FirstUnread};
+ghost use Rattle.receiving.specs.Copies.{IsTable};
 
 use characters::{NO_CHARACTER, NONE, symbol_table};
 use phasing::character_at;
@@ -84,39 +85,27 @@ pub(crate) fn symbols_from(characters: &[u8], start: usize) -> [u8; LONGEST]
 {
     let table = symbol_table();
     let mut symbols = [0u8; LONGEST];
-    let mut k = 0;
-    while k < LONGEST {
+    for k in 0..LONGEST {
         symbols[k] = symbol_at(characters, &table, start, k);
-        k += 1;
     }
     symbols
 }
 
 // "ends with the symbol after the first 117, 122 or 127"
-pub(crate) fn count_of(symbols: [u8; LONGEST]) -> usize
-    ensures { result ≡ count_of symbols }
+pub(crate) fn count_of(symbols: &[u8; LONGEST]) -> usize
+    ensures { result ≡ count_of symbols.now }
 {
-    let mut place = FIRST_END;
-    while place <= LAST_END {
+    for place in FIRST_END..=LAST_END {
         if end_ok(symbols[place]) {
             return place + 2;
         }
-        place += 1;
     }
     LONGEST
 }
 
-// The first symbol of so many that has no good copy, or their count where each has one.
-pub(crate) fn first_unread(symbols: [u8; LONGEST], count: usize) -> usize
-    requires { count ≤ longest }
-    ensures { FirstUnread symbols count result }
+// The first symbol that has no good copy.
+pub(crate) fn first_unread(symbols: &[u8]) -> Option<usize>
+    ensures { result ≡ position (λ symbol. symbol == none) symbols.now }
 {
-    let mut k = 0;
-    while k < count {
-        if symbols[k] == NONE {
-            return k;
-        }
-        k += 1;
-    }
-    count
+    symbols.iter().position(|symbol| *symbol == NONE)
 }

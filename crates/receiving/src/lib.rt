@@ -2,10 +2,9 @@
 #![tactic(auto)]
 
 ghost use Rattle.std.specs.Prelude.{◌≡◌, ◌++◌, ◌≤◌, length, take, drop};
-ghost use Rattle.sequence.specs.Figures.{longest};
 ghost use Rattle.transmission.specs.Phasing.{characters_of, heard};
-ghost use Rattle.transmission.specs.Copies.{symbols_from, count_of};
-ghost use Rattle.transmission.specs.Reading.{start_in, transmission_read, room_after_reading};
+ghost use Rattle.transmission.specs.Answers.{answered};
+ghost use Rattle.transmission.specs.Reading.{start_in, symbols_in, transmission_read, room_after_reading};
 ghost use Rattle.receiving.specs.Copies.{answer_to_copies};
 
 mod copies;
@@ -13,68 +12,39 @@ mod copies;
 use crate::copies::{REPEAT, count_of, first_unread, symbols_from};
 use phasing::best_start;
 use sequence::LONGEST;
-use transmission::{Answer, Counted, MOST_LOST};
+use transmission::{MOST_LOST, Refusal};
 
 // 52 or 53, by the first symbol with no good copy: the copies of a later one stand later.
-fn answer_to_copies(characters: &[u8], start: usize, symbols: [u8; LONGEST], count: usize) -> Answer
+fn judge_copies(characters: &[u8], start: usize, symbols: &[u8]) -> Result<(), Refusal>
     requires { (start ≡ start_in (heard (characters_of characters.now)))
-        × (symbols ≡ symbols_from (heard (characters_of characters.now)) start)
-        × (count ≡ count_of symbols) }
-    ensures { result ≡ answer_to_copies (heard (characters_of characters.now)) }
+        × (symbols.now ≡ symbols_in (heard (characters_of characters.now))) }
+    ensures { result ≡ answered (answer_to_copies (heard (characters_of characters.now))) tt }
 {
-    let k = first_unread(symbols, count);
-    if count <= k {
-        return Answer::Done;
-    }
+    let Some(k) = first_unread(symbols) else {
+        return Ok(());
+    };
     if start + REPEAT + 2 * k < MOST_LOST + characters.len() / 2 {
-        return Answer::CopiesBad;
+        return Err(Refusal::CopiesBad);
     }
-    Answer::EndsEarly
+    Err(Refusal::EndsEarly)
 }
 
-// Lays so many symbols at the front of the room.
-fn lay(symbols: [u8; LONGEST], count: usize, room: &mut [u8])
-    requires { (count ≤ longest) × (longest ≤ length room.old) }
-    ensures { room.new ≡ take count symbols ++ drop count room.old }
-{
-    let mut i = 0;
-    while i < count {
-        room[i] = symbols[i];
-        i += 1;
-    }
-}
-
-// Reads one transmission: Done with the count of its symbols, or the first refusal with nothing written.
-pub fn read_transmission(characters: &[u8], room: &mut [u8]) -> Counted
+// Reads one transmission, and returns the count of its symbols; or the first refusal, with nothing written.
+pub fn read_transmission(characters: &[u8], room: &mut [u8]) -> Result<usize, Refusal>
     ensures value { result ≡ transmission_read characters.now (length room.old) }
     ensures room_written { room.new ≡ room_after_reading characters.now room.old }
 {
     if room.len() < LONGEST {
-        return Counted {
-            answer: Answer::ShortRoom,
-            count: 0,
-        };
+        return Err(Refusal::ShortRoom);
     }
     let best = best_start(characters);
     if best.phasing == 0 {
-        return Counted {
-            answer: Answer::NoPhasing,
-            count: 0,
-        };
+        return Err(Refusal::NoPhasing);
     }
-    let start = best.place;
-    let symbols = symbols_from(characters, start);
-    let count = count_of(symbols);
-    let answer = answer_to_copies(characters, start, symbols, count);
-    if answer.is_done() {
-        lay(symbols, count, room);
-        return Counted {
-            answer: answer,
-            count: count,
-        };
-    }
-    Counted {
-        answer: answer,
-        count: 0,
-    }
+    let all = symbols_from(characters, best.place);
+    let count = count_of(&all);
+    let symbols = &all[..count];
+    judge_copies(characters, best.place, symbols)?;
+    room[..count].copy_from_slice(symbols);
+    Ok(count)
 }

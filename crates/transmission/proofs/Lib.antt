@@ -1,4 +1,4 @@
-pub mod AnsweredLaws
+pub mod AnswerLaws
 pub mod LayoutLaws
 pub mod WritingLaws
 pub mod HeardLaws

@@ -1,5 +1,5 @@
--- The documents' number of each answer: a refusal, or done.
-use Rattle.std.specs.Prelude.{ℕ, Bool, true, false, Option, Some, None, Result, Ok, Err}
+-- The documents' number of each answer: of a refusal its own, and 0 where nothing is refused.
+use Rattle.std.specs.Prelude.{ℕ, Bool, eqb, Option as Optional, Some, None, Result, Ok, Err}
 use Rattle.transmission.specs.declared.Refusal.{Refusal}
 use Rattle.transmission.specs.declared.Refusal.TheVariants.{BadLength, BadSymbol, ShortRoom, NoPhasing, CopiesBad, EndsEarly}
 
@@ -12,7 +12,7 @@ refusal_number CopiesBad = 52
 refusal_number EndsEarly = 53
 
 abbrev pub Answer : Type 0
-Answer = Option Refusal
+Answer = Optional Refusal
 
 abbrev pub done : Answer
 done = None
@@ -22,10 +22,9 @@ answer_number None = 0
 answer_number (Some r) = refusal_number r
 
 abbrev pub is_done : Answer → Bool
-is_done None = true
-is_done (Some r) = false
+is_done a = eqb (answer_number a) 0
 
--- what is handed back with an answer: a value beside done, or the refusal
+-- the refusal, or with none the value
 abbrev pub answered : {A : Type 0} → Answer → A → Result A Refusal
 answered None a = Ok a
 answered (Some r) a = Err r

@@ -1,54 +1,64 @@
-use mathlib.Core.Path.{refl, sym, ◌∙◌}
+use mathlib.Core.Path.{sym, ◌∙◌}
 use native.Mathlib.Omega.{arith}
 use lib.ListN.{length}
-use Rattle.transmission.specs.declared.Answer.TheVariants.{ShortRoom, NoPhasing}
+use lib.Seq.{length-take-le}
+use Rattle.std.proofs.lemmas.Result.{err_from_is_err_and}
 use Rattle.transmission.specs.Phasing.{characters_of, heard}
-use Rattle.receiving.proofs.AnswerLaws.{start-most, start-found, count_fits, count-in, laid_in}
-use Rattle.receiving.proofs.AnswerLaws.{room-short, phasing-not-found, phasing-found, refused, read_done}
+use Rattle.transmission.proofs.AnswerLaws.{answered-ok, answered-err}
+use Rattle.receiving.proofs.AnswerLaws.{start-most, start-found, count_fits, there_all, count-those, those-in, laid_in}
+use Rattle.receiving.proofs.AnswerLaws.{room-short, phasing-not-found, phasing-found, refusal-read, symbols-read}
 use Rattle.receiving.proofs.read_transmission.Goals as goal
 
 pub returns-then-room-lt-LONGEST : goal.returns-then-room-lt-LONGEST
 returns-then-room-lt-LONGEST c = let s = c.args in
-    let e = room-short (heard (characters_of s.characters.now)) (length s.room.now) c.if-room-lt-LONGEST.true in
-    let r = refused s.characters.now s.room.now ShortRoom e refl in
+    let r = refusal-read s.characters.now s.room.now _ (room-short _ (length s.room.now) c.if-room-lt-LONGEST.true) in
     record { value = r.0; room_written = r.1 }
 
 pub returns-then-best-eq0 : goal.returns-then-best-eq0
 returns-then-best-eq0 c = let s = c.args in
     let t = heard (characters_of s.characters.now) in
-    let best = c.best_start-best.ensures in
-    let e = phasing-not-found t (length s.room.now) c.if-room-lt-LONGEST.false _ best c.if-best-eq0.true in
-    let r = refused s.characters.now s.room.now NoPhasing e refl in
+    let e = phasing-not-found t (length s.room.now) c.if-room-lt-LONGEST.false _ c.best_start-best.ensures c.if-best-eq0.true in
+    let r = refusal-read s.characters.now s.room.now _ e in
     record { value = r.0; room_written = r.1 }
 
-pub symbols_from-symbols-requires : goal.symbols_from-symbols-requires
-symbols_from-symbols-requires c = let s = c.args in
-    omega (arith, start-found _ _ c.best_start-best.ensures, start-most s.characters.now)
+pub symbols_from-all-requires : goal.symbols_from-all-requires
+symbols_from-all-requires c = omega (arith, start-found _ _ c.best_start-best.ensures, start-most c.args.characters.now)
 
-pub answer_to_copies-answer-requires : goal.answer_to_copies-answer-requires
-answer_to_copies-answer-requires c = (start-found _ _ c.best_start-best.ensures, c.symbols_from-symbols.ensures, c.count_of-count.ensures)
+pub slice_bounds-all-end : goal.slice_bounds-all-end
+slice_bounds-all-end c = there_all _ _ _ _ c.symbols_from-all.ensures c.count_of-count.ensures
 
-pub lay-requires : goal.lay-requires
-lay-requires c = (count_fits _ _ c.count_of-count.ensures, c.if-room-lt-LONGEST.false)
+pub slice_bounds-symbols-end : goal.slice_bounds-symbols-end
+slice_bounds-symbols-end c = sym (length-take-le _ _ (there_all _ _ _ _ c.symbols_from-all.ensures c.count_of-count.ensures))
 
-pub returns-then-is_done : goal.returns-then-is_done
-returns-then-is_done c = let s = c.args in
-    let t = heard (characters_of s.characters.now) in
-    let best = c.best_start-best.ensures in
-    let place = start-found t _ best in
-    let symbols = c.symbols_from-symbols.ensures in
-    let count = c.count_of-count.ensures in
-    let there = phasing-found t (length s.room.now) c.if-room-lt-LONGEST.false _ best c.if-best-eq0.false in
-    let e = there ∙ sym c.answer_to_copies-answer.ensures in
-    let r = read_done s.characters.now s.room.now _ e (sym c.is_done.ensures ∙ c.if-is_done.true) _ _
-    (count-in t _ _ _ place symbols count) (c.lay.ensures ∙ laid_in t _ _ _ place symbols count s.room.now) in
-    record { value = r.0; room_written = r.1 }
+pub judge_copies-requires : goal.judge_copies-requires
+judge_copies-requires c = let place = start-found _ _ c.best_start-best.ensures in
+    (place, those-in _ _ _ _ c.symbols_from-all.ensures c.count_of-count.ensures place)
+
+pub returns-in_err-judge_copies : goal.returns-in_err-judge_copies
+returns-in_err-judge_copies c = let s = c.args in
+    let there = phasing-found _ (length s.room.now) c.if-room-lt-LONGEST.false _ c.best_start-best.ensures c.if-best-eq0.false in
+    let p = err_from_is_err_and c.from_residual.result c.from_residual.ensures.1 in
+    let r = refusal-read s.characters.now s.room.now _ (there ∙ answered-err _ _ _ (sym c.in_err-judge_copies.ensures)) in
+    record { value = rw (p.1, p.2) r.0; room_written = r.1 }
+
+pub slice_bounds-copy_from_slice-end : goal.slice_bounds-copy_from_slice-end
+slice_bounds-copy_from_slice-end c = omega (arith, count_fits _ _ c.count_of-count.ensures)
+
+pub slice_bounds-copy_from_slice-end-2 : goal.slice_bounds-copy_from_slice-end-2
+slice_bounds-copy_from_slice-end-2 c =
+    sym (length-take-le _ c.args.room.now (omega (arith, count_fits _ _ c.count_of-count.ensures)))
+
+pub copy_from_slice-requires : goal.copy_from_slice-requires
+copy_from_slice-requires c =
+    length-take-le _ c.args.room.now (omega (arith, count_fits _ _ c.count_of-count.ensures))
+    ∙ sym (length-take-le _ _ (there_all _ _ _ _ c.symbols_from-all.ensures c.count_of-count.ensures))
 
 pub returns : goal.returns
 returns c = let s = c.args in
-    let t = heard (characters_of s.characters.now) in
-    let best = c.best_start-best.ensures in
-    let there = phasing-found t (length s.room.now) c.if-room-lt-LONGEST.false _ best c.if-best-eq0.false in
-    let e = there ∙ sym c.answer_to_copies-answer.ensures in
-    let r = refused s.characters.now s.room.now _ e (sym c.is_done.ensures ∙ c.if-is_done.false) in
+    let place = start-found _ _ c.best_start-best.ensures in
+    let there = phasing-found _ (length s.room.now) c.if-room-lt-LONGEST.false _ c.best_start-best.ensures c.if-best-eq0.false in
+    let e = there ∙ (answered-ok _ _ _ (sym c.in_ok-judge_copies.ensures)).0 in
+    let all = c.symbols_from-all.ensures in
+    let n = c.count_of-count.ensures in
+    let r = symbols-read s.characters.now s.room.now e _ _ (count-those _ _ _ _ all n place) (laid_in _ _ _ _ all n place _ _ c.copy_from_slice.ensures.after) in
     record { value = r.0; room_written = r.1 }

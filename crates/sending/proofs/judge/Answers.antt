@@ -15,7 +15,7 @@ returns-then-symbols-lt-SHORTEST c = rw (le-leb _ _ c.if-room.false)
     (elim c.then-symbols-lt-SHORTEST.branch [
       | then-symbols-lt-SHORTEST-via-then-symbols-lt-SHORTEST w ↦ rw (lt-leb _ _ w.if-symbols-lt-SHORTEST.true)
       | then-symbols-lt-SHORTEST-via-else-symbols-lt-SHORTEST+then-symbols-gt-LONGEST w ↦
-        rw (le-leb _ _ w.if-symbols-lt-SHORTEST.false, lt-leb _ _ w.if-symbols-gt-LONGEST.true)
+          rw (le-leb _ _ w.if-symbols-lt-SHORTEST.false, lt-leb _ _ w.if-symbols-gt-LONGEST.true)
     ])
 
 pub returns-then-not-all_at_most : goal.returns-then-not-all_at_most

@@ -1,6 +1,6 @@
 use mathlib.Core.Path.{◌≡◌, refl, sym, ◌∙◌}
 use native.Mathlib.Omega.{arith}
-use lib.ListN.{replicate, length-set}
+use lib.ListN.{replicate}
 use Rattle.sequence.specs.Figures.{longest}
 use Rattle.sequence.proofs.Paste.{front-turn, paste-whole}
 use Rattle.transmission.specs.Phasing.{characters_of, heard}
@@ -8,38 +8,16 @@ use Rattle.transmission.specs.Copies.{symbols_from}
 use Rattle.transmission.proofs.SymbolLaws.{symbols-length, symbol-there}
 use Rattle.receiving.proofs.copies.symbols_from.Goals as goal
 
-pub loop-k-init : goal.loop-k-init
-loop-k-init c = (refl, omega arith, refl)
-
-pub symbol_at-requires : goal.symbol_at-requires
-symbol_at-requires c = (
-  c.symbol_table-table.ensures,
-  c.requires,
-  c.loop-k-test.true,
-)
-
-pub bounds-symbols-k : goal.bounds-symbols-k
-bounds-symbols-k c = omega arith
-
-pub overflow_add-k : goal.overflow_add-k
-overflow_add-k c = omega arith
-
-pub loop-k-smaller : goal.loop-k-smaller
-loop-k-smaller c = omega arith
-
 pub loop-k-preserved : goal.loop-k-preserved
 loop-k-preserved c = let s = c.args in
     let l = c.loop-k in
     let t = heard (characters_of s.characters.now) in
-    let m = symbols-length t s.start in (
-      rw (l.invariant.0, c.symbol_at.ensures ∙ sym (symbol-there t s.start l.k c.loop-k-test.true))
-          (front-turn _ (symbols_from t s.start) l.k (omega arith) (omega arith)),
-      omega arith,
-      simp length-set l.invariant.2,
-    )
+    let m = symbols-length t s.start in
+    rw (l.invariant, c.symbol_at.ensures ∙ sym (symbol-there t s.start l.k c.loop-k-test.true))
+    (front-turn _ (symbols_from t s.start) l.k (omega arith) (omega arith))
 
 pub returns : goal.returns
 returns c = let s = c.args in
     let e : c.loop-k.k ≡ longest = omega arith in
-    rw (c.loop-k.invariant.0, e)
+    rw (c.loop-k.invariant, e)
     (paste-whole (replicate longest 0) _ longest (symbols-length (heard (characters_of s.characters.now)) s.start) refl)
