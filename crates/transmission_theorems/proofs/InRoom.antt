@@ -1,4 +1,4 @@
--- What is written and read in room enough, and what the answer Done says of the room of a reading.
+-- What is written and read in room enough, and what the answer done says of the room of a reading.
 use Prim.Native.Nat.{ℕ, ◌*◌, ◌≤◌}
 use mathlib.Core.Path.{◌≡◌, refl, sym, ap, ◌∙◌}
 use mathlib.Core.List.{List, ◌++◌}
@@ -7,11 +7,11 @@ use lib.Dec.{leb}
 use lib.ListN.{length, drop}
 use lib.Seq.{length-take-le}
 use borrow.Author.Tests.{le-leb, leb-true}
+use Rattle.std.specs.Prelude.{Ok}
 use Rattle.sequence.specs.Figures.{longest}
 use Rattle.sequence.proofs.Tests.{both_true}
 use Rattle.sequence.proofs.RefusalLaws.{kind-held}
-use Rattle.transmission.specs.declared.Answer.TheVariants.{Done}
-use Rattle.transmission.specs.Answers.{is_done}
+use Rattle.transmission.specs.Answers.{done, is_done}
 use Rattle.transmission.specs.Layout.{transmission, bytes_of}
 use Rattle.transmission.specs.Writing.{transmission_written, transmission_laid, room_after_writing}
 use Rattle.transmission.specs.Phasing.{characters_of, heard}
@@ -25,7 +25,7 @@ use Rattle.transmission.proofs.SymbolLaws.{symbols-length, count_most}
 
 module _ (s room : List ℕ) where
   pub written-in-room : Writable s room
-      → (transmission_written s (length room) ≡ record { answer = Done; count = length (transmission s) })
+      → (transmission_written s (length room) ≡ Ok (length (transmission s)))
       × (room_after_writing s room ≡ bytes_of (transmission s) ++ drop (2 * length (transmission s)) room)
   unfolding transmission_written transmission_laid room_after_writing
   written-in-room w = (rw (writable-done s room w), rw (writable-done s room w, bytes-length (transmission s)))
@@ -54,17 +54,17 @@ module _ (bytes room : List ℕ) where
   unfolding reading_answer reading_refusals
   answer-in-room h = rw (le-leb longest (length room) h)
 
-  has_room : reading_answer t (length room) ≡ Done → longest ≤ length room
+  has_room : reading_answer t (length room) ≡ done → longest ≤ length room
   unfolding reading_answer reading_refusals
   has_room e =
       leb-true _ _
-      (both_true (leb longest (length room)) _ (kind-held is_done (reading_refusals t (length room)) Done refl (ap is_done e))).0
+      (both_true (leb longest (length room)) _ (kind-held is_done (reading_refusals t (length room)) done refl (ap is_done e))).0
 
-  pub done-in-longest : reading_answer t (length room) ≡ Done → reading_answer t longest ≡ Done
+  pub done-in-longest : reading_answer t (length room) ≡ done → reading_answer t longest ≡ done
   done-in-longest e = sym (answer-in-room (has_room e)) ∙ e
 
-  pub read-in-room : reading_answer t (length room) ≡ Done
-      → (transmission_read bytes (length room) ≡ record { answer = Done; count = length (symbols_in t) })
+  pub read-in-room : reading_answer t (length room) ≡ done
+      → (transmission_read bytes (length room) ≡ Ok (length (symbols_in t)))
       × (room_after_reading bytes room ≡ symbols_in t ++ drop (length (symbols_in t)) room)
   unfolding transmission_read room_after_reading
   read-in-room e = (rw (e, symbols-counted t), rw (e, symbols-counted t))

@@ -12,7 +12,7 @@ use Rattle.sequence.specs.Symbols.{all_at_most}
 use Rattle.sequence.specs.Reading.{length_in}
 use Rattle.reading.proofs.Passed.{long}
 use Rattle.writing.proofs.EvenedLaws.{all-at}
-use Rattle.transmission.specs.declared.Answer.TheVariants.{Done}
+use Rattle.transmission.specs.Answers.{done}
 use Rattle.transmission.specs.Layout.{transmission}
 use Rattle.transmission.specs.Copies.{symbol_at, count_of}
 use Rattle.transmission.specs.Reading.{start_in, symbols_in, phasing_in, reading_answer}
@@ -25,7 +25,7 @@ use Rattle.transmission_theorems.proofs.ReadBack.{read_as, read_whole}
 
 -- t is read as these symbols
 abbrev Read : List ℕ → List ℕ → Type 0
-Read t s = (reading_answer t longest ≡ Done) × (symbols_in t ≡ s)
+Read t s = (reading_answer t longest ≡ done) × (symbols_in t ≡ s)
 
 module _ (s : List ℕ) (size : length_in s ≡ true) (small : all_at_most 127 s ≡ true) (ends : count_of s ≡ length s) where
   count-in : (21 ≤ length s) × (length s ≤ 28)

@@ -1,6 +1,6 @@
 -- What is heard of an accepted sequence's transmission has no start but its own.
 use Prim.Native.Nat.{ℕ, ◌+◌, ◌≤◌, ◌<◌}
-use mathlib.Core.Path.{◌≡◌, refl, sym, ◌∙◌}
+use mathlib.Core.Path.{◌≡◌, refl, sym, ◌∙◌, ap}
 use mathlib.Core.Logic.{inl, inr}
 use mathlib.Core.Bool.{true}
 use mathlib.Core.List.{List}
@@ -14,12 +14,12 @@ use Rattle.sequence.specs.declared.Meaning.{Meaning}
 use Rattle.sequence.specs.Symbols.{exclusive_or}
 use Rattle.sequence.specs.Number.{evened, pairs_of}
 use Rattle.sequence.specs.Layout.{valid, body, layout}
+use Rattle.sequence.specs.Answers.{is_done}
 use Rattle.sequence.specs.Reading.{meaning_of}
 use Rattle.sequence.proofs.Tests.{Either, yes!, no!, which}
 use Rattle.writing.proofs.EvenedLaws.{fit}
 use Rattle.writing.proofs.Valid.{parts, count-pairs, layout-length}
 use Rattle.sequence_theorems.proofs.RoundTrip.{lays_back, reads-valid}
-use Rattle.sequence_theorems.proofs.Theorems.{answered}
 use Rattle.characters.specs.Code.{none}
 use Rattle.transmission.specs.Phasing.{most_lost, heard_at, phasing_at}
 use Rattle.transmission.proofs.LayoutLaws.{sent-length}
@@ -85,4 +85,4 @@ module _ (m : Meaning) (ok : valid m ≡ true) (t : List ℕ) (lost : ℕ) (show
 pub no-other-start : (s t : List ℕ) (lost : ℕ) → Accepted s → Shown s lost t
     → (start : ℕ) → (lost + start ≡ most_lost → ⊥) → phasing_at t start ≡ 0
 no-other-start s t lost e shown =
-    other-start (meaning_of s) (reads-valid s (answered s e)) t lost (rw (lays_back s (answered s e)) shown)
+    other-start (meaning_of s) (reads-valid s (ap is_done e)) t lost (rw (lays_back s (ap is_done e)) shown)

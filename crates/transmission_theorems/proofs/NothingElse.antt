@@ -14,8 +14,7 @@ use Rattle.sequence.proofs.Tests.{both_true, Either, yes!, no!, which}
 use Rattle.sequence.proofs.RefusalLaws.{kind-held}
 use Rattle.characters.specs.Code.{none, no_character, character_of, symbol_of}
 use Rattle.characters.proofs.CodeLaws.{NoneOrGood, none-or-good}
-use Rattle.transmission.specs.declared.Answer.TheVariants.{Done}
-use Rattle.transmission.specs.Answers.{is_done}
+use Rattle.transmission.specs.Answers.{done, is_done}
 use Rattle.transmission.specs.Phasing.{most_lost, heard, heard_at}
 use Rattle.transmission.specs.Copies.{copies_of, first_good, symbol_at, symbols_from, copies_there}
 use Rattle.transmission.specs.Reading.{start_in, count_in, symbols_in, phasing_in, unread}
@@ -73,16 +72,16 @@ module _ (characters : List ℕ) (place : ℕ) (good : heard_at (heard character
             is-symbol = rw its-symbol at h.0;
           }
 
--- an answer of Done says that neither 52 nor 53 refused, and so that every symbol has a good copy
+-- an answer of done says that neither 52 nor 53 refused, and so that every symbol has a good copy
 good-copy : (bad there : Bool) → not (bad && there) ≡ true → not (bad && not there) ≡ true → bad ≡ false
 good-copy false there e f = refl
 good-copy true true e f = sym e
 good-copy true false e f = sym f
 
-readable : (t : List ℕ) → reading_answer t longest ≡ Done → (k : ℕ) → k < count_in t → symbol_at t (start_in t) k ≡ none → ⊥
+readable : (t : List ℕ) → reading_answer t longest ≡ done → (k : ℕ) → k < count_in t → symbol_at t (start_in t) k ≡ none → ⊥
 unfolding reading_answer reading_refusals copies_in whole_in unread
-readable t done k h =
-    let held = both_true (phasing_in t) _ (kind-held is_done (reading_refusals t longest) Done refl (ap is_done done)) in
+readable t e k h =
+    let held = both_true (phasing_in t) _ (kind-held is_done (reading_refusals t longest) done refl (ap is_done e)) in
     let copies = both_true (copies_in t) _ held.1 in
     let whole = both_true (whole_in t) true copies.1 in
     let a = in_row _ 0 (count_in t) k copies.0 (omega arith) (omega arith) in
@@ -107,8 +106,8 @@ module _ (t : List ℕ) (k : ℕ) (h : k < length (symbols_in t)) where
 
 pub only-what-stood : NothingElse
 unfolding symbol_at
-only-what-stood characters done k h =
+only-what-stood characters e k h =
     let t : List ℕ = heard characters in
-    let bad = readable t done k (counted t k h).0 in
+    let bad = readable t e k (counted t k h).0 in
     let at = stands t (copies_of (start_in t) k) bad in
     rw (read_at t k h, ← at.holds) (stood characters at.place (λ e. bad (sym at.holds ∙ e)) k at.first)

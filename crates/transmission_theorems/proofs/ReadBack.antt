@@ -10,7 +10,7 @@ use borrow.Author.Tests.{ne_eqb}
 use Rattle.sequence.specs.Figures.{longest}
 use Rattle.sequence.proofs.RefusalLaws.{all_held}
 use Rattle.characters.specs.Code.{none}
-use Rattle.transmission.specs.declared.Answer.TheVariants.{Done}
+use Rattle.transmission.specs.Answers.{done}
 use Rattle.transmission.specs.Copies.{symbol_at, symbols_from, count_of}
 use Rattle.transmission.specs.Reading.{start_in, count_in, symbols_in, phasing_in, unread, reading_refusals, reading_answer}
 use Rattle.transmission.proofs.SymbolLaws.{symbols-length, symbol-there}
@@ -49,12 +49,12 @@ module _ (s t : List ℕ) (least : 21 ≤ length s) (most : length s ≤ 28) (sm
       let i : k < length s = omega (arith, counts) in
       ne_eqb (symbol_at t (start_in t) k) none (λ e. omega (arith, small k, read k i))
 
-  pub read_whole : phasing_in t ≡ true → reading_answer t longest ≡ Done
+  pub read_whole : phasing_in t ≡ true → reading_answer t longest ≡ done
   unfolding reading_answer reading_refusals
   read_whole found =
       let copies = all-copies t (count_in t) all_read (omega arith) in
       let whole = all_whole t (count_in t) all_read (omega arith) in
-      all_held (reading_refusals t longest) Done (rw (found, copies, whole))
+      all_held (reading_refusals t longest) done (rw (found, copies, whole))
 
 -- and symbols that are read as some end where those end
 pub read-ends : (s t : List ℕ) → 21 ≤ length s → symbols_in t ≡ s → count_of s ≡ length s

@@ -1,6 +1,6 @@
 -- Where the start of a transmission is found.
 use Prim.Native.Nat.{ℕ, ◌+◌, ◌-◌, ◌≤◌, ◌<◌}
-use mathlib.Core.Path.{◌≡◌}
+use mathlib.Core.Path.{◌≡◌, ap}
 use mathlib.Core.Logic.{◌⊎◌, inl, inr}
 use mathlib.Core.Bool.{true}
 use mathlib.Core.List.{List, [], ◌∷◌}
@@ -11,8 +11,8 @@ use lib.ListN.{length}
 use borrow.Author.Tests.{le-leb, ltb-true, ltb-false, eqb-true, eqb-false}
 use Rattle.sequence.proofs.Tests.{Either, yes!, no!, which}
 use Rattle.reading.proofs.Passed.{long-enough}
-use Rattle.sequence_theorems.proofs.Theorems.{answered}
 use Rattle.characters.specs.Code.{none}
+use Rattle.sequence.specs.Answers.{is_done}
 use Rattle.transmission.specs.Layout.{dx_phasing}
 use Rattle.transmission.specs.Phasing.{heard_at, most_lost, dx_good, phasing_at, best_start}
 use Rattle.transmission.specs.Reading.{start_in, phasing_in}
@@ -53,7 +53,7 @@ only-found t start h others =
     go (no! p) l = absurd (omega (arith, others (start_in t) (eqb-false _ _ p)))
 
 long-accepted : (s : List ℕ) → Accepted s → 1 ≤ length s
-long-accepted s e = omega (arith, (long-enough s (answered s e)).0)
+long-accepted s e = omega (arith, (long-enough s (ap is_done e)).0)
 
 pub found-spoiled : FoundSpoiled
 found-spoiled s t e shown place count few kept =

@@ -1,15 +1,15 @@
 -- The statements on a transmission, proved; those on one character stand in Characters.
 use Prim.Native.Nat.{ℕ, ◌+◌, ◌-◌, ◌*◌, ◌/◌, ◌%◌}
-use mathlib.Core.Path.{◌≡◌, refl}
+use mathlib.Core.Path.{◌≡◌, refl, ap}
 use mathlib.Core.Logic.{◌⊎◌, inl, inr}
 use mathlib.Core.Bool.{true}
 use mathlib.Core.List.{List, [], ◌∷◌, append-nil}
 use native.Mathlib.Omega.{arith}
 use lib.ListN.{length}
 use Rattle.sequence.specs.Symbols.{all_at_most}
+use Rattle.sequence.specs.Answers.{is_done}
 use Rattle.sequence.specs.Reading.{length_in}
 use Rattle.reading.proofs.Passed.{passed, long}
-use Rattle.sequence_theorems.proofs.Theorems.{answered}
 use Rattle.transmission.specs.Layout.{transmission, bytes_of}
 use Rattle.transmission.specs.Phasing.{characters_of, most_lost, heard}
 use Rattle.transmission.specs.Copies.{count_of}
@@ -53,13 +53,13 @@ reads-back s size small = (λ h. read-ends s (heard (transmission s)) (long s si
 -- a sequence that the reader accepts
 module _ (s : List ℕ) (ok : Accepted s) where
   size : length_in s ≡ true
-  size = (passed s (answered s ok)).long
+  size = (passed s (ap is_done ok)).long
 
   small : all_at_most 127 s ≡ true
-  small = (passed s (answered s ok)).symbols
+  small = (passed s (ap is_done ok)).symbols
 
   ends : count_of s ≡ length s
-  ends = accepted-ends s (answered s ok)
+  ends = accepted-ends s (ap is_done ok)
 
 pub sequences-read-back : SequencesReadBack
 sequences-read-back s ok = (reads-back s (size s ok) (small s ok)).1 (ends s ok)

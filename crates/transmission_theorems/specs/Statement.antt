@@ -2,11 +2,11 @@
 use Rattle.std.specs.Prelude.{ℕ, ◌+◌, ◌^◌, ◌≤◌, ◌<◌, ◌≡◌, ◌↔◌, ◌⊎◌, true, List, [], ◌∷◌, ◌++◌, length, get_or, take, drop}
 use Rattle.std.specs.Int.Bits.{bit_xor}
 use Rattle.sequence.specs.Figures.{last_symbol, longest}
-use Rattle.sequence.specs.declared.Answer.TheVariants as sequence-answer
+use Rattle.sequence.specs.Answers as sequence-answers
 use Rattle.sequence.specs.Symbols.{all_at_most}
-use Rattle.sequence.specs.Reading.{length_in, reading_of}
+use Rattle.sequence.specs.Reading.{length_in, answer_of}
 use Rattle.characters.specs.Code.{character_of, symbol_of, none, no_character}
-use Rattle.transmission.specs.declared.Answer.TheVariants.{Done}
+use Rattle.transmission.specs.Answers.{done}
 use Rattle.transmission.specs.Layout.{transmission, bytes_of}
 use Rattle.transmission.specs.Phasing.{characters_of, heard, heard_at, most_lost, phasing_at}
 use Rattle.transmission.specs.Copies.{copies_of, count_of}
@@ -31,11 +31,11 @@ OneBitGivesNone =
 
 -- these characters are read, as these symbols
 abbrev pub ReadAs : List ℕ → List ℕ → Type 0
-ReadAs characters s = (reading_answer (heard characters) longest ≡ Done) × (symbols_in (heard characters) ≡ s)
+ReadAs characters s = (reading_answer (heard characters) longest ≡ done) × (symbols_in (heard characters) ≡ s)
 
 -- a sequence that the reader accepts
 abbrev pub Accepted : List ℕ → Type 0
-Accepted s = (reading_of s).answer ≡ sequence-answer.Done
+Accepted s = answer_of s ≡ sequence-answers.done
 
 -- what was written in bytes is handed in again as the same characters
 abbrev pub BytesReadBack : Type 0
@@ -107,5 +107,5 @@ pub record StoodIn (characters : List ℕ) (k symbol : ℕ) : Type 0 where
 -- "reading gives nothing but what stood in good characters"
 abbrev pub NothingElse : Type 0
 NothingElse =
-    (characters : List ℕ) → reading_answer (heard characters) longest ≡ Done
+    (characters : List ℕ) → reading_answer (heard characters) longest ≡ done
     → (k : ℕ) → k < length (symbols_in (heard characters)) → StoodIn characters k (get_or (symbols_in (heard characters)) k none)
