@@ -1,176 +1,109 @@
 // A slot or a place looked for: the lowest free, the one whose channel is named, the one where a ship stands or that keeps its request.
 #![tactic(auto)]
 
-ghost use Rattle.std.specs.Prelude.{◌≡◌, ◌<◌};
-ghost use Rattle.std.proofs.Math.Option.{none};
+ghost use Rattle.std.specs.Prelude.{◌≡◌};
 ghost use Rattle.rules.specs.Rules.Places.{lowest};
 ghost use Rattle.rules.specs.Rules.Heard.{same_channel};
 ghost use Rattle.rules.specs.Rules.Station.{is_free};
 ghost use Rattle.rules.specs.Rules.Requests.{owns, waits_for, stands_at};
 ghost use Rattle.rules.specs.Rules.Ashore.{keeps_for};
-ghost use Rattle.requests.specs.Views.{viewed, left, party_of};
+ghost use Rattle.requests.specs.Views.{viewed, party_of};
 ghost use Rattle.slots.specs.Views.{slot_view, waiting_view, channel_of, found_view, place_view, standing_view};
-ghost use Rattle.searches.specs.Searches.{lowest_from};
 
-use requests::least;
 use requests::sameness::is_by;
-use slots::{
-    Found, MOST_SLOTS, MOST_WAITING, Place, QUEUE_ROOM, QueuePlace, SLOTS, Slot, Standing, Waiting,
-    has_ship, is_free, stores,
-};
+use slots::{QUEUE_ROOM, QueuePlace, SLOTS, Slot, Standing, Waiting, has_ship, is_free, stores};
 use units::{Channel, SlotNumber};
 
 // The lowest free slot of so many.
-pub fn first_free(slots: [Slot; SLOTS], count: u8) -> Found
-    ensures { found_view result ≡ lowest is_free (viewed slot_view count slots) }
+pub fn first_free(slots: &[Slot; SLOTS], count: u8) -> Option<SlotNumber>
+    ensures { found_view result ≡ lowest is_free (viewed slot_view count slots.now) }
 {
-    let end = least(count, MOST_SLOTS) as u32;
-    let mut i: u32 = 0;
-    while i < end {
-        let slot = slots[i as usize];
-        if is_free(slot) {
-            return Found::At(SlotNumber(i));
-        }
-        i += 1;
-    }
-    Found::Nothing
-}
-
-// The lowest slot, from a number on, that works on the channel.
-fn channel_from(slots: [Slot; SLOTS], count: u8, from: SlotNumber, wanted: Channel) -> Found
-    ensures { found_view result ≡ lowest_from (same_channel wanted) from.0 (left channel_of count slots from.0) }
-{
-    let end = least(count, MOST_SLOTS) as u32;
-    let mut i = from.0;
-    while i < end {
-        let slot = slots[i as usize];
-        let channel = slot.channel;
-        if wanted.0 == channel.0 {
-            return Found::At(SlotNumber(i));
-        }
-        i += 1;
-    }
-    Found::Nothing
+    let place = slots
+        .iter()
+        .take(count as usize)
+        .position(|slot| is_free(*slot));
+    place.map(|i| SlotNumber(i as u32))
 }
 
 // The slot whose channel is named.
-pub fn slot_named(slots: [Slot; SLOTS], count: u8, wanted: Channel) -> Found
-    ensures { found_view result ≡ lowest (same_channel wanted) (viewed channel_of count slots) }
+pub fn slot_named(slots: &[Slot; SLOTS], count: u8, wanted: Channel) -> Option<SlotNumber>
+    ensures { found_view result ≡ lowest (same_channel wanted) (viewed channel_of count slots.now) }
 {
-    channel_from(slots, count, SlotNumber(0), wanted)
+    let place = slots
+        .iter()
+        .take(count as usize)
+        .position(|slot| wanted == slot.channel);
+    place.map(|i| SlotNumber(i as u32))
 }
 
 fn is_of(slot: Slot, ship: u32, station: u32) -> bool
     ensures { result ≡ owns (party_of ship station) (slot_view slot) }
 {
-    let phase = slot.phase;
-    let request = slot.request;
-    if has_ship(phase) {
-        return is_by(request, ship, station);
-    }
-    false
-}
-
-// The lowest slot, from a number on, that is the ship's.
-fn slot_from(slots: [Slot; SLOTS], count: u8, from: SlotNumber, ship: u32, station: u32) -> Found
-    ensures { found_view result ≡ lowest_from (owns (party_of ship station)) from.0 (left slot_view count slots from.0) }
-{
-    let end = least(count, MOST_SLOTS) as u32;
-    let mut i = from.0;
-    while i < end {
-        let slot = slots[i as usize];
-        if is_of(slot, ship, station) {
-            return Found::At(SlotNumber(i));
-        }
-        i += 1;
-    }
-    Found::Nothing
+    has_ship(slot.phase) && is_by(slot.request, ship, station)
 }
 
 fn keeps_for(slot: Slot, ship: u32, station: u32) -> bool
     ensures { result ≡ keeps_for (party_of ship station) (slot_view slot) }
 {
-    let phase = slot.phase;
-    let request = slot.request;
-    if stores(phase) {
-        return is_by(request, ship, station);
-    }
-    false
+    stores(slot.phase) && is_by(slot.request, ship, station)
 }
 
 // Document 02, no. 2: "that ship already has a slot (a hold included)": the lowest slot that keeps a request of the ship.
-pub fn kept_for(slots: [Slot; SLOTS], count: u8, ship: u32, station: u32) -> Found
-    ensures { found_view result ≡ lowest (keeps_for (party_of ship station)) (viewed slot_view count slots) }
+pub fn kept_for(slots: &[Slot; SLOTS], count: u8, ship: u32, station: u32) -> Option<SlotNumber>
+    ensures { found_view result ≡ lowest (keeps_for (party_of ship station)) (viewed slot_view count slots.now) }
 {
-    let end = least(count, MOST_SLOTS) as u32;
-    let mut i: u32 = 0;
-    while i < end {
-        let slot = slots[i as usize];
-        if keeps_for(slot, ship, station) {
-            return Found::At(SlotNumber(i));
-        }
-        i += 1;
-    }
-    Found::Nothing
+    let place = slots
+        .iter()
+        .take(count as usize)
+        .position(|slot| keeps_for(*slot, ship, station));
+    place.map(|i| SlotNumber(i as u32))
 }
 
-// The first place of the queue, from a place on, where the ship waits.
-fn place_from(
-    queue: [Waiting; QUEUE_ROOM],
+// The ship's place in the queue: the first, of so many, where it waits.
+pub fn place_of(
+    queue: &[Waiting; QUEUE_ROOM],
     waiting: u8,
-    from: QueuePlace,
     ship: u32,
     station: u32,
-) -> Place
-    ensures { place_view result ≡ lowest_from (waits_for (party_of ship station)) from.0 (left waiting_view waiting queue from.0) }
+) -> Option<QueuePlace>
+    ensures { place_view result ≡ lowest (waits_for (party_of ship station)) (viewed waiting_view waiting queue.now) }
 {
-    let end = least(waiting, MOST_WAITING);
-    let mut k = from.0;
-    while k < end {
-        let entry = queue[k as usize];
-        let request = entry.request;
-        if is_by(request, ship, station) {
-            return Place::At(QueuePlace(k));
-        }
-        k += 1;
-    }
-    Place::Nothing
+    let place = queue
+        .iter()
+        .take(waiting as usize)
+        .position(|entry| is_by(entry.request, ship, station));
+    place.map(|k| QueuePlace(k as u8))
 }
 
-// The ship's place in the queue.
-pub fn place_of(queue: [Waiting; QUEUE_ROOM], waiting: u8, ship: u32, station: u32) -> Place
-    ensures { place_view result ≡ lowest (waits_for (party_of ship station)) (viewed waiting_view waiting queue) }
+// The ship's slot.
+fn slot_of(slots: &[Slot; SLOTS], count: u8, ship: u32, station: u32) -> Option<SlotNumber>
+    ensures { found_view result ≡ lowest (owns (party_of ship station)) (viewed slot_view count slots.now) }
 {
-    place_from(queue, waiting, QueuePlace(0), ship, station)
-}
-
-// Where a ship stands that has no slot.
-fn waiting_at(place: Place) -> Standing
-    ensures { standing_view result ≡ stands_at none (place_view place) }
-{
-    match place {
-        Place::At(number) => Standing::Waits(number),
-        Place::Nothing => Standing::Nowhere,
-    }
+    let place = slots
+        .iter()
+        .take(count as usize)
+        .position(|slot| is_of(*slot, ship, station));
+    place.map(|i| SlotNumber(i as u32))
 }
 
 // Where a ship stands: its slot, or else its place in the queue.
 pub fn standing(
-    slots: [Slot; SLOTS],
+    slots: &[Slot; SLOTS],
     count: u8,
-    queue: [Waiting; QUEUE_ROOM],
+    queue: &[Waiting; QUEUE_ROOM],
     waiting: u8,
     ship: u32,
     station: u32,
 ) -> Standing
     ensures { standing_view result ≡ stands_at
-        (lowest (owns (party_of ship station)) (viewed slot_view count slots))
-        (lowest (waits_for (party_of ship station)) (viewed waiting_view waiting queue)) }
+        (lowest (owns (party_of ship station)) (viewed slot_view count slots.now))
+        (lowest (waits_for (party_of ship station)) (viewed waiting_view waiting queue.now)) }
 {
-    let place = place_of(queue, waiting, ship, station);
-    let found = slot_from(slots, count, SlotNumber(0), ship, station);
-    match found {
-        Found::At(slot) => Standing::Holds(slot),
-        Found::Nothing => waiting_at(place),
+    if let Some(slot) = slot_of(slots, count, ship, station) {
+        return Standing::Holds(slot);
+    }
+    match place_of(queue, waiting, ship, station) {
+        Some(place) => Standing::Waits(place),
+        None => Standing::Nowhere,
     }
 }

@@ -1,4 +1,0 @@
-use Rattle.searches.proofs.waiting_at.Goals as goal
-
-pub returns-in-At : goal.returns-in-At
-returns-in-At c = rw c.in-At.is
