@@ -2,13 +2,24 @@
 use Prim.Native.Nat.{ℕ, ◌+◌, ◌<◌, ◌≤◌}
 use mathlib.Core.Path.{◌≡◌, refl}
 use mathlib.Core.Bool.{Bool, true, false, ◌&&◌}
-use mathlib.Core.List.{List, ◌∷◌}
+use mathlib.Core.List.{List, [], ◌∷◌}
 use native.Mathlib.Numerals.{add-one}
 use lib.Bits.{bit_xor}
+use lib.Dec.{leb}
+use Rattle.std.specs.List.{fold, list_all}
 use lib.ListN.{length, drop, get_or, drop_of_length-le}
 use lib.Seq.{drop-cons}
 use borrow.Author.Tests.{le-leb, lt-leb}
 use Rattle.sequence.specs.Symbols.{exclusive_or, all_at_most}
+
+-- the two words on symbols as folds of the library, which its lemmas on iterators speak of
+pub or-is : (x : ℕ) (s : List ℕ) → exclusive_or x s ≡ fold bit_xor x s
+or-is x [] = refl
+or-is x (a ∷ s) = or-is (bit_xor x a) s
+
+pub all-is : (m : ℕ) (s : List ℕ) → all_at_most m s ≡ list_all (λ a. leb a m) s
+all-is m [] = refl
+all-is m (a ∷ s) = rw (all-is m s)
 
 pub rest : (s : List ℕ) (i : ℕ) → i < length s → drop i s ≡ get_or s i 0 ∷ drop (i + 1) s
 rest s i h = rw (add-one, drop-cons s i 0)

@@ -6,35 +6,17 @@ ghost use Rattle.sequence.specs.Symbols.{all_at_most, exclusive_or};
 pub fn at(symbols: &[u8], place: usize) -> u8
     ensures { result ≡ get_or symbols.now place 0 }
 {
-    if place < symbols.len() {
-        symbols[place]
-    } else {
-        0
-    }
+    symbols.get(place).copied().unwrap_or(0)
 }
 
 pub fn all_at_most(symbols: &[u8], most: u8) -> bool
     ensures { result ≡ all_at_most most symbols.now }
 {
-    let mut within = true;
-    let mut i = 0;
-    while i < symbols.len() {
-        if most < symbols[i] {
-            within = false;
-        }
-        i += 1;
-    }
-    within
+    symbols.iter().all(|symbol| *symbol <= most)
 }
 
 pub fn exclusive_or(symbols: &[u8]) -> u8
     ensures { result ≡ exclusive_or 0 symbols.now }
 {
-    let mut check: u8 = 0;
-    let mut i = 0;
-    while i < symbols.len() {
-        check = check ^ symbols[i];
-        i += 1;
-    }
-    check
+    symbols.iter().fold(0, |check, symbol| check ^ symbol)
 }
