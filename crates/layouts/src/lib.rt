@@ -7,10 +7,5 @@ ghost use Rattle.layouts.specs.Fields.{low_first};
 pub fn low_first(n: u32) -> [u8; 4]
     ensures { result ≡ low_first 4 n }
 {
-    [
-        (n % 256) as u8,
-        (n / 256 % 256) as u8,
-        (n / 256 / 256 % 256) as u8,
-        (n / 256 / 256 / 256) as u8,
-    ]
+    n.to_le_bytes()
 }
