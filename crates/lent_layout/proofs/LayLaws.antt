@@ -4,19 +4,17 @@ use Prim.Native.String.{String}
 use mathlib.Core.Path.{◌≡◌, refl, sym, ap, ◌∙◌}
 use mathlib.Core.List.{List, [], ◌∷◌, ◌++◌, flat_map, flatten, append-nil, append_assoc}
 use native.Mathlib.Omega.{arith}
-use native.Mathlib.Nat.{add-zero, mul-suc, le_of_suc-le-suc, not-suc-le-zero}
+use native.Mathlib.Nat.{mul-suc, le_of_suc-le-suc, not-suc-le-zero}
 use native.Mathlib.Numerals.{add-one}
 use lib.ListN.{length, get_or, set, take, drop, replicate, length-take, replicate-append-replicate}
-use lib.Seq.{drop-cons, drop-length, length-take-le, take-suc, take-suc-set}
+use lib.Seq.{drop-cons, length-take-le, take-suc, take_all}
 use Rattle.sequence.specs.declared.Meaning.{Meaning}
 use Rattle.rules.specs.Rules.Bytes.{padded}
 use Rattle.requests.specs.declared.Request.{Request}
-use Rattle.requests.specs.Images.{blank_request}
 use Rattle.requests.proofs.ArrayLaws.{padded-snoc}
 use Rattle.slots.specs.declared.Slot.{Slot}
 use Rattle.slots.specs.declared.Waiting.{Waiting}
-use Rattle.slots.specs.Images.{slot_image, blank_slot, blank_waiting}
-use Rattle.layouts.specs.Fields.{size, low_first, number_at, encode, decode_from, decode, laid}
+use Rattle.layouts.specs.Fields.{size, low_first, encode, decode_from, decode, laid}
 use Rattle.layouts.specs.Records.{records_at}
 use Rattle.layouts.proofs.FieldLaws.{laid_all, laid-all, laid_next}
 use Rattle.layouts.proofs.RecordLaws.{records_at-more, flat_map-more, flat_map-length}
@@ -24,35 +22,17 @@ use Rattle.phase_fields.specs.declared.PhaseFields.{PhaseFields}
 use Rattle.phase_fields.specs.Phases.{phase_fields}
 use Rattle.channel_fields.specs.declared.FieldBytes.{FieldBytes}
 use Rattle.channel_fields.specs.ChannelFields.{field_bytes}
-use Rattle.lent_layout.specs.Layout.{run, request_fields, slot_fields, waiting_fields, slot_size, waiting_size}
+use Rattle.lent_layout.specs.Layout.{run, request_fields, slot_fields, waiting_fields}
 use Rattle.lent_layout.specs.Numbers.{numbers_from, mode_mark, request_numbers, phase_numbers, slot_numbers, waiting_numbers, in_use}
 use Rattle.lent_layout.specs.Meanings.{meaning_fields, meaning_numbers, meaning_bytes}
 use Rattle.lent_layout.specs.Stations.{slot_bytes, waiting_bytes}
 
 -- ── numbers ──────────────────────────────────────────────────────────────────
 
-pub four_bytes : (b : List ℕ) (i : ℕ)
-    → get_or b i 0 + 256 * get_or b (i + 1) 0 + 65536 * get_or b (i + 2) 0 + 16777216 * get_or b (i + 3) 0 ≡ number_at b i 4
-four_bytes b i =
-    let second : i + 1 + 1 ≡ i + 2 = omega arith in
-    let third : i + 2 + 1 ≡ i + 3 = omega arith in
-    rw (second, third) (omega arith)
-
-rest_from : (k i : ℕ) (l : List ℕ) → i + k ≡ length l → numbers_from k i l ≡ drop i l
-rest_from zero i l e = let f : i ≡ length l = omega arith in rw f (sym (drop-length l))
-rest_from (suc k) i l e =
-    rw (rest_from k (i + 1) l (omega arith), add-one i) (sym (drop-cons l i 0 (omega arith)))
-
-pub numbers_more : (k p : ℕ) (b : List ℕ) → numbers_from (suc k) p b ≡ numbers_from k p b ++ (get_or b (p + k) 0 ∷ [])
-numbers_more zero p b = ap (λ q. get_or b q 0 ∷ []) (sym (add-zero p))
-numbers_more (suc k) p b =
-    let e : p + 1 + k ≡ p + suc k = omega arith in
-    ap (λ r. get_or b p 0 ∷ r) (numbers_more k (p + 1) b ∙ (rw e))
-
--- one turn of the loop that takes digits out
-pub digit-taken : (d b : List ℕ) (i p : ℕ) → i + 1 ≤ length d → take i d ≡ numbers_from i p b → take (i + 1) (set d i (get_or b (p + i) 0)) ≡ numbers_from (i + 1) p b
-digit-taken d b i p h e =
-    rw (add-one i) (take-suc-set d i (get_or b (p + i) 0) (omega arith) ∙ (rw e (sym (numbers_more i p b))))
+pub numbers-taken : (k i : ℕ) (l : List ℕ) → i + k ≤ length l → numbers_from k i l ≡ take k (drop i l)
+numbers-taken zero i l h = refl
+numbers-taken (suc k) i l h =
+    rw (numbers-taken k (i + 1) l (omega arith), add-one i, drop-cons l i 0 (omega arith))
 
 digits-read : (name : String) (n : ℕ) (b : List ℕ) (p o : ℕ) → decode_from (run name n) b p o ≡ numbers_from n (p + o) b
 digits-read name zero b p o = refl
@@ -69,7 +49,7 @@ meaning-digits b = digits-read "digit" 16 b 0 (size (take 10 meaning_fields))
 
 -- the digits of a stored number
 pub sixteen : (d : List ℕ) → length d ≡ 16 → numbers_from 16 0 d ≡ d
-sixteen d e = rest_from 16 0 d (omega arith)
+sixteen d e = numbers-taken 16 0 d (omega arith) ∙ take_all 16 d (omega arith)
 
 -- ── a request, a slot, a waiting ship ────────────────────────────────────────
 
@@ -121,22 +101,6 @@ waiting-laid w room p h =
     laid-all room p (low_first 4 w.due.0) (encode request_fields (request_numbers w.request) ∷ []) h
     ∙ (rw (append-nil (encode request_fields (request_numbers w.request))))
 
-pub slot-size : (s : Slot) → length (slot_bytes s) ≡ slot_size
-unfolding slot_bytes slot_fields slot_numbers request_fields request_numbers
-slot-size s = refl
-
-pub waiting-size : (w : Waiting) → length (waiting_bytes w) ≡ waiting_size
-unfolding waiting_bytes waiting_fields waiting_numbers request_fields request_numbers
-waiting-size w = refl
-
-pub blank-slot-bytes : slot_bytes blank_slot ≡ replicate slot_size 0
-unfolding slot_bytes slot_fields slot_numbers request_fields request_numbers blank_slot slot_image blank_request
-blank-slot-bytes = refl
-
-pub blank-waiting-bytes : waiting_bytes blank_waiting ≡ replicate waiting_size 0
-unfolding waiting_bytes waiting_fields waiting_numbers request_fields request_numbers blank_waiting blank_request
-blank-waiting-bytes = refl
-
 -- ── the records of an array ──────────────────────────────────────────────────
 
 take-least : {A : Type 0} (n : ℕ) (l : List A) → take (min n (length l)) l ≡ take n l
@@ -179,6 +143,11 @@ module _ {A : Type 0} (f : A → List ℕ) (n : ℕ) (whole : (x : A) → length
         let short : length (take k l) ≡ min k m = length-take k l ∙ (rw e) in
         let size : length (flat_map f (take k l)) ≡ n * min k m = flat_map-length f n whole (take k l) ∙ ap (λ j. n * j) short in
         rw (used, blanks m (take k l) (omega arith), short) (rw size at (laid_next room p (flat_map f (take k l)) (replicate (n * (m - min k m)) 0) h))
+
+pub padded_none : {A : Type 0} (b : A) (m : ℕ) → replicate m b ≡ padded b m []
+unfolding padded
+padded_none b zero = refl
+padded_none b (suc m) = ap (λ r. b ∷ r) (padded_none b m)
 
 module _ {A : Type 0} (f : ℕ → A) (size : ℕ) where
   records-length : (k p : ℕ) → length (records_at f k size p) ≡ k

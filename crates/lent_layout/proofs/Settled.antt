@@ -10,7 +10,7 @@ pub station_from-settled : (κs : Lfts 1) (a : _) (r r' : _) (s s' : _)
     → station_from.Post κs a r s → station_from.Post κs a r' s' → r ≡ r'
 station_from-settled κs a r r' s s' p q = p ∙ sym q
 
-pub lay_station-settled : (κs : Lfts 1) (a : _) (r r' : _) (s s' : _)
+pub lay_station-settled : (κs : Lfts 2) (a : _) (r r' : _) (s s' : _)
     → lay_station.Post κs a r s → lay_station.Post κs a r' s' → (r ≡ r') × (s.1.0.now ≡ s'.1.0.now)
 lay_station-settled κs a r r' s s' p q = (refl, p ∙ sym q)
 

@@ -25,7 +25,7 @@ use Rattle.layouts.proofs.RecordLaws.{encode-behind, decode-behind, encode-repea
 use Rattle.lent_layout.specs.Layout.{request_fields, slot_fields, waiting_fields, head_fields, station_fields, layout_version, slot_size, waiting_size, slots_place, queue_place, station_size}
 use Rattle.lent_layout.specs.Numbers.{request_numbers, slot_numbers, waiting_numbers, station_numbers, slot_from, waiting_from, in_use, station_in}
 use Rattle.lent_layout.specs.Stations.{sized, head_bytes, station_bytes, slot_bytes, waiting_bytes}
-use Rattle.lent_layout.proofs.LayLaws.{slot-size}
+use Rattle.lent_layout.specs.Sizes.{slot-sized}
 
 -- ── how many numbers and bytes ───────────────────────────────────────────────
 
@@ -140,7 +140,7 @@ module _ (s : Station) where
   station-laid b w =
       let first = flat_map slot_bytes (used_slots s) in
       let second = flat_map waiting_bytes (used_queue s) in
-      let wide : length first ≡ slot_size * 16 = flat_map-length slot_bytes slot_size slot-size (used_slots s) ∙ ap (λ k. slot_size * k) slots16 in
+      let wide : length first ≡ slot_size * 16 = flat_map-length slot_bytes slot_size slot-sized (used_slots s) ∙ ap (λ k. slot_size * k) slots16 in
       let place : queue_place ≡ 0 + (slots_place + length first) = omega (arith, wide) in
       ap (λ k. laid (laid (laid b 0 head) slots_place first) k second) place
       ∙ laid-all b 0 head (first ∷ second ∷ []) (omega arith)

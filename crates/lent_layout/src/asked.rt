@@ -2,7 +2,7 @@
 ghost use Rattle.std.specs.Prelude.{◌≡◌, ◌+◌, ◌≤◌, length};
 ghost use Rattle.layouts.specs.Fields.{encode, decode, laid};
 ghost use Rattle.lent_layout.specs.Layout.{request_fields, request_size};
-ghost use Rattle.lent_layout.specs.Numbers.{mode_mark, mode_from, request_numbers, request_from};
+ghost use Rattle.lent_layout.specs.Numbers.{mode_mark, request_numbers, request_from};
 
 use crate::numbers::{digits_at, four_at, lay};
 use layouts::low_first;
@@ -25,55 +25,43 @@ pub(crate) const REQUEST_SIZE: usize = DIGITS_PLACE + DIGITS;
 fn mode_mark(mode: Mode) -> u8
     ensures { result ≡ mode_mark mode }
 {
-    match mode {
-        Mode::Simplex => 0,
-        Mode::Duplex => 1,
-    }
+    mode as u8
 }
 
-fn mode_from(mark: u8) -> Mode
-    ensures { result ≡ mode_from mark }
-{
-    if mark == 0 {
-        return Mode::Simplex;
-    }
-    Mode::Duplex
-}
-
+#[tactic(auto, unfolding(crate::specs::Layout::request_fields))]
 pub(crate) fn request_at(bytes: &[u8], place: usize) -> Request
     requires { place + request_size ≤ length bytes.now }
     ensures { result ≡ request_from (decode request_fields bytes.now place) }
 {
-    let mark = bytes[place + MODE];
-    if 1 < mark {
-        return blank_request();
-    }
-    let mode = mode_from(mark);
-    let digits = digits_at(bytes, place + DIGITS_PLACE);
+    let mode = match bytes[place + MODE] {
+        0 => Mode::Simplex,
+        1 => Mode::Duplex,
+        _ => return blank_request(),
+    };
     Request {
         ship: four_at(bytes, place),
         station: four_at(bytes, place + STATION),
-        mode: mode,
+        mode,
         second: bytes[place + SECOND],
         number: Number {
             count: bytes[place + COUNT],
-            digits: digits,
+            digits: digits_at(bytes, place + DIGITS_PLACE),
         },
     }
 }
 
-pub(crate) fn lay_request(request: Request, place: usize, room: &mut [u8])
+#[tactic(auto, unfolding(crate::specs::Layout::request_fields))]
+pub(crate) fn lay_request(request: &Request, place: usize, room: &mut [u8])
     requires { place + request_size ≤ length room.old }
-    ensures { room.new ≡ laid room.old place (encode request_fields (request_numbers request)) }
+    ensures { room.new ≡ laid room.old place (encode request_fields (request_numbers request.now)) }
 {
-    let mode = request.mode;
-    let number = request.number;
-    let digits = number.digits;
-    let ship = low_first(request.ship);
-    let station = low_first(request.station);
-    let marks = [mode_mark(mode), request.second, number.count];
-    lay(&ship, place, room);
-    lay(&station, place + STATION, room);
+    let marks = [
+        mode_mark(request.mode),
+        request.second,
+        request.number.count,
+    ];
+    lay(&low_first(request.ship), place, room);
+    lay(&low_first(request.station), place + STATION, room);
     lay(&marks, place + MODE, room);
-    lay(&digits, place + DIGITS_PLACE, room);
+    lay(&request.number.digits, place + DIGITS_PLACE, room);
 }

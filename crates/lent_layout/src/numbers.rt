@@ -10,10 +10,12 @@ pub(crate) fn four_at(bytes: &[u8], place: usize) -> u32
     requires { place + 4 ≤ length bytes.now }
     ensures { result ≡ number_at bytes.now place 4 }
 {
-    (bytes[place] as u32)
-        + 256 * (bytes[place + 1] as u32)
-        + 65536 * (bytes[place + 2] as u32)
-        + 16777216 * (bytes[place + 3] as u32)
+    u32::from_le_bytes([
+        bytes[place],
+        bytes[place + 1],
+        bytes[place + 2],
+        bytes[place + 3],
+    ])
 }
 
 // Sixteen digits, one a byte.
@@ -22,11 +24,7 @@ pub(crate) fn digits_at(bytes: &[u8], place: usize) -> [u8; DIGITS]
     ensures { result ≡ numbers_from most_digits place bytes.now }
 {
     let mut digits = [0u8; DIGITS];
-    let mut i = 0;
-    while i < DIGITS {
-        digits[i] = bytes[place + i];
-        i += 1;
-    }
+    digits.copy_from_slice(&bytes[place..place + DIGITS]);
     digits
 }
 
@@ -34,21 +32,12 @@ pub(crate) fn lay(bytes: &[u8], place: usize, room: &mut [u8])
     requires { place + length bytes.now ≤ length room.old }
     ensures { room.new ≡ laid room.old place bytes.now }
 {
-    let count = bytes.len();
-    let mut i = 0;
-    while i < count {
-        room[place + i] = bytes[i];
-        i += 1;
-    }
+    room[place..place + bytes.len()].copy_from_slice(bytes);
 }
 
 pub(crate) fn lay_zeros(count: usize, place: usize, room: &mut [u8])
     requires { place + count ≤ length room.old }
     ensures { room.new ≡ laid room.old place (replicate count 0) }
 {
-    let mut i = 0;
-    while i < count {
-        room[place + i] = 0;
-        i += 1;
-    }
+    room[place..place + count].fill(0);
 }

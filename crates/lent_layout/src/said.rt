@@ -38,11 +38,8 @@ pub fn lay_meaning(meaning: Meaning, room: &mut [u8])
         return;
     }
     let number = meaning.number;
-    let digits = number.digits;
-    let field = meaning.field;
-    let held = field_bytes(field);
+    let held = field_bytes(meaning.field);
     let address = low_first(meaning.address);
-    let sender = low_first(meaning.sender);
     let marks = [
         meaning.first,
         meaning.second,
@@ -54,9 +51,9 @@ pub fn lay_meaning(meaning: Meaning, room: &mut [u8])
         meaning.end,
     ];
     lay(&address, 0, room);
-    lay(&sender, SENDER, room);
+    lay(&low_first(meaning.sender), SENDER, room);
     lay(&marks, FIRST, room);
-    lay(&digits, DIGITS_PLACE, room);
+    lay(&number.digits, DIGITS_PLACE, room);
 }
 
 // Fewer bytes tell no meaning.
@@ -66,22 +63,20 @@ pub fn meaning_from(bytes: &[u8]) -> Meaning
     if bytes.len() < MEANING_SIZE {
         return blank_meaning();
     }
-    let field = field_from(FieldBytes {
-        kind: bytes[KIND],
-        first: bytes[FIELD_FIRST],
-        second: bytes[FIELD_SECOND],
-        third: bytes[FIELD_THIRD],
-    });
-    let digits = digits_at(bytes, DIGITS_PLACE);
     Meaning {
         address: four_at(bytes, 0),
         sender: four_at(bytes, SENDER),
         first: bytes[FIRST],
         second: bytes[SECOND],
-        field: field,
+        field: field_from(FieldBytes {
+            kind: bytes[KIND],
+            first: bytes[FIELD_FIRST],
+            second: bytes[FIELD_SECOND],
+            third: bytes[FIELD_THIRD],
+        }),
         number: Number {
             count: bytes[COUNT],
-            digits: digits,
+            digits: digits_at(bytes, DIGITS_PLACE),
         },
         end: bytes[END],
     }

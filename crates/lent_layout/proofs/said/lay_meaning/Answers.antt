@@ -1,5 +1,4 @@
 use mathlib.Core.Path.{◌≡◌, ◌∙◌}
-use native.Mathlib.Omega.{arith}
 use borrow.Author.Tests.{lt-leb, le-leb}
 use lib.ListN.{length}
 use Rattle.lent_layout.specs.Meanings.{meaning_laid}
@@ -11,21 +10,9 @@ pub returns-then-room-lt-MEANING_SIZE : goal.returns-then-room-lt-MEANING_SIZE
 unfolding meaning_laid
 returns-then-room-lt-MEANING_SIZE c = rw (lt-leb _ _ c.if-room-lt-MEANING_SIZE.true)
 
-pub lay-requires-2 : goal.lay-requires-2
-lay-requires-2 c = omega arith
-
-pub lay-requires-3 : goal.lay-requires-3
-lay-requires-3 c = omega arith
-
-pub slice_bounds-lay-end-4 : goal.slice_bounds-lay-end-4
-slice_bounds-lay-end-4 c = let good = c.well_formed in search rules
-
-pub lay-requires-4 : goal.lay-requires-4
-lay-requires-4 c = let good = c.well_formed in let w : length c.args.meaning.number.digits ≡ 16 = search rules in omega (arith, c.if-room-lt-MEANING_SIZE.false)
-
 pub returns : goal.returns
 unfolding meaning_laid
 returns c = let a = c.args in
     let good = c.well_formed in
     let w : length a.meaning.number.digits ≡ 16 = search rules in
-    rw (le-leb _ _ c.if-room-lt-MEANING_SIZE.false) (c.lay-4.ensures ∙ (rw (c.lay-3.ensures, c.lay-2.ensures, c.lay.ensures, c.low_first-sender.ensures, c.low_first-address.ensures) (meaning-laid a.meaning _ a.room.now w c.field_bytes-held.ensures)))
+    rw (le-leb _ _ c.if-room-lt-MEANING_SIZE.false) (c.lay-4.ensures ∙ (rw (c.lay-3.ensures, c.lay-2.ensures, c.lay.ensures, c.low_first.ensures, c.low_first-address.ensures) (meaning-laid a.meaning _ a.room.now w c.field_bytes-held.ensures)))
