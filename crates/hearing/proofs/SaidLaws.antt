@@ -29,11 +29,11 @@ first-is e f m h = eqb-true m.first f (go (eqb m.end e) (eqb m.first f) (is_blan
     go false true c h = refl
     go false false c h = h
 
-pub simplex-asked : (m : Meaning) → says 117 100 m ≡ true → request_of (asked_in m) ≡ request_in simplex m
-simplex-asked m h = asked_is m ∙ ap (λ f. request_in (mode_of (mode_in f)) m) (first-is 117 100 m h)
+pub simplex_asked : (m : Meaning) → says 117 100 m ≡ true → request_of (asked_in m) ≡ request_in simplex m
+simplex_asked m h = asked_is m ∙ ap (λ f. request_in (mode_of (mode_in f)) m) (first-is 117 100 m h)
 
-pub duplex-asked : (m : Meaning) → says 117 101 m ≡ true → request_of (asked_in m) ≡ request_in duplex m
-duplex-asked m h = asked_is m ∙ ap (λ f. request_in (mode_of (mode_in f)) m) (first-is 117 101 m h)
+pub duplex_asked : (m : Meaning) → says 117 101 m ≡ true → request_of (asked_in m) ≡ request_in duplex m
+duplex_asked m h = asked_is m ∙ ap (λ f. request_in (mode_of (mode_in f)) m) (first-is 117 101 m h)
 
 abbrev kind_in : H.Heard → HeardKind
 kind_in (call_request r) = CallRequest

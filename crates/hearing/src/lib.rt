@@ -18,7 +18,7 @@ use sequence::{
     Field, Meaning,
 };
 use slots::mast::{Mast, is_ours};
-use slots::{Found, SLOTS, Slot};
+use slots::{SLOTS, Slot};
 use units::SlotNumber;
 
 // Document 01's kinds of sequences, and 02's "BQ with 104"; another BQ names the channel of a slot.
@@ -45,8 +45,7 @@ fn is_blank(field: Field) -> bool
 {
     match field {
         Field::Blank => true,
-        Field::Channel(_) => false,
-        Field::Duration(_) => false,
+        Field::Channel(_) | Field::Duration(_) => false,
     }
 }
 
@@ -54,41 +53,22 @@ fn is_blank(field: Field) -> bool
 fn says(meaning: Meaning, end: u8, first: u8) -> bool
     ensures { result ≡ says end first meaning }
 {
-    let its_end = meaning.end;
-    let its_first = meaning.first;
-    let field = meaning.field;
-    if its_end != end {
-        return false;
-    }
-    if its_first != first {
-        return false;
-    }
-    is_blank(field)
+    meaning.end == end && meaning.first == first && is_blank(meaning.field)
 }
 
 // "BQ .. telecommand 100 or 101"
 fn agrees(meaning: Meaning) -> bool
     ensures { result ≡ agrees meaning }
 {
-    let end = meaning.end;
     let first = meaning.first;
-    if end != END_BQ {
-        return false;
-    }
-    if first == FIRST_SIMPLEX {
-        return true;
-    }
-    first == FIRST_DUPLEX
+    meaning.end == END_BQ && (first == FIRST_SIMPLEX || first == FIRST_DUPLEX)
 }
 
 // "Working call (127; 100 or 101; field 126s)"
 fn works(meaning: Meaning) -> bool
     ensures { result ≡ (says end_last first_simplex meaning || says end_last first_duplex meaning) }
 {
-    if says(meaning, END_LAST, FIRST_SIMPLEX) {
-        return true;
-    }
-    says(meaning, END_LAST, FIRST_DUPLEX)
+    says(meaning, END_LAST, FIRST_SIMPLEX) || says(meaning, END_LAST, FIRST_DUPLEX)
 }
 
 fn mode_in(first: u8) -> Mode
@@ -104,46 +84,41 @@ fn mode_in(first: u8) -> Mode
 fn asked_in(meaning: Meaning) -> Request
     ensures { result ≡ asked_in meaning }
 {
-    let number = meaning.number;
-    let mode = mode_in(meaning.first);
     Request {
         ship: meaning.sender,
         station: meaning.address,
-        mode: mode,
+        mode: mode_in(meaning.first),
         second: meaning.second,
-        number: number,
+        number: meaning.number,
     }
 }
 
 // The slot whose channel is named.
-fn named(slots: [Slot; SLOTS], count: u8, field: Field) -> Found
-    ensures { (mast : Mast) → found_view result ≡ slot_named (config_for mast count slots) field }
+fn named(slots: &[Slot; SLOTS], count: u8, field: Field) -> Option<SlotNumber>
+    ensures { (mast : Mast) → found_view result ≡ slot_named (config_for mast count slots.now) field }
 {
     match field {
-        Field::Blank => Found::Nothing,
         Field::Channel(channel) => slot_named(slots, count, channel),
-        Field::Duration(_) => Found::Nothing,
+        Field::Blank | Field::Duration(_) => None,
     }
 }
 
 // A BQ that names the channel of a slot.
-fn bq_on(found: Found) -> HeardKind
+fn bq_on(found: Option<SlotNumber>) -> HeardKind
     ensures { (x : W.Request) → heard_as result x ≡ bq_on x.who (found_view found) }
 {
     match found {
-        Found::At(slot) => HeardKind::Bq(slot),
-        Found::Nothing => HeardKind::Nothing,
+        Some(slot) => HeardKind::Bq(slot),
+        None => HeardKind::Nothing,
     }
 }
 
 // Which of the documents' kinds it is, where its field names the slot.
-fn kind_of(meaning: Meaning, found: Found) -> HeardKind
+#[tactic(auto, using(crate::proofs::SaidLaws::asked_is, crate::proofs::SaidLaws::simplex_asked, crate::proofs::SaidLaws::duplex_asked), unfolding(rules::specs::Rules::Heard::kind_of))]
+fn kind_of(meaning: Meaning, found: Option<SlotNumber>) -> HeardKind
     ensures { (c : Config) → found_view found ≡ slot_named c meaning.field → heard_as result (request_of (asked_in meaning)) ≡ kind_of c meaning }
 {
-    if says(meaning, END_RQ, FIRST_SIMPLEX) {
-        return HeardKind::CallRequest;
-    }
-    if says(meaning, END_RQ, FIRST_DUPLEX) {
+    if says(meaning, END_RQ, FIRST_SIMPLEX) || says(meaning, END_RQ, FIRST_DUPLEX) {
         return HeardKind::CallRequest;
     }
     if says(meaning, END_RQ, FIRST_DATA) {
@@ -165,21 +140,17 @@ fn kind_of(meaning: Meaning, found: Found) -> HeardKind
 }
 
 // "a sequence not addressed to this station" says nothing.
-pub fn heard_in(mast: Mast, slots: [Slot; SLOTS], count: u8, meaning: Meaning) -> Heard
+pub fn heard_in(mast: Mast, slots: &[Slot; SLOTS], count: u8, meaning: Meaning) -> Heard
     ensures request_value { result.request ≡ asked_in meaning }
-    ensures result_value { heard_of result ≡ addressed (config_for mast count slots) meaning }
+    ensures result_value { heard_of result ≡ addressed (config_for mast count slots.now) meaning }
 {
-    let field = meaning.field;
     let request = asked_in(meaning);
-    if is_ours(mast, meaning.address) {
-        let kind = kind_of(meaning, named(slots, count, field));
+    if !is_ours(mast, meaning.address) {
         return Heard {
-            kind: kind,
-            request: request,
+            kind: HeardKind::Nothing,
+            request,
         };
     }
-    Heard {
-        kind: HeardKind::Nothing,
-        request: request,
-    }
+    let kind = kind_of(meaning, named(slots, count, meaning.field));
+    Heard { kind, request }
 }

@@ -3,4 +3,4 @@ use Rattle.hearing.proofs.asked_in.Goals as goal
 
 pub returns : goal.returns
 unfolding asked_in
-returns c = rw c.mode_in-mode.ensures
+returns c = rw c.mode_in.ensures
