@@ -1,13 +1,11 @@
 -- The first valid sequence in one receiver's bytes, place by place.
 use Prim.Native.Nat.{ℕ, ◌+◌, ◌-◌, ◌<◌}
 use mathlib.Core.Path.{◌≡◌, refl, sym, ap, ◌∙◌}
-use mathlib.Core.Bool.{true, false}
 use mathlib.Core.List.{List}
 use native.Mathlib.Omega.{arith}
-use lib.Dec.{eqb}
 use lib.ListN.{length, get_or, take, drop, length-drop}
 use lib.Seq.{take_all}
-use borrow.Author.Tests.{eq-eqb, ne_eqb}
+use Rattle.std.specs.Prelude.{Some, None}
 use Rattle.sequence.proofs.Rest.{rest}
 use Rattle.receivers.specs.Finding.{length_at, found_from, first_in}
 use Rattle.receivers.proofs.LengthLaws.{no-format-there}
@@ -17,17 +15,11 @@ unfolding first_in
 from-the-first b = refl
 
 module _ (b : List ℕ) (place : ℕ) (h : place < length b) where
-  pub found_here : (0 < length_at (drop place b)) → found_from place b ≡ record { place = place; count = length_at (drop place b) }
-  found_here p =
-      let e : eqb (length_at (drop place b)) 0 ≡ false = ne_eqb (length_at (drop place b)) 0 (λ q. omega (arith, p, q)) in
-      let r = rest b place h in
-      rw r (rw (rw r at e) refl)
+  pub found_here : (n : ℕ) → length_at (drop place b) ≡ Some n → found_from place b ≡ Some (record { place = place; count = n })
+  found_here n e = let r = rest b place h in rw r (rw (rw r at e))
 
-  pub found-later : length_at (drop place b) ≡ 0 → found_from place b ≡ found_from (place + 1) b
-  found-later z =
-      let e : eqb (length_at (drop place b)) 0 ≡ true = eq-eqb (length_at (drop place b)) 0 z in
-      let r = rest b place h in
-      rw r (rw (rw r at e) refl)
+  pub found-later : length_at (drop place b) ≡ None → found_from place b ≡ found_from (place + 1) b
+  found-later e = let r = rest b place h in rw r (rw (rw r at e))
 
   -- without the format the place is passed over
   pub found-behind : (get_or b place 0 ≡ 123 → ⊥) → found_from place b ≡ found_from (place + 1) b

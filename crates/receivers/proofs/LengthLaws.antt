@@ -3,14 +3,17 @@ use Prim.Native.Nat.{ℕ, zero, suc, ◌+◌, ◌-◌, ◌<◌, ◌≤◌}
 use mathlib.Core.Path.{◌≡◌, refl, sym, ap, ◌∙◌}
 use mathlib.Core.Bool.{Bool, true, false, cond, true≢false}
 use mathlib.Core.List.{List}
-use mathlib.Core.Logic.{◌⊎◌, inl, inr, ⊎_elim}
 use native.Mathlib.Omega.{arith}
 use lib.Dec.{leb}
 use lib.ListN.{length, get_or, take}
 use lib.Seq.{length-take-le, get_or-take}
 use borrow.Author.Tests.{leb-true, eqb-true, le-leb, lt-leb}
+use Rattle.std.specs.Result.{is_ok}
+use Rattle.std.specs.Prelude.{Option as Optional, Some, None}
 use Rattle.sequence.specs.Layout.{end_ok}
-use Rattle.sequence.specs.Reading.{format_in, category_in}
+use Rattle.sequence.specs.Answers.{Answer, is_done, answered}
+use Rattle.sequence.specs.Reading.{format_in, category_in, answer_of, meaning_of, reading_of}
+use Rattle.sequence.proofs.AnswerLaws.{refused}
 use Rattle.sequence.proofs.Tests.{Either, yes!, no!, which, both_true}
 use Rattle.reading.proofs.Passed.{passed, long-enough, ends_last}
 use Rattle.receivers.specs.Finding.{is_valid, begins_with, shortest_of, length_at}
@@ -53,6 +56,15 @@ module _ (n : ℕ) (b : List ℕ) (h : Begins n b) where
       let e = rw as_long at (ends_last (take n b) h.valid) in
       rw (get_or-take n b (n - 2) 0 (omega (arith, long_of))) at e
 
+-- what the reader does not refuse is valid
+pub read-valid : (s : List ℕ) → is_ok (reading_of s) ≡ is_valid s
+unfolding reading_of is_valid
+read-valid s = go (answer_of s)
+  where
+    go : (a : Answer) → is_ok (answered a (meaning_of s)) ≡ is_done a
+    go None = refl
+    go (Some r) = sym (refused r)
+
 -- where too few bytes are left, or no end stands in its place, they begin with none of that length
 pub too_few : (n : ℕ) (b : List ℕ) → length b < n → begins_with n b ≡ false
 unfolding begins_with
@@ -68,69 +80,94 @@ no-end-there n b e = go (which (begins_with n b))
 -- ── the shortest ─────────────────────────────────────────────────────────────
 
 -- the lengths from one on, and what is left of them behind it
-abbrev pub length_from : ℕ → List ℕ → ℕ
+abbrev pub length_from : ℕ → List ℕ → Optional ℕ
 length_from n b = shortest_of (29 - n) n b
 
 pub from-21 : (b : List ℕ) → length_from 21 b ≡ length_at b
 unfolding length_at
 from-21 b = refl
 
-one_more : (n : ℕ) (b : List ℕ) → n ≤ 28 → length_from n b ≡ cond (begins_with n b) n (length_from (n + 1) b)
+one_more : (n : ℕ) (b : List ℕ) → n ≤ 28 → length_from n b ≡ cond (begins_with n b) (Some n) (length_from (n + 1) b)
 one_more n b h =
     let e : 29 - n ≡ suc (28 - n) = omega arith in
     let f : 28 - n ≡ 29 - (n + 1) = omega arith in
     rw e (rw f refl)
 
-pub is-here : (n : ℕ) (b : List ℕ) → n ≤ 28 → begins_with n b ≡ true → length_from n b ≡ n
+pub is-here : (n : ℕ) (b : List ℕ) → n ≤ 28 → begins_with n b ≡ true → length_from n b ≡ Some n
 is-here n b h e = one_more n b h ∙ (rw e)
 
 pub is_later : (n : ℕ) (b : List ℕ) → n ≤ 28 → begins_with n b ≡ false → length_from n b ≡ length_from (n + 1) b
 is_later n b h e = one_more n b h ∙ (rw e)
 
-pub none_left : (b : List ℕ) → length_from 29 b ≡ 0
+pub none_left : (b : List ℕ) → length_from 29 b ≡ None
 none_left b = refl
 
+-- bytes begin with none, or with one of a length
+pub data Length (b : List ℕ) : Optional ℕ → Type 0 where
+  no-length : Length b None
+  a-length : (n : ℕ) → Begins n b → Length b (Some n)
+
 -- of so many lengths from one on: none is a valid sequence's, or the shortest is
-shortest-begins : (more n : ℕ) (b : List ℕ) → (shortest_of more n b ≡ 0) ⊎ Begins (shortest_of more n b) b
-shortest-begins zero n b = inl refl
+shortest-begins : (more n : ℕ) (b : List ℕ) → Length b (shortest_of more n b)
+shortest-begins zero n b = no-length
 shortest-begins (suc more) n b = go (begins_with n b) refl (shortest-begins more (n + 1) b)
   where
-    go : (t : Bool) → begins_with n b ≡ t → (shortest_of more (n + 1) b ≡ 0) ⊎ Begins (shortest_of more (n + 1) b) b
-        → (cond t n (shortest_of more (n + 1) b) ≡ 0) ⊎ Begins (cond t n (shortest_of more (n + 1) b)) b
-    go true e later = inr (begins n b e)
+    go : (t : Bool) → begins_with n b ≡ t → Length b (shortest_of more (n + 1) b) → Length b (cond t (Some n) (shortest_of more (n + 1) b))
+    go true e later = a-length n (begins n b e)
     go false e later = later
 
-pub length-begins : (b : List ℕ) → (length_at b ≡ 0) ⊎ Begins (length_at b) b
+length-of : (b : List ℕ) → Length b (length_at b)
 unfolding length_at
-length-begins b = shortest-begins 8 21 b
+length-of b = shortest-begins 8 21 b
+
+pub length-begins : (n : ℕ) (b : List ℕ) → length_at b ≡ Some n → Begins n b
+length-begins n b e = go n (rw e at (length-of b))
+  where
+    go : (n : ℕ) → Length b (Some n) → Begins n b
+    go _ (a-length n h) = h
+
+-- with none of any length they begin with none
+pub begins-none : (b : List ℕ) → ((n : ℕ) → Begins n b → ⊥) → length_at b ≡ None
+begins-none b none = go (length_at b) (length-of b)
+  where
+    go : (o : Optional ℕ) → Length b o → o ≡ None
+    go _ no-length = refl
+    go _ (a-length n h) = absurd (none n h)
 
 other_length : (n k : ℕ) (b : List ℕ) → begins_with n b ≡ false → begins_with k b ≡ true → n ≡ k → ⊥
 other_length n k b f e q = true≢false (sym e ∙ sym (ap (λ l. begins_with l b) q) ∙ f)
 
+-- a length that is no longer than another
+pub data AtMost (k : ℕ) : Optional ℕ → Type 0 where
+  at_most : (n : ℕ) → n ≤ k → AtMost k (Some n)
+
 -- and where one is, the shortest is no longer
-shortest-least : (more n k : ℕ) (b : List ℕ) → 1 ≤ n → n ≤ k → k < n + more → begins_with k b ≡ true
-    → (1 ≤ shortest_of more n b) × (shortest_of more n b ≤ k)
-shortest-least zero n k b l h m e = absurd (omega (arith, h, m))
-shortest-least (suc more) n k b l h m e =
-    go (begins_with n b) refl (λ o. shortest-least more (n + 1) k b (omega arith) o (omega (arith, m)) e)
+shortest-least : (more n k : ℕ) (b : List ℕ) → n ≤ k → k < n + more → begins_with k b ≡ true → AtMost k (shortest_of more n b)
+shortest-least zero n k b h m e = absurd (omega (arith, h, m))
+shortest-least (suc more) n k b h m e =
+    go (begins_with n b) refl (λ o. shortest-least more (n + 1) k b o (omega (arith, m)) e)
   where
-    go : (t : Bool) → begins_with n b ≡ t → (n + 1 ≤ k → (1 ≤ shortest_of more (n + 1) b) × (shortest_of more (n + 1) b ≤ k))
-        → (1 ≤ cond t n (shortest_of more (n + 1) b)) × (cond t n (shortest_of more (n + 1) b) ≤ k)
-    go true f later = (l, h)
+    go : (t : Bool) → begins_with n b ≡ t → (n + 1 ≤ k → AtMost k (shortest_of more (n + 1) b))
+        → AtMost k (cond t (Some n) (shortest_of more (n + 1) b))
+    go true f later = at_most n h
     go false f later = let other = other_length n k b f e in later (omega (arith, h, other))
 
-pub length-least : (n : ℕ) (b : List ℕ) → Begins n b → (1 ≤ length_at b) × (length_at b ≤ n)
+least : (k : ℕ) (b : List ℕ) → Begins k b → AtMost k (length_at b)
 unfolding length_at
-length-least n b h =
-    let l = long_of n b h in
-    shortest-least 8 21 n b (omega arith) l.0 (omega (arith, l.1)) (begins-with n b h)
+least k b h = let l = long_of k b h in shortest-least 8 21 k b l.0 (omega (arith, l.1)) (begins-with k b h)
+
+pub length-least : (k n : ℕ) (b : List ℕ) → Begins k b → length_at b ≡ Some n → n ≤ k
+length-least k n b h e = go n (rw e at (least k b h))
+  where
+    go : (n : ℕ) → AtMost k (Some n) → n ≤ k
+    go _ (at_most n l) = l
+
+pub none-begins : (k : ℕ) (b : List ℕ) → length_at b ≡ None → Begins k b → ⊥
+none-begins k b e h = elim (rw e at (least k b h)) [ ]
 
 -- without the format or the category in its place they begin with none at all
-pub no-format-there : (b : List ℕ) → (get_or b 0 0 ≡ 123 → ⊥) → length_at b ≡ 0
-no-format-there b other = ⊎_elim (λ e. e) (λ h. absurd (other (format-of (length_at b) b h))) (length-begins b)
+pub no-format-there : (b : List ℕ) → (get_or b 0 0 ≡ 123 → ⊥) → length_at b ≡ None
+no-format-there b other = begins-none b (λ n h. other (format-of n b h))
 
-pub no-category-there : (b : List ℕ) → (get_or b 6 0 ≡ 100 → ⊥) → length_at b ≡ 0
-no-category-there b other = ⊎_elim (λ e. e) (λ h. absurd (other (category-of (length_at b) b h))) (length-begins b)
-
-pub length-fits : (b : List ℕ) → length_at b ≤ length b
-length-fits b = ⊎_elim (λ e. omega arith) (λ h. h.fits) (length-begins b)
+pub no-category-there : (b : List ℕ) → (get_or b 6 0 ≡ 100 → ⊥) → length_at b ≡ None
+no-category-there b other = begins-none b (λ n h. other (category-of n b h))

@@ -1,5 +1,5 @@
 -- Bytes of two receivers, and the stretch that is found in them, worked out by hand: cases.
-use Rattle.std.specs.Prelude.{ℕ, List, [], ◌∷◌, ◌++◌, take, drop, replicate, set}
+use Rattle.std.specs.Prelude.{ℕ, Option as Optional, Some, None, List, [], ◌∷◌, ◌++◌, take, drop, replicate, set}
 use Rattle.receivers.specs.declared.Receiver.{Receiver}
 use Rattle.receivers.specs.declared.Receiver.TheVariants.{First, Second}
 use Rattle.receivers.specs.declared.Found.{Found}
@@ -28,7 +28,7 @@ fade n = replicate n 9
 pub record FindCase : Type 0 where
   pub first : List ℕ
   pub second : List ℕ
-  pub found : Found
+  pub found : Optional Found
   pub stretch : List ℕ
   pub memory : ℕ × ℕ
 
@@ -39,16 +39,16 @@ first_stands = (1, 100)
 abbrev pub second_stands : ℕ × ℕ
 second_stands = (2, 200)
 
-abbrev pub at : Receiver → ℕ → ℕ → Found
-at receiver place count = record { receiver = receiver; stretch = record { place = place; count = count } }
+abbrev pub at : Receiver → ℕ → ℕ → Optional Found
+at receiver place count = Some (record { receiver = receiver; stretch = record { place = place; count = count } })
 
-abbrev pub finds : List ℕ → List ℕ → Found → List ℕ → ℕ × ℕ → FindCase
+abbrev pub finds : List ℕ → List ℕ → Optional Found → List ℕ → ℕ × ℕ → FindCase
 finds first second found stretch memory =
     record { first = first; second = second; found = found; stretch = stretch; memory = memory }
 
 -- 54
 abbrev pub finds_none : List ℕ → List ℕ → FindCase
-finds_none first second = finds first second (at Second 0 0) [] (2, 200)
+finds_none first second = finds first second None [] (2, 200)
 
 abbrev pub finding_cases : List FindCase
 finding_cases =

@@ -10,7 +10,7 @@ use reading::read;
 use sequence::parts::end_ok;
 use sequence::{CATEGORY, FORMAT, LONGEST, SHORTEST};
 
-// Where a stretch of bytes begins, and how many it has; none where nothing was found.
+// Where a stretch of bytes begins, and how many it has.
 #[derive(Clone, Copy)]
 pub struct Stretch {
     pub place: usize,
@@ -35,33 +35,26 @@ fn begins_with(bytes: &[u8], count: usize) -> bool
     requires { 2 ≤ count }
     ensures { result ≡ begins_with count bytes.now }
 {
-    if bytes.len() < count {
+    if bytes.len() < count || !end_ok(bytes[count - 2]) {
         return false;
     }
-    if !end_ok(bytes[count - 2]) {
-        return false;
-    }
-    let reading = read(&bytes[..count]);
-    let answer = reading.answer;
-    answer.is_done()
+    read(&bytes[..count]).is_ok()
 }
 
-// "at one place the shortest": the count of the valid sequence that these bytes begin with, or 0. Noise seldom has the category too.
-fn length_at(bytes: &[u8]) -> usize
+// "at one place the shortest": the count of the valid sequence that these bytes begin with. Noise seldom has the category too.
+fn length_at(bytes: &[u8]) -> Option<usize>
     requires { shortest ≤ length bytes.now }
     ensures { result ≡ length_at bytes.now }
 {
     if bytes[6] != CATEGORY {
-        return 0;
+        return None;
     }
-    let mut count = SHORTEST;
-    while count <= LONGEST {
+    for count in SHORTEST..=LONGEST {
         if begins_with(bytes, count) {
-            return count;
+            return Some(count);
         }
-        count += 1;
     }
-    0
+    None
 }
 
 // How many of the next four places are passed over: those before the first that holds the format. Each costs one look.
@@ -101,48 +94,44 @@ fn format_from(bytes: &[u8], from: usize, end: usize) -> usize
 }
 
 // "the earliest starting place", of those before the end: from there on too few bytes are left.
-fn first_before(bytes: &[u8], end: usize) -> Stretch
+fn first_before(bytes: &[u8], end: usize) -> Option<Stretch>
     requires { length bytes.now + 1 ≡ end + shortest }
     ensures { result ≡ first_in bytes.now }
 {
     let mut place = format_from(bytes, 0, end);
     while place < end {
-        let count = length_at(&bytes[place..]);
-        if 0 < count {
-            return Stretch {
-                place: place,
-                count: count,
-            };
+        if let Some(count) = length_at(&bytes[place..]) {
+            return Some(Stretch { place, count });
         }
         place = format_from(bytes, place + 1, end);
     }
-    Stretch { place: 0, count: 0 }
+    None
 }
 
-pub fn first_in(bytes: &[u8]) -> Stretch
+pub fn first_in(bytes: &[u8]) -> Option<Stretch>
     ensures { result ≡ first_in bytes.now }
 {
     if bytes.len() < SHORTEST {
-        return Stretch { place: 0, count: 0 };
+        return None;
     }
     first_before(bytes, bytes.len() - SHORTEST + 1)
 }
 
 // "found in the first receiver's bytes or, failing that, in the second's"
-pub fn find(first: &[u8], second: &[u8]) -> Found
+pub fn find(first: &[u8], second: &[u8]) -> Option<Found>
     ensures { result ≡ found_in first.now second.now }
 {
-    let in_first = first_in(first);
-    if 0 < in_first.count {
-        return Found {
+    if let Some(stretch) = first_in(first) {
+        return Some(Found {
             receiver: Receiver::First,
-            stretch: in_first,
-        };
+            stretch,
+        });
     }
-    Found {
+    let stretch = first_in(second)?;
+    Some(Found {
         receiver: Receiver::Second,
-        stretch: first_in(second),
-    }
+        stretch,
+    })
 }
 
 // The bytes of a stretch, as a part of those in which it was found.
@@ -161,9 +150,9 @@ pub fn find_sequence<'a>(first: &'a [u8], second: &'a [u8]) -> &'a [u8]
     ensures contents { result.now ≡ stretch_found first.now second.now }
     ensures location { result.ref_ptr ≡ place_found (found_in first.now second.now) first.entry.ref_ptr second.entry.ref_ptr }
 {
-    let found = find(first, second);
-    let receiver = found.receiver;
-    let stretch = found.stretch;
+    let Some(Found { receiver, stretch }) = find(first, second) else {
+        return &second[..0];
+    };
     match receiver {
         Receiver::First => part(first, stretch),
         Receiver::Second => part(second, stretch),

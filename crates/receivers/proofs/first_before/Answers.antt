@@ -1,6 +1,6 @@
-use mathlib.Core.Path.{◌≡◌, sym, ap, ◌∙◌}
+use mathlib.Core.Path.{sym, ap, ◌∙◌}
 use native.Mathlib.Omega.{arith}
-use lib.ListN.{drop, length-take, length-drop}
+use lib.ListN.{length-take, length-drop}
 use Rattle.receivers.specs.Finding.{length_at}
 use Rattle.receivers.proofs.FirstLaws.{from-the-first, found_here, found-later, cut-from}
 use Rattle.receivers.proofs.Search.{too-late}
@@ -21,14 +21,14 @@ slice_bounds-length_at-start c = omega arith
 pub slice_bounds-length_at-end : goal.slice_bounds-length_at-end
 slice_bounds-length_at-end c = omega arith
 
-pub length_at-count-requires : goal.length_at-count-requires
-length_at-count-requires c = simp (length-take, length-drop) (omega arith)
+pub length_at-requires : goal.length_at-requires
+length_at-requires c = simp (length-take, length-drop) (omega arith)
 
-pub returns-then-count-gt0 : goal.returns-then-count-gt0
-returns-then-count-gt0 c = let b = c.args.bytes.now in
+pub returns-in-Some : goal.returns-in-Some
+returns-in-Some c = let b = c.args.bytes.now in
     let l = c.loop-place in
-    let e : c.length_at-count.result ≡ length_at (drop c.loop-place.place c.args.bytes.now) = c.length_at-count.ensures ∙ ap length_at (cut-from c.args.bytes.now c.loop-place.place) in
-    rw e (sym (found_here b l.place (omega arith) (rw e at c.if-count-gt0.true)) ∙ l.invariant.0)
+    let e = sym (c.in-Some.ensures ∙ ap length_at (cut-from b l.place)) in
+    sym (found_here b l.place (omega arith) _ e) ∙ l.invariant.0
 
 pub overflow_add-place : goal.overflow_add-place
 overflow_add-place c = omega arith
@@ -44,8 +44,7 @@ loop-place-smaller c = let next = c.format_from-place-in-loop-place.ensures in
 pub loop-place-preserved : goal.loop-place-preserved
 loop-place-preserved c = let b = c.args.bytes.now in
     let l = c.loop-place in
-    let counted : c.length_at-count.result ≡ length_at (drop c.loop-place.place c.args.bytes.now) = c.length_at-count.ensures ∙ ap length_at (cut-from c.args.bytes.now c.loop-place.place) in
-    let none : length_at (drop l.place b) ≡ 0 = omega (arith, counted, c.if-count-gt0.false) in
+    let none = sym (c.in_default.ensures ∙ ap length_at (cut-from b l.place)) in
     let later = sym (found-later b l.place (omega arith) none) in
     (c.format_from-place-in-loop-place.ensures.0 ∙ later ∙ l.invariant.0, l.invariant.1)
 

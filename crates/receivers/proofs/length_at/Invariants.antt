@@ -1,11 +1,7 @@
-use Prim.Native.Nat.{◌-◌, ◌≤◌}
 use mathlib.Core.Path.{◌≡◌}
 use Rattle.receivers.specs.Finding.{length_at}
 use Rattle.receivers.proofs.LengthLaws.{length_from}
 use Rattle.receivers.proofs.length_at.Given as goal
 
 abbrev pub invariant-loop-count : goal.invariant-loop-count
-invariant-loop-count l = (length_from l.count l.bytes ≡ length_at l.bytes) × (21 ≤ l.count) × (l.count ≤ 29)
-
-abbrev pub decreases-loop-count : goal.decreases-loop-count
-decreases-loop-count l = 29 - l.count
+invariant-loop-count l = length_from l.count l.bytes ≡ length_at l.bytes
