@@ -1,5 +1,3 @@
 pub mod WaitLaws
-pub mod ArmLaws
-pub mod FreeLaws
 pub mod PartLaws
 pub mod Settled

@@ -6,7 +6,7 @@ pub mod parts;
 use slots::{Phase, QueuePlace};
 use units::{Lasted, Tenths};
 
-// How far the call of a slot has come: nobody has answered, or somebody since then.
+// How far the call of a slot has come: nobody has answered, or somebody since then; `None` would not say which.
 #[derive(Clone, Copy)]
 pub enum Talk {
     Unanswered,
@@ -32,7 +32,7 @@ pub enum Outcome {
     Offers, // rule e
     Joins, // rule f
     Replaces(QueuePlace), // rule d
-    Unable(u8), // rules a and g, and document 02, no. 4: no number is left
+    Unable(u8), // rules a and g, and document 02, no. 4: no number is left; M.493's own symbol of the reason, which is sent
     Drops(QueuePlace), // a queue entry due
     Calls, // from ashore
     CallsAgain, // the first call from ashore due

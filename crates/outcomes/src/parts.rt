@@ -24,7 +24,7 @@ pub fn lasted_of(talk: Talk, time: Tenths) -> Lasted
     }
 }
 
-// "0 done", "1 ignored"
+// "0 done", "1 ignored"; a number, as `Stepped` and C's functions hand it out.
 pub fn answer_of(outcome: Outcome) -> u8
     ensures { result ≡ answer_of outcome }
 {
@@ -38,10 +38,7 @@ pub fn answer_of(outcome: Outcome) -> u8
 pub fn goes_on(outcome: Outcome) -> bool
     ensures { result ≡ goes_on outcome }
 {
-    match outcome {
-        Outcome::Redials(_) => true,
-        _ => false,
-    }
+    matches!(outcome, Outcome::Redials(_))
 }
 
 // How many of so many that wait may be rung back. Document 02, no. 4: once the last number has been given, "no waiting ship".
@@ -56,8 +53,7 @@ pub fn last_after(turn: Turn, last: CallNumber) -> CallNumber
     ensures { result ≡ last_after last turn }
 {
     match turn {
-        Turn::Stays => last,
-        Turn::Own(_) => last,
+        Turn::Stays | Turn::Own(_) => last,
         Turn::Asked(_) => number_after(last),
         Turn::Oldest(_) => number_after(last),
     }
@@ -68,10 +64,10 @@ fn free_turn(time: Tenths, ringable: u8) -> Turn
     ensures { result ≡ free_turn time ringable }
 {
     if ringable == 0 {
-        return Turn::Own(Phase::Free);
+        Turn::Own(Phase::Free)
+    } else {
+        Turn::Oldest(Phase::RingBack(due_after(time, RING_BACK_WAIT)))
     }
-    let due = due_after(time, RING_BACK_WAIT);
-    Turn::Oldest(Phase::RingBack(due))
 }
 
 // What becomes of the slot at that time, where so many may be rung back.
@@ -80,27 +76,22 @@ pub fn turn_of(outcome: Outcome, time: Tenths, ringable: u8) -> Turn
 {
     match outcome {
         Outcome::Turns(phase) => Turn::Own(phase),
-        Outcome::Dials => {
-            let due = due_after(time, DIALLING_WAIT);
-            Turn::Own(Phase::Dialling(due, Carrier::Present))
-        }
-        Outcome::RingsBackAgain => {
-            let due = due_after(time, RING_BACK_WAIT);
-            Turn::Own(Phase::RingBackAgain(due))
-        }
-        Outcome::ShipEnds(talk) => {
-            let lasted = lasted_of(talk, time);
-            let due = due_after(time, HOLD_WAIT);
-            Turn::Own(Phase::Hold(due, lasted))
-        }
+        Outcome::Dials => Turn::Own(Phase::Dialling(
+            due_after(time, DIALLING_WAIT),
+            Carrier::Present,
+        )),
+        Outcome::RingsBackAgain => Turn::Own(Phase::RingBackAgain(due_after(time, RING_BACK_WAIT))),
+        Outcome::ShipEnds(talk) => Turn::Own(Phase::Hold(
+            due_after(time, HOLD_WAIT),
+            lasted_of(talk, time),
+        )),
         Outcome::Calls => Turn::Asked(Phase::Called(due_after(time, CALL_WAIT))),
         Outcome::CallsAgain => Turn::Own(Phase::CalledAgain(due_after(time, CALL_WAIT))),
         Outcome::StartsRinging => Turn::Own(Phase::Ringing(due_after(time, RINGING_WAIT))),
         Outcome::Transmits => Turn::Own(Phase::Answered(time, Carrier::Present)),
-        Outcome::Renews | Outcome::Offers => {
-            let due = due_after(time, OFFER_WAIT);
-            Turn::Asked(Phase::Offered(due))
-        }
+        Outcome::Renews | Outcome::Offers => Turn::Asked(Phase::Offered(due_after(
+            time, OFFER_WAIT,
+        ))),
         Outcome::Frees
         | Outcome::Clears
         | Outcome::CoastEnds(_)
@@ -114,9 +105,10 @@ fn free_change(ringable: u8) -> QueueChange
     ensures { result ≡ free_change ringable }
 {
     if ringable == 0 {
-        return QueueChange::Same;
+        QueueChange::Same
+    } else {
+        QueueChange::Leaves(QueuePlace(0))
     }
-    QueueChange::Leaves(QueuePlace(0))
 }
 
 // What becomes of the queue.
@@ -129,38 +121,20 @@ pub fn queue_change(outcome: Outcome, time: Tenths, ringable: u8) -> QueueChange
         | Outcome::CoastEnds(_)
         | Outcome::Redials(_)
         | Outcome::DropsCall(_, _) => free_change(ringable),
-        Outcome::Joins => {
-            let due = due_after(time, QUEUE_WAIT);
-            QueueChange::Joins(due)
-        }
+        Outcome::Joins => QueueChange::Joins(due_after(time, QUEUE_WAIT)),
         Outcome::Replaces(place) => QueueChange::Replaces(place),
         Outcome::Drops(place) => QueueChange::Leaves(place),
         _ => QueueChange::Same,
     }
 }
 
-// Rule d: what the ship asks for now, its due time kept.
-fn asking(entry: Waiting, request: Request) -> Waiting
-    ensures { result ≡ record { due = entry.due; request = request } }
-{
-    let due = entry.due;
-    Waiting {
-        due: due,
-        request: request,
-    }
-}
-
-// What is written over the entry of a waiting ship, where that request is asked for.
+// What is written over the entry of a waiting ship, where that request is asked for; rule d: its due time kept.
 pub fn entered(change: QueueChange, entry: Waiting, request: Request) -> Waiting
     ensures { result ≡ entered_of request entry change }
 {
     match change {
-        QueueChange::Same => entry,
-        QueueChange::Leaves(_) => entry,
-        QueueChange::Joins(due) => Waiting {
-            due: due,
-            request: request,
-        },
-        QueueChange::Replaces(_) => asking(entry, request),
+        QueueChange::Same | QueueChange::Leaves(_) => entry,
+        QueueChange::Joins(due) => Waiting { due, request },
+        QueueChange::Replaces(_) => Waiting { request, ..entry },
     }
 }
