@@ -1,2 +1,2 @@
-pub mod AskedLaws
+pub mod RefusalLaws
 pub mod Settled

@@ -1,18 +1,18 @@
 -- Any two results that meet a contract are equal.
 use mathlib.Core.Path.{◌≡◌, sym, ◌∙◌}
 use contract.Lifetimes.{Lfts}
-use Rattle.gate.proofs.AskedLaws.{verdict-one}
-use Rattle.gate.proofs.Verdict.and_then.Reads as Verdict-and_then
-use Rattle.gate.proofs.Verdict.and_read.Reads as Verdict-and_read
+use Rattle.gate.proofs.RefusalLaws.{verdict-one}
+use Rattle.gate.proofs.Refusal.number.Reads as Refusal-number
+use Rattle.gate.proofs.unless.Reads as unless
 use Rattle.gate.proofs.Look.judge.Reads as Look-judge
 use Rattle.gate.proofs.Look.judge_now.Reads as Look-judge_now
 use Rattle.gate.proofs.Look.judge_slot.Reads as Look-judge_slot
 
-pub Verdict-and_then-settled : (κs : Lfts 0) (a : _) (r r' : _) (s s' : _) → Verdict-and_then.Post κs a r s → Verdict-and_then.Post κs a r' s' → r ≡ r'
-Verdict-and_then-settled κs a r r' s s' p q = verdict-one _ _ (p ∙ sym q)
+pub Refusal-number-settled : (κs : Lfts 0) (a : _) (r r' : _) (s s' : _) → Refusal-number.Post κs a r s → Refusal-number.Post κs a r' s' → r ≡ r'
+Refusal-number-settled κs a r r' s s' p q = p ∙ sym q
 
-pub Verdict-and_read-settled : (κs : Lfts 0) (a : _) (r r' : _) (s s' : _) → Verdict-and_read.Post κs a r s → Verdict-and_read.Post κs a r' s' → r ≡ r'
-Verdict-and_read-settled κs a r r' s s' p q = verdict-one _ _ (p ∙ sym q)
+pub unless-settled : (κs : Lfts 0) (a : _) (r r' : _) (s s' : _) → unless.Post κs a r s → unless.Post κs a r' s' → r ≡ r'
+unless-settled κs a r r' s s' p q = verdict-one _ _ (p ∙ sym q)
 
 pub Look-judge-settled : (κs : Lfts 0) (a : _) (r r' : _) (s s' : _) → Look-judge.Post κs a r s → Look-judge.Post κs a r' s' → r ≡ r'
 Look-judge-settled κs a r r' s s' p q = verdict-one _ _ (p ∙ sym q)

@@ -1,6 +1,7 @@
 -- "Refusals, in this order": what is asked of an event, by what is seen of the station.
-use Rattle.std.specs.Prelude.{ℕ, Bool, cond, not, List, [], ◌∷◌, ◌++◌, leb, ltb}
+use Rattle.std.specs.Prelude.{ℕ, Bool, cond, not, List, [], ◌∷◌, ◌++◌, leb, ltb, Result, Ok, Err}
 use Rattle.std.proofs.Math.Option.{Option, none, some}
+use Rattle.sequence.specs.Answers as A
 use Rattle.sequence.specs.Refusals.{Row}
 use Rattle.rules.specs.Rules.Places.{is_some}
 use Rattle.rules.specs.Rules.Waits.{if_due}
@@ -8,17 +9,30 @@ use Rattle.rules.specs.Rules.Sound.{limit}
 use Rattle.rules.specs.Rules.Verdict.{unless, room_needed}
 use Rattle.slots.specs.Views.{due_view}
 use Rattle.gate.specs.declared.Look.{Look}
-use Rattle.gate.specs.declared.Verdict.{Verdict}
-use Rattle.gate.specs.declared.Verdict.TheVariants.{Accepted, Refused}
+use Rattle.gate.specs.declared.Refusal.{Refusal}
+use Rattle.gate.specs.declared.Refusal.TheVariants.{Sequence, UnsoundStation, ShortRoom, OverLimit, BeforeClock, WaitDue}
+use Rattle.gate.specs.declared.Refusal.TheVariants.{NoSuchSlot, BarredHand, BadSetUp, NoFreeSlot, ShipEngaged}
 
-abbrev pub verdict_of : Verdict → Option ℕ
-verdict_of Accepted = none
-verdict_of (Refused n) = some n
+abbrev pub refusal_number : Refusal → ℕ
+refusal_number (Sequence r) = A.refusal_number r
+refusal_number UnsoundStation = 29
+refusal_number ShortRoom = 30
+refusal_number OverLimit = 31
+refusal_number BeforeClock = 32
+refusal_number WaitDue = 33
+refusal_number NoSuchSlot = 34
+refusal_number BarredHand = 35
+refusal_number BadSetUp = 36
+refusal_number NoFreeSlot = 37
+refusal_number ShipEngaged = 38
 
--- one test more behind those that were passed
-abbrev pub and_then : Option ℕ → Bool → ℕ → Option ℕ
-and_then none b n = cond b none (some n)
-and_then (some k) b n = some k
+abbrev pub verdict_of : Result (Unit {0}) Refusal → Option ℕ
+verdict_of (Ok x) = none
+verdict_of (Err r) = some (refusal_number r)
+
+-- of one test
+abbrev pub asked_once : Bool → ℕ → Option ℕ
+asked_once b n = cond b none (some n)
 
 -- of every event: the room's size, the time
 abbrev pub asked_always : Look → ℕ → ℕ → List (Row (Option ℕ))

@@ -3,13 +3,12 @@
 
 ghost use Rattle.std.specs.Prelude.{◌≡◌};
 ghost use Rattle.std.proofs.Math.Option.{none};
-ghost use Rattle.sequence.specs.Answers.{answer_number, is_done};
 ghost use Rattle.sequence.specs.Refusals.{first_refusal};
-ghost use Rattle.gate.specs.Asked.{verdict_of, and_then, asked_always, asked_now, asked_on_slot};
+ghost use Rattle.gate.specs.declared.Refusal.TheVariants.{Sequence};
+ghost use Rattle.gate.specs.Asked.{refusal_number, verdict_of, asked_once, asked_always, asked_now, asked_on_slot};
 
 use actions::ROOM;
 use due_times::falls_due;
-use sequence::Answer;
 use slots::Due;
 use units::{LIMIT, SlotNumber, Tenths};
 
@@ -19,69 +18,85 @@ pub struct Look {
     pub sound: bool,
     pub clock: Tenths,
     pub count: u8,
-    pub due: Due,
+    pub due: Option<Due>,
 }
 
-#[derive(Clone, Copy)]
-pub enum Verdict {
-    Accepted,
-    Refused(u8),
+// Why an event is refused, or a station is not set up.
+#[derive(Clone, Copy, PartialEq, Eq)]
+pub enum Refusal {
+    Sequence(sequence::Refusal), // the reader's; of a call from ashore a bad identity, mode or number
+    UnsoundStation,
+    ShortRoom,
+    OverLimit,
+    BeforeClock,
+    WaitDue,
+    NoSuchSlot,
+    BarredHand,
+    BadSetUp,
+    NoFreeSlot,
+    ShipEngaged,
 }
 
-impl Verdict {
-    // One test more behind those that were passed, and its refusal.
-    pub fn and_then(self, passes: bool, number: u8) -> Verdict
-        ensures { verdict_of result ≡ and_then (verdict_of self) passes number }
+impl Refusal {
+    // Document 01's number, or document 02's; not a discriminant, since a sequence's refusal has its own.
+    pub fn number(self) -> u8
+        ensures { result ≡ refusal_number self }
     {
         match self {
-            Verdict::Refused(first) => Verdict::Refused(first),
-            Verdict::Accepted => {
-                if passes {
-                    return Verdict::Accepted;
-                }
-                Verdict::Refused(number)
-            }
+            Refusal::Sequence(refusal) => refusal.number(),
+            Refusal::UnsoundStation => 29,
+            Refusal::ShortRoom => 30,
+            Refusal::OverLimit => 31,
+            Refusal::BeforeClock => 32,
+            Refusal::WaitDue => 33,
+            Refusal::NoSuchSlot => 34,
+            Refusal::BarredHand => 35,
+            Refusal::BadSetUp => 36,
+            Refusal::NoFreeSlot => 37,
+            Refusal::ShipEngaged => 38,
         }
     }
+}
 
-    // The reader's test: 11 to 20.
-    pub fn and_read(self, answer: Answer) -> Verdict
-        ensures { verdict_of result ≡ and_then (verdict_of self) (is_done answer) (answer_number answer) }
-    {
-        let number = answer.number();
-        self.and_then(answer.is_done(), number)
+impl From<sequence::Refusal> for Refusal {
+    ghost from_gives = { λ read refused. refused ≡ Sequence read };
+
+    fn from(refusal: sequence::Refusal) -> Refusal {
+        Refusal::Sequence(refusal)
     }
+}
+
+// One test, with its refusal where it fails.
+pub fn unless(passes: bool, refusal: Refusal) -> Result<(), Refusal>
+    ensures { verdict_of result ≡ asked_once passes (refusal_number refusal) }
+{
+    if passes { Ok(()) } else { Err(refusal) }
 }
 
 impl Look {
     // The refusals of every event: 29 to 32.
-    pub fn judge(self, size: usize, time: Tenths) -> Verdict
+    pub fn judge(self, size: usize, time: Tenths) -> Result<(), Refusal>
         ensures { verdict_of result ≡ first_refusal (asked_always self size time.0) none }
     {
-        let sound = self.sound;
-        let clock = self.clock.0;
-        let tenths = time.0;
-        Verdict::Accepted
-            .and_then(sound, 29)
-            .and_then(ROOM <= size, 30)
-            .and_then(tenths <= LIMIT, 31)
-            .and_then(clock <= tenths, 32)
+        unless(self.sound, Refusal::UnsoundStation)?;
+        unless(ROOM <= size, Refusal::ShortRoom)?;
+        unless(time.0 <= LIMIT, Refusal::OverLimit)?;
+        unless(self.clock <= time, Refusal::BeforeClock)
     }
 
     // Those of every event but a tick: 33 besides.
-    pub fn judge_now(self, size: usize, time: Tenths) -> Verdict
+    pub fn judge_now(self, size: usize, time: Tenths) -> Result<(), Refusal>
         ensures { verdict_of result ≡ first_refusal (asked_now self size time.0) none }
     {
-        let due = self.due;
-        let late = falls_due(due, time);
-        self.judge(size, time).and_then(!late, 33)
+        self.judge(size, time)?;
+        unless(!falls_due(self.due, time), Refusal::WaitDue)
     }
 
     // Those of an event on a slot: 34 besides.
-    pub fn judge_slot(self, size: usize, time: Tenths, slot: SlotNumber) -> Verdict
+    pub fn judge_slot(self, size: usize, time: Tenths, slot: SlotNumber) -> Result<(), Refusal>
         ensures { verdict_of result ≡ first_refusal (asked_on_slot self size time.0 slot.0) none }
     {
-        let count = self.count as u32;
-        self.judge_now(size, time).and_then(slot.0 < count, 34)
+        self.judge_now(size, time)?;
+        unless(slot.0 < self.count as u32, Refusal::NoSuchSlot)
     }
 }
