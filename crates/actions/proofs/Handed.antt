@@ -14,7 +14,7 @@ use Rattle.sequence.specs.Identity.{is_coast}
 use Rattle.sequence.specs.Field.{unable_second}
 use Rattle.sequence.specs.Number.{number_ok}
 use Rattle.sequence.specs.Layout.{valid}
-use Rattle.sequence.specs.Reading.{reading_of}
+use Rattle.sequence.specs.Reading.{answer_of, meaning_read}
 use Rattle.writing.proofs.Valid.{parts}
 use Rattle.writing.proofs.EvenedLaws.{fit, all_take}
 use Rattle.rules.specs.Rules.Words.{Party, Request, Config, Ashore, ashore_in, Event, unable, Ours}
@@ -61,16 +61,16 @@ module _ (c : Config) (good : config_keeps c ≡ true) where
       let k : is_coast m.address ≡ true = coast c good m.address e in
       (unable-valid 109 (sent_by m) (digits_in m.number) (from-ship m.address m.sender k p.identities) k refl (number-keeps m.number p.number), omega arith)
 
-  heard-data : (s : List ℕ) → valid (reading_of s).meaning ≡ true → (x : Party) (n : List ℕ) → meaning c s ≡ data_request x n → Speaks c (does (unable 109 x n))
+  heard-data : (s : List ℕ) → valid (meaning_read s) ≡ true → (x : Party) (n : List ℕ) → meaning c s ≡ data_request x n → Speaks c (does (unable 109 x n))
   unfolding meaning OnlyThese
-  heard-data s v x n e = (go (addressed c (reading_of s).meaning) (only-these c (reading_of s).meaning) e, omega arith)
+  heard-data s v x n e = (go (addressed c (meaning_read s)) (only-these c (meaning_read s)) e, omega arith)
     where
-      go : (h : Heard) → Means c (reading_of s).meaning h → h ≡ data_request x n → speaks c (does (unable 109 x n)) ≡ true
+      go : (h : Heard) → Means c (meaning_read s) h → h ≡ data_request x n → speaks c (does (unable 109 x n)) ≡ true
       go _ (as_call_request w p) e = cc
       go _ (as_data_request p) e =
-          let y : sent_by (reading_of s).meaning ≡ x = cc in
-          let z : digits_in (reading_of s).meaning.number ≡ n = cc in
-          rw (← y, ← z) (data-speaks (reading_of s).meaning v p.to-this).0
+          let y : sent_by (meaning_read s) ≡ x = cc in
+          let z : digits_in (meaning_read s).number ≡ n = cc in
+          rw (← y, ← z) (data-speaks (meaning_read s) v p.to-this).0
       go _ (as_working_call w p) e = cc
       go _ (as_end_of_call p) e = cc
       go _ (as_bq w n i a b k d f) e = cc
@@ -102,7 +102,7 @@ asked-keeps c q s n a e = rw (rw e at s, eq-eqb c.identity c.identity refl, rw e
 -- ── an event of a sound station ──────────────────────────────────────────────
 
 -- where symbols that the reader accepts have a valid meaning, the blocks handed out are those of the rules
-module _ (reads : (s : List ℕ) → is_done (reading_of s).answer ≡ true → valid (reading_of s).meaning ≡ true) where
+module _ (reads : (s : List ℕ) → is_done (answer_of s) ≡ true → valid (meaning_read s) ≡ true) where
   pub act-says : (c : Config) (st : Station) (e : Event) → verdict c st e ≡ none → Says c (act c st e)
   unfolding set_clock
   act-says c st e v =

@@ -8,7 +8,8 @@ use native.Mathlib.Omega.{arith}
 use lib.Dec.{leb}
 use lib.ListN.{length, get_or}
 use borrow.Author.Tests.{leb-true, eqb-true}
-use Rattle.units.specs.declared.Lasted.{Lasted}
+use Rattle.units.specs.declared.Duration.{Duration}
+use Rattle.std.specs.Prelude.{Option as Optional}
 use Rattle.sequence.specs.Symbols.{within}
 use Rattle.sequence.specs.Identity.{is_ship, is_coast}
 use Rattle.sequence.specs.Field.{unable_second, channel_ok}
@@ -101,5 +102,5 @@ module _ (c : Config) (keeps : config_keeps c ≡ true) where
         let d = both_true (within 100 126 r.second) (number_keeps r.number) b.1 in
         (unable-valid second r.who r.number a.0 (coast r.who.station (eqb-true _ _ b.0)) u d.1, omega arith)
 
-    pub over-speaks : (i : ℕ) → i < length c.channels → (e : Ender) (n : Lasted) → duration_keeps n ≡ true → Speaks c (over i e r.who r.number n)
+    pub over-speaks : (i : ℕ) → i < length c.channels → (e : Ender) (n : Optional Duration) → duration_keeps n ≡ true → Speaks c (over i e r.who r.number n)
     over-speaks i l e n h = (over-valid c coast r kept e n h, small i l)

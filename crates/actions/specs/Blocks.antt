@@ -4,10 +4,27 @@ use Rattle.units.specs.declared.CallNumber.{CallNumber}
 use Rattle.units.specs.declared.Tenths.{Tenths}
 use Rattle.units.specs.Units.{whole_seconds}
 use Rattle.rules.specs.Rules.Bytes.{padded, block, four, block_size, payload_room}
+use Rattle.actions.specs.declared.Kind.{Kind}
+use Rattle.actions.specs.declared.Kind.TheVariants.{CarrierOn, CarrierOff, SendOnChannel70, SendOnWorking, Dial, ReleaseLine, Charge}
+use Rattle.actions.specs.declared.Kind.TheVariants.{RingingOn, RingingOff, BusyTone}
 use Rattle.actions.specs.declared.Action.{Action}
 
+-- "1 carrier on, 2 carrier off, 3 send on channel 70, 4 send on the working channel, 5 dial, 6 release line, 7 charge";
+-- 02, no. 2: "8 ringing on, 9 ringing off, 10 five seconds of busy tone"
+abbrev pub number_of_kind : Kind → ℕ
+number_of_kind CarrierOn = 1
+number_of_kind CarrierOff = 2
+number_of_kind SendOnChannel70 = 3
+number_of_kind SendOnWorking = 4
+number_of_kind Dial = 5
+number_of_kind ReleaseLine = 6
+number_of_kind Charge = 7
+number_of_kind RingingOn = 8
+number_of_kind RingingOff = 9
+number_of_kind BusyTone = 10
+
 -- an action as it is laid out: its payload, and zeros
-unfoldable pub action_of : ℕ → ℕ → List ℕ → Action
+unfoldable pub action_of : Kind → ℕ → List ℕ → Action
 action_of kind slot payload =
     record {
       kind = kind;
@@ -17,7 +34,7 @@ action_of kind slot payload =
     }
 
 unfoldable pub action_block : Action → List ℕ
-action_block a = block a.kind a.slot.0 (take a.length a.payload)
+action_block a = block (number_of_kind a.kind) a.slot.0 (take a.length a.payload)
 
 -- from a start to a stop, in tenths
 abbrev pub span : Tenths → Tenths → Tenths

@@ -3,88 +3,82 @@ ghost use Rattle.std.specs.Prelude.{◌≡◌, [], ◌-◌};
 ghost use Rattle.units.specs.Units.{whole_seconds, duration_of};
 ghost use Rattle.rules.specs.Rules.Bytes.{block};
 ghost use Rattle.requests.specs.Views.{digits_of};
-ghost use Rattle.actions.specs.Blocks.{action_of, action_block, charge_bytes, span};
+ghost use Rattle.actions.specs.declared.Kind.TheVariants.{CarrierOn, CarrierOff, Dial, ReleaseLine, Charge, RingingOn, RingingOff, BusyTone};
+ghost use Rattle.actions.specs.Blocks.{number_of_kind, action_of, action_block, charge_bytes, span};
 
-use crate::{Action, PAYLOAD};
-use requests::least;
+use crate::numbers::front;
+use crate::{Action, Kind, PAYLOAD};
 use sequence::{MOST_DIGITS, Number};
-use units::{CallNumber, Lasted, SlotNumber, Tenths};
+use units::{CallNumber, Duration, SlotNumber, Tenths};
 
-fn plain(kind: u8, slot: SlotNumber) -> Action
-    ensures { result ≡ action_of kind slot.0 [] }
+#[tactic(auto, unfolding(crate::specs::Blocks::action_of, crate::specs::Blocks::action_block, rules::specs::Rules::Bytes::padded))]
+fn plain(kind: Kind, slot: SlotNumber) -> Action
+    ensures value { result ≡ action_of kind slot.0 [] }
+    ensures result_value { action_block result ≡ block (number_of_kind kind) slot.0 [] }
 {
     Action {
-        kind: kind,
-        slot: slot,
+        kind,
+        slot,
         length: 0,
         payload: [0u8; PAYLOAD],
     }
 }
 
 pub fn carrier_on(slot: SlotNumber) -> Action
-    ensures value { result ≡ action_of 1 slot.0 [] }
+    ensures value { result ≡ action_of CarrierOn slot.0 [] }
     ensures result_value { action_block result ≡ block 1 slot.0 [] }
 {
-    plain(1, slot)
+    plain(Kind::CarrierOn, slot)
 }
 
 pub fn carrier_off(slot: SlotNumber) -> Action
-    ensures value { result ≡ action_of 2 slot.0 [] }
+    ensures value { result ≡ action_of CarrierOff slot.0 [] }
     ensures result_value { action_block result ≡ block 2 slot.0 [] }
 {
-    plain(2, slot)
+    plain(Kind::CarrierOff, slot)
 }
 
 pub fn release_line(slot: SlotNumber) -> Action
-    ensures value { result ≡ action_of 6 slot.0 [] }
+    ensures value { result ≡ action_of ReleaseLine slot.0 [] }
     ensures result_value { action_block result ≡ block 6 slot.0 [] }
 {
-    plain(6, slot)
+    plain(Kind::ReleaseLine, slot)
 }
 
 // Document 02, no. 2: "8 ringing on"
 pub fn ringing_on(slot: SlotNumber) -> Action
-    ensures value { result ≡ action_of 8 slot.0 [] }
+    ensures value { result ≡ action_of RingingOn slot.0 [] }
     ensures result_value { action_block result ≡ block 8 slot.0 [] }
 {
-    plain(8, slot)
+    plain(Kind::RingingOn, slot)
 }
 
 // "9 ringing off"
 pub fn ringing_off(slot: SlotNumber) -> Action
-    ensures value { result ≡ action_of 9 slot.0 [] }
+    ensures value { result ≡ action_of RingingOff slot.0 [] }
     ensures result_value { action_block result ≡ block 9 slot.0 [] }
 {
-    plain(9, slot)
+    plain(Kind::RingingOff, slot)
 }
 
 // "10 five seconds of busy tone"
 pub fn busy_tone(slot: SlotNumber) -> Action
-    ensures value { result ≡ action_of 10 slot.0 [] }
+    ensures value { result ≡ action_of BusyTone slot.0 [] }
     ensures result_value { action_block result ≡ block 10 slot.0 [] }
 {
-    plain(10, slot)
+    plain(Kind::BusyTone, slot)
 }
 
 // "digits, one a byte"
 pub fn dial(slot: SlotNumber, number: Number) -> Action
-    ensures value { result ≡ action_of 5 slot.0 (digits_of number) }
+    ensures value { result ≡ action_of Dial slot.0 (digits_of number) }
     ensures result_value { action_block result ≡ block 5 slot.0 (digits_of number) }
 {
-    let count = least(number.count, MOST_DIGITS);
-    let length = count as usize;
-    let digits = number.digits;
-    let mut payload = [0u8; PAYLOAD];
-    let mut i = 0;
-    while i < length {
-        payload[i] = digits[i];
-        i += 1;
-    }
     Action {
-        kind: 5,
-        slot: slot,
-        length: count,
-        payload: payload,
+        kind: Kind::Dial,
+        slot,
+        length: number.count.min(MOST_DIGITS),
+        payload: front(number),
     }
 }
 
@@ -92,57 +86,32 @@ pub fn dial(slot: SlotNumber, number: Number) -> Action
 fn span_of(start: Tenths, stop: Tenths) -> Tenths
     ensures { result ≡ span start stop }
 {
-    if stop.0 < start.0 {
-        return Tenths(0);
-    }
-    Tenths(stop.0 - start.0)
+    Tenths(stop.0.saturating_sub(start.0))
 }
 
 // "whole seconds, rounded down", as an end of call tells them
-pub fn lasted(start: Tenths, stop: Tenths) -> Lasted
+pub fn lasted(start: Tenths, stop: Tenths) -> Option<Duration>
     ensures { result ≡ duration_of (whole_seconds (span start stop)) }
 {
-    let span = span_of(start, stop);
-    let seconds = span.whole_seconds();
-    seconds.duration()
+    span_of(start, stop).whole_seconds().duration()
 }
 
 // "ship, start, stop, seconds; four bytes each, low first"; document 02, no. 4: the call number, "as a fifth field"
 pub fn charge(slot: SlotNumber, ship: u32, start: Tenths, stop: Tenths, call: CallNumber) -> Action
-    ensures value { result ≡ action_of 7 slot.0 (charge_bytes ship start stop call) }
+    ensures value { result ≡ action_of Charge slot.0 (charge_bytes ship start stop call) }
     ensures result_value { action_block result ≡ block 7 slot.0 (charge_bytes ship start stop call) }
 {
-    let span = span_of(start, stop);
-    let charged = span.whole_seconds();
-    let seconds = charged.count();
-    let begun = start.0;
-    let ended = stop.0;
-    let number = call.0;
+    let seconds = span_of(start, stop).whole_seconds().count();
     let mut payload = [0u8; PAYLOAD];
-    payload[0] = (ship % 256) as u8;
-    payload[1] = (ship / 256 % 256) as u8;
-    payload[2] = (ship / 65536 % 256) as u8;
-    payload[3] = (ship / 16777216 % 256) as u8;
-    payload[4] = (begun % 256) as u8;
-    payload[5] = (begun / 256 % 256) as u8;
-    payload[6] = (begun / 65536 % 256) as u8;
-    payload[7] = (begun / 16777216 % 256) as u8;
-    payload[8] = (ended % 256) as u8;
-    payload[9] = (ended / 256 % 256) as u8;
-    payload[10] = (ended / 65536 % 256) as u8;
-    payload[11] = (ended / 16777216 % 256) as u8;
-    payload[12] = (seconds % 256) as u8;
-    payload[13] = (seconds / 256 % 256) as u8;
-    payload[14] = (seconds / 65536 % 256) as u8;
-    payload[15] = (seconds / 16777216 % 256) as u8;
-    payload[16] = (number % 256) as u8;
-    payload[17] = (number / 256 % 256) as u8;
-    payload[18] = (number / 65536 % 256) as u8;
-    payload[19] = (number / 16777216 % 256) as u8;
+    payload[..4].copy_from_slice(&ship.to_le_bytes());
+    payload[4..8].copy_from_slice(&start.0.to_le_bytes());
+    payload[8..12].copy_from_slice(&stop.0.to_le_bytes());
+    payload[12..16].copy_from_slice(&seconds.to_le_bytes());
+    payload[16..20].copy_from_slice(&call.0.to_le_bytes());
     Action {
-        kind: 7,
-        slot: slot,
+        kind: Kind::Charge,
+        slot,
         length: 20,
-        payload: payload,
+        payload,
     }
 }

@@ -2,6 +2,7 @@
 #![tactic(auto)]
 
 pub mod deeds;
+mod numbers;
 pub mod sequences;
 
 use units::SlotNumber;
@@ -19,10 +20,26 @@ pub const ROOM: usize = ACTIONS * BLOCK;
 // "slot (255 for the 104 answers)"
 pub const UNABLE_SLOT: SlotNumber = SlotNumber(255);
 
+// "1 carrier on, 2 carrier off, 3 send on channel 70, 4 send on the working channel, 5 dial, 6 release line, 7 charge";
+// document 02, no. 2: "8 ringing on, 9 ringing off, 10 five seconds of busy tone"
+#[derive(Clone, Copy, PartialEq, Eq)]
+pub enum Kind {
+    CarrierOn = 1,
+    CarrierOff,
+    SendOnChannel70,
+    SendOnWorking,
+    Dial,
+    ReleaseLine,
+    Charge,
+    RingingOn,
+    RingingOff,
+    BusyTone = 10,
+}
+
 // One action: its kind, its slot, how much of its payload counts, and the payload.
 #[derive(Clone, Copy)]
 pub struct Action {
-    pub kind: u8,
+    pub kind: Kind,
     pub slot: SlotNumber,
     pub length: u8,
     pub payload: [u8; PAYLOAD],

@@ -1,16 +1,18 @@
-use Rattle.actions.proofs.ActionLaws.{made, laid, sent-short}
+use Rattle.actions.proofs.ActionLaws.{made, both, laid, sent-short}
 use Rattle.actions.specs.Sent.{sent}
+use Rattle.std.specs.Result.{result_unwrap_or}
 use lib.ListN.{length}
 use native.Mathlib.Omega.{arith}
 use mathlib.Core.Path.{◌≡◌, ap, ◌∙◌}
-use Rattle.actions.proofs.ActionLaws.{laid, sent-short}
 use Rattle.actions.proofs.sequences.send.Goals as goal
 
-pub overflow_cast-result : goal.overflow_cast-result
-overflow_cast-result c = let m = c.args.meaning in
-    let e : c.write-written.result.length ≡ length (sent m) = ap (λ w. w.length) c.write-written.ensures.value ∙ (laid m).0 in
+pub overflow_cast-length : goal.overflow_cast-length
+overflow_cast-length c = let m = c.args.meaning in
+    let e : c.unwrap_or-length.result ≡ length (sent m) = c.unwrap_or-length.ensures ∙ ap (λ w. result_unwrap_or w 0) c.write.ensures.value ∙ (laid m).0 in
     omega (arith, sent-short m)
 
 pub returns : goal.returns
 returns c = let m = c.args.meaning in
-    made _ _ _ (sent m) _ (ap (λ w. w.length) c.write-written.ensures.value ∙ (laid m).0) (c.write-written.ensures.room_written ∙ (laid m).1)
+    let e : c.unwrap_or-length.result ≡ length (sent m) = c.unwrap_or-length.ensures ∙ ap (λ w. result_unwrap_or w 0) c.write.ensures.value ∙ (laid m).0 in
+    let r = both _ _ (sent m) _ (omega (arith, sent-short m)) (made _ _ _ (sent m) _ e (c.write.ensures.room_written ∙ (laid m).1)) in
+    record { value = r.0; result_value = r.1 }
