@@ -1,24 +1,15 @@
-use Rattle.distinct.proofs.ApartLaws.{among-here, among_later, among-end}
-use native.Mathlib.Omega.{arith}
-use mathlib.Core.Path.{refl, ◌∙◌}
+use mathlib.Core.Bool.{false, ◌||◌}
+use lib.Dec.{eqb}
+use mathlib.Core.Path.{◌∙◌}
+use borrow.Author.Tests.{tests}
+use Rattle.std.proofs.Common.{rules}
+use Rattle.std.proofs.lemmas.Iterator.{YieldsList-from_slice}
+use Rattle.std.proofs.lemmas.Iterator.Consumers.{fold_from_yields_List}
+use Rattle.distinct.proofs.ApartLaws.{fold-among}
 use Rattle.distinct.proofs.is_among.Goals as goal
-use Rattle.distinct.proofs.is_among.Goals.{then-numbers-k, else-numbers-k}
-
-pub loop-k-init : goal.loop-k-init
-loop-k-init c = (refl, omega arith)
-
-pub loop-k-smaller : goal.loop-k-smaller
-loop-k-smaller c = omega arith
-
-pub loop-k-preserved : goal.loop-k-preserved
-loop-k-preserved c = let l = c.loop-k in
-    let h = c.loop-k-test.true in (
-      elim c.if-numbers-k.branch [
-        | then-numbers-k w ↦ rw w.found-is (among-here _ _ _ l.found h w.if-numbers-k.true ∙ l.invariant.0)
-        | else-numbers-k w ↦ rw w.found-is (among_later _ _ _ l.found h w.if-numbers-k.false ∙ l.invariant.0)
-      ],
-      omega arith,
-    )
 
 pub returns : goal.returns
-returns c = among-end _ _ _ c.loop-k.found c.loop-k-test.false ∙ c.loop-k.invariant.0
+returns c =
+    let x = c.args.number in
+    fold_from_yields_List _ (λ b y. b || eqb x y) false c.fold.result c.fold.ensures.ran (YieldsList-from_slice c.args.numbers.now cc) (λ a y b q k. search (rules, tests))
+    ∙ fold-among x false c.args.numbers.now
