@@ -124,18 +124,20 @@ module _ (s room : List ℕ) (fit : Fit s room) where
       ∙ laid-behind bytes room (4 * from) (4 * p) 4 (omega arith) (omega arith) (omega arith))
 
   -- the last two places, with the end of sequence in DX
-  pub ends-laid : (k end check : ℕ) → k ≡ length s
-      → end ≡ character_of (get_or (rx s) (7 + k) 0) → check ≡ character_of (get_or (rx s) (8 + k) 0)
-      → sets (sets (places_laid s 8 (7 + k) room) (4 * (7 + k)) (bytes_of (end ∷ end ∷ []))) (4 * (8 + k)) (bytes_of (end ∷ check ∷ []))
+  pub ends-laid : (end check : ℕ)
+      → end ≡ character_of (get_or (rx s) (7 + length s) 0) → check ≡ character_of (get_or (rx s) (8 + length s) 0)
+      → sets (sets (places_laid s 8 (7 + length s) room) (4 * (7 + length s)) (bytes_of (end ∷ end ∷ [])))
+      (4 * (7 + length s + 1)) (bytes_of (end ∷ check ∷ []))
       ≡ places_laid s 8 (length s + 9) room
-  ends-laid k end check whole e f =
+  ends-laid end check e f =
+      let k = length s in
       let a : 7 + k ≡ length s + 7 = omega arith in
       let b : 8 + k ≡ 7 + k + 1 = omega arith in
       let d : length s + 9 ≡ 7 + k + 1 + 1 = omega arith in
       let is-end : end ≡ character_of (end_of s) = e ∙ ap character_of (rw a (rx-end s 0 (omega arith))) in
       let dx-there : (p : ℕ) → length s + 7 ≤ p → p < length s + 9 → end ≡ character_of (get_or (dx s) p 0) =
       λ p low high. is-end ∙ ap character_of (sym (dx-end s p 0 low high)) in
-      rw (d, b, place-laid 8 (7 + k) end end (omega arith) (omega arith) (dx-there (7 + k) (omega arith) (omega arith)) e)
+      rw (d, place-laid 8 (7 + k) end end (omega arith) (omega arith) (dx-there (7 + k) (omega arith) (omega arith)) e)
       (place-laid 8 (7 + k + 1) end check (omega arith) (omega arith) (dx-there (7 + k + 1) (omega arith) (omega arith)) (rw b at f))
 
   -- all places, in two parts

@@ -49,9 +49,10 @@ fn first_dx(symbols: &[u8], place: usize) -> u8
     ensures { result ≡ get_or (dx symbols.now) place 0 }
 {
     if place < DX_PHASING {
-        return DX_PHASING_SYMBOL;
+        DX_PHASING_SYMBOL
+    } else {
+        symbols[0]
     }
-    symbols[0]
 }
 
 // Lays the first eight places, in which RX has its phasing.
@@ -59,12 +60,10 @@ fn lay_phasing(symbols: &[u8], room: &mut [u8])
     requires { Fit symbols.now room.old }
     ensures { room.new ≡ places_laid symbols.now 0 8 room.old }
 {
-    let mut place = 0;
-    while place < RX_PHASING {
+    for place in 0..RX_PHASING {
         let dx = character_of(first_dx(symbols, place));
         let rx = character_of(FIRST_RX_PHASING_SYMBOL - place as u8);
         lay_place(dx, rx, place, room);
-        place += 1;
     }
 }
 
@@ -75,16 +74,15 @@ fn lay_symbols(symbols: &[u8], room: &mut [u8])
 {
     let mut before = character_of(symbols[0]);
     let mut last = before;
-    let mut k = 1;
-    while k < symbols.len() {
+    for k in 1..symbols.len() {
         let character = character_of(symbols[k]);
         lay_place(character, before, 7 + k, room);
         before = last;
         last = character;
-        k += 1;
     }
-    lay_place(before, before, 7 + k, room);
-    lay_place(before, last, 8 + k, room);
+    let end = 7 + symbols.len();
+    lay_place(before, before, end, room);
+    lay_place(before, last, end + 1, room);
 }
 
 // Lays the transmission at the front of the room, and returns the count of its characters.

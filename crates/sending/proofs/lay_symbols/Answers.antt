@@ -15,26 +15,12 @@ loop-k-init c = let s = c.args.symbols.now in (
   no-places-laid s c.args.room.now 8,
   c.character_of-before.ensures ∙ ap character_of (sym (rx-format s 0)),
   c.character_of-before.ensures ∙ ap character_of (sym (rx-symbol s 0 0)),
-  omega arith,
-  omega (arith, c.requires.least),
 )
-
-pub bounds-symbols-k : goal.bounds-symbols-k
-bounds-symbols-k c = omega arith
-
-pub overflow_add-k : goal.overflow_add-k
-overflow_add-k c = omega arith
 
 pub lay_place-requires : goal.lay_place-requires
 lay_place-requires c = let l = c.loop-k in
     let same = room-kept c.args.symbols.now c.args.room.now c.requires 8 (7 + l.k) (omega arith) (omega arith) l.invariant.0 in
     omega arith
-
-pub overflow_add-k-in-loop-k : goal.overflow_add-k-in-loop-k
-overflow_add-k-in-loop-k c = omega arith
-
-pub loop-k-smaller : goal.loop-k-smaller
-loop-k-smaller c = omega arith
 
 pub loop-k-preserved : goal.loop-k-preserved
 loop-k-preserved c = let l = c.loop-k in
@@ -50,20 +36,12 @@ loop-k-preserved c = let l = c.loop-k in
           l.invariant.1),
       rw f l.invariant.2,
       rw g (character ∙ ap character_of (sym (rx-symbol s l.k 0))),
-      omega arith,
-      omega arith,
     )
-
-pub overflow_add-k-2 : goal.overflow_add-k-2
-overflow_add-k-2 c = omega arith
 
 pub lay_place-requires-2 : goal.lay_place-requires-2
 lay_place-requires-2 c = let l = c.loop-k in
     let same = room-kept c.args.symbols.now c.args.room.now c.requires 8 (7 + l.k) (omega arith) (omega arith) l.invariant.0 in
     omega arith
-
-pub overflow_add-k-3 : goal.overflow_add-k-3
-overflow_add-k-3 c = omega arith
 
 pub lay_place-requires-3 : goal.lay_place-requires-3
 lay_place-requires-3 c = let l = c.loop-k in
@@ -74,9 +52,10 @@ lay_place-requires-3 c = let l = c.loop-k in
 
 pub returns : goal.returns
 returns c = let l = c.loop-k in
+    let k : l.k ≡ length c.args.symbols.now = omega arith in
     c.lay_place-3.ensures
-    ∙ rw (c.lay_place-2.ensures, l.invariant.0)
-    (ends-laid c.args.symbols.now c.args.room.now c.requires l.k _ _ (omega arith) l.invariant.1 l.invariant.2)
+    ∙ rw (c.lay_place-2.ensures, l.invariant.0, k)
+    (ends-laid c.args.symbols.now c.args.room.now c.requires _ _ (rw k at l.invariant.1) (rw k at l.invariant.2))
 
 pub shape_of-room : goal.shape_of-room
 shape_of-room c = let s = c.args.symbols.now in
