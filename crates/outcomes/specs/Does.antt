@@ -1,9 +1,9 @@
 -- What each outcome means: in the words of the rules; and in its parts, the answer, the actions, the slot, the queue, the last call number.
-use Rattle.std.specs.Prelude.{ℕ, zero, suc, min, List, [], ◌∷◌, ◌++◌, Bool, true, false, cond, length, get_or}
+use Rattle.std.specs.Prelude.{Option as Optional, ℕ, zero, suc, min, List, [], ◌∷◌, ◌++◌, Bool, true, false, cond, length, get_or}
 use Rattle.std.proofs.Math.Option.{Option, none, some}
 use Rattle.units.specs.declared.CallNumber.{CallNumber}
 use Rattle.units.specs.declared.Tenths.{Tenths}
-use Rattle.units.specs.declared.Lasted.{Lasted}
+use Rattle.units.specs.declared.Duration.{Duration}
 use Rattle.rules.specs.Rules.Places.{mod_at, drop_at}
 use Rattle.rules.specs.Rules.Words.{Request, carrier_on, carrier_off, acknowledge, call_ship, unable, dial, ringing_on, ringing_off}
 use Rattle.rules.specs.Rules.Actions.{Action, does, over, the_ship, the_coast}
@@ -205,7 +205,7 @@ abbrev pub wait_from : Tenths → ℕ → Tenths
 wait_from t p = record { 0 = min (due_after t.0 p) 4294967295 }
 
 -- what an end of call at t tells
-abbrev pub lasted_of : Talk → Tenths → Lasted
+abbrev pub lasted_of : Talk → Tenths → Optional Duration
 lasted_of k t = lasted (since_of k) t.0
 
 abbrev pub free_turn : Tenths → ℕ → Turn

@@ -4,7 +4,7 @@
 pub mod parts;
 
 use slots::{Phase, QueuePlace};
-use units::{Lasted, Tenths};
+use units::{Duration, Tenths};
 
 // How far the call of a slot has come: nobody has answered, or somebody since then; `None` would not say which.
 #[derive(Clone, Copy)]
@@ -25,7 +25,7 @@ pub enum Outcome {
     Clears, // carrier off, and freed
     CoastEnds(Talk), // charge if answered, release, end of call, carrier off, freed
     ShipEnds(Talk), // the same, but held
-    SaysAgain(Lasted), // in the hold
+    SaysAgain(Option<Duration>), // in the hold
     Repeats, // rule b, an identical request
     Renews, // rule b, offered afresh
     Redials(Talk), // rule c: the coast ends the call, then d to g apply

@@ -12,14 +12,14 @@ use slots::{
     CALL_WAIT, Carrier, DIALLING_WAIT, HOLD_WAIT, OFFER_WAIT, Phase, QueuePlace, RING_BACK_WAIT,
     RINGING_WAIT, Waiting,
 };
-use units::{CallNumber, Lasted, Tenths};
+use units::{CallNumber, Duration, Tenths};
 
 // What an end of call at that time tells: of an unanswered one nothing.
-pub fn lasted_of(talk: Talk, time: Tenths) -> Lasted
+pub fn lasted_of(talk: Talk, time: Tenths) -> Option<Duration>
     ensures { result ≡ lasted_of talk time }
 {
     match talk {
-        Talk::Unanswered => Lasted::Nothing,
+        Talk::Unanswered => None,
         Talk::Since(since) => lasted(since, time),
     }
 }
@@ -135,6 +135,9 @@ pub fn entered(change: QueueChange, entry: Waiting, request: Request) -> Waiting
     match change {
         QueueChange::Same | QueueChange::Leaves(_) => entry,
         QueueChange::Joins(due) => Waiting { due, request },
-        QueueChange::Replaces(_) => Waiting { request, ..entry },
+        QueueChange::Replaces(_) => {
+            let due = entry.due;
+            Waiting { due, request }
+        }
     }
 }
