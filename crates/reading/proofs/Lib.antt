@@ -1,4 +1,3 @@
 pub mod Passed
 pub mod DigitLaws
-pub mod FiveLaws
 pub mod Settled

@@ -1,6 +1,6 @@
 -- What it says that nothing is refused: every test of the table holds; and the other way round.
 use Prim.Native.Nat.{ℕ, ◌-◌, ◌≤◌}
-use mathlib.Core.Path.{◌≡◌, refl}
+use mathlib.Core.Path.{◌≡◌, refl, ap}
 use mathlib.Core.Bool.{true, false}
 use mathlib.Core.List.{List}
 use native.Mathlib.Omega.{arith}
@@ -85,3 +85,9 @@ module _ (s : List ℕ) (ok : is_done (answer_of s) ≡ true) where
 
 pub long-enough : (s : List ℕ) → is_done (answer_of s) ≡ true → (21 ≤ length s) × (length s ≤ 28)
 long-enough s e = long s (passed s e).long
+
+-- the lengths that the code asks for, from what it has tested
+pub accepted-long : (s : List ℕ) → answer_of s ≡ nothing_refused → (21 ≤ length s) × (length s ≤ 28)
+accepted-long s e = long-enough s (ap is_done e)
+
+pub ruleset lengths = (twenty, accepted-long)

@@ -14,31 +14,22 @@ fn sixteen_digits(pairs: &[u8], start: usize) -> [u8; DIGITS]
     let mut digits = [0u8; DIGITS];
     digits[0] = first / 10;
     digits[1 - start] = first % 10;
-    let mut i = 1;
-    while i < pairs.len() {
+    for i in 1..pairs.len() {
         let pair = pairs[i];
         digits[2 * i - start] = pair / 10;
         digits[2 * i + 1 - start] = pair % 10;
-        i += 1;
     }
     digits
 }
 
+#[tactic(auto, unfolding(sequence::specs::Reading::number_of, sequence::specs::Reading::zero_before))]
 pub(crate) fn number_of(parity: u8, pairs: &[u8]) -> Number
     requires { (1 ≤ length pairs.now) × (length pairs.now ≤ 8) }
     ensures { result ≡ number_of parity pairs.now }
 {
-    let pair_count = pairs.len();
-    if parity == ODD_COUNT {
-        let digits = sixteen_digits(pairs, 1);
-        return Number {
-            count: (2 * pair_count - 1) as u8,
-            digits: digits,
-        };
-    }
-    let digits = sixteen_digits(pairs, 0);
+    let start = usize::from(parity == ODD_COUNT);
     Number {
-        count: (2 * pair_count) as u8,
-        digits: digits,
+        count: (2 * pairs.len() - start) as u8,
+        digits: sixteen_digits(pairs, start),
     }
 }

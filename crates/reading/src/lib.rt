@@ -23,7 +23,7 @@ fn held(test: bool, refusal: Refusal) -> Result<(), Refusal>
 }
 
 // The tests, in document 01's order.
-#[tactic(auto, unfolding(sequence::specs::Reading::answer_of, sequence::specs::Reading::refusals))]
+#[tactic(auto, using(crate::proofs::Passed::lengths), unfolding(sequence::specs::Reading::answer_of, sequence::specs::Reading::refusals))]
 fn tested(symbols: &[u8]) -> Result<(), Refusal>
     ensures { MatchResult result (λ _. answer_of symbols.now ≡ done) (λ r. answer_of symbols.now ≡ Some r) }
 {
@@ -40,40 +40,39 @@ fn tested(symbols: &[u8]) -> Result<(), Refusal>
 }
 
 // What symbols that pass every test mean.
+#[tactic(auto, using(crate::proofs::Passed::lengths), unfolding(sequence::specs::Reading::meaning_of, sequence::specs::Reading::pairs_in))]
 fn meaning_of(symbols: &[u8]) -> Meaning
     requires { answer_of symbols.now ≡ done }
     ensures { result ≡ meaning_of symbols.now }
 {
     let last = symbols.len() - 2;
     let first = at(symbols, 12);
-    let field = field_of(first, at(symbols, 14), at(symbols, 15), at(symbols, 16));
-    let number = number_of(at(symbols, 17), &symbols[18..last]);
     Meaning {
         address: identity_at(symbols, 1),
         sender: identity_at(symbols, 7),
         first,
         second: at(symbols, 13),
-        field,
-        number,
+        field: field_of(first, at(symbols, 14), at(symbols, 15), at(symbols, 16)),
+        number: number_of(at(symbols, 17), &symbols[18..last]),
         end: at(symbols, last),
     }
 }
 
 // The meaning that comes with a refusal.
+#[tactic(auto, unfolding(sequence::specs::Reading::blank_meaning))]
 pub fn blank_meaning() -> Meaning
     ensures { result ≡ blank_meaning }
 {
-    let number = Number {
-        count: 0,
-        digits: [0u8; DIGITS],
-    };
     Meaning {
         address: 0,
         sender: 0,
         first: 0,
         second: 0,
         field: Field::Blank,
-        number,
+        number: Number {
+            count: 0,
+            digits: [0u8; DIGITS],
+        },
         end: 0,
     }
 }
