@@ -40,7 +40,7 @@ unfolding action_of
 made kind slot n p payload e f = rw (e, f)
 
 -- the zeros behind a list are those that pad it
-padded-over : (n : ℕ) (l : List ℕ) → length l ≤ n → l ++ drop (length l) (replicate n 0) ≡ padded 0 n l
+pub padded-over : (n : ℕ) (l : List ℕ) → length l ≤ n → l ++ drop (length l) (replicate n 0) ≡ padded 0 n l
 unfolding padded
 padded-over zero [] h = refl
 padded-over (suc n) [] h = ap (λ r. 0 ∷ r) (padded-over n [] (omega arith))

@@ -1,31 +1,46 @@
 -- The bytes of a block by their places.
-use Prim.Native.Nat.{ℕ, zero, suc, ◌<◌, ◌≤◌}
-use mathlib.Core.Path.{◌≡◌, refl, sym, ◌∙◌}
-use mathlib.Core.List.{List, [], ◌∷◌}
+use Prim.Native.Nat.{ℕ, ◌+◌, ◌<◌, min}
+use mathlib.Core.Path.{◌≡◌, refl}
+use mathlib.Core.List.{List, ◌++◌}
 use native.Mathlib.Omega.{arith}
-use native.Mathlib.Nat.{le_of_suc-le-suc, not-suc-le-zero}
-use lib.ListN.{length, get_or, take, length-take, get_or-eq_default}
-use lib.Seq.{get_or-take}
+use denote.Enum.Declared.{tag_of}
+use lib.ListN.{length, take, drop, replicate, length-take}
+use Rattle.std.specs.Prelude.{Result, Ok, Err}
+use Rattle.std.specs.Result.{OkIff, result_unwrap_or}
+use Rattle.std.proofs.lemmas.List.{take_min}
 use Rattle.rules.specs.Rules.Bytes.{padded, block}
 use Rattle.requests.proofs.ArrayLaws.{padded-length}
+use Rattle.actions.specs.contracts.Kind.{the_type}
+use Rattle.actions.specs.declared.Kind.{Kind}
+use Rattle.actions.specs.declared.Kind.TheVariants.{CarrierOn, CarrierOff, SendOnChannel70, SendOnWorking, Dial, ReleaseLine, Charge}
+use Rattle.actions.specs.declared.Kind.TheVariants.{RingingOn, RingingOff, BusyTone}
 use Rattle.actions.specs.declared.Action.{Action}
-use Rattle.actions.specs.Blocks.{action_block, in_bytes}
+use Rattle.actions.specs.Blocks.{number_of_kind, action_block, in_bytes}
+use Rattle.actions.proofs.ActionLaws.{padded-over}
 
-padded-at : (n : ℕ) (l : List ℕ) (i : ℕ) → i < n → get_or (padded 0 n l) i 0 ≡ get_or l i 0
-unfolding padded
-padded-at zero l i h = absurd (not-suc-le-zero h)
-padded-at (suc n) [] zero h = refl
-padded-at (suc n) [] (suc i) h = padded-at n [] i (le_of_suc-le-suc h)
-padded-at (suc n) (x ∷ l) zero h = refl
-padded-at (suc n) (x ∷ l) (suc i) h = padded-at n l i (le_of_suc-le-suc h)
+pub kind-number : (k : Kind) → tag_of the_type k + 1 ≡ number_of_kind k
+kind-number CarrierOn = refl
+kind-number CarrierOff = refl
+kind-number SendOnChannel70 = refl
+kind-number SendOnWorking = refl
+kind-number Dial = refl
+kind-number ReleaseLine = refl
+kind-number Charge = refl
+kind-number RingingOn = refl
+kind-number RingingOff = refl
+kind-number BusyTone = refl
 
--- a byte of a payload as it is laid, and one behind it
-module _ (n : ℕ) (p : List ℕ) (j : ℕ) (l : j < 36) where
-  pub payload-at : j < n → get_or p j 0 ≡ get_or (padded 0 36 (take n p)) j 0
-  payload-at h = sym (get_or-take n p j 0 h) ∙ sym (padded-at 36 (take n p) j l)
+-- a slot's number past a byte
+pub slot-byte : {E : Type 0} (s : ℕ) (r : Result ℕ E) → OkIff r (s < 256) s → result_unwrap_or r 255 ≡ min s 255
+slot-byte s (Ok x) h = omega (arith, h.0, h.1)
+slot-byte s (Err e) h = omega arith
 
-  pub payload-past : n ≤ j → 0 ≡ get_or (padded 0 36 (take n p)) j 0
-  payload-past h = sym (get_or-eq_default (take n p) 0 {n = j} (simp length-take (omega arith))) ∙ sym (padded-at 36 (take n p) j l)
+-- a payload copied to the front of zeros
+pub payload-laid : (n : ℕ) (p : List ℕ) → length p ≡ 36 → take (min n 36) p ++ drop (min n 36) (replicate 36 0) ≡ padded 0 36 (take n p)
+payload-laid n p w =
+    let e : take (min n 36) p ≡ take n p = rw (← w) (take_min n p) in
+    let l : length (take n p) ≡ min n 36 = omega (arith, length-take n p) in
+    rw (e, ← l) (padded-over 36 (take n p) (omega arith))
 
 pub block-length : (a : Action) → length (in_bytes (action_block a)) ≡ 40
 unfolding action_block block

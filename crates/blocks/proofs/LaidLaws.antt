@@ -1,19 +1,15 @@
 -- Blocks laid one at a time are blocks laid at once, in a room that holds them.
-use Prim.Native.Nat.{ℕ, suc, ◌+◌, ◌*◌, ◌<◌, ◌≤◌, min}
+use Prim.Native.Nat.{ℕ, suc, ◌+◌, ◌-◌, ◌*◌, ◌<◌, ◌≤◌}
 use mathlib.Core.Path.{◌≡◌, refl, sym, ap, ◌∙◌}
 use mathlib.Core.List.{List, [], ◌∷◌, ◌++◌, append_assoc, append-nil}
 use native.Mathlib.Omega.{arith}
 use native.Mathlib.Nat.{zero-add}
-use lib.ListN.{length, take, drop, get_or, set, length-take, take-append-drop}
-use lib.Seq.{paste, paste-zero, take_all, length-paste, take-paste, drop-paste, drop-drop}
+use lib.ListN.{length, take, drop, take-append-drop}
+use borrow.Rule.Slice.PartMut.{put_mid, Post-is}
+use lib.Seq.{paste, take_all, length-paste, take-paste, drop-paste, drop-drop}
 use borrow.Author.Tests.{le-leb, lt-leb, lt-ltb, le-ltb}
-use Rattle.sequence.proofs.Paste.{paste-turn}
 use Rattle.rules.specs.Rules.Places.{Each}
-use Rattle.rules.specs.Rules.Bytes.{padded, block}
-use Rattle.requests.proofs.ArrayLaws.{padded-length}
-use Rattle.actions.specs.declared.Action.{Action}
-use Rattle.actions.specs.Blocks.{action_block, in_bytes, joined, holds, put_count, put_room}
-use Rattle.blocks.proofs.BlockLaws.{block-length}
+use Rattle.actions.specs.Blocks.{in_bytes, joined, holds, put_count, put_room}
 use Rattle.blocks.specs.Laid.{holds_at, lay_count, lay_room, Laid, laid_from}
 
 -- ── one block ────────────────────────────────────────────────────────────────
@@ -32,51 +28,17 @@ module _ (b : List ℕ) (k : ℕ) (room : List ℕ) where
     unfolding holds_at lay_count
     counted = rw (lt-ltb k 255 n, le-leb (40 * suc k) (length room) h)
 
+    pub put : (now : List ℕ) → now ≡ in_bytes b → put_mid (40 * k) (40 * k + 40 - 40 * k) room now ≡ lay_room b k room
+    unfolding holds_at lay_room
+    put now w =
+        let e : 40 * k + 40 ≡ 40 * suc k = omega arith in
+        rw (lt-ltb k 255 n, le-leb (40 * suc k) (length room) h, w, Post-is (40 * k) (40 * k + 40) room (omega arith), e) (sym (append_assoc (take (40 * k) room) (in_bytes b) (drop (40 * suc k) room)))
+
     pub pasted : length (in_bytes b) ≡ 40 → lay_room b k room ≡ paste room (40 * k) (in_bytes b) 40
     unfolding holds_at lay_room
     pasted w =
         let e : 40 * suc k ≡ 40 * k + 40 = omega arith in
         rw (lt-ltb k 255 n, le-leb (40 * suc k) (length room) h, take_all 40 (in_bytes b) (omega (arith, w)), e)
-
--- four bytes, and a payload behind them
-headed : (room : List ℕ) (at a b c : ℕ) (p : List ℕ) → length p ≡ 36 → at + 40 ≤ length room
-    → paste (set (set (set (set room at a) (at + 1) b) (at + 2) c) (at + 3) 0) (at + 4) p 36 ≡ paste room at (a ∷ b ∷ c ∷ 0 ∷ p) 40
-headed room at a b c p w h =
-    let t : List ℕ = a ∷ b ∷ c ∷ 0 ∷ p in
-    let z : at ≡ at + 0 = omega arith in
-    let one : set room at a ≡ paste room at t 1 =
-    ap (λ l. set l at a) (paste-zero room at t) ∙ ap (λ i. set (paste room at t 0) i a) z ∙ paste-turn room at t 0 (omega arith) (omega arith) in
-    let two : set (set room at a) (at + 1) b ≡ paste room at t 2 = ap (λ l. set l (at + 1) b) one ∙ paste-turn room at t 1 (omega arith) (omega arith) in
-    let three : set (set (set room at a) (at + 1) b) (at + 2) c ≡ paste room at t 3 = ap (λ l. set l (at + 2) c) two ∙ paste-turn room at t 2 (omega arith) (omega arith) in
-    let four : set (set (set (set room at a) (at + 1) b) (at + 2) c) (at + 3) 0 ≡ paste room at t 4 = ap (λ l. set l (at + 3) 0) three ∙ paste-turn room at t 3 (omega arith) (omega arith) in
-    let front = take-paste room at t 4 (omega arith) (omega arith) in
-    let n : at + 4 + 36 ≡ at + 40 = omega arith in
-    let back : drop (at + 4 + 36) (paste room at t 4) ≡ drop (at + 40) room =
-    sym (drop-drop 36 (at + 4) (paste room at t 4)) ∙ ap (drop 36) (drop-paste room at t 4 (omega arith) (omega arith)) ∙ drop-drop 36 (at + 4) room ∙ ap (λ i. drop i room) n in
-    ap (λ l. paste l (at + 4) p 36) four
-    ∙ ap (λ l. l ++ take 36 p ++ drop (at + 4 + 36) (paste room at t 4)) front
-    ∙ ap (λ l. (take at room ++ take 4 t) ++ take 36 p ++ l) back
-    ∙ ap (λ l. l ++ drop (at + 40) room) (append_assoc (take at room) (take 4 t) (take 36 p))
-
--- a byte more of the payload
-pub turned : (room : List ℕ) (place n : ℕ) (p now : List ℕ) (j b : ℕ) → now ≡ paste room (place + 4) (padded 0 36 (take n p)) j → place + 40 ≤ length room → j < 36
-    → b ≡ get_or (padded 0 36 (take n p)) j 0 → set now (place + 4 + j) b ≡ paste room (place + 4) (padded 0 36 (take n p)) (j + 1)
-turned room place n p now j b e h l f =
-    rw (e, f) (paste-turn room (place + 4) (padded 0 36 (take n p)) j (omega arith) (omega (arith, padded-length 0 36 (take n p))))
-
--- an action's, as the code lays it
-pub block-laid : (x : Action) (k : ℕ) (room : List ℕ) (s n : ℕ) (now : List ℕ) → length x.payload ≡ 36 → k < 255 → 40 * k + 40 ≤ length room
-    → s ≡ min x.slot.0 255 → n ≡ min x.length 36
-    → now ≡ paste (set (set (set (set room (40 * k) x.kind) (40 * k + 1) s) (40 * k + 2) n) (40 * k + 3) 0) (40 * k + 4) (padded 0 36 (take x.length x.payload)) 36
-    → (k + 1 ≡ lay_count k (length room)) × (now ≡ lay_room (action_block x) k room)
-unfolding action_block block
-block-laid x k room s n now w small h slot count e =
-    let p = padded 0 36 (take x.length x.payload) in
-    let many : n ≡ length (take x.length x.payload) = omega (arith, length-take x.length x.payload) in
-    let c = counted (action_block x) k room small (omega arith) in
-    let t = headed room (40 * k) x.kind s n p (padded-length 0 36 (take x.length x.payload)) h in
-    let q : x.kind ∷ s ∷ n ∷ 0 ∷ p ≡ in_bytes (action_block x) = rw (slot, many) in
-    (omega (arith, c), e ∙ t ∙ ap (λ l. paste room (40 * k) l 40) q ∙ sym (pasted (action_block x) k room small (omega arith) (block-length x)))
 
 -- ── many blocks ──────────────────────────────────────────────────────────────
 

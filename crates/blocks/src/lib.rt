@@ -1,28 +1,29 @@
 // The block of an action, laid into the room that is lent.
 #![tactic(auto)]
 
-ghost use Rattle.std.specs.Prelude.{◌≡◌, min, length};
-ghost use Rattle.actions.specs.Blocks.{action_block};
+ghost use Rattle.std.specs.Prelude.{◌≡◌, length};
+ghost use Rattle.actions.specs.Blocks.{action_block, in_bytes};
 ghost use Rattle.blocks.specs.Laid.{lay_count, lay_room};
 
 use actions::{Action, BLOCK, PAYLOAD};
-use requests::least;
-use units::SlotNumber;
 
 const MOST_BYTES: u8 = PAYLOAD as u8;
 
-// A slot's number in its block's byte; 255, which no slot has, for one past it.
-fn slot_byte(slot: SlotNumber) -> u8
-    ensures { result ≡ min slot.0 255 }
+// "kind, slot .., payload length, 0, payload, zeros"; 255, which no slot has, for a slot's number past a byte.
+fn bytes_of(action: Action) -> [u8; BLOCK]
+    ensures { result ≡ in_bytes (action_block action) }
 {
-    if slot.0 <= 255 {
-        return slot.0 as u8;
-    }
-    255
+    let length = action.length.min(MOST_BYTES);
+    let used = length as usize;
+    let mut bytes = [0u8; BLOCK];
+    bytes[0] = action.kind as u8;
+    bytes[1] = u8::try_from(action.slot.0).unwrap_or(255);
+    bytes[2] = length;
+    bytes[4..4 + used].copy_from_slice(&action.payload[..used]);
+    bytes
 }
 
-// "kind, slot .., payload length, 0, payload, zeros": lays an action as the block of that number where the room holds it, and
-// returns the number of the next block.
+// Lays an action as the block of that number where the room holds it, and returns the number of the next block.
 pub fn lay(action: Action, block: u8, room: &mut [u8]) -> u8
     ensures value { result ≡ lay_count block (length room.old) }
     ensures room_written { room.new ≡ lay_room (action_block action) block room.old }
@@ -34,17 +35,6 @@ pub fn lay(action: Action, block: u8, room: &mut [u8]) -> u8
     if room.len() < place + BLOCK {
         return block;
     }
-    let slot = action.slot;
-    let length = action.length as usize;
-    let payload = action.payload;
-    room[place] = action.kind;
-    room[place + 1] = slot_byte(slot);
-    room[place + 2] = least(action.length, MOST_BYTES);
-    room[place + 3] = 0;
-    let mut i = 0;
-    while i < PAYLOAD {
-        room[place + 4 + i] = if i < length { payload[i] } else { 0 };
-        i += 1;
-    }
+    room[place..place + BLOCK].copy_from_slice(&bytes_of(action));
     block + 1
 }
