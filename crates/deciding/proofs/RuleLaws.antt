@@ -3,6 +3,7 @@ use Prim.Native.Nat.{ℕ, ◌≤◌}
 use mathlib.Core.Bool.{Bool, true, false, cond}
 use mathlib.Core.Option.{Option, none, some}
 use mathlib.Core.Path.{◌≡◌, refl, ap, sym, ◌∙◌}
+use Rattle.std.specs.Prelude.{Option as Optional, Some, None}
 use native.Mathlib.Omega.{arith}
 use lib.ListN.{length}
 use lib.Dec.{ltb}
@@ -26,8 +27,6 @@ use Rattle.slots.specs.declared.Signal.TheVariants.{LineDialledOut, LineLifted, 
 use Rattle.slots.specs.declared.Hand.{Hand}
 use Rattle.slots.specs.declared.Hand.TheVariants.{Takes, GivesBack}
 use Rattle.slots.specs.declared.QueuePlace.{QueuePlace}
-use Rattle.slots.specs.declared.Place.{Place}
-use Rattle.slots.specs.declared.Place.TheVariants.{At, Nothing}
 use Rattle.slots.specs.Phases.{carrier_of, phase_view}
 use Rattle.slots.specs.Views.{signal_view, hand_view, place_view}
 use Rattle.slots.proofs.PhaseLaws.{by-phase}
@@ -171,12 +170,12 @@ module _ (i : ℕ) (st : R.Station) (r : R.Dealing) (q : Request) where
   newcomer-is (some j) h k = offers-is (length st.queue) (sym (k refl) ∙ h)
 
   -- d, or e to g, for a ship that has no slot: i is the slot that was found free, if one was
-  pub d-to-g-is : (u : Bool) → used_up st ≡ u → (place : Place) (f : Option ℕ) → f ≡ lowest is_free st.slots → (is_some f ≡ true → f ≡ some i)
+  pub d-to-g-is : (u : Bool) → used_up st ≡ u → (place : Optional QueuePlace) (f : Option ℕ) → f ≡ lowest is_free st.slots → (is_some f ≡ true → f ≡ some i)
       → out_of i r q (d_to_g_by u place (is_some f) (length st.queue)) st ≡ d_to_g st q (place_view place)
   unfolding out_of d_to_g no_number waiting_or_new
   d-to-g-is true e place f h k = rw e refl
-  d-to-g-is false e (At j) f h k = rw e refl
-  d-to-g-is false e Nothing f h k = rw e (newcomer-is f h k)
+  d-to-g-is false e (Some j) f h k = rw e refl
+  d-to-g-is false e None f h k = rw e (newcomer-is f h k)
 
   -- ── a tick ──
 

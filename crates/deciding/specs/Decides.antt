@@ -1,7 +1,7 @@
 -- What each event does to a slot, by its phase: one row for an event, one column for a kind of phase, as in the rules.
-use Rattle.std.specs.Prelude.{ℕ, Bool, true, false, cond, ltb}
+use Rattle.std.specs.Prelude.{Option as Optional, Some, None, ℕ, Bool, true, false, cond, ltb}
 use Rattle.units.specs.declared.Tenths.{Tenths}
-use Rattle.units.specs.declared.Lasted.{Lasted}
+use Rattle.units.specs.declared.Duration.{Duration}
 use Rattle.rules.specs.Rules.Station.{Kind, offered, first_ring_back, second_ring_back, acknowledged, first_call, second_call, ringing}
 use Rattle.rules.specs.Rules.Station.{kind_wait, reply_wait, carrier_wait}
 use Rattle.rules.specs.Rules.Sound.{queue_room}
@@ -17,8 +17,7 @@ use Rattle.slots.specs.declared.Signal.{Signal}
 use Rattle.slots.specs.declared.Signal.TheVariants.{LineDialledOut, LineLifted, LineHung, CarrierHeard, CarrierLost}
 use Rattle.slots.specs.declared.Hand.{Hand}
 use Rattle.slots.specs.declared.Hand.TheVariants.{Takes, GivesBack}
-use Rattle.slots.specs.declared.Place.{Place}
-use Rattle.slots.specs.declared.Place.TheVariants.{At, Nothing}
+use Rattle.slots.specs.declared.QueuePlace.{QueuePlace}
 use Rattle.outcomes.specs.declared.Talk.{Talk}
 use Rattle.outcomes.specs.declared.Talk.TheVariants.{Unanswered, Since}
 use Rattle.outcomes.specs.declared.Outcome.{Outcome}
@@ -29,7 +28,7 @@ use Rattle.outcomes.specs.Does.{wait_from}
 
 -- the columns: free; taken; before the line is dialled, or called from ashore; dialling; dialled out; answered; in the hold
 abbrev pub on : Outcome → Outcome → (Kind → Outcome) → (Tenths → Carrier → Outcome) → (Tenths → Carrier → Outcome)
-    → (Tenths → Carrier → Outcome) → (Lasted → Outcome) → Phase → Outcome
+    → (Tenths → Carrier → Outcome) → (Optional Duration → Outcome) → Phase → Outcome
 on a b k d o c h Free = a
 on a b k d o c h (Offered t) = k offered
 on a b k d o c h (RingBack t) = k first_ring_back
@@ -226,9 +225,9 @@ abbrev pub newcomer_by : Bool → ℕ → Outcome
 newcomer_by found waiting = cond found Offers (cond (ltb waiting queue_room) Joins (Unable 102))
 
 -- d. "The ship is waiting", at that place
-abbrev pub waiting_or_new_by : Place → Bool → ℕ → Outcome
-waiting_or_new_by (At k) found waiting = Replaces k
-waiting_or_new_by Nothing found waiting = newcomer_by found waiting
+abbrev pub waiting_or_new_by : Optional QueuePlace → Bool → ℕ → Outcome
+waiting_or_new_by (Some k) found waiting = Replaces k
+waiting_or_new_by None found waiting = newcomer_by found waiting
 
-abbrev pub d_to_g_by : Bool → Place → Bool → ℕ → Outcome
+abbrev pub d_to_g_by : Bool → Optional QueuePlace → Bool → ℕ → Outcome
 d_to_g_by spent place found waiting = while_left spent (waiting_or_new_by place found waiting)

@@ -12,7 +12,7 @@ ghost use Rattle.deciding.specs.Decides.{while_left, newcomer_by, d_to_g_by};
 use due_times::{carrier_wait, due_after};
 use outcomes::{Outcome, Talk};
 use requests::Mode;
-use slots::{Carrier, Hand, MOST_WAITING, OFFER_WAIT, Phase, Place, REPLY_WAIT, Signal};
+use slots::{Carrier, Hand, MOST_WAITING, OFFER_WAIT, Phase, QueuePlace, REPLY_WAIT, Signal};
 use units::Tenths;
 
 // Document 02, no. 1: "at it a new wait of 600 begins"; "A second P in a call, or one after the answer, is ignored".
@@ -69,18 +69,18 @@ fn carrier_down(time: Tenths, mode: Mode, phase: Phase) -> Outcome
     ensures { result ≡ down_by time mode phase }
 {
     match phase {
-        Phase::Dialling(due, carrier) => {
-            let lost = lost_from(time, mode, carrier);
-            Outcome::Turns(Phase::Dialling(due, lost))
-        }
-        Phase::DialledOut(due, carrier) => {
-            let lost = lost_from(time, mode, carrier);
-            Outcome::Turns(Phase::DialledOut(due, lost))
-        }
-        Phase::Answered(since, carrier) => {
-            let lost = lost_from(time, mode, carrier);
-            Outcome::Turns(Phase::Answered(since, lost))
-        }
+        Phase::Dialling(due, carrier) => Outcome::Turns(Phase::Dialling(
+            due,
+            lost_from(time, mode, carrier),
+        )),
+        Phase::DialledOut(due, carrier) => Outcome::Turns(Phase::DialledOut(
+            due,
+            lost_from(time, mode, carrier),
+        )),
+        Phase::Answered(since, carrier) => Outcome::Turns(Phase::Answered(
+            since,
+            lost_from(time, mode, carrier),
+        )),
         _ => Outcome::Ignored,
     }
 }
@@ -96,16 +96,14 @@ pub fn coast_end(phase: Phase) -> Outcome
     }
 }
 
-// On-hook; 02, no. 2: "The caller's on-hook before that drops the call too".
+// On-hook: a call that is dialled or answered ends; 02, no. 2: "The caller's on-hook before that drops the call too".
 fn on_hook(phase: Phase) -> Outcome
     ensures { result ≡ hung_by phase }
 {
     match phase {
-        Phase::Dialling(_, _) | Phase::DialledOut(_, _) => Outcome::CoastEnds(Talk::Unanswered),
-        Phase::Answered(since, _) => Outcome::CoastEnds(Talk::Since(since)),
         Phase::Called(_) | Phase::CalledAgain(_) => Outcome::DropsCall(false, false),
         Phase::Ringing(_) => Outcome::DropsCall(true, false),
-        _ => Outcome::Ignored,
+        _ => coast_end(phase),
     }
 }
 
@@ -125,45 +123,42 @@ pub fn by_signal(signal: Signal, time: Tenths, mode: Mode, phase: Phase) -> Outc
 pub fn working_call(own: bool, phase: Phase) -> Outcome
     ensures { result ≡ working_by own phase }
 {
-    if own {
-        return match phase {
-            Phase::Offered(_) | Phase::Acknowledged(_) => Outcome::Dials,
-            _ => Outcome::Ignored,
-        };
+    match phase {
+        Phase::Offered(_) | Phase::Acknowledged(_) if own => Outcome::Dials,
+        _ => Outcome::Ignored,
     }
-    Outcome::Ignored
 }
 
 // "while dialling or answered, same ship"; "in the hold: .. the same answer sent"
 pub fn ship_end(own: bool, phase: Phase) -> Outcome
     ensures { result ≡ ship_end_by own phase }
 {
-    if own {
-        return match phase {
-            Phase::Dialling(_, _) | Phase::DialledOut(_, _) => Outcome::ShipEnds(Talk::Unanswered),
-            Phase::Answered(since, _) => Outcome::ShipEnds(Talk::Since(since)),
-            Phase::Hold(_, lasted) => Outcome::SaysAgain(lasted),
-            _ => Outcome::Ignored,
-        };
+    if !own {
+        return Outcome::Ignored;
     }
-    Outcome::Ignored
+    match phase {
+        Phase::Dialling(_, _) | Phase::DialledOut(_, _) => Outcome::ShipEnds(Talk::Unanswered),
+        Phase::Answered(since, _) => Outcome::ShipEnds(Talk::Since(since)),
+        Phase::Hold(_, lasted) => Outcome::SaysAgain(lasted),
+        _ => Outcome::Ignored,
+    }
 }
 
 // Ring-back acknowledged: "wait 160"; 02, no. 2: "The ship's first BQ .. starts the ringing".
 pub fn bq(own: bool, time: Tenths, phase: Phase) -> Outcome
     ensures { result ≡ bq_by own time phase }
 {
-    if own {
-        return match phase {
-            Phase::RingBack(_) | Phase::RingBackAgain(_) => {
-                let due = due_after(time, OFFER_WAIT);
-                Outcome::Turns(Phase::Acknowledged(due))
-            }
-            Phase::Called(_) | Phase::CalledAgain(_) => Outcome::StartsRinging,
-            _ => Outcome::Ignored,
-        };
+    if !own {
+        return Outcome::Ignored;
     }
-    Outcome::Ignored
+    match phase {
+        Phase::RingBack(_) | Phase::RingBackAgain(_) => {
+            let due = due_after(time, OFFER_WAIT);
+            Outcome::Turns(Phase::Acknowledged(due))
+        }
+        Phase::Called(_) | Phase::CalledAgain(_) => Outcome::StartsRinging,
+        _ => Outcome::Ignored,
+    }
 }
 
 // 02, no. 2: "its BQ with 104 before its transmission, ringing or not, drops the call"
@@ -182,9 +177,10 @@ pub fn data_asked(called: bool) -> Outcome
     ensures { result ≡ data_by called }
 {
     if called {
-        return Outcome::Ignored;
+        Outcome::Ignored
+    } else {
+        Outcome::Unable(109)
     }
-    Outcome::Unable(109)
 }
 
 // The operator "takes a free slot".
@@ -236,12 +232,9 @@ pub fn main_due(phase: Phase) -> Outcome
 fn rule_c(mode: Mode, talk: Talk, carrier: Carrier) -> Outcome
     ensures { result ≡ rule_c_by mode talk carrier }
 {
-    match mode {
-        Mode::Duplex => Outcome::Ignored,
-        Mode::Simplex => match carrier {
-            Carrier::Present => Outcome::Ignored,
-            Carrier::Lost(_) => Outcome::Redials(talk),
-        },
+    match (mode, carrier) {
+        (Mode::Simplex, Carrier::Lost(_)) => Outcome::Redials(talk),
+        _ => Outcome::Ignored,
     }
 }
 
@@ -249,10 +242,7 @@ fn rule_c(mode: Mode, talk: Talk, carrier: Carrier) -> Outcome
 fn while_left(spent: bool, outcome: Outcome) -> Outcome
     ensures { result ≡ while_left spent outcome }
 {
-    if spent {
-        return Outcome::Unable(107);
-    }
-    outcome
+    if spent { Outcome::Unable(107) } else { outcome }
 }
 
 // b or c, by the mode of the slot's own request, whether the one asked is the same, and whether the numbers are used up.
@@ -260,17 +250,14 @@ pub fn asked_again(mode: Mode, same: bool, spent: bool, phase: Phase) -> Outcome
     ensures { result ≡ asked_again_by mode same spent phase }
 {
     match phase {
-        Phase::Offered(_) => if same {
-            Outcome::Repeats
-        } else {
-            while_left(spent, Outcome::Renews)
-        },
-        Phase::RingBack(_) | Phase::RingBackAgain(_) | Phase::Acknowledged(_) => while_left(
-            spent,
-            Outcome::Renews,
+        Phase::Offered(_) if same => Outcome::Repeats,
+        Phase::Offered(_) | Phase::RingBack(_) | Phase::RingBackAgain(_) | Phase::Acknowledged(_) =>
+            while_left(spent, Outcome::Renews),
+        Phase::Dialling(_, carrier) | Phase::DialledOut(_, carrier) => rule_c(
+            mode,
+            Talk::Unanswered,
+            carrier,
         ),
-        Phase::Dialling(_, carrier) => rule_c(mode, Talk::Unanswered, carrier),
-        Phase::DialledOut(_, carrier) => rule_c(mode, Talk::Unanswered, carrier),
         Phase::Answered(since, carrier) => rule_c(mode, Talk::Since(since), carrier),
         _ => Outcome::Ignored,
     }
@@ -281,20 +268,20 @@ fn newcomer(found: bool, waiting: u8) -> Outcome
     ensures { result ≡ newcomer_by found waiting }
 {
     if found {
-        return Outcome::Offers;
+        Outcome::Offers
+    } else if waiting < MOST_WAITING {
+        Outcome::Joins
+    } else {
+        Outcome::Unable(102)
     }
-    if waiting < MOST_WAITING {
-        return Outcome::Joins;
-    }
-    Outcome::Unable(102)
 }
 
 // d, for a ship that waits at that place; e to g, for one that waits nowhere.
-pub fn d_to_g(spent: bool, place: Place, found: bool, waiting: u8) -> Outcome
+pub fn d_to_g(spent: bool, place: Option<QueuePlace>, found: bool, waiting: u8) -> Outcome
     ensures { result ≡ d_to_g_by spent place found waiting }
 {
     match place {
-        Place::At(number) => while_left(spent, Outcome::Replaces(number)),
-        Place::Nothing => while_left(spent, newcomer(found, waiting)),
+        Some(number) => while_left(spent, Outcome::Replaces(number)),
+        None => while_left(spent, newcomer(found, waiting)),
     }
 }
