@@ -1,26 +1,27 @@
 -- What is stored keeps the rules of every station on the same mast; the digits of a number in one pass.
-use Prim.Native.Nat.{ℕ, zero, suc, ◌+◌, ◌-◌, ◌<◌, ◌≤◌}
+use Prim.Native.Nat.{ℕ, zero, suc, ◌-◌}
 use mathlib.Core.Bool.{Bool, true, false, ◌&&◌}
 use mathlib.Core.List.{List, [], ◌∷◌, map}
 use mathlib.Core.Path.{◌≡◌, refl, sym, ap, ◌∙◌}
 use native.Mathlib.Omega.{arith}
-use native.Mathlib.Numerals.{add-one}
+use native.Mathlib.Nat.{sub-zero}
 use lib.Dec.{leb, ltb}
-use lib.ListN.{length, take, drop, get_or}
-use borrow.Author.Tests.{le-leb, lt-leb, ltb-true, ltb-false}
+use lib.ListN.{length, take, drop}
+use borrow.Author.Tests.{le-leb, lt-leb, leb-true, leb-false, ltb-true, ltb-false}
 use Rattle.sequence.specs.Symbols.{all_at_most}
-use Rattle.sequence.proofs.Rest.{rest}
 use Rattle.units.specs.declared.Channel.{Channel}
 use Rattle.rules.specs.Rules.Places.{all}
-use Rattle.rules.specs.Rules.Sound.{request_keeps, slot_keeps, waiting_keeps}
-use Rattle.requests.specs.Views.{viewed, itself}
+use Rattle.sequence.specs.declared.Number.{Number}
+use Rattle.rules.specs.Rules.Sound.{number_keeps, request_keeps, slot_keeps, waiting_keeps}
+use Rattle.requests.specs.Views.{viewed, itself, digits_of}
+use Rattle.requests.proofs.ArrayLaws.{viewed-length}
 use Rattle.slots.specs.declared.Slot.{Slot}
 use Rattle.slots.specs.declared.Waiting.{Waiting}
 use Rattle.slots.specs.declared.mast.Mast.{Mast}
 use Rattle.slots.specs.Views.{on_mast, dealing_of, slot_view, waiting_view}
 use Rattle.slots.proofs.PhaseLaws.{keeps-view}
 use Rattle.slots.proofs.ImageLaws.{map-itself}
-use Rattle.sound_records.specs.Kept.{most_at, digits_fit}
+use Rattle.sound_records.specs.Kept.{digits_fit, number_exact}
 
 module _ (mast : Mast) (c d : List Channel) where
   slot-alike : (s : Slot) → slot_keeps (on_mast mast c) (slot_view s) ≡ slot_keeps (on_mast mast d) (slot_view s)
@@ -74,9 +75,16 @@ digits-parts count i (d ∷ l) = go (ltb i count) refl (digits-parts count (suc 
         let j : count - suc i ≡ 0 = omega arith in
         rw (e, k) (ap (λ x. leb d 0 && x) (rw j at ih))
 
-module _ (count : ℕ) (l : List ℕ) (i : ℕ) (b : Bool) (h : i < length l) where
-  pub digit-fits : get_or l i 0 ≤ most_at i count → (b && digits_fit count (i + 1) (drop (i + 1) l)) ≡ (b && digits_fit count i (drop i l))
-  digit-fits k = rw (rest l i h, le-leb _ _ k) (ap (λ j. b && digits_fit count j (drop (i + 1) l)) (add-one i))
-
-  pub digit-over : most_at i count < get_or l i 0 → false ≡ (b && digits_fit count i (drop i l))
-  digit-over k = rw (rest l i h, lt-leb _ _ k) (and_no b)
+-- a number whose digits are as many as may be, and each at most what may stand at its place
+pub number_parts : (n : Number) → length n.digits ≡ 16 → (number_keeps (digits_of n) && number_exact n) ≡ (leb 1 n.count && (leb n.count 16 && digits_fit n.count 0 n.digits))
+unfolding number_keeps number_exact digits_of
+number_parts n e = go (leb 1 n.count) (leb n.count 16) refl refl
+  where
+    go : (a b : Bool) → leb 1 n.count ≡ a → leb n.count 16 ≡ b → (number_keeps (digits_of n) && (b && all_at_most 0 (drop n.count n.digits))) ≡ (a && (b && digits_fit n.count 0 n.digits))
+    go a false p q = sym (and_no (number_keeps (digits_of n))) ∙ and_no a
+    go false true p q = let h = leb-false 1 n.count p in rw (lt-leb 1 (length (viewed itself n.count n.digits)) (omega (arith, viewed-length itself n.count n.digits)))
+    go true true p q =
+        let h = leb-true 1 n.count p in
+        let k = leb-true n.count 16 q in
+        let l = viewed-length itself n.count n.digits in
+        rw (le-leb 1 (length (viewed itself n.count n.digits)) (omega (arith, l)), le-leb (length (viewed itself n.count n.digits)) 16 (omega (arith, l)), viewed-take n.count n.digits) (sym (rw sub-zero at (digits-parts n.count 0 n.digits)))

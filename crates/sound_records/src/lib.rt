@@ -15,26 +15,16 @@ use stored::{request_stored, slot_stored};
 use times::{fits_wait, slot_fits};
 use units::Tenths;
 
+#[tactic(auto, unfolding(crate::specs::Kept::slot_sound))]
 pub fn slot_sound(slot: Slot, mast: Mast, clock: Tenths) -> bool
     ensures { result ≡ slot_sound mast clock slot }
 {
-    let channel = slot.channel;
-    if !channel_ok(channel) {
-        return false;
-    }
-    if !slot_fits(slot, clock) {
-        return false;
-    }
-    slot_stored(slot, mast)
+    channel_ok(slot.channel) && slot_fits(slot, clock) && slot_stored(slot, mast)
 }
 
+#[tactic(auto, unfolding(crate::specs::Kept::waiting_sound, crate::specs::Kept::waiting_exact))]
 pub fn waiting_sound(entry: Waiting, mast: Mast, clock: Tenths) -> bool
     ensures { result ≡ waiting_sound mast clock entry }
 {
-    let request = entry.request;
-    let due = entry.due;
-    if !fits_wait(clock, QUEUE_WAIT, due) {
-        return false;
-    }
-    request_stored(request, mast)
+    fits_wait(clock, QUEUE_WAIT, entry.due) && request_stored(entry.request, mast)
 }

@@ -10,66 +10,55 @@ use sequence::parts::{duration_ok, is_ship};
 use sequence::{DIGITS, LAST_SECOND, LEAST_SECOND, MOST_DIGITS, Number};
 use slots::mast::{Mast, is_ours};
 use slots::{Slot, lasted_in, stores};
-use units::Lasted;
+use units::Duration;
 
 // What may stand at a place of a number with so many digits.
-fn most_at(place: u8, count: u8) -> u8
+fn most_at(place: usize, count: u8) -> u8
     ensures { result ≡ most_at place count }
 {
-    if place < count { 9 } else { 0 }
+    if place < count as usize { 9 } else { 0 }
 }
 
-// "A number has 1 to 16 digits", and its unused digits are 0: all sixteen places are looked at, so that the compiler does so at once.
-fn number_stored(number: Number) -> bool
-    ensures { result ≡ (number_keeps (digits_of number) && number_exact number) }
+// Each digit at most what may stand at its place: all sixteen are looked at, so that the compiler does so at once.
+fn digits_fit(digits: [u8; DIGITS], count: u8) -> bool
+    ensures { result ≡ digits_fit count 0 digits }
 {
-    let count = number.count;
-    let digits = number.digits;
     let mut fit = true;
-    let mut i: u8 = 0;
-    while i < MOST_DIGITS {
-        if most_at(i, count) < digits[i as usize] {
-            fit = false;
-        }
-        i += 1;
-    }
-    if count < 1 {
-        return false;
-    }
-    if MOST_DIGITS < count {
-        return false;
+    for (place, digit) in digits.iter().enumerate() {
+        fit = fit & (*digit <= most_at(place, count));
     }
     fit
 }
 
+// "A number has 1 to 16 digits", and its unused digits are 0.
+#[tactic(auto, using(crate::proofs::KeepLaws::number_parts))]
+fn number_stored(number: Number) -> bool
+    ensures { result ≡ (number_keeps (digits_of number) && number_exact number) }
+{
+    let count = number.count;
+    1 <= count && count <= MOST_DIGITS && digits_fit(number.digits, count)
+}
+
 // From a ship, to this station, the second telecommand 100 to 126.
+#[tactic(auto, unfolding(rules::specs::Rules::Sound::request_keeps, requests::specs::Views::request_of))]
 pub(crate) fn request_stored(request: Request, mast: Mast) -> bool
     ensures { result ≡ (request_keeps (named mast) (request_of request) && number_exact request.number) }
 {
-    let station = request.station;
     let second = request.second;
-    let number = request.number;
-    if !is_ship(request.ship) {
-        return false;
-    }
-    if !is_ours(mast, station) {
-        return false;
-    }
-    if second < LEAST_SECOND {
-        return false;
-    }
-    if LAST_SECOND < second {
-        return false;
-    }
-    number_stored(number)
+    is_ship(request.ship)
+        && is_ours(mast, request.station)
+        && LEAST_SECOND <= second
+        && second <= LAST_SECOND
+        && number_stored(request.number)
 }
 
-fn lasted_keeps(lasted: Lasted) -> bool
+#[tactic(auto, unfolding(rules::specs::Rules::Sound::duration_keeps))]
+fn lasted_keeps(lasted: Option<Duration>) -> bool
     ensures { result ≡ duration_keeps lasted }
 {
     match lasted {
-        Lasted::Nothing => true,
-        Lasted::Lasting(duration) => duration_ok(duration),
+        None => true,
+        Some(duration) => duration_ok(duration),
     }
 }
 
@@ -78,12 +67,5 @@ pub(crate) fn slot_stored(slot: Slot, mast: Mast) -> bool
     ensures { result ≡ (slot_keeps (named mast) (slot_view slot) && slot_exact slot) }
 {
     let phase = slot.phase;
-    let request = slot.request;
-    if !stores(phase) {
-        return true;
-    }
-    if !lasted_keeps(lasted_in(phase)) {
-        return false;
-    }
-    request_stored(request, mast)
+    !stores(phase) || (lasted_keeps(lasted_in(phase)) && request_stored(slot.request, mast))
 }

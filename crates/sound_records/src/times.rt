@@ -14,13 +14,7 @@ use units::Tenths;
 pub(crate) fn fits_wait(clock: Tenths, wait: Tenths, due: Tenths) -> bool
     ensures { result ≡ fits clock.0 wait.0 due.0 }
 {
-    let now = clock.0;
-    let then = due.0;
-    let span = wait.0;
-    if then < now {
-        return false;
-    }
-    then as u64 <= now as u64 + (span as u64 + 1)
+    clock <= due && due.0 as u64 <= clock.0 as u64 + (wait.0 as u64 + 1)
 }
 
 fn loss_fits(clock: Tenths, mode: Mode, carrier: Carrier) -> bool
@@ -39,7 +33,7 @@ fn span_fits(clock: Tenths, span: Span) -> bool
     match span {
         Span::Untimed => true,
         Span::Until(due, wait) => fits_wait(clock, wait, due),
-        Span::Since(start) => start.0 <= clock.0,
+        Span::Since(start) => start <= clock,
     }
 }
 
@@ -47,10 +41,5 @@ pub(crate) fn slot_fits(slot: Slot, clock: Tenths) -> bool
     ensures { result ≡ slot_fits clock.0 (slot_view slot) }
 {
     let phase = slot.phase;
-    let request = slot.request;
-    let mode = request.mode;
-    if !loss_fits(clock, mode, carrier_in(phase)) {
-        return false;
-    }
-    span_fits(clock, span_of(phase))
+    loss_fits(clock, slot.request.mode, carrier_in(phase)) && span_fits(clock, span_of(phase))
 }

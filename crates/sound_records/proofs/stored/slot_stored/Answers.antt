@@ -1,5 +1,3 @@
-use mathlib.Core.Path.{sym, ap, ◌∙◌}
-use Rattle.rules.specs.Rules.Sound.{duration_keeps}
 use Rattle.slots.specs.Views.{named, dealing_of}
 use Rattle.slots.proofs.PhaseLaws.{keeps-view}
 use Rattle.sound_records.specs.Kept.{slot_exact}
@@ -7,17 +5,12 @@ use Rattle.sound_records.proofs.stored.slot_stored.Goals as goal
 
 pub returns-then-not-stores : goal.returns-then-not-stores
 unfolding slot_exact
-returns-then-not-stores c = let x = c.args in
-    rw (keeps-view (named x.mast) x.slot.phase (dealing_of x.slot), sym c.stores.ensures ∙ c.if-not-stores.true)
+returns-then-not-stores c = let x = c.args in rw (keeps-view (named x.mast) x.slot.phase (dealing_of x.slot), ← c.stores.ensures, c.if-not-stores.true)
 
-pub returns-then-not-lasted_keeps : goal.returns-then-not-lasted_keeps
+pub returns-then-lasted_keeps : goal.returns-then-lasted_keeps
 unfolding slot_exact
-returns-then-not-lasted_keeps c = let x = c.args in
-    let lasted = ap duration_keeps (sym c.lasted_in.ensures) ∙ sym c.lasted_keeps.ensures ∙ c.if-not-lasted_keeps.true in
-    rw (keeps-view (named x.mast) x.slot.phase (dealing_of x.slot), sym c.stores.ensures ∙ c.if-not-stores.false, lasted)
+returns-then-lasted_keeps c = let x = c.args in rw (keeps-view (named x.mast) x.slot.phase (dealing_of x.slot), ← c.stores.ensures, c.if-not-stores.false, ← c.lasted_in.ensures, ← c.lasted_keeps.ensures, c.if-lasted_keeps.true, ← c.request_stored.ensures)
 
-pub returns : goal.returns
+pub returns-else-lasted_keeps : goal.returns-else-lasted_keeps
 unfolding slot_exact
-returns c = let x = c.args in
-    let lasted = ap duration_keeps (sym c.lasted_in.ensures) ∙ sym c.lasted_keeps.ensures ∙ c.if-not-lasted_keeps.false in
-    rw (keeps-view (named x.mast) x.slot.phase (dealing_of x.slot), sym c.stores.ensures ∙ c.if-not-stores.false, lasted, ← c.request_stored.ensures)
+returns-else-lasted_keeps c = let x = c.args in rw (keeps-view (named x.mast) x.slot.phase (dealing_of x.slot), ← c.stores.ensures, c.if-not-stores.false, ← c.lasted_in.ensures, ← c.lasted_keeps.ensures, c.if-lasted_keeps.false)
