@@ -2,12 +2,12 @@
 #![tactic(auto)]
 
 ghost use Rattle.std.specs.Prelude.{◌≡◌};
-ghost use Rattle.channel_fields.specs.ChannelFields.{field_bytes, no_field, field_from};
+ghost use Rattle.channel_fields.specs.ChannelFields.{field_bytes, field_from};
 
 use sequence::Field;
 use units::{Channel, Duration};
 
-// The kind of a channel field, and what it holds.
+// The kind of a channel field by its number, and what it holds: the four bytes of a lent meaning (COAST_AT_FIELD_KIND of include/coast.h).
 #[derive(Clone, Copy)]
 pub struct FieldBytes {
     pub kind: u8,
@@ -41,40 +41,19 @@ pub fn field_bytes(field: Field) -> FieldBytes
     }
 }
 
-fn no_field() -> Field
-    ensures { result ≡ no_field }
-{
-    Field::Channel(Channel(0))
-}
-
+// Bytes that are no field give channel 0, which the writer refuses.
+#[tactic(auto, unfolding(crate::specs::ChannelFields::field_from))]
 pub fn field_from(bytes: FieldBytes) -> Field
     ensures { result ≡ field_from bytes }
 {
-    let kind = bytes.kind;
-    let first = bytes.first;
-    let second = bytes.second;
-    let third = bytes.third;
-    if kind == 2 {
-        return Field::Duration(Duration {
-            hours: first,
-            minutes: second,
-            seconds: third,
-        });
+    match (bytes.kind, bytes.first, bytes.second, bytes.third) {
+        (0, 0, 0, 0) => Field::Blank,
+        (1, channel, 0, 0) => Field::Channel(Channel(channel as u32)),
+        (2, hours, minutes, seconds) => Field::Duration(Duration {
+            hours,
+            minutes,
+            seconds,
+        }),
+        _ => Field::Channel(Channel(0)),
     }
-    if second != 0 {
-        return no_field();
-    }
-    if third != 0 {
-        return no_field();
-    }
-    if kind == 1 {
-        return Field::Channel(Channel(first as u32));
-    }
-    if kind != 0 {
-        return no_field();
-    }
-    if first != 0 {
-        return no_field();
-    }
-    Field::Blank
 }

@@ -1,7 +1,7 @@
 -- The numbers of a phase stand for it.
 use mathlib.Core.Path.{◌≡◌, refl}
-use Rattle.units.specs.declared.Lasted.{Lasted}
-use Rattle.units.specs.declared.Lasted.TheVariants.{Nothing, Lasting}
+use Rattle.units.specs.declared.Duration.{Duration}
+use Rattle.std.specs.Prelude.{Option as Optional, Some, None}
 use Rattle.slots.specs.declared.Carrier.{Carrier}
 use Rattle.slots.specs.declared.Carrier.TheVariants.{Present, Lost}
 use Rattle.slots.specs.declared.Phase.{Phase}
@@ -13,10 +13,10 @@ unfolding carrier_from
 carrier-back Present = refl
 carrier-back (Lost t) = refl
 
-lasted-back : (n : Lasted) → lasted_from (lasted_fields n) ≡ n
+lasted-back : (n : Optional Duration) → lasted_from (lasted_fields n) ≡ n
 unfolding lasted_from
-lasted-back Nothing = refl
-lasted-back (Lasting d) = refl
+lasted-back None = refl
+lasted-back (Some d) = refl
 
 pub phase-back : (p : Phase) → phase_from (phase_fields p) ≡ p
 unfolding phase_from ashore_from

@@ -1,8 +1,7 @@
 -- The numbers of a phase, one for each field of a lent slot that tells of it, and the phase that such numbers stand for.
-use Rattle.std.specs.Prelude.{ℕ, cond, eqb}
+use Rattle.std.specs.Prelude.{ℕ, cond, eqb, Option as Optional, Some, None}
 use Rattle.units.specs.declared.Tenths.{Tenths}
-use Rattle.units.specs.declared.Lasted.{Lasted}
-use Rattle.units.specs.declared.Lasted.TheVariants.{Nothing, Lasting}
+use Rattle.units.specs.declared.Duration.{Duration}
 use Rattle.units.specs.Units.{greatest}
 use Rattle.slots.specs.declared.Carrier.{Carrier}
 use Rattle.slots.specs.declared.Carrier.TheVariants.{Present, Lost}
@@ -18,38 +17,38 @@ abbrev pub carrier_fields : Carrier → CarrierFields
 carrier_fields Present = record { mark = 0; due = 0 }
 carrier_fields (Lost t) = record { mark = 1; due = t.0 }
 
-abbrev pub lasted_fields : Lasted → LastedFields
-lasted_fields Nothing = record { mark = 0; hours = 0; minutes = 0; seconds = 0 }
-lasted_fields (Lasting d) = record { mark = 1; hours = d.hours; minutes = d.minutes; seconds = d.seconds }
+abbrev pub lasted_fields : Optional Duration → LastedFields
+lasted_fields None = record { mark = 0; hours = 0; minutes = 0; seconds = 0 }
+lasted_fields (Some d) = record { mark = 1; hours = d.hours; minutes = d.minutes; seconds = d.seconds }
 
-abbrev pub fields_of : ℕ → ℕ → Carrier → Lasted → PhaseFields
+abbrev pub fields_of : ℕ → ℕ → Carrier → Optional Duration → PhaseFields
 fields_of kind time c n = record { kind = kind; time = time; carrier = carrier_fields c; lasted = lasted_fields n }
 
 -- every part that the phase does not use is 0
 abbrev pub phase_fields : Phase → PhaseFields
-phase_fields Free = fields_of 0 0 Present Nothing
-phase_fields (Offered t) = fields_of 1 t.0 Present Nothing
-phase_fields (RingBack t) = fields_of 2 t.0 Present Nothing
-phase_fields (RingBackAgain t) = fields_of 3 t.0 Present Nothing
-phase_fields (Acknowledged t) = fields_of 4 t.0 Present Nothing
-phase_fields (Dialling t c) = fields_of 5 t.0 c Nothing
-phase_fields (Answered t c) = fields_of 6 t.0 c Nothing
+phase_fields Free = fields_of 0 0 Present None
+phase_fields (Offered t) = fields_of 1 t.0 Present None
+phase_fields (RingBack t) = fields_of 2 t.0 Present None
+phase_fields (RingBackAgain t) = fields_of 3 t.0 Present None
+phase_fields (Acknowledged t) = fields_of 4 t.0 Present None
+phase_fields (Dialling t c) = fields_of 5 t.0 c None
+phase_fields (Answered t c) = fields_of 6 t.0 c None
 phase_fields (Hold t n) = fields_of 7 t.0 Present n
-phase_fields Taken = fields_of 8 0 Present Nothing
-phase_fields (DialledOut t c) = fields_of 9 t.0 c Nothing
-phase_fields (Called t) = fields_of 10 t.0 Present Nothing
-phase_fields (CalledAgain t) = fields_of 11 t.0 Present Nothing
-phase_fields (Ringing t) = fields_of 12 t.0 Present Nothing
+phase_fields Taken = fields_of 8 0 Present None
+phase_fields (DialledOut t c) = fields_of 9 t.0 c None
+phase_fields (Called t) = fields_of 10 t.0 Present None
+phase_fields (CalledAgain t) = fields_of 11 t.0 Present None
+phase_fields (Ringing t) = fields_of 12 t.0 Present None
 
 -- an invalid mark gives a time and a duration that no station may have, so that it is refused, 29
 unfoldable pub carrier_from : CarrierFields → Carrier
 carrier_from f = cond (eqb f.mark 0) Present (cond (eqb f.mark 1) (Lost (tenths f.due)) (Lost (tenths greatest)))
 
-unfoldable pub lasted_from : LastedFields → Lasted
+unfoldable pub lasted_from : LastedFields → Optional Duration
 lasted_from f =
-    cond (eqb f.mark 0) Nothing
-    (cond (eqb f.mark 1) (Lasting (record { hours = f.hours; minutes = f.minutes; seconds = f.seconds }))
-    (Lasting (record { hours = 255; minutes = 255; seconds = 255 })))
+    cond (eqb f.mark 0) None
+    (cond (eqb f.mark 1) (Some (record { hours = f.hours; minutes = f.minutes; seconds = f.seconds }))
+    (Some (record { hours = 255; minutes = 255; seconds = 255 })))
 
 -- 02, no. 2: the phases of a call from ashore; a number over 12 gives a time that no station may have: 29
 unfoldable pub ashore_from : ℕ → Tenths → Phase

@@ -1,15 +1,15 @@
 // A phase as the numbers that a lent slot holds of it, and the phase that such numbers stand for.
 #![tactic(auto)]
 
-ghost use Rattle.std.specs.Prelude.{◌≡◌};
-ghost use Rattle.units.specs.declared.Lasted.TheVariants.{Nothing};
+ghost use Rattle.std.specs.Prelude.{◌≡◌, None};
 ghost use Rattle.slots.specs.declared.Carrier.TheVariants.{Present};
 ghost use Rattle.phase_fields.specs.Phases.{carrier_fields, lasted_fields, fields_of, phase_fields, carrier_from, lasted_from};
-ghost use Rattle.phase_fields.specs.Phases.{ashore_from, phase_from};
+ghost use Rattle.phase_fields.specs.Phases.{phase_from};
 
 use slots::{Carrier, Phase};
-use units::{Duration, GREATEST, Lasted, Tenths};
+use units::{Duration, GREATEST, Tenths};
 
+// A mark with a value beside it, and a phase by its number: a lent slot's bytes hold them so (include/coast.h), where no Option can stand.
 #[derive(Clone, Copy)]
 pub struct CarrierFields {
     pub mark: u8,
@@ -44,17 +44,17 @@ fn carrier_fields(carrier: Carrier) -> CarrierFields
     }
 }
 
-fn lasted_fields(lasted: Lasted) -> LastedFields
+fn lasted_fields(lasted: Option<Duration>) -> LastedFields
     ensures { result ≡ lasted_fields lasted }
 {
     match lasted {
-        Lasted::Nothing => LastedFields {
+        None => LastedFields {
             mark: 0,
             hours: 0,
             minutes: 0,
             seconds: 0,
         },
-        Lasted::Lasting(duration) => LastedFields {
+        Some(duration) => LastedFields {
             mark: 1,
             hours: duration.hours,
             minutes: duration.minutes,
@@ -63,11 +63,11 @@ fn lasted_fields(lasted: Lasted) -> LastedFields
     }
 }
 
-fn fields_of(kind: u8, time: Tenths, carrier: Carrier, lasted: Lasted) -> PhaseFields
+fn fields_of(kind: u8, time: Tenths, carrier: Carrier, lasted: Option<Duration>) -> PhaseFields
     ensures { result ≡ fields_of kind time.0 carrier lasted }
 {
     PhaseFields {
-        kind: kind,
+        kind,
         time: time.0,
         carrier: carrier_fields(carrier),
         lasted: lasted_fields(lasted),
@@ -76,9 +76,9 @@ fn fields_of(kind: u8, time: Tenths, carrier: Carrier, lasted: Lasted) -> PhaseF
 
 // A phase that has neither a carrier nor a duration.
 fn plain(kind: u8, time: Tenths) -> PhaseFields
-    ensures { result ≡ fields_of kind time.0 Present Nothing }
+    ensures { result ≡ fields_of kind time.0 Present None }
 {
-    fields_of(kind, time, Carrier::Present, Lasted::Nothing)
+    fields_of(kind, time, Carrier::Present, None)
 }
 
 pub fn phase_fields(phase: Phase) -> PhaseFields
@@ -90,104 +90,66 @@ pub fn phase_fields(phase: Phase) -> PhaseFields
         Phase::RingBack(due) => plain(2, due),
         Phase::RingBackAgain(due) => plain(3, due),
         Phase::Acknowledged(due) => plain(4, due),
-        Phase::Dialling(due, carrier) => fields_of(5, due, carrier, Lasted::Nothing),
-        Phase::Answered(start, carrier) => fields_of(6, start, carrier, Lasted::Nothing),
+        Phase::Dialling(due, carrier) => fields_of(5, due, carrier, None),
+        Phase::Answered(start, carrier) => fields_of(6, start, carrier, None),
         Phase::Hold(due, lasted) => fields_of(7, due, Carrier::Present, lasted),
         Phase::Taken => plain(8, Tenths(0)),
-        Phase::DialledOut(due, carrier) => fields_of(9, due, carrier, Lasted::Nothing),
+        Phase::DialledOut(due, carrier) => fields_of(9, due, carrier, None),
         Phase::Called(due) => plain(10, due),
         Phase::CalledAgain(due) => plain(11, due),
         Phase::Ringing(due) => plain(12, due),
     }
 }
 
+#[tactic(auto, unfolding(crate::specs::Phases::carrier_from))]
 fn carrier_from(fields: CarrierFields) -> Carrier
     ensures { result ≡ carrier_from fields }
 {
-    if fields.mark == 0 {
-        return Carrier::Present;
+    match fields.mark {
+        0 => Carrier::Present,
+        1 => Carrier::Lost(Tenths(fields.due)),
+        _ => Carrier::Lost(Tenths(GREATEST)),
     }
-    if fields.mark == 1 {
-        return Carrier::Lost(Tenths(fields.due));
-    }
-    Carrier::Lost(Tenths(GREATEST))
 }
 
-fn lasted_from(fields: LastedFields) -> Lasted
+#[tactic(auto, unfolding(crate::specs::Phases::lasted_from))]
+fn lasted_from(fields: LastedFields) -> Option<Duration>
     ensures { result ≡ lasted_from fields }
 {
-    if fields.mark == 0 {
-        return Lasted::Nothing;
-    }
-    if fields.mark == 1 {
-        return Lasted::Lasting(Duration {
+    match fields.mark {
+        0 => None,
+        1 => Some(Duration {
             hours: fields.hours,
             minutes: fields.minutes,
             seconds: fields.seconds,
-        });
+        }),
+        _ => Some(Duration {
+            hours: 255,
+            minutes: 255,
+            seconds: 255,
+        }),
     }
-    Lasted::Lasting(Duration {
-        hours: 255,
-        minutes: 255,
-        seconds: 255,
-    })
 }
 
-// The phases of a call from ashore.
-fn ashore_from(kind: u8, time: Tenths) -> Phase
-    ensures { result ≡ ashore_from kind time }
-{
-    if kind == 10 {
-        return Phase::Called(time);
-    }
-    if kind == 11 {
-        return Phase::CalledAgain(time);
-    }
-    if kind == 12 {
-        return Phase::Ringing(time);
-    }
-    Phase::Offered(Tenths(GREATEST))
-}
-
+#[tactic(auto, unfolding(crate::specs::Phases::phase_from, crate::specs::Phases::ashore_from))]
 pub fn phase_from(fields: PhaseFields) -> Phase
     ensures { result ≡ phase_from fields }
 {
-    let kind = fields.kind;
-    let of_carrier = fields.carrier;
-    let of_lasted = fields.lasted;
-    if kind == 0 {
-        return Phase::Free;
+    let time = Tenths(fields.time);
+    match fields.kind {
+        0 => Phase::Free,
+        1 => Phase::Offered(time),
+        2 => Phase::RingBack(time),
+        3 => Phase::RingBackAgain(time),
+        4 => Phase::Acknowledged(time),
+        5 => Phase::Dialling(time, carrier_from(fields.carrier)),
+        6 => Phase::Answered(time, carrier_from(fields.carrier)),
+        7 => Phase::Hold(time, lasted_from(fields.lasted)),
+        8 => Phase::Taken,
+        9 => Phase::DialledOut(time, carrier_from(fields.carrier)),
+        10 => Phase::Called(time),
+        11 => Phase::CalledAgain(time),
+        12 => Phase::Ringing(time),
+        _ => Phase::Offered(Tenths(GREATEST)),
     }
-    if kind == 1 {
-        return Phase::Offered(Tenths(fields.time));
-    }
-    if kind == 2 {
-        return Phase::RingBack(Tenths(fields.time));
-    }
-    if kind == 3 {
-        return Phase::RingBackAgain(Tenths(fields.time));
-    }
-    if kind == 4 {
-        return Phase::Acknowledged(Tenths(fields.time));
-    }
-    if kind == 5 {
-        let carrier = carrier_from(of_carrier);
-        return Phase::Dialling(Tenths(fields.time), carrier);
-    }
-    if kind == 6 {
-        let carrier = carrier_from(of_carrier);
-        return Phase::Answered(Tenths(fields.time), carrier);
-    }
-    if kind == 7 {
-        let lasted = lasted_from(of_lasted);
-        return Phase::Hold(Tenths(fields.time), lasted);
-    }
-    if kind == 8 {
-        return Phase::Taken;
-    }
-    if kind == 9 {
-        let carrier = carrier_from(of_carrier);
-        return Phase::DialledOut(Tenths(fields.time), carrier);
-    }
-    ashore_from(kind, Tenths(fields.time))
 }
