@@ -1,10 +1,8 @@
 -- Actions told one after the other, and all on the channel of their slot.
-use Prim.Native.Nat.{ℕ, zero, suc, ◌<◌}
+use Prim.Native.Nat.{ℕ, zero, suc}
 use mathlib.Core.Path.{◌≡◌, refl, sym, ap, ◌∙◌}
 use mathlib.Core.Bool.{Bool, true, false}
-use mathlib.Core.List.{List, [], ◌∷◌, ◌++◌, map, map-append, append-nil}
-use native.Mathlib.Nat.{not-suc-le-zero}
-use lib.ListN.{length}
+use mathlib.Core.List.{List, [], ◌∷◌, ◌++◌, map, map-append}
 use Rattle.units.specs.declared.Channel.{Channel}
 use Rattle.rules.specs.Rules.Words.{Config, Request, carrier_off}
 use Rattle.rules.specs.Rules.Actions.{Action, Ender, does, the_ship, the_coast}
@@ -15,7 +13,7 @@ use Rattle.rules.specs.Rules.Bytes.{channel_at}
 use Rattle.actions.specs.declared.Action.{Action as Made}
 use Rattle.actions.specs.Blocks.{action_block}
 use Rattle.actions.specs.Sent.{sent_payload, sent_on, sent_block}
-use Rattle.blocks.specs.Laid.{lay_count, lay_room, laid_from}
+use Rattle.blocks.specs.Laid.{laid_from}
 use Rattle.blocks.proofs.LaidLaws.{laid-append}
 use Rattle.outcomes.specs.declared.Talk.{Talk}
 use Rattle.outcomes.specs.declared.Talk.TheVariants.{Unanswered, Since}
@@ -24,77 +22,36 @@ use Rattle.outcomes.specs.declared.Outcome.TheVariants.{Ignored, Passes, Turns, 
 use Rattle.outcomes.specs.Does as D
 use Rattle.outcomes.specs.Does.{since_of, ring_back_acts, acts_of}
 use Rattle.telling.specs.declared.Scene.{Scene}
-use Rattle.telling.specs.declared.Say.TheVariants.{Lifted}
-use Rattle.telling.specs.declared.Word.TheVariants.{CallsOldest}
-use Rattle.telling.specs.Tells.{scene_view, telling, free_say, close_of, say_of, close_acts, say_acts}
+use Rattle.telling.specs.declared.Told.{Told}
+use Rattle.telling.specs.Tells.{scene_view, telling, Lays, Tells}
 
 -- ── one after the other ──────────────────────────────────────────────────────
 
--- block number k to block number n, and the room before and after
-abbrev pub Tells : Scene → List Action → ℕ → List ℕ → ℕ → List ℕ → Type 0
-Tells s acts k room n after = (n ≡ (telling s acts k room).next) × (after ≡ (telling s acts k room).room)
-
-abbrev Lays : Made → ℕ → List ℕ → ℕ → List ℕ → Type 0
-Lays x k room n after = (n ≡ lay_count k (length room)) × (after ≡ lay_room (action_block x) k room)
-
-module _ (s : Scene) (k : ℕ) (room : List ℕ) where
-  pub tells_none : Tells s [] k room k room
+module _ (s : Scene) where
+  pub tells_none : (t : Told) → Tells s [] t t
   unfolding telling laid_from
-  tells_none = (refl, refl)
+  tells_none t = record { same_room = refl; next = refl; written = refl }
 
-  pub tells_more : (a : Action) (acts : List Action) (x : Made) (m n : ℕ) (mid after : List ℕ) → action_block x ≡ sent_on s.channel a
-      → Lays x k room m mid → Tells s acts m mid n after → Tells s (a ∷ acts) k room n after
+  pub tells_more : {acts : List Action} (a : Action) {x : Made} {t u v : Told} → action_block x ≡ sent_on s.channel a → Lays x t u → Tells s acts u v → Tells s (a ∷ acts) t v
   unfolding telling laid_from
-  tells_more a acts x m n mid after e l t =
-      let f : telling s acts m mid ≡ telling s (a ∷ acts) k room = rw (l.0, l.1, e) in
-      (t.0 ∙ ap (λ y. y.next) f, t.1 ∙ ap (λ y. y.room) f)
+  tells_more {acts} a {x} {t} {u} {v} e l r =
+      let f : telling s acts u.next u.room.now ≡ telling s (a ∷ acts) t.next t.room.now = rw (l.next, l.written, e) in
+      record { same_room = r.same_room ∙ l.same_room; next = r.next ∙ ap (λ y. y.next) f; written = r.written ∙ ap (λ y. y.room) f }
 
-  pub tells-one : (a : Action) (x : Made) (n : ℕ) (after : List ℕ) → action_block x ≡ sent_on s.channel a → Lays x k room n after → Tells s (a ∷ []) k room n after
-  unfolding telling laid_from
-  tells-one a x n after e l = (l.0, rw (← e) l.1)
+  pub tells-one : (a : Action) {x : Made} {t u : Told} → action_block x ≡ sent_on s.channel a → Lays x t u → Tells s (a ∷ []) t u
+  tells-one a {x} {t} {u} e l = tells_more a e l (tells_none u)
 
-  pub tells-append : (l m : List Action) (i n : ℕ) (mid after : List ℕ) → Tells s l k room i mid → Tells s m i mid n after → Tells s (l ++ m) k room n after
+  pub tells-append : {k l : List Action} {t u v : Told} → Tells s k t u → Tells s l u v → Tells s (k ++ l) t v
   unfolding telling
-  tells-append l m i n mid after p q =
-      let f : telling s m i mid ≡ telling s (l ++ m) k room =
-      rw (p.0, p.1, map-append (sent_on s.channel) l m) (sym (laid-append (map (sent_on s.channel) l) (map (sent_on s.channel) m) k room)) in
-      (q.0 ∙ ap (λ y. y.next) f, q.1 ∙ ap (λ y. y.room) f)
+  tells-append {k} {l} {t} {u} {v} p q =
+      let f : telling s l u.next u.room.now ≡ telling s (k ++ l) t.next t.room.now =
+      rw (p.next, p.written, map-append (sent_on s.channel) k l) (sym (laid-append (map (sent_on s.channel) k) (map (sent_on s.channel) l) t.next t.room.now)) in
+      record { same_room = q.same_room ∙ p.same_room; next = q.next ∙ ap (λ y. y.next) f; written = q.written ∙ ap (λ y. y.room) f }
 
--- ── an outcome's two parts ───────────────────────────────────────────────────
-
-pub free-some : (n : ℕ) → 0 < n → Lifted CallsOldest ≡ free_say n
-free-some zero h = absurd (not-suc-le-zero h)
-free-some (suc n) h = refl
-
-free-parts : (sc : D.Scene) (n : ℕ) → say_acts sc (free_say n) ≡ ring_back_acts sc.slot sc.oldest n
-free-parts sc zero = refl
-free-parts sc (suc n) = refl
-
-pub parts : (sc : D.Scene) (o : Outcome) → close_acts sc (close_of o) ++ say_acts sc (say_of sc.ringable o) ≡ acts_of sc o
-unfolding acts_of
-parts sc Ignored = refl
-parts sc Passes = refl
-parts sc (Turns p) = refl
-parts sc Dials = refl
-parts sc RingsBackAgain = refl
-parts sc Frees = free-parts sc sc.ringable
-parts sc Clears = ap (λ l. does (carrier_off sc.slot) ∷ l) (free-parts sc sc.ringable)
-parts sc (CoastEnds k) = ap (λ l. end_acts sc.slot the_coast sc.own (since_of k) sc.clock ++ l) (free-parts sc sc.ringable)
-parts sc (ShipEnds k) = append-nil (end_acts sc.slot the_ship sc.own (since_of k) sc.clock)
-parts sc (SaysAgain n) = refl
-parts sc Repeats = refl
-parts sc Renews = refl
-parts sc (Redials k) = ap (λ l. end_acts sc.slot the_coast sc.own (since_of k) sc.clock ++ l) (free-parts sc sc.ringable)
-parts sc Offers = refl
-parts sc Joins = refl
-parts sc (Replaces k) = refl
-parts sc (Unable n) = refl
-parts sc (Drops k) = refl
-parts sc Calls = refl
-parts sc CallsAgain = refl
-parts sc StartsRinging = refl
-parts sc Transmits = refl
-parts sc (DropsCall rung tone) = ap (λ l. drop_acts sc.slot rung tone ++ l) (free-parts sc sc.ringable)
+-- how many may be rung back does not matter, where one may
+pub oldest-acts : (i : ℕ) (q : Request) (n : ℕ) → (n ≡ 0 → ⊥) → ring_back_acts i q n ≡ ring_back_acts i q 1
+oldest-acts i q zero h = absurd (h refl)
+oldest-acts i q (suc n) h = refl
 
 -- ── on the channel of the slot ───────────────────────────────────────────────
 

@@ -2,12 +2,13 @@
 #![tactic(auto)]
 
 ghost use Rattle.std.specs.Prelude.{◌≡◌};
+ghost use Rattle.rules.specs.Rules.Words as W;
+ghost use Rattle.rules.specs.Rules.Actions.{does};
+ghost use Rattle.requests.specs.Views.{request_of};
 ghost use Rattle.actions.specs.Blocks.{action_block};
 ghost use Rattle.actions.specs.Sent.{ender_of, sent_on};
-ghost use Rattle.outcomes.specs.Does.{acts_of};
-ghost use Rattle.telling.specs.Tells.{scene_view, telling, close_of, free_say, say_of};
-ghost use Rattle.telling.specs.Tells.{bill_acts, off_acts, ended_acts, again_acts, stop_ringing_acts, tone_acts, drop_call_acts};
-ghost use Rattle.telling.specs.Tells.{close_acts, word_act, say_acts};
+ghost use Rattle.outcomes.specs.Does.{free_acts, acts_of};
+ghost use Rattle.telling.specs.Tells.{scene_view, telling, Lays, Tells, bill_acts, off_acts, ended_acts, again_acts, drop_call_acts};
 
 use actions::deeds::{
     busy_tone, carrier_off, carrier_on, charge, dial, release_line, ringing_off, ringing_on,
@@ -18,7 +19,7 @@ use blocks::lay;
 use outcomes::parts::lasted_of;
 use outcomes::{Outcome, Talk};
 use requests::Request;
-use units::{CallNumber, Channel, Lasted, SlotNumber, Tenths};
+use units::{CallNumber, Channel, Duration, SlotNumber, Tenths};
 
 // All that is asked of a station to carry an outcome out.
 #[derive(Clone, Copy)]
@@ -33,205 +34,135 @@ pub struct Scene {
     pub ringable: u8, // how many may be rung back
 }
 
-// How the call of the slot is closed.
-#[derive(Clone, Copy)]
-enum Close {
-    Leaves,
-    CarrierOff,
-    Ends(Ender, Talk),
-    DropsCall(bool, bool),
-    Again(Lasted),
+// The lent room, and the number of the next block.
+#[derive(Drop)]
+struct Told<'a> {
+    room: &'a mut [u8],
+    next: u8,
 }
 
-#[derive(Clone, Copy)]
-enum Word {
-    Dials,
-    CallsOwn,
-    CallsOldest,
-    CallsAsked,
-    RingingOn,
-    RingingOff,
-    Acknowledges,
-    Unable(u8),
-}
-
-// What is then sent or dialled, with the carrier as it is or switched on.
-#[derive(Clone, Copy)]
-enum Say {
-    Nothing,
-    Plain(Word),
-    Lifted(Word),
-}
-
-fn close_of(outcome: Outcome) -> Close
-    ensures { result ≡ close_of outcome }
-{
-    match outcome {
-        Outcome::Clears => Close::CarrierOff,
-        Outcome::CoastEnds(talk) => Close::Ends(Ender::Coast, talk),
-        Outcome::ShipEnds(talk) => Close::Ends(Ender::Ship, talk),
-        Outcome::SaysAgain(lasted) => Close::Again(lasted),
-        Outcome::Redials(talk) => Close::Ends(Ender::Coast, talk),
-        Outcome::DropsCall(rings, tone) => Close::DropsCall(rings, tone),
-        _ => Close::Leaves,
-    }
-}
-
-// A slot is freed: the oldest of those that may be is rung back.
-fn free_say(ringable: u8) -> Say
-    ensures { result ≡ free_say ringable }
-{
-    if ringable == 0 {
-        return Say::Nothing;
-    }
-    Say::Lifted(Word::CallsOldest)
-}
-
-fn say_of(outcome: Outcome, ringable: u8) -> Say
-    ensures { result ≡ say_of ringable outcome }
-{
-    match outcome {
-        Outcome::Dials => Say::Plain(Word::Dials),
-        Outcome::RingsBackAgain | Outcome::CallsAgain => Say::Plain(Word::CallsOwn),
-        Outcome::Calls => Say::Lifted(Word::CallsAsked),
-        Outcome::StartsRinging => Say::Plain(Word::RingingOn),
-        Outcome::Transmits => Say::Plain(Word::RingingOff),
-        Outcome::Frees
-        | Outcome::Clears
-        | Outcome::CoastEnds(_)
-        | Outcome::Redials(_)
-        | Outcome::DropsCall(_, _) => free_say(ringable),
-        Outcome::Repeats | Outcome::Renews => Say::Plain(Word::Acknowledges),
-        Outcome::Offers => Say::Lifted(Word::Acknowledges),
-        Outcome::Joins | Outcome::Replaces(_) => Say::Plain(Word::Unable(103)),
-        Outcome::Unable(second) => Say::Plain(Word::Unable(second)),
-        _ => Say::Nothing,
+impl Told<'_> {
+    fn lay(&mut self, action: Action)
+        ensures { Lays action self.old self.new }
+    {
+        self.next = lay(action, self.next, self.room);
     }
 }
 
 impl Scene {
     // "charge if answered"
-    fn bill(self, talk: Talk, block: u8, room: &mut [u8]) -> u8
-        ensures value { result ≡ (telling self (bill_acts (scene_view self) talk) block room.old).next }
-        ensures room_written { room.new ≡ (telling self (bill_acts (scene_view self) talk) block room.old).room }
+    fn bill(&self, talk: Talk, told: &mut Told)
+        ensures { Tells self.now (bill_acts (scene_view self.now) talk) told.old told.new }
     {
         match talk {
-            Talk::Unanswered => block,
-            Talk::Since(start) => lay(
-                charge(self.slot, self.own.ship, start, self.clock, self.call),
-                block,
-                room,
-            ),
+            Talk::Unanswered => {}
+            Talk::Since(start) => told.lay(charge(
+                self.slot,
+                self.own.ship,
+                start,
+                self.clock,
+                self.call,
+            )),
         }
     }
 
     // "send 105/126 .. and the duration, carrier off"
-    fn sign_off(self, by: Ender, lasted: Lasted, block: u8, room: &mut [u8]) -> u8
-        ensures value { result ≡ (telling self (off_acts (scene_view self) (ender_of by) lasted) block room.old).next }
-        ensures room_written { room.new ≡ (telling self (off_acts (scene_view self) (ender_of by) lasted) block room.old).room }
+    fn sign_off(&self, by: Ender, lasted: Option<Duration>, told: &mut Told)
+        ensures { Tells self.now (off_acts (scene_view self.now) (ender_of by) lasted) told.old told.new }
     {
-        let said = lay(over(self.slot, by, self.own, lasted), block, room);
-        lay(carrier_off(self.slot), said, room)
+        told.lay(over(self.slot, by, self.own, lasted));
+        told.lay(carrier_off(self.slot));
     }
 
     // "charge if answered, release line, send .."
-    fn end(self, by: Ender, talk: Talk, block: u8, room: &mut [u8]) -> u8
-        ensures value { result ≡ (telling self (ended_acts (scene_view self) (ender_of by) talk) block room.old).next }
-        ensures room_written { room.new ≡ (telling self (ended_acts (scene_view self) (ender_of by) talk) block room.old).room }
+    fn end(&self, by: Ender, talk: Talk, told: &mut Told)
+        ensures { Tells self.now (ended_acts (scene_view self.now) (ender_of by) talk) told.old told.new }
     {
-        let lasted = lasted_of(talk, self.clock);
-        let billed = self.bill(talk, block, room);
-        let released = lay(release_line(self.slot), billed, room);
-        self.sign_off(by, lasted, released, room)
+        self.bill(talk, told);
+        told.lay(release_line(self.slot));
+        self.sign_off(by, lasted_of(talk, self.clock), told);
     }
 
     // "in the hold: carrier on, the same answer sent, carrier off"
-    fn again(self, lasted: Lasted, block: u8, room: &mut [u8]) -> u8
-        ensures value { result ≡ (telling self (again_acts (scene_view self) lasted) block room.old).next }
-        ensures room_written { room.new ≡ (telling self (again_acts (scene_view self) lasted) block room.old).room }
+    fn again(&self, lasted: Option<Duration>, told: &mut Told)
+        ensures { Tells self.now (again_acts (scene_view self.now) lasted) told.old told.new }
     {
-        let on = lay(carrier_on(self.slot), block, room);
-        self.sign_off(Ender::Ship, lasted, on, room)
-    }
-
-    // "ringing off if it rings"
-    fn stop_ringing(self, rings: bool, block: u8, room: &mut [u8]) -> u8
-        ensures value { result ≡ (telling self (stop_ringing_acts (scene_view self) rings) block room.old).next }
-        ensures room_written { room.new ≡ (telling self (stop_ringing_acts (scene_view self) rings) block room.old).room }
-    {
-        if rings {
-            return lay(ringing_off(self.slot), block, room);
-        }
-        block
-    }
-
-    // "the tone unless the caller hung up"
-    fn give_tone(self, tone: bool, block: u8, room: &mut [u8]) -> u8
-        ensures value { result ≡ (telling self (tone_acts (scene_view self) tone) block room.old).next }
-        ensures room_written { room.new ≡ (telling self (tone_acts (scene_view self) tone) block room.old).room }
-    {
-        if tone {
-            return lay(busy_tone(self.slot), block, room);
-        }
-        block
+        told.lay(carrier_on(self.slot));
+        self.sign_off(Ender::Ship, lasted, told);
     }
 
     // "ringing off if it rings, carrier off, the tone unless the caller hung up, release line"
-    fn drop_call(self, rings: bool, tone: bool, block: u8, room: &mut [u8]) -> u8
-        ensures value { result ≡ (telling self (drop_call_acts (scene_view self) rings tone) block room.old).next }
-        ensures room_written { room.new ≡ (telling self (drop_call_acts (scene_view self) rings tone) block room.old).room }
+    fn drop_call(&self, rings: bool, tone: bool, told: &mut Told)
+        ensures { Tells self.now (drop_call_acts (scene_view self.now) rings tone) told.old told.new }
     {
-        let silent = self.stop_ringing(rings, block, room);
-        let off = lay(carrier_off(self.slot), silent, room);
-        let toned = self.give_tone(tone, off, room);
-        lay(release_line(self.slot), toned, room)
+        if rings {
+            told.lay(ringing_off(self.slot));
+        }
+        told.lay(carrier_off(self.slot));
+        if tone {
+            told.lay(busy_tone(self.slot));
+        }
+        told.lay(release_line(self.slot));
     }
 
-    fn close(self, close: Close, block: u8, room: &mut [u8]) -> u8
-        ensures value { result ≡ (telling self (close_acts (scene_view self) close) block room.old).next }
-        ensures room_written { room.new ≡ (telling self (close_acts (scene_view self) close) block room.old).room }
+    fn call(&self, ship: Request) -> Action
+        ensures { action_block result ≡ sent_on self.now.channel (does (W.call_ship self.now.slot.0 (request_of ship))) }
     {
-        match close {
-            Close::Leaves => block,
-            Close::CarrierOff => lay(carrier_off(self.slot), block, room),
-            Close::Ends(by, talk) => self.end(by, talk, block, room),
-            Close::DropsCall(rings, tone) => self.drop_call(rings, tone, block, room),
-            Close::Again(lasted) => self.again(lasted, block, room),
+        call_ship(self.slot, self.channel, ship)
+    }
+
+    fn acknowledge(&self) -> Action
+        ensures { action_block result ≡ sent_on self.now.channel (does (W.acknowledge self.now.slot.0 (request_of self.now.asked))) }
+    {
+        acknowledgement(self.slot, self.channel, self.asked)
+    }
+
+    // A slot is freed: the oldest of those that may be is rung back.
+    fn free(&self, told: &mut Told)
+        ensures { Tells self.now (free_acts (scene_view self.now)) told.old told.new }
+    {
+        if self.ringable != 0 {
+            told.lay(carrier_on(self.slot));
+            told.lay(self.call(self.oldest));
         }
     }
 
-    fn word(self, word: Word) -> Action
-        ensures { action_block result ≡ sent_on self.channel (word_act (scene_view self) word) }
+    // An outcome's actions, in order.
+    fn say(&self, outcome: Outcome, told: &mut Told)
+        ensures { Tells self.now (acts_of (scene_view self.now) outcome) told.old told.new }
     {
-        let slot = self.slot;
-        let channel = self.channel;
-        match word {
-            Word::Dials => dial(slot, self.own.number),
-            Word::CallsOwn => call_ship(slot, channel, self.own),
-            Word::CallsOldest => call_ship(slot, channel, self.oldest),
-            Word::CallsAsked => call_ship(slot, channel, self.asked),
-            Word::RingingOn => ringing_on(slot),
-            Word::RingingOff => ringing_off(slot),
-            Word::Acknowledges => acknowledgement(slot, channel, self.asked),
-            Word::Unable(second) => unable_to(second, self.asked),
-        }
-    }
-
-    fn say(self, say: Say, block: u8, room: &mut [u8]) -> u8
-        ensures value { result ≡ (telling self (say_acts (scene_view self) say) block room.old).next }
-        ensures room_written { room.new ≡ (telling self (say_acts (scene_view self) say) block room.old).room }
-    {
-        match say {
-            Say::Nothing => block,
-            Say::Plain(word) => {
-                let action = self.word(word);
-                lay(action, block, room)
+        match outcome {
+            Outcome::Dials => told.lay(dial(self.slot, self.own.number)),
+            Outcome::RingsBackAgain | Outcome::CallsAgain => told.lay(self.call(self.own)),
+            Outcome::Frees => self.free(told),
+            Outcome::Clears => {
+                told.lay(carrier_off(self.slot));
+                self.free(told);
             }
-            Say::Lifted(word) => {
-                let action = self.word(word);
-                let on = lay(carrier_on(self.slot), block, room);
-                lay(action, on, room)
+            Outcome::CoastEnds(talk) | Outcome::Redials(talk) => {
+                self.end(Ender::Coast, talk, told);
+                self.free(told);
             }
+            Outcome::ShipEnds(talk) => self.end(Ender::Ship, talk, told),
+            Outcome::SaysAgain(lasted) => self.again(lasted, told),
+            Outcome::DropsCall(rings, tone) => {
+                self.drop_call(rings, tone, told);
+                self.free(told);
+            }
+            Outcome::Repeats | Outcome::Renews => told.lay(self.acknowledge()),
+            Outcome::Offers => {
+                told.lay(carrier_on(self.slot));
+                told.lay(self.acknowledge());
+            }
+            Outcome::Calls => {
+                told.lay(carrier_on(self.slot));
+                told.lay(self.call(self.asked));
+            }
+            Outcome::Joins | Outcome::Replaces(_) => told.lay(unable_to(103, self.asked)),
+            Outcome::Unable(second) => told.lay(unable_to(second, self.asked)),
+            Outcome::StartsRinging => told.lay(ringing_on(self.slot)),
+            Outcome::Transmits => told.lay(ringing_off(self.slot)),
+            Outcome::Ignored | Outcome::Passes | Outcome::Turns(_) | Outcome::Drops(_) => {}
         }
     }
 
@@ -240,9 +171,8 @@ impl Scene {
         ensures value { result ≡ (telling self (acts_of (scene_view self) outcome) block room.old).next }
         ensures room_written { room.new ≡ (telling self (acts_of (scene_view self) outcome) block room.old).room }
     {
-        let close = close_of(outcome);
-        let say = say_of(outcome, self.ringable);
-        let closed = self.close(close, block, room);
-        self.say(say, closed, room)
+        let mut told = Told { room, next: block };
+        self.say(outcome, &mut told);
+        told.next
     }
 }

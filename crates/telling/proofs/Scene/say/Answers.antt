@@ -1,32 +1,80 @@
-use Rattle.rules.specs.Rules.Words.{carrier_on}
+use mathlib.Core.Logic.{inl, inr}
+use Rattle.rules.specs.Rules.Words.{carrier_on, carrier_off, ringing_on, ringing_off}
 use Rattle.rules.specs.Rules.Actions.{does}
+use Rattle.requests.specs.Views.{request_of}
 use Rattle.actions.specs.Sent.{sent_payload, sent_on}
-use Rattle.telling.specs.Tells.{scene_view, say_acts}
-use Rattle.telling.proofs.TellLaws.{Tells, tells_none, tells-one, tells_more}
+use Rattle.outcomes.specs.Does.{acts_of}
+use Rattle.telling.specs.Tells.{scene_view}
+use Rattle.telling.proofs.TellLaws.{tells_none, tells-one, tells_more, tells-append}
 use Rattle.telling.proofs.Scene.say.Goals as goal
 
-pub returns-in-Nothing : goal.returns-in-Nothing
-unfolding scene_view
-returns-in-Nothing c = let a = c.args in
-    let t : Tells a.self (say_acts (scene_view a.self) a.say) a.block a.room.now a.block a.room.now =
-    rw c.in-Nothing.is (tells_none a.self a.block a.room.now) in
-    record { value = t.0; room_written = t.1 }
+pub returns-in-Dials : goal.returns-in-Dials
+unfolding acts_of scene_view sent_on sent_payload request_of
+returns-in-Dials c = rw c.in-Dials.is (tells-one c.args.self.now _ c.dial.ensures.result_value c.lay.ensures)
 
-pub returns-in-Plain : goal.returns-in-Plain
-unfolding scene_view sent_on sent_payload
-returns-in-Plain c = let a = c.args in
-    let l = c.lay.ensures in
-    let t : Tells a.self (say_acts (scene_view a.self) a.say) a.block a.room.now c.lay.result c.lay.new.room =
-    rw c.in-Plain.is (tells-one a.self a.block a.room.now _ _ _ _ c.word-action.ensures (l.value, l.room_written)) in
-    record { value = t.0; room_written = t.1 }
+pub returns-in-RingsBackAgain : goal.returns-in-RingsBackAgain
+unfolding acts_of scene_view
+returns-in-RingsBackAgain c = elim c.in-RingsBackAgain.is [ inl e ↦ rw e (tells-one c.args.self.now _ c.call.ensures c.lay-in-RingsBackAgain.ensures) | inr e ↦ rw e (tells-one c.args.self.now _ c.call.ensures c.lay-in-RingsBackAgain.ensures) ]
 
-pub returns-in-Lifted : goal.returns-in-Lifted
-unfolding scene_view sent_on sent_payload
-returns-in-Lifted c = let a = c.args in
-    let o = c.lay-on.ensures in
-    let l = c.lay-in-Lifted.ensures in
-    let t : Tells a.self (say_acts (scene_view a.self) a.say) a.block a.room.now c.lay-in-Lifted.result c.lay-in-Lifted.new.room =
-    rw c.in-Lifted.is
-    (tells_more a.self a.block a.room.now (does (carrier_on a.self.slot.0)) _ _ _ _ _ _ c.carrier_on.ensures.result_value (o.value, o.room_written)
-    (tells-one a.self _ _ _ _ _ _ c.word-action-in-Lifted.ensures (l.value, l.room_written))) in
-    record { value = t.0; room_written = t.1 }
+pub returns-in-Frees : goal.returns-in-Frees
+unfolding acts_of
+returns-in-Frees c = rw c.in-Frees.is c.free.ensures
+
+pub returns-in-Clears : goal.returns-in-Clears
+unfolding acts_of scene_view sent_on sent_payload request_of
+returns-in-Clears c = rw c.in-Clears.is (tells_more c.args.self.now (does (carrier_off c.args.self.now.slot.0)) c.carrier_off.ensures.result_value c.lay-in-Clears.ensures c.free-in-Clears.ensures)
+
+pub returns-in-CoastEnds : goal.returns-in-CoastEnds
+unfolding acts_of
+returns-in-CoastEnds c = elim c.in-CoastEnds.is [ inl e ↦ rw e (tells-append c.args.self.now c.end-in-CoastEnds.ensures c.free-in-CoastEnds.ensures) | inr e ↦ rw e (tells-append c.args.self.now c.end-in-CoastEnds.ensures c.free-in-CoastEnds.ensures) ]
+
+pub returns-in-ShipEnds : goal.returns-in-ShipEnds
+unfolding acts_of
+returns-in-ShipEnds c = rw c.in-ShipEnds.is c.end.ensures
+
+pub returns-in-SaysAgain : goal.returns-in-SaysAgain
+unfolding acts_of
+returns-in-SaysAgain c = rw c.in-SaysAgain.is c.again.ensures
+
+pub returns-in-DropsCall : goal.returns-in-DropsCall
+unfolding acts_of
+returns-in-DropsCall c = rw c.in-DropsCall.is (tells-append c.args.self.now c.drop_call.ensures c.free-in-DropsCall.ensures)
+
+pub returns-in-Repeats : goal.returns-in-Repeats
+unfolding acts_of scene_view
+returns-in-Repeats c = elim c.in-Repeats.is [ inl e ↦ rw e (tells-one c.args.self.now _ c.acknowledge.ensures c.lay-in-Repeats.ensures) | inr e ↦ rw e (tells-one c.args.self.now _ c.acknowledge.ensures c.lay-in-Repeats.ensures) ]
+
+pub returns-in-Offers : goal.returns-in-Offers
+unfolding acts_of scene_view sent_on sent_payload request_of
+returns-in-Offers c = let i = c.args.self.now.slot.0 in
+    rw c.in-Offers.is
+    (tells_more c.args.self.now (does (carrier_on i)) c.carrier_on.ensures.result_value c.lay-in-Offers.ensures
+    (tells-one c.args.self.now _ c.acknowledge-in-Offers.ensures c.lay-in-Offers-2.ensures))
+
+pub returns-in-Calls : goal.returns-in-Calls
+unfolding acts_of scene_view sent_on sent_payload request_of
+returns-in-Calls c = let i = c.args.self.now.slot.0 in
+    rw c.in-Calls.is
+    (tells_more c.args.self.now (does (carrier_on i)) c.carrier_on-in-Calls.ensures.result_value c.lay-in-Calls.ensures
+    (tells-one c.args.self.now _ c.call-in-Calls.ensures c.lay-in-Calls-2.ensures))
+
+pub returns-in-Joins : goal.returns-in-Joins
+unfolding acts_of scene_view sent_on sent_payload request_of
+returns-in-Joins c = elim c.in-Joins.is [ inl e ↦ rw e (tells-one c.args.self.now _ c.unable_to.ensures.result_value c.lay-in-Joins.ensures) | inr p ↦ rw p.1 (tells-one c.args.self.now _ c.unable_to.ensures.result_value c.lay-in-Joins.ensures) ]
+
+pub returns-in-Unable : goal.returns-in-Unable
+unfolding acts_of scene_view sent_on sent_payload request_of
+returns-in-Unable c = rw c.in-Unable.is (tells-one c.args.self.now _ c.unable_to-in-Unable.ensures.result_value c.lay-in-Unable.ensures)
+
+pub returns-in-StartsRinging : goal.returns-in-StartsRinging
+unfolding acts_of scene_view sent_on sent_payload request_of
+returns-in-StartsRinging c = rw c.in-StartsRinging.is (tells-one c.args.self.now (does (ringing_on c.args.self.now.slot.0)) c.ringing_on.ensures.result_value c.lay-in-StartsRinging.ensures)
+
+pub returns-in-Transmits : goal.returns-in-Transmits
+unfolding acts_of scene_view sent_on sent_payload request_of
+returns-in-Transmits c = rw c.in-Transmits.is (tells-one c.args.self.now (does (ringing_off c.args.self.now.slot.0)) c.ringing_off.ensures.result_value c.lay-in-Transmits.ensures)
+
+pub returns-in-Ignored : goal.returns-in-Ignored
+unfolding acts_of scene_view sent_on sent_payload request_of
+returns-in-Ignored c = let none = tells_none c.args.self.now c.args.told.now in
+    elim c.in-Ignored.is [ inl e ↦ rw e none | inr (inl e) ↦ rw e none | inr (inr (inl p)) ↦ rw p.1 none | inr (inr (inr p)) ↦ rw p.1 none ]
