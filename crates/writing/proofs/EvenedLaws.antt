@@ -127,11 +127,22 @@ module _ (n : Number) (ok : number_ok n ≡ true) where
       (pair-at (evened n) j (omega arith))
 
   -- the first pair of an odd count
-  pub pair-first : n.count % 2 ≡ 1 → get_or n.digits 0 0 ≡ get_or (pairs_of (evened n)) 0 0
-  pair-first o =
+  pub pair-first : (j : ℕ) → j < n.count % 2 → get_or n.digits (2 * j + 1 - n.count % 2) 0 ≡ get_or (pairs_of (evened n)) j 0
+  pair-first j low =
+      let o : n.count % 2 ≡ 1 = omega arith in
       let l = evened-length n ok in
       let some = (fit n ok).some in
       let z : 0 ≡ get_or (evened n) 0 0 = evened-0 n 0 o refl in
       let d : get_or n.digits 0 0 ≡ get_or (evened n) 1 0 = sym (get_or-take n.count n.digits 0 0 (omega arith)) ∙ evened-odd n 1 o (λ e. omega arith) in
       let p : get_or (evened n) 0 0 * 10 + get_or (evened n) 1 0 ≡ get_or (pairs_of (evened n)) 0 0 = pair-at (evened n) 0 (omega arith) in
-      omega arith
+      let k : j ≡ 0 = omega arith in
+      rw (k, o) (omega arith)
+
+  pub count-some : 1 ≤ n.count
+  count-some = (fit n ok).some
+
+  pub count-most : n.count ≤ 16
+  count-most = (fit n ok).most
+
+-- what the code that lays the pairs asks of a number
+pub ruleset of_pairs = (count-some, count-most, digit-le, pair-behind, pair-first, pairs-count)

@@ -5,25 +5,15 @@ use mathlib.Core.Bool.{true}
 use mathlib.Core.List.{List, [], ◌∷◌, ◌++◌, append_assoc}
 use native.Mathlib.Omega.{arith}
 use lib.Bits.{bit_xor}
-use lib.ListN.{length, drop, get_or, set, length-append, length-set}
-use lib.Seq.{paste, paste-zero, set_at, set-set, take-set-le, drop-set-lt}
+use lib.ListN.{length, drop, set, length-append}
+use lib.Seq.{paste, set_at}
 use Rattle.sequence.specs.declared.Meaning.{Meaning}
 use Rattle.sequence.specs.Symbols.{exclusive_or}
 use Rattle.sequence.specs.Number.{evened, pairs_of}
 use Rattle.sequence.specs.Layout.{valid, front, body, layout}
-use Rattle.sequence.proofs.Paste.{paste-turn, paste-behind}
+use Rattle.sequence.proofs.Paste.{paste-behind}
 use Rattle.sequence.proofs.Rest.{rest}
 use Rattle.writing.proofs.Valid.{front_length, count-pairs}
-
--- a first store, made before the loop that lays the rest
-pub stored-first : (l t : List ℕ) (at x : ℕ) → at < length l → 1 ≤ length t → x ≡ get_or t 0 0 → set l at x ≡ paste (set l at x) at t 1
-stored-first l t at x wide some e =
-    let k : at + 0 ≡ at = omega arith in
-    let p = paste-turn (set l at x) at t 0 (simp length-set (omega arith)) (omega arith) in
-    sym (set-set l at x x) ∙ (rw (← paste-zero (set l at x) at t, k, ← e) at p)
-
-pub stored-under : (l t : List ℕ) (at x n : ℕ) → 1 ≤ n → paste (set l at x) at t n ≡ paste l at t n
-stored-under l t at x n some = rw (take-set-le at l at x (omega arith), drop-set-lt (at + n) l at x (omega arith))
 
 -- the pairs and the end of sequence behind the front
 pub body-laid : (m : Meaning) (room laid : List ℕ) (n : ℕ) → valid m ≡ true → 28 ≤ length room → n ≡ 18 + (m.number.count + 1) / 2 → n < 28

@@ -2,4 +2,5 @@ pub mod EvenedLaws
 pub mod Bounds
 pub mod Valid
 pub mod LayLaws
+pub mod Asked
 pub mod Settled

@@ -6,23 +6,14 @@ ghost use Rattle.sequence.specs.Field.{field_ok, field_first, field_second, fiel
 use sequence::parts::{channel_ok, duration_ok, is_call};
 use sequence::{CHANNEL_TOLD, FIRST_OVER, Field, UNTOLD};
 
+#[tactic(auto, unfolding(sequence::specs::Field::field_ok))]
 pub(crate) fn field_ok(first: u8, field: Field) -> bool
     ensures { result ≡ field_ok first field }
 {
     match field {
         Field::Blank => true,
-        Field::Channel(channel) => {
-            if is_call(first) {
-                return channel_ok(channel);
-            }
-            false
-        }
-        Field::Duration(duration) => {
-            if first == FIRST_OVER {
-                return duration_ok(duration);
-            }
-            false
-        }
+        Field::Channel(channel) => is_call(first) && channel_ok(channel),
+        Field::Duration(duration) => first == FIRST_OVER && duration_ok(duration),
     }
 }
 

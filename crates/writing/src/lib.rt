@@ -46,6 +46,7 @@ fn tested(meaning: Meaning, room: usize) -> Result<(), Refusal>
 }
 
 // The eighteen symbols before the digit pairs.
+#[tactic(auto, using(crate::proofs::Asked::of_valid), unfolding(sequence::specs::Layout::front))]
 fn front_of(meaning: Meaning) -> [u8; 18]
     requires { valid meaning ≡ true }
     ensures { result ≡ front meaning }
@@ -53,7 +54,6 @@ fn front_of(meaning: Meaning) -> [u8; 18]
     let address = identity_symbols(meaning.address);
     let sender = identity_symbols(meaning.sender);
     let field = meaning.field;
-    let number = meaning.number;
     [
         FORMAT,
         address[0],
@@ -72,7 +72,7 @@ fn front_of(meaning: Meaning) -> [u8; 18]
         field_first(field),
         field_second(field),
         field_third(field),
-        parity_of(number.count),
+        parity_of(meaning.number.count),
     ]
 }
 
@@ -84,31 +84,29 @@ fn lay_front(meaning: Meaning, room: &mut [u8]) -> u8
 {
     let symbols = front_of(meaning);
     let mut check: u8 = 0;
-    let mut i = 0;
-    while i < 18 {
+    for i in 0..18 {
         check = lay_symbol(symbols[i], i, check, room);
-        i += 1;
     }
     check
 }
 
 // Lays the sequence of a valid meaning at the front of the room, and returns its length.
+#[tactic(auto, using(crate::proofs::Asked::of_valid))]
 fn lay(meaning: Meaning, room: &mut [u8]) -> usize
     requires { (valid meaning ≡ true) × (longest ≤ length room.old) }
     ensures value { result ≡ length (layout meaning) }
     ensures room_written { room.new ≡ layout meaning ++ drop (length (layout meaning)) room.old }
 {
-    let number = meaning.number;
-    let end = 18 + (number.count as usize + 1) / 2;
+    let end = 18 + (meaning.number.count as usize + 1) / 2;
     let before_pairs = lay_front(meaning, room);
-    let before_end = lay_pairs(number, before_pairs, room);
+    let before_end = lay_pairs(&meaning.number, before_pairs, room);
     let check = lay_symbol(meaning.end, end, before_end, room);
     room[end + 1] = check;
     end + 2
 }
 
 // Writes one sequence and gives its length, or gives the first refusal with nothing written.
-#[tactic(auto, unfolding(sequence::specs::Writing::written_of, sequence::specs::Writing::room_after))]
+#[tactic(auto, using(crate::proofs::Valid::accepted), unfolding(sequence::specs::Writing::written_of, sequence::specs::Writing::room_after))]
 pub fn write(meaning: Meaning, room: &mut [u8]) -> Result<usize, Refusal>
     ensures value { result ≡ written_of meaning (length room.old) }
     ensures room_written { room.new ≡ room_after meaning room.old }
