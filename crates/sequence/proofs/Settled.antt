@@ -2,6 +2,7 @@
 use mathlib.Core.Path.{◌≡◌, sym, ◌∙◌}
 use contract.Lifetimes.{Lfts}
 use Rattle.sequence.proofs.Refusal.number.Reads as Refusal-number
+use Rattle.sequence.proofs.unless.Reads as unless
 use Rattle.sequence.proofs.symbols.at.Reads as at
 use Rattle.sequence.proofs.symbols.all_at_most.Reads as all_at_most
 use Rattle.sequence.proofs.symbols.exclusive_or.Reads as exclusive_or
@@ -17,6 +18,9 @@ use Rattle.sequence.proofs.parts.end_ok.Reads as end_ok
 
 pub Refusal-number-settled : (κs : Lfts 0) (a : _) (r r' : _) (s s' : _) → Refusal-number.Post κs a r s → Refusal-number.Post κs a r' s' → r ≡ r'
 Refusal-number-settled κs a r r' s s' p q = p ∙ sym q
+
+pub unless-settled : (g : _) (laws : _) (copy : _) (clone : _) (dict : _) (κs : Lfts 1) (a : _) (r r' : _) (s s' : _) → unless.Post g laws copy clone dict κs a r s → unless.Post g laws copy clone dict κs a r' s' → r ≡ r'
+unless-settled g laws copy clone dict κs a r r' s s' p q = p ∙ sym q
 
 pub at-settled : (κs : Lfts 1) (a : _) (r r' : _) (s s' : _) → at.Post κs a r s → at.Post κs a r' s' → r ≡ r'
 at-settled κs a r r' s s' p q = p ∙ sym q

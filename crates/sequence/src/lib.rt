@@ -1,7 +1,7 @@
 // One DSC sequence of 21 to 28 symbols: what it means, and the tests of its parts.
 #![tactic(auto)]
 
-ghost use Rattle.std.specs.Prelude.{◌≡◌};
+ghost use Rattle.std.specs.Prelude.{◌≡◌, cond, Ok, Err};
 ghost use Rattle.sequence.specs.Answers.{refusal_number};
 
 pub mod parts;
@@ -113,4 +113,11 @@ impl Refusal {
     {
         self as u8
     }
+}
+
+// One test, with its refusal where it fails.
+pub fn unless<R: Copy>(passes: bool, refusal: R) -> Result<(), R>
+    ensures { result ≡ cond passes (Ok tt) (Err refusal) }
+{
+    if passes { Ok(()) } else { Err(refusal) }
 }
