@@ -14,29 +14,23 @@ use crate::places::{
     length_in, number_in, telecommands_in,
 };
 use sequence::symbols::{all_at_most, at};
-use sequence::{DIGITS, Field, LAST_SYMBOL, Meaning, Number, Refusal};
-
-fn held(test: bool, refusal: Refusal) -> Result<(), Refusal>
-    ensures { MatchResult result (λ _. test ≡ true) (λ r. (test ≡ false) × (r ≡ refusal)) }
-{
-    if test { Ok(()) } else { Err(refusal) }
-}
+use sequence::{DIGITS, Field, LAST_SYMBOL, Meaning, Number, Refusal, unless};
 
 // The tests, in document 01's order.
 #[tactic(auto, using(crate::proofs::Passed::lengths), unfolding(sequence::specs::Reading::answer_of, sequence::specs::Reading::refusals))]
 fn tested(symbols: &[u8]) -> Result<(), Refusal>
     ensures { MatchResult result (λ _. answer_of symbols.now ≡ done) (λ r. answer_of symbols.now ≡ Some r) }
 {
-    held(length_in(symbols), Refusal::BadLength)?;
-    held(all_at_most(symbols, LAST_SYMBOL), Refusal::BadSymbol)?;
-    held(check_in(symbols), Refusal::BadCheck)?;
-    held(format_in(symbols), Refusal::BadFormat)?;
-    held(identities_in(symbols), Refusal::BadIdentities)?;
-    held(category_in(symbols), Refusal::BadCategory)?;
-    held(telecommands_in(symbols), Refusal::BadTelecommands)?;
-    held(field_in(symbols), Refusal::BadField)?;
-    held(number_in(symbols), Refusal::BadNumber)?;
-    held(end_in(symbols), Refusal::BadEnd)
+    unless(length_in(symbols), Refusal::BadLength)?;
+    unless(all_at_most(symbols, LAST_SYMBOL), Refusal::BadSymbol)?;
+    unless(check_in(symbols), Refusal::BadCheck)?;
+    unless(format_in(symbols), Refusal::BadFormat)?;
+    unless(identities_in(symbols), Refusal::BadIdentities)?;
+    unless(category_in(symbols), Refusal::BadCategory)?;
+    unless(telecommands_in(symbols), Refusal::BadTelecommands)?;
+    unless(field_in(symbols), Refusal::BadField)?;
+    unless(number_in(symbols), Refusal::BadNumber)?;
+    unless(end_in(symbols), Refusal::BadEnd)
 }
 
 // What symbols that pass every test mean.

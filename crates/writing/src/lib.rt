@@ -18,31 +18,25 @@ use crate::identities::identity_symbols;
 use crate::pairs::{lay_pairs, parity_of};
 use crate::symbols::lay_symbol;
 use sequence::parts::{end_ok, identities_ok, number_ok, telecommands_ok};
-use sequence::{CATEGORY, FORMAT, LONGEST, Meaning, Refusal};
-
-fn held(test: bool, refusal: Refusal) -> Result<(), Refusal>
-    ensures { MatchResult result (λ _. test ≡ true) (λ r. (test ≡ false) × (r ≡ refusal)) }
-{
-    if test { Ok(()) } else { Err(refusal) }
-}
+use sequence::{CATEGORY, FORMAT, LONGEST, Meaning, Refusal, unless};
 
 // The tests of the room and of the meaning, in document 01's order.
 #[tactic(auto, unfolding(sequence::specs::Writing::writing_answer, sequence::specs::Writing::meaning_refusals))]
 fn tested(meaning: Meaning, room: usize) -> Result<(), Refusal>
     ensures { MatchResult result (λ _. writing_answer meaning room ≡ done) (λ r. writing_answer meaning room ≡ Some r) }
 {
-    held(LONGEST <= room, Refusal::ShortRoom)?;
-    held(
+    unless(LONGEST <= room, Refusal::ShortRoom)?;
+    unless(
         identities_ok(meaning.address, meaning.sender),
         Refusal::BadIdentities,
     )?;
-    held(
+    unless(
         telecommands_ok(meaning.first, meaning.second),
         Refusal::BadTelecommands,
     )?;
-    held(field_ok(meaning.first, meaning.field), Refusal::BadField)?;
-    held(number_ok(meaning.number), Refusal::BadNumber)?;
-    held(end_ok(meaning.end), Refusal::BadEnd)
+    unless(field_ok(meaning.first, meaning.field), Refusal::BadField)?;
+    unless(number_ok(meaning.number), Refusal::BadNumber)?;
+    unless(end_ok(meaning.end), Refusal::BadEnd)
 }
 
 // The eighteen symbols before the digit pairs.
