@@ -1,7 +1,7 @@
 -- The character at a place, by the bytes handed in; and phasing by characters is phasing by symbols.
-use Prim.Native.Nat.{ℕ, ◌+◌, ◌-◌, ◌*◌, ◌/◌, ◌≤◌, ◌<◌}
-use mathlib.Core.Path.{◌≡◌, refl, ◌∙◌}
-use mathlib.Core.Bool.{true, false, cond}
+use Prim.Native.Nat.{ℕ, zero, suc, ◌+◌, ◌-◌, ◌*◌, ◌/◌, ◌≤◌, ◌<◌}
+use mathlib.Core.Path.{◌≡◌, refl, sym, ◌∙◌}
+use mathlib.Core.Bool.{true, false, cond, true≢false}
 use mathlib.Core.List.{List, [], ◌∷◌, map}
 use native.Mathlib.Nat.{zero-add, add-zero}
 use native.Mathlib.Omega.{arith}
@@ -10,15 +10,17 @@ use lib.Dec.{leb, ltb, eqb}
 use lib.ListN.{length, get_or, drop, replicate, get_or-replicate, get_or-append, get_or-eq_default, drop_of_length-le}
 use lib.Seq.{get_or-append-add}
 use borrow.Author.Tests.{leb-true, ltb-true, ltb-false, eq-eqb, ne_eqb}
+use Rattle.std.specs.Prelude.{Some, None}
 use Rattle.sequence.specs.Symbols.{all_at_most}
 use Rattle.sequence.proofs.Tests.{both_true, Either, yes!, no!, which}
 use Rattle.sequence.proofs.Rest.{rest}
 use Rattle.characters.specs.Code.{zeros, ten_units, no_character, character_of, symbol_of}
 use Rattle.characters.proofs.CodeLaws.{over-is-none, reads_as}
 use Rattle.transmission.specs.Layout.{dx_phasing, rx_phasing}
-use Rattle.transmission.specs.Phasing.{characters_of, most_lost, heard, heard_at, in_place, dx_good, rx_good, is_phasing, phasing_at}
+use Rattle.transmission.specs.Phasing.{characters_of, most_lost, heard, heard_at, in_place, dx_good, rx_good, is_phasing, phasing_at, start_at}
+use Rattle.transmission.specs.Phasing.{found_start}
 use Rattle.transmission.proofs.HeardLaws.{length-characters, character-there, heard-lost, heard-there}
-use Rattle.transmission.proofs.PhasingLaws.{one_at_most}
+use Rattle.transmission.proofs.PhasingLaws.{one_at_most, no-rx}
 use Rattle.phasing.specs.Characters.{character_at, dx_characters, rx_characters, standing}
 
 -- ── a character ──────────────────────────────────────────────────────────────
@@ -101,6 +103,11 @@ standing-is bytes (symbol ∷ wanted) place h =
     let a = both_true (leb symbol 127) (all_at_most 127 wanted) h in
     rw (heard-is bytes place, reads_as (character_at bytes place) symbol (leb-true _ _ a.0), standing-is bytes wanted (place + 2) a.1)
 
+-- phasing has an RX character
+rx_some : (dx rx : ℕ) → is_phasing dx rx ≡ true → 1 ≤ rx
+rx_some dx zero e = absurd (true≢false (sym e ∙ no-rx dx))
+rx_some dx (suc rx) e = omega arith
+
 module _ (bytes : List ℕ) (start : ℕ) where
   dx-standing : standing bytes dx_characters start ≡ dx_good (heard (characters_of bytes)) start
   unfolding dx_good dx_phasing character_of ten_units zeros ones ones_in
@@ -110,12 +117,20 @@ module _ (bytes : List ℕ) (start : ℕ) where
   unfolding rx_good rx_phasing character_of ten_units zeros ones ones_in
   rx-standing = standing-is bytes rx_phasing (start + 1) refl
 
-  pub phasing-there : (dx rx : ℕ) → dx ≡ standing bytes dx_characters start → rx ≡ standing bytes rx_characters (start + 1)
-      → is_phasing dx rx ≡ true → dx + rx ≡ phasing_at (heard (characters_of bytes)) start
-  unfolding phasing_at
-  phasing-there dx rx d r e = rw (← dx-standing, ← rx-standing, ← d, ← r, e)
+  module _ (dx rx : ℕ) (d : dx ≡ standing bytes dx_characters start) (r : rx ≡ standing bytes rx_characters (start + 1)) where
+    phasing-there : is_phasing dx rx ≡ true → dx + rx ≡ phasing_at (heard (characters_of bytes)) start
+    unfolding phasing_at
+    phasing-there e = rw (← dx-standing, ← rx-standing, ← d, ← r, e)
 
-  pub phasing-missing : (dx rx : ℕ) → dx ≡ standing bytes dx_characters start → rx ≡ standing bytes rx_characters (start + 1)
-      → is_phasing dx rx ≡ false → 0 ≡ phasing_at (heard (characters_of bytes)) start
-  unfolding phasing_at
-  phasing-missing dx rx d r e = rw (← dx-standing, ← rx-standing, ← d, ← r, e)
+    pub start-there : is_phasing dx rx ≡ true
+        → Some (record { place = start; phasing = dx + rx }) ≡ found_start (start_at (heard (characters_of bytes)) start)
+    start-there e =
+        let some = rx_some dx rx e in
+        rw (← phasing-there e, ne_eqb (dx + rx) 0 (λ z. omega (arith, z, some)))
+
+    phasing-missing : is_phasing dx rx ≡ false → 0 ≡ phasing_at (heard (characters_of bytes)) start
+    unfolding phasing_at
+    phasing-missing e = rw (← dx-standing, ← rx-standing, ← d, ← r, e)
+
+    pub no_start : is_phasing dx rx ≡ false → None ≡ found_start (start_at (heard (characters_of bytes)) start)
+    no_start e = rw (← phasing-missing e)

@@ -2,7 +2,7 @@
 #![tactic(auto)]
 
 ghost use Rattle.std.specs.Prelude.{◌≡◌, ◌+◌, ◌/◌, ◌≤◌, ◌<◌, length};
-ghost use Rattle.transmission.specs.Phasing.{most_lost, characters_of, heard, is_phasing, phasing_at, best_start};
+ghost use Rattle.transmission.specs.Phasing.{most_lost, characters_of, heard, is_phasing, start_at, best_start, found_start};
 ghost use Rattle.phasing.specs.Characters.{character_at, standing};
 ghost use Rattle.phasing.specs.Starts.{better_of, BestBefore};
 
@@ -38,12 +38,10 @@ fn standing_in(characters: &[u8], wanted: &[u16], place: usize) -> usize
     ensures { result ≡ standing characters.now wanted.now place }
 {
     let mut count = 0;
-    let mut i = 0;
-    while i < wanted.len() {
-        if character_at(characters, place + 2 * i) == wanted[i] {
+    for (i, character) in wanted.iter().enumerate() {
+        if character_at(characters, place + 2 * i) == *character {
             count += 1;
         }
-        i += 1;
     }
     count
 }
@@ -52,29 +50,26 @@ fn standing_in(characters: &[u8], wanted: &[u16], place: usize) -> usize
 fn is_phasing(dx: usize, rx: usize) -> bool
     ensures { result ≡ is_phasing dx rx }
 {
-    if rx == 0 {
-        return false;
+    match rx {
+        0 => false,
+        1 => 2 <= dx,
+        2 => 1 <= dx,
+        _ => true,
     }
-    if rx == 1 {
-        return 2 <= dx;
-    }
-    if rx == 2 {
-        return 1 <= dx;
-    }
-    true
 }
 
-// How many phasing characters a start has, 0 where that is no phasing.
-fn phasing_at(characters: &[u8], start: usize) -> usize
-    requires { start ≤ most_lost + length characters.now / 2 }
-    ensures { result ≡ phasing_at (heard (characters_of characters.now)) start }
+// The start at a place, where that is phasing.
+fn start_at(characters: &[u8], place: usize) -> Option<Start>
+    requires { place ≤ most_lost + length characters.now / 2 }
+    ensures { result ≡ found_start (start_at (heard (characters_of characters.now)) place) }
 {
-    let rx = standing_in(characters, &RX_CHARACTERS, start + 1);
-    let dx = standing_in(characters, &DX_CHARACTERS, start);
+    let rx = standing_in(characters, &RX_CHARACTERS, place + 1);
+    let dx = standing_in(characters, &DX_CHARACTERS, place);
     if is_phasing(dx, rx) {
-        return dx + rx;
+        let phasing = dx + rx;
+        return Some(Start { place, phasing });
     }
-    0
+    None
 }
 
 // Of two starts the one with more phasing characters, of equals the earlier.
@@ -95,48 +90,39 @@ fn better_of(one: Start, other: Start) -> Start
 
 // The best start that has an RX character among the characters up to this one. Where none has, there is no phasing; and the low seven
 // units tell which of the eight a character can be: one start is looked at for each of these characters, and none for the others.
-fn best_with(characters: &[u8], i: usize, best: Start) -> Start
+fn best_with(characters: &[u8], i: usize, best: Option<Start>) -> Option<Start>
     requires { (i < length characters.now / 2) × BestBefore characters.now (most_lost + i) best }
     ensures { BestBefore characters.now (most_lost + (i + 1)) result }
 {
     let symbol = characters[2 * i] % 128;
-    if symbol < LAST_RX_PHASING_SYMBOL {
-        return best;
-    }
-    if FIRST_RX_PHASING_SYMBOL < symbol {
+    if symbol < LAST_RX_PHASING_SYMBOL || FIRST_RX_PHASING_SYMBOL < symbol {
         return best;
     }
     let behind = 1 + 2 * ((FIRST_RX_PHASING_SYMBOL - symbol) as usize);
     if MOST_LOST + i < behind {
         return best;
     }
-    let start = MOST_LOST + i - behind;
-    let phasing = phasing_at(characters, start);
-    better_of(
-        best,
-        Start {
-            place: start,
-            phasing: phasing,
-        },
-    )
+    let Some(found) = start_at(characters, MOST_LOST + i - behind) else {
+        return best;
+    };
+    let Some(before) = best else {
+        return Some(found);
+    };
+    Some(better_of(before, found))
 }
 
 // "the one with the most phasing characters counts, of equals the earliest": behind a whole phasing none is better.
-pub fn best_start(characters: &[u8]) -> Start
-    ensures { result ≡ best_start (heard (characters_of characters.now)) }
+pub fn best_start(characters: &[u8]) -> Option<Start>
+    ensures { result ≡ found_start (best_start (heard (characters_of characters.now))) }
 {
-    let count = characters.len() / 2;
-    let mut best = Start {
-        place: 0,
-        phasing: 0,
-    };
-    let mut i = 0;
-    while i < count {
-        if best.phasing == WHOLE_PHASING {
-            return best;
+    let mut best: Option<Start> = None;
+    for i in 0..characters.len() / 2 {
+        if let Some(start) = best {
+            if start.phasing == WHOLE_PHASING {
+                return best;
+            }
         }
         best = best_with(characters, i, best);
-        i += 1;
     }
     best
 }

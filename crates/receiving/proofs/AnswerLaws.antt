@@ -7,7 +7,7 @@ use native.Mathlib.Omega.{arith}
 use lib.Dec.{ltb, eqb}
 use lib.ListN.{length, get_or, take, drop}
 use lib.Seq.{length-take-le}
-use borrow.Author.Tests.{lt-leb, le-leb, lt-ltb, le-ltb, ltb-false}
+use borrow.Author.Tests.{lt-leb, le-leb, lt-ltb, le-ltb, ltb-false, eqb-true, eqb-false}
 use Rattle.std.specs.Prelude.{Some, None, Err, Ok}
 use Rattle.std.specs.List.{position, position_or_len}
 use Rattle.std.proofs.lemmas.List.{get_or-take}
@@ -20,7 +20,7 @@ use Rattle.transmission.specs.declared.Refusal.{Refusal}
 use Rattle.transmission.specs.declared.Refusal.TheVariants.{ShortRoom, NoPhasing, CopiesBad, EndsEarly}
 use Rattle.transmission.specs.declared.Start.{Start}
 use Rattle.transmission.specs.Answers.{done}
-use Rattle.transmission.specs.Phasing.{characters_of, most_lost, heard, best_start}
+use Rattle.transmission.specs.Phasing.{characters_of, most_lost, heard, best_start, found_start}
 use Rattle.transmission.specs.Copies.{symbols_from, count_of, copies_there}
 use Rattle.transmission.specs.Reading.{start_in, count_in, symbols_in, phasing_in, unread, reading_refusals, reading_answer}
 use Rattle.transmission.specs.Reading.{transmission_read, room_after_reading}
@@ -35,9 +35,13 @@ pub start-most : (bytes : List ℕ) → start_in (heard (characters_of bytes)) �
 unfolding start_in
 start-most bytes = omega (arith, best-within (heard (characters_of bytes)), length-heard-bytes bytes)
 
-pub start-found : (t : List ℕ) (best : Start) → best ≡ best_start t → best.place ≡ start_in t
+pub start-found : (t : List ℕ) (best : Start) → Some best ≡ found_start (best_start t) → best.place ≡ start_in t
 unfolding start_in
-start-found t best e = rw e
+start-found t best e = go (which (eqb (best_start t).phasing 0))
+  where
+    go : Either (eqb (best_start t).phasing 0) → best.place ≡ (best_start t).place
+    go (yes! z) = let n : Some best ≡ None = rw z at e in (cc)
+    go (no! f) = let same : Some best ≡ Some (best_start t) = rw f at e in let b : best ≡ best_start t = cc in rw b
 
 pub count_fits : (symbols : List ℕ) (count : ℕ) → count ≡ count_of symbols → count ≤ longest
 count_fits symbols count e = omega (arith, e, count_most symbols)
@@ -129,14 +133,24 @@ module _ (t : List ℕ) (room : ℕ) where
   unfolding reading_answer reading_refusals
   room-short h = rw (lt-leb longest room h)
 
-  module _ (h : longest ≤ room) (best : Start) (b : best ≡ best_start t) where
-    pub phasing-not-found : best.phasing ≡ 0 → reading_answer t room ≡ Some NoPhasing
+  module _ (h : longest ≤ room) where
+    pub phasing-not-found : None ≡ found_start (best_start t) → reading_answer t room ≡ Some NoPhasing
     unfolding reading_answer reading_refusals phasing_in
-    phasing-not-found e = rw (le-leb longest room h, ← b, e)
+    phasing-not-found e = go (which (eqb (best_start t).phasing 0))
+      where
+        go : Either (eqb (best_start t).phasing 0) → reading_answer t room ≡ Some NoPhasing
+        go (yes! z) = rw (le-leb longest room h, eqb-true (best_start t).phasing 0 z)
+        go (no! f) = let some : None ≡ Some (best_start t) = rw f at e in (cc)
 
-    pub phasing-found : (best.phasing ≡ 0 → ⊥) → reading_answer t room ≡ answer_to_copies t
+    pub phasing-found : (best : Start) → Some best ≡ found_start (best_start t) → reading_answer t room ≡ answer_to_copies t
     unfolding reading_answer reading_refusals phasing_in
-    phasing-found e = rw (le-leb longest room h, ← b, le-leb 1 best.phasing (omega (arith, e)))
+    phasing-found best e = go (which (eqb (best_start t).phasing 0))
+      where
+        go : Either (eqb (best_start t).phasing 0) → reading_answer t room ≡ answer_to_copies t
+        go (yes! z) = let n : Some best ≡ None = rw z at e in (cc)
+        go (no! f) =
+            let other = eqb-false (best_start t).phasing 0 f in
+            rw (le-leb longest room h, le-leb 1 (best_start t).phasing (omega (arith, other)))
 
 -- ── what is handed back ──────────────────────────────────────────────────────
 

@@ -37,10 +37,9 @@ pub fn read_transmission(characters: &[u8], room: &mut [u8]) -> Result<usize, Re
     if room.len() < LONGEST {
         return Err(Refusal::ShortRoom);
     }
-    let best = best_start(characters);
-    if best.phasing == 0 {
+    let Some(best) = best_start(characters) else {
         return Err(Refusal::NoPhasing);
-    }
+    };
     let all = symbols_from(characters, best.place);
     let count = count_of(&all);
     let symbols = &all[..count];

@@ -1,5 +1,5 @@
 -- Where a transmission starts in what was handed in.
-use Rattle.std.specs.Prelude.{ℕ, zero, suc, ◌+◌, ◌*◌, Bool, cond, ◌&&◌, ◌||◌, List, [], ◌∷◌, ◌++◌, map, leb, eqb, length, get_or, replicate}
+use Rattle.std.specs.Prelude.{ℕ, zero, suc, ◌+◌, ◌*◌, Bool, cond, ◌&&◌, ◌||◌, Option as Optional, Some, None, List, [], ◌∷◌, ◌++◌, map, leb, eqb, length, get_or, replicate}
 use Rattle.characters.specs.Code.{none, symbol_of}
 use Rattle.transmission.specs.declared.Start.{Start}
 use Rattle.transmission.specs.Layout.{dx_phasing, rx_phasing}
@@ -54,3 +54,7 @@ best_of t (suc n) = better (best_of t n) (start_at t n)
 
 unfoldable pub best_start : List ℕ → Start
 best_start t = best_of t (length t)
+
+-- a start that has no phasing is none
+abbrev pub found_start : Start → Optional Start
+found_start s = cond (eqb s.phasing 0) None (Some s)

@@ -30,7 +30,7 @@ pub enum Refusal {
     EndsEarly,
 }
 
-// Where a transmission may start, and how many phasing characters stand in their places there: 0 where that is no phasing.
+// Where a transmission may start, and how many phasing characters stand in their places there.
 #[derive(Clone, Copy)]
 pub struct Start {
     pub place: usize,
