@@ -4,16 +4,19 @@ use mathlib.Core.Bool.{Bool, true, false, cond, ◌&&◌, ◌||◌}
 use mathlib.Core.List.{List, [], ◌∷◌, ◌++◌, map, append_assoc, append-nil}
 use mathlib.Core.Path.{◌≡◌, refl, sym, ap, ◌∙◌}
 use native.Mathlib.Omega.{arith}
-use lib.Dec.{eqb}
+use lib.Dec.{eqb, leb}
+use Rattle.std.specs.List.{list_all}
+use Rattle.std.proofs.lemmas.List.{take-map}
 use lib.ListN.{length, take, get_or, set, length-append}
-use borrow.Author.Tests.{eqb-true, eq-eqb}
+use borrow.Author.Tests.{eqb-true, eq-eqb, le-leb, lt-leb, leb-true, leb-false}
 use Rattle.units.specs.declared.Channel.{Channel}
 use Rattle.sequence.specs.Identity.{is_ship}
 use Rattle.rules.specs.Rules.Words.{is, Party, Request, Config, ours}
 use Rattle.rules.specs.Rules.Places.{all, elem, distinct}
 use Rattle.rules.specs.Rules.Heard.{same_channel}
 use Rattle.rules.specs.Rules.Station.{Dealing}
-use Rattle.rules.specs.Rules.Sound.{request_keeps, duration_keeps, slot_keeps, waiting_keeps, owner, owners}
+use Rattle.sequence.specs.Field.{channel_ok}
+use Rattle.rules.specs.Rules.Sound.{channels_keep, request_keeps, duration_keeps, slot_keeps, waiting_keeps, owner, owners}
 use Rattle.rules.proofs.PlaceLaws.{and-true}
 use Rattle.rules.specs.Rules.Bytes.{padded}
 use Rattle.requests.specs.Views.{viewed, left, itself, request_of}
@@ -118,6 +121,36 @@ channels-apart n a = sym (channels-once (map channel_of (take n a)) ∙ ap (dist
     numbers : (l : List Slot) → map channel_number (map channel_of l) ≡ map number_of l
     numbers [] = refl
     numbers (s ∷ l) = ap (λ r. s.channel.0 ∷ r) (numbers l)
+
+all-listed : {A B : Type 0} (v : A → B) (f : B → Bool) (l : List A) → list_all (λ x. f (v x)) l ≡ all f (map v l)
+all-listed v f [] = refl
+all-listed v f (x ∷ l) = ap (λ b. f (v x) && b) (all-listed v f l)
+
+least_one : (n k : ℕ) → k ≡ min n 16 → leb 1 k ≡ leb 1 n
+least_one n k e = go (leb 1 n) refl
+  where
+    go : (b : Bool) → leb 1 n ≡ b → leb 1 k ≡ b
+    go true p = le-leb 1 k (omega (arith, leb-true 1 n p))
+    go false p = lt-leb 1 k (omega (arith, leb-false 1 n p))
+
+-- "1 to 16 distinct channels of the kind above", of the first n slots of the array
+pub channel_parts : (n : ℕ) (a : List Slot) → length a ≡ 16 → channels_keep (viewed channel_of n a) ≡ (leb 1 n && (list_all (λ s. channel_ok (channel_of s)) (take (min n 16) a) && distinct eqb (take (min n 16) (map number_of a))))
+unfolding channels_keep viewed
+channel_parts n a e =
+    let l = viewed channel_of n a in
+    let k : length l ≡ min n 16 = omega (arith, viewed-length channel_of n a) in
+    let few = le-leb (length l) 16 (omega (arith, k)) in
+    let one = least_one n (length l) k in
+    let good : list_all (λ s. channel_ok (channel_of s)) (take (min n 16) a) ≡ all channel_ok l = all-listed channel_of channel_ok (take (min n 16) a) ∙ ap (all channel_ok) (first channel_of) in
+    let apart : distinct eqb (take (min n 16) (map number_of a)) ≡ distinct same_channel l = ap (distinct eqb) (take-map number_of (min n 16) a ∙ first number_of) ∙ channels-apart n a in
+    rw (few, one, good, apart) (drop_true (leb 1 n) _)
+  where
+    drop_true : (a b : Bool) → ((a && true) && b) ≡ (a && b)
+    drop_true true b = refl
+    drop_true false b = refl
+
+    first : {B : Type 0} (v : Slot → B) → map v (take (min n 16) a) ≡ viewed v n a
+    first v = rw e at (viewed-min v n a)
 
 -- ships that call one station are told apart by their own numbers
 module _ (c : Config) where
