@@ -1,4 +1,3 @@
-pub mod CommandLaws
 pub mod NumberLaws
 pub mod SaidLaws
 pub mod ReadLaws

@@ -10,6 +10,7 @@ use slots::{Hand, Signal};
 // "a symbol over 255 .. : 40"
 const LARGEST_SYMBOL: u32 = 255;
 
+#[tactic(auto, unfolding(crate::specs::Lines::command_of))]
 pub(crate) fn command_of(letter: u8) -> Option<Command>
     ensures { result ≡ command_of letter }
 {

@@ -9,6 +9,7 @@ use crate::Numbers;
 // "another number over 4,294,967,295 .. : 40"
 const LARGEST_NUMBER: u64 = 4294967295;
 
+#[tactic(auto, unfolding(crate::specs::Decimal::is_digit))]
 fn is_digit(byte: u8) -> bool
     ensures { result ≡ is_digit byte }
 {

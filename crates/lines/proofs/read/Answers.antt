@@ -1,5 +1,4 @@
 use mathlib.Core.Path.{sym, ◌∙◌}
-use native.Mathlib.Omega.{arith}
 use Rattle.lines.proofs.ReadLaws.{no_line, too_long, empty, by-letter, unnumbered, unfit, fit}
 use Rattle.lines.proofs.read.Goals as goal
 
@@ -12,9 +11,6 @@ returns-in_err-letter c = rw c.from_residual.ensures (no_line _ (empty c.args.te
 pub returns-in_err-command : goal.returns-in_err-command
 returns-in_err-command c =
     rw (c.from_residual-in_err-command.ensures, by-letter _ _ _ c.in_ok-letter.ensures.cases.0 c.if-text-gt-LONGEST_LINE.false, ← c.in_err-command.ensures) tt
-
-pub numbers_in-requires : goal.numbers_in-requires
-numbers_in-requires c = omega (arith, c.in_ok-letter.ensures.cases.1)
 
 pub returns-in_err-found : goal.returns-in_err-found
 returns-in_err-found c =

@@ -11,12 +11,6 @@ returns-then-not-is_digit c = let l = c.loop-i in
 pub overflow_sub-more : goal.overflow_sub-more
 overflow_sub-more c = omega (arith, digit-within _ (sym c.is_digit.ensures ∙ c.if-not-is_digit.false))
 
-pub overflow_cast-more-in-loop-i : goal.overflow_cast-more-in-loop-i
-overflow_cast-more-in-loop-i c = omega (arith, digit-within _ (sym c.is_digit.ensures ∙ c.if-not-is_digit.false))
-
-pub overflow_add-more : goal.overflow_add-more
-overflow_add-more c = omega (arith, digit-within _ (sym c.is_digit.ensures ∙ c.if-not-is_digit.false))
-
 pub returns-then-more-gt-LARGEST_NUMBER : goal.returns-then-more-gt-LARGEST_NUMBER
 returns-then-more-gt-LARGEST_NUMBER c = let l = c.loop-i in
     record { text_value = sym l.invariant.0 ∙ over-here l.value c.args.text.now l.i c.loop-i-test.true (sym c.is_digit.ensures ∙ c.if-not-is_digit.false) c.if-more-gt-LARGEST_NUMBER.true; within = tt }

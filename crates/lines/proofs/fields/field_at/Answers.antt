@@ -12,8 +12,5 @@ returns-then-not-is_digit c = record { text_value = no-field c.args.text.now c.a
 pub overflow_sub-byte : goal.overflow_sub-byte
 overflow_sub-byte c = omega (arith, digit-within _ (sym c.is_digit.ensures ∙ c.if-not-is_digit.false))
 
-pub overflow_cast-byte : goal.overflow_cast-byte
-overflow_cast-byte c = omega (arith, digit-within _ (sym c.is_digit.ensures ∙ c.if-not-is_digit.false))
-
 pub returns : goal.returns
 returns c = record { text_value = field-begins c.args.text.now c.args.start c.if-text-start.false (sym c.is_digit.ensures ∙ c.if-not-is_digit.false) ∙ c.digits_from.ensures.text_value; within = c.digits_from.ensures.within }

@@ -1,9 +1,7 @@
-use mathlib.Core.Path.{◌≡◌, sym, ◌∙◌, ap}
+use mathlib.Core.Path.{sym, ◌∙◌, ap}
 use native.Mathlib.Omega.{arith}
-use lib.ListN.{length}
 use Rattle.rules.specs.Rules.Bytes.{padded}
 use Rattle.lines.specs.Readable.{numbers_image}
-use Rattle.requests.proofs.ArrayLaws.{padded-length}
 use Rattle.lines.proofs.ScanLaws.{no-space, space-here}
 use Rattle.lines.proofs.NumberLaws.{nothing, none_yet, got-more, got-all}
 use Rattle.lines.proofs.fields.numbers_in.Goals as goal
@@ -11,9 +9,6 @@ use Rattle.lines.proofs.fields.numbers_in.Goals as goal
 pub loop-i-init : goal.loop-i-init
 unfolding padded
 loop-i-init c = none_yet _
-
-pub bounds-text-i : goal.bounds-text-i
-bounds-text-i c = omega (arith, c.loop-i.invariant.place)
 
 pub returns-then-text-i-ne32 : goal.returns-then-text-i-ne32
 returns-then-text-i-ne32 c = let e = nothing c.args.text.now c.loop-i.invariant (no-space c.args.text.now _ c.loop-i-test.true c.if-text-i-ne32.true) in
@@ -23,17 +18,6 @@ pub returns-in_err-value : goal.returns-in_err-value
 returns-in_err-value c = let s = c.args.text.now in
     let e = nothing s c.loop-i.invariant (space-here s _ c.loop-i-test.true c.if-text-i-ne32.false ∙ c.in_err-value.ensures.text_value) in
     rw c.from_residual.ensures (record { value = ap numbers_image (sym e); count_bound = tt })
-
-pub bounds-all-count : goal.bounds-all-count
-bounds-all-count c = let g = c.loop-i.invariant in
-    let e : length c.loop-i.all ≡ 100 = ap length g.laid ∙ padded-length 0 100 g.numbers in
-    omega (arith, g.few, g.place)
-
-pub overflow_add-count : goal.overflow_add-count
-overflow_add-count c = let g = c.loop-i.invariant in omega (arith, g.few, g.place)
-
-pub loop-i-smaller : goal.loop-i-smaller
-loop-i-smaller c = let w = c.in_ok-value.ensures.within in omega (arith, w)
 
 pub loop-i-preserved : goal.loop-i-preserved
 loop-i-preserved c = let s = c.args.text.now in
