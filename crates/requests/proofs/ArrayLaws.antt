@@ -8,9 +8,10 @@ use native.Mathlib.Nat.{le_of_suc-le-suc, not-suc-le-zero}
 use native.Mathlib.Numerals.{add-one}
 use lib.ListN.{length, take, drop, get_or, set, length-take, length-map, get_or-eq_default, drop_of_length-le}
 use lib.Seq.{drop-cons}
+use Rattle.std.proofs.lemmas.List.{take_min}
 use Rattle.rules.specs.Rules.Places.{all, mod_at}
 use Rattle.rules.specs.Rules.Bytes.{padded}
-use Rattle.requests.specs.Views.{viewed, left, itself}
+use Rattle.requests.specs.Views.{viewed, left}
 
 pub padded-length : {B : Type 0} (b : B) (m : ℕ) (l : List B) → length (padded b m l) ≡ m
 unfolding padded
@@ -71,12 +72,7 @@ module _ {A B : Type 0} (v : A → B) where
   -- a count past the array's end reads the whole array
   pub viewed-min : (n : ℕ) (l : List A) → viewed v (min n (length l)) l ≡ viewed v n l
   unfolding viewed
-  viewed-min n l = rw (take_min n l)
-    where
-      take_min : (n : ℕ) (l : List A) → take (min n (length l)) l ≡ take n l
-      take_min zero l = let e : min 0 (length l) ≡ 0 = omega arith in rw e
-      take_min (suc n) [] = let e : min (suc n) 0 ≡ 0 = omega arith in rw e
-      take_min (suc n) (x ∷ l) = let e : min (suc n) (suc (length l)) ≡ suc (min n (length l)) = omega arith in rw e (ap (λ r. x ∷ r) (take_min n l))
+  viewed-min n l = rw take_min
 
   -- one element more
   pub viewed-more : (n : ℕ) (l : List A) (d : A) → n < length l → viewed v (n + 1) l ≡ viewed v n l ++ (v (get_or l n d) ∷ [])
@@ -111,13 +107,6 @@ module _ {A B : Type 0} (v : A → B) where
       go n [] h = absurd (not-suc-le-zero h)
       go zero (y ∷ l) h = refl
       go (suc n) (y ∷ l) h = ap (λ r. v y ∷ r) (go n l (le_of_suc-le-suc h))
-
-pub viewed-itself : {A : Type 0} (n : ℕ) (l : List A) → length l ≤ n → viewed itself n l ≡ l
-unfolding viewed
-viewed-itself zero [] h = refl
-viewed-itself (suc n) [] h = refl
-viewed-itself zero (x ∷ l) h = absurd (not-suc-le-zero h)
-viewed-itself (suc n) (x ∷ l) h = ap (λ r. x ∷ r) (viewed-itself n l (le_of_suc-le-suc h))
 
 pub mod_at-past : {A : Type 0} (f : A → A) (i : ℕ) (l : List A) → length l ≤ i → mod_at f i l ≡ l
 mod_at-past f i [] h = refl

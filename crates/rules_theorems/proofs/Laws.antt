@@ -102,11 +102,6 @@ in-append : (c : Stop) (a b : List Stop) → In c b → In c (a ++ b)
 in-append c [] b h = h
 in-append c (d ∷ a) b h = inr (in-append c a b h)
 
-in_left : (c : Stop) (a b : List Stop) → In c a → In c (a ++ b)
-in_left c [] b h = absurd h
-in_left c (d ∷ a) b (inl p) = inl p
-in_left c (d ∷ a) b (inr q) = inr (in_left c a b q)
-
 again-after : (e : What) (u : ℕ) (x : Party) (k j : ℕ) (ls : List Column) → After e u (k + j) (stops_again u x k ls) (get_or ls j blank).call (get_or (map (again x) ls) j blank).call
 again-after e u x k j [] = goes_on refl
 again-after e u x k zero (l ∷ ls) = rw (add-zero k) (go l.call l.gone)
