@@ -24,23 +24,13 @@ pub fn is_mode(mode: u32) -> bool
 }
 
 // "A number has 1 to 16 digits"; a digit of 300 is judged, and not cut.
+#[tactic(auto, using(crate::proofs::StoredLaws::digits_listed))]
 pub fn digits_keep(digits: &[u32]) -> bool
     ensures { result ≡ number_keeps digits.now }
 {
-    if digits.len() < 1 {
-        return false;
-    }
-    if DIGITS < digits.len() {
-        return false;
-    }
-    let mut i = 0;
-    while i < digits.len() {
-        if LARGEST_DIGIT < digits[i] {
-            return false;
-        }
-        i += 1;
-    }
-    true
+    1 <= digits.len()
+        && digits.len() <= DIGITS
+        && digits.iter().all(|digit| *digit <= LARGEST_DIGIT)
 }
 
 fn mode_from(mode: u32) -> Mode
@@ -55,24 +45,16 @@ fn mode_from(mode: u32) -> Mode
 fn stored_digit(digit: u32) -> u8
     ensures { result ≡ stored_digit digit }
 {
-    if digit < 255 { digit as u8 } else { 255 }
-}
-
-fn stored_count(count: usize) -> usize
-    ensures { result ≡ min most_digits count }
-{
-    if DIGITS < count { DIGITS } else { count }
+    digit.min(255) as u8
 }
 
 fn number_from(digits: &[u32]) -> Number
     ensures { result ≡ number_of (stored_digits digits.now) }
 {
+    let count = digits.len().min(DIGITS);
     let mut stored = [0u8; DIGITS];
-    let count = stored_count(digits.len());
-    let mut i = 0;
-    while i < count {
-        stored[i] = stored_digit(digits[i]);
-        i += 1;
+    for (i, digit) in digits[..count].iter().enumerate() {
+        stored[i] = stored_digit(*digit);
     }
     Number {
         count: count as u8,
@@ -84,13 +66,11 @@ fn number_from(digits: &[u32]) -> Number
 pub fn request_from(mast: Mast, ship: u32, mode: u32, digits: &[u32]) -> Request
     ensures { result ≡ request_from mast ship mode digits.now }
 {
-    let mode = mode_from(mode);
-    let number = number_from(digits);
     Request {
-        ship: ship,
+        ship,
         station: mast.identity,
-        mode: mode,
+        mode: mode_from(mode),
         second: UNTOLD,
-        number: number,
+        number: number_from(digits),
     }
 }

@@ -5,4 +5,4 @@ use Rattle.ashore.proofs.request_from.Goals as goal
 
 pub returns : goal.returns
 unfolding request_from ashore_request request_image
-returns c = rw (c.mode_from-mode.ensures, c.number_from-number.ensures)
+returns c = rw (c.mode_from.ensures, c.number_from.ensures)
