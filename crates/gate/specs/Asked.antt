@@ -1,5 +1,5 @@
 -- "Refusals, in this order": what is asked of an event, by what is seen of the station.
-use Rattle.std.specs.Prelude.{ℕ, Bool, cond, not, List, [], ◌∷◌, ◌++◌, leb, ltb, Result, Ok, Err}
+use Rattle.std.specs.Prelude.{ℕ, not, List, [], ◌∷◌, ◌++◌, leb, ltb, Result, Ok, Err}
 use Rattle.std.proofs.Math.Option.{Option, none, some}
 use Rattle.sequence.specs.Answers as A
 use Rattle.sequence.specs.Refusals.{Row}
@@ -29,10 +29,6 @@ refusal_number ShipEngaged = 38
 abbrev pub verdict_of : Result (Unit {0}) Refusal → Option ℕ
 verdict_of (Ok x) = none
 verdict_of (Err r) = some (refusal_number r)
-
--- of one test
-abbrev pub asked_once : Bool → ℕ → Option ℕ
-asked_once b n = cond b none (some n)
 
 -- of every event: the room's size, the time
 abbrev pub asked_always : Look → ℕ → ℕ → List (Row (Option ℕ))

@@ -5,10 +5,11 @@ ghost use Rattle.std.specs.Prelude.{◌≡◌};
 ghost use Rattle.std.proofs.Math.Option.{none};
 ghost use Rattle.sequence.specs.Refusals.{first_refusal};
 ghost use Rattle.gate.specs.declared.Refusal.TheVariants.{Sequence};
-ghost use Rattle.gate.specs.Asked.{refusal_number, verdict_of, asked_once, asked_always, asked_now, asked_on_slot};
+ghost use Rattle.gate.specs.Asked.{refusal_number, verdict_of, asked_always, asked_now, asked_on_slot};
 
 use actions::ROOM;
 use due_times::falls_due;
+use sequence::unless;
 use slots::Due;
 use units::{LIMIT, SlotNumber, Tenths};
 
@@ -64,13 +65,6 @@ impl From<sequence::Refusal> for Refusal {
     fn from(refusal: sequence::Refusal) -> Refusal {
         Refusal::Sequence(refusal)
     }
-}
-
-// One test, with its refusal where it fails.
-pub fn unless(passes: bool, refusal: Refusal) -> Result<(), Refusal>
-    ensures { verdict_of result ≡ asked_once passes (refusal_number refusal) }
-{
-    if passes { Ok(()) } else { Err(refusal) }
 }
 
 impl Look {
