@@ -1,10 +1,10 @@
 // Where a transmission starts in what was handed in: two bytes a character, behind eleven characters that may have been lost.
 #![tactic(auto)]
 
-ghost use Rattle.std.specs.Prelude.{◌≡◌, ◌+◌, ◌/◌, ◌≤◌, ◌<◌, length};
+ghost use Rattle.std.specs.Prelude.{◌≡◌, ◌+◌, ◌/◌, ◌≤◌, ◌<◌, Option as Optional, length};
 ghost use Rattle.transmission.specs.Phasing.{most_lost, characters_of, heard, is_phasing, start_at, best_start, found_start};
 ghost use Rattle.phasing.specs.Characters.{character_at, standing};
-ghost use Rattle.phasing.specs.Starts.{better_of, BestBefore};
+ghost use Rattle.phasing.specs.Starts.{better_of, better_found, BestBefore};
 
 use characters::NO_CHARACTER;
 use transmission::{DX_PHASING, FIRST_RX_PHASING_SYMBOL, MOST_LOST, RX_PHASING, Start};
@@ -88,41 +88,41 @@ fn better_of(one: Start, other: Start) -> Start
     one
 }
 
-// The best start that has an RX character among the characters up to this one. Where none has, there is no phasing; and the low seven
-// units tell which of the eight a character can be: one start is looked at for each of these characters, and none for the others.
-fn best_with(characters: &[u8], i: usize, best: Option<Start>) -> Option<Start>
-    requires { (i < length characters.now / 2) × BestBefore characters.now (most_lost + i) best }
-    ensures { BestBefore characters.now (most_lost + (i + 1)) result }
+// The start that a character can be an RX character of, where that is phasing: the low seven units tell which of the eight it can be.
+fn start_with(characters: &[u8], i: usize) -> Option<Start>
+    requires { i < length characters.now / 2 }
+    ensures { (best : Optional Start) → BestBefore characters.now (most_lost + i) best
+        → BestBefore characters.now (most_lost + (i + 1)) (better_found best result) }
 {
     let symbol = characters[2 * i] % 128;
     if symbol < LAST_RX_PHASING_SYMBOL || FIRST_RX_PHASING_SYMBOL < symbol {
-        return best;
+        return None;
     }
     let behind = 1 + 2 * ((FIRST_RX_PHASING_SYMBOL - symbol) as usize);
     if MOST_LOST + i < behind {
-        return best;
+        return None;
     }
-    let Some(found) = start_at(characters, MOST_LOST + i - behind) else {
-        return best;
-    };
-    let Some(before) = best else {
-        return Some(found);
-    };
-    Some(better_of(before, found))
+    start_at(characters, MOST_LOST + i - behind)
 }
 
-// "the one with the most phasing characters counts, of equals the earliest": behind a whole phasing none is better.
+// "the one with the most phasing characters counts, of equals the earliest": behind a whole phasing none is better. Where no RX character
+// stands there is no phasing, so that one start is looked at for each character that can be one, and none for the others.
 pub fn best_start(characters: &[u8]) -> Option<Start>
     ensures { result ≡ found_start (best_start (heard (characters_of characters.now))) }
 {
     let mut best: Option<Start> = None;
     for i in 0..characters.len() / 2 {
-        if let Some(start) = best {
-            if start.phasing == WHOLE_PHASING {
-                return best;
-            }
+        let Some(found) = start_with(characters, i) else {
+            continue;
+        };
+        let better = match best {
+            Some(before) => better_of(before, found),
+            None => found,
+        };
+        if better.phasing == WHOLE_PHASING {
+            return Some(better);
         }
-        best = best_with(characters, i, best);
+        best = Some(better);
     }
     best
 }
