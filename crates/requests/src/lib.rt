@@ -31,6 +31,7 @@ pub fn least(a: u8, b: u8) -> u8
     if a <= b { a } else { b }
 }
 
+#[tactic(auto, unfolding(crate::specs::Images::blank_request))]
 pub fn blank_request() -> Request
     ensures { result ≡ blank_request }
 {

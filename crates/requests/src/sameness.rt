@@ -8,6 +8,7 @@ use crate::Request;
 use sequence::{MOST_DIGITS, Number};
 
 // The request is of this ship, at this station.
+#[tactic(auto, unfolding(rules::specs::Rules::Words::is, crate::specs::Views::request_of))]
 pub fn is_by(request: Request, ship: u32, station: u32) -> bool
     ensures { result ≡ is (party_of ship station) (request_of request).who }
 {
@@ -22,12 +23,12 @@ fn same_number(asked: Number, stored: Number) -> bool
     asked.digits[..count] == stored.digits[..stored_count]
 }
 
+#[tactic(auto, using(crate::proofs::NumberLaws::modes), unfolding(rules::specs::Rules::Requests::same, crate::specs::Views::request_of))]
 pub fn same_request(asked: Request, stored: Request) -> bool
     ensures { result ≡ same (request_of asked) (request_of stored) }
 {
-    let stored_second = stored.second;
     is_by(stored, asked.ship, asked.station)
         && asked.mode == stored.mode
-        && asked.second == stored_second
+        && asked.second == stored.second
         && same_number(asked.number, stored.number)
 }
