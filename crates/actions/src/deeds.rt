@@ -24,6 +24,7 @@ fn plain(kind: Kind, slot: SlotNumber) -> Action
     }
 }
 
+// Six makers of one body: each names its deed where it is called, and its contract has the number of its block.
 pub fn carrier_on(slot: SlotNumber) -> Action
     ensures value { result ≡ action_of CarrierOn slot.0 [] }
     ensures result_value { action_block result ≡ block 1 slot.0 [] }

@@ -36,7 +36,7 @@ pub enum Kind {
     BusyTone = 10,
 }
 
-// One action: its kind, its slot, how much of its payload counts, and the payload.
+// One action: its kind, its slot, how much of its payload counts, and the payload. No heap: an array with its length beside it.
 #[derive(Clone, Copy)]
 pub struct Action {
     pub kind: Kind,

@@ -24,6 +24,7 @@ fn bytes_of(action: Action) -> [u8; BLOCK]
 }
 
 // Lays an action as the block of that number where the room holds it, and returns the number of the next block.
+// The number stays beside the room: a cursor over both would say `lay_count` and `lay_room` of its fields, and no less.
 pub fn lay(action: Action, block: u8, room: &mut [u8]) -> u8
     ensures value { result ≡ lay_count block (length room.old) }
     ensures room_written { room.new ≡ lay_room (action_block action) block room.old }
