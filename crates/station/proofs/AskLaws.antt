@@ -1,6 +1,7 @@
 -- A call request: what goes on behind an outcome, and what does not.
 use Prim.Native.Nat.{ℕ}
 use mathlib.Core.Bool.{Bool, true, false, cond}
+use Rattle.std.specs.Prelude.{Option, Some, None}
 use mathlib.Core.Path.{◌≡◌, refl}
 use lib.Dec.{ltb}
 use Rattle.units.specs.declared.Tenths.{Tenths}
@@ -8,8 +9,7 @@ use Rattle.rules.specs.Rules.Words.{Request}
 use Rattle.rules.specs.Rules.Sound.{queue_room}
 use Rattle.rules.specs.Rules.Station as R
 use Rattle.slots.specs.declared.Phase.{Phase}
-use Rattle.slots.specs.declared.Place.{Place}
-use Rattle.slots.specs.declared.Place.TheVariants.{At, Nothing}
+use Rattle.slots.specs.declared.QueuePlace.{QueuePlace}
 use Rattle.slots.proofs.PhaseLaws.{by-phase}
 use Rattle.outcomes.specs.declared.Outcome.{Outcome}
 use Rattle.outcomes.specs.declared.Outcome.TheVariants.{Joins, Unable}
@@ -29,10 +29,10 @@ newcomer-ends false n = go (ltb n queue_room)
     go true = refl
     go false = refl
 
-pub d-to-g-ends : (spent : Bool) (place : Place) (found : Bool) (n : ℕ) → goes_on (d_to_g_by spent place found n) ≡ false
+pub d-to-g-ends : (spent : Bool) (place : Option QueuePlace) (found : Bool) (n : ℕ) → goes_on (d_to_g_by spent place found n) ≡ false
 d-to-g-ends true place found n = refl
-d-to-g-ends false (At k) found n = refl
-d-to-g-ends false Nothing found n = newcomer-ends found n
+d-to-g-ends false (Some k) found n = refl
+d-to-g-ends false None found n = newcomer-ends found n
 
 pub bq-ends : (own : Bool) (t : Tenths) (p : Phase) → goes_on (bq_by own t p) ≡ false
 bq-ends false t = λ p. refl

@@ -1,28 +1,28 @@
 -- What an outcome leaves of the records stands for what it leaves of the model.
-use Prim.Native.Nat.{ℕ, ◌<◌, ◌≤◌}
-use mathlib.Core.List.{List, [], ◌∷◌, ◌++◌}
+use Prim.Native.Nat.{ℕ, zero, suc, ◌+◌, ◌-◌, ◌<◌, ◌≤◌}
+use mathlib.Core.List.{List, [], ◌∷◌, ◌++◌, map, append_assoc}
 use mathlib.Core.Path.{◌≡◌, refl, sym, ap, ◌∙◌}
 use native.Mathlib.Omega.{arith}
-use lib.ListN.{length, length-append, get_or, set}
+use lib.ListN.{length, length-take, take, drop, get_or, set}
+use lib.Seq.{take_at}
 use Rattle.rules.specs.Rules.Places.{drop_at, mod_at}
 use Rattle.units.specs.declared.CallNumber.{CallNumber}
 use Rattle.rules.specs.Rules.Station as R
 use Rattle.rules.specs.Rules.Station.{set_slot, new_call, set_queue}
-use Rattle.requests.specs.Views.{viewed, request_of}
-use Rattle.requests.proofs.ArrayLaws.{viewed-set, viewed-same, viewed-push, viewed-length, mod_at-past}
+use Rattle.requests.specs.Views.{viewed}
+use Rattle.requests.proofs.ArrayLaws.{viewed-set, viewed-same, viewed-length, mod_at-past}
 use Rattle.slots.specs.declared.Slot.{Slot}
-use Rattle.slots.specs.declared.Waiting.{Waiting}
-use Rattle.slots.specs.Views.{slot_view, waiting_view, channel_of, no_slot, no_waiting}
-use Rattle.slots.proofs.QueueLaws.{drop_at-past, viewed-mod}
+use Rattle.slots.specs.Views.{slot_view, channel_of, no_slot}
 use Rattle.outcomes.specs.declared.Turn.{Turn}
 use Rattle.outcomes.specs.declared.Turn.TheVariants.{Stays, Own, Asked, Oldest}
 use Rattle.outcomes.specs.declared.QueueChange.{QueueChange}
 use Rattle.outcomes.specs.declared.QueueChange.TheVariants.{Same, Leaves, Joins, Replaces}
+use Rattle.outcomes.specs.Does as D
 use Rattle.outcomes.specs.Does.{turned, last_after, requeued}
 use Rattle.telling.specs.declared.Scene.{Scene}
 use Rattle.telling.specs.Tells.{scene_view}
-use Rattle.station.specs.Changes.{slot_turned, leaving_of, entry_place, length_after}
-use Rattle.outcomes.specs.Does.{entered_of}
+use Rattle.std.specs.List.{copy_within}
+use Rattle.station.specs.Changes.{slot_turned, queue_after}
 
 -- ── the slots ──
 
@@ -57,33 +57,24 @@ module _ (sc : Scene) (n : ℕ) (a : List Slot) (st : R.Station) (seen : viewed 
 
 -- ── the queue ──
 
--- n are left of the queue, in the array b
-module _ (sc : Scene) (n : ℕ) (b : List Waiting) (st : R.Station) (long : length b ≡ 32) where
-  abbrev Left : QueueChange → Type 0
-  Left l = viewed waiting_view n b ≡ drop_at (leaving_of (length st.queue) l) st.queue
+-- the array of which the elements behind the place g are moved up
+module _ {A B : Type 0} (v : A → B) where
+  moved : (g k m : ℕ) (l r : List A) → m ≡ g + k → m < length l → map v (take m (take g l ++ (take k (drop (suc g) l) ++ r))) ≡ drop_at g (map v (take (suc m) l))
+  moved g k m [] r e h = absurd (omega arith)
+  moved zero k m (x ∷ l) r e h = let f : m ≡ k = omega arith in rw f (ap (map v) (take_at (take k l) r k (omega (arith, length-take k l))))
+  moved (suc g) k zero (x ∷ l) r e h = absurd (omega arith)
+  moved (suc g) k (suc m) (x ∷ l) r e h = ap (λ z. v x ∷ z) (moved g k m l r (omega arith) (omega arith))
 
-  all_left : viewed waiting_view n b ≡ drop_at (length st.queue) st.queue → viewed waiting_view n b ≡ st.queue
-  all_left e = e ∙ sym (drop_at-past (length st.queue) st.queue (omega arith))
+  pub closed-up : (g n : ℕ) (l z : List A) → g < n → n ≤ length l → z ≡ copy_within l (g + 1) n g → viewed v (n - 1) z ≡ drop_at g (viewed v n l)
+  unfolding viewed
+  closed-up g n l z h k e =
+      let s : g + 1 ≡ suc g = omega arith in
+      let t : suc (n - 1) ≡ n = omega arith in
+      rw (e, s, append_assoc) (rw t at (moved g (n - suc g) (n - 1) l (drop (g + (n - suc g)) l) (omega arith) (omega arith)))
 
-  pub queue-written : (l : QueueChange) → Left l → length_after n l ≤ 32 → entry_place n l < 32
-      → viewed waiting_view (length_after n l) (set b (entry_place n l) (entered_of sc.asked (get_or b (entry_place n l) no_waiting) l)) ≡ (requeued (scene_view sc) l st).queue
-  unfolding requeued set_queue scene_view
-  queue-written Same e f h = absurd (omega arith)
-  queue-written (Leaves k) e f h = absurd (omega arith)
-  queue-written (Joins d) e f h = viewed-push waiting_view n b _ (omega arith) ∙ ap (λ z. z ++ record { request = request_of sc.asked; due = d.0 } ∷ []) (all_left e)
-  queue-written (Replaces k) e f h = viewed-mod waiting_view (λ w. record { request = request_of sc.asked; due = w.due }) n b k.0 _ no_waiting refl ∙ ap (mod_at _ k.0) (all_left e)
-
-  pub queue-kept : (l : QueueChange) → Left l → length_after n l ≤ 32 → 32 ≤ entry_place n l → viewed waiting_view (length_after n l) b ≡ (requeued (scene_view sc) l st).queue
-  unfolding requeued set_queue scene_view
-  queue-kept Same e f h = all_left e
-  queue-kept (Leaves k) e f h = e
-  queue-kept (Joins d) e f h = absurd (omega arith)
-  queue-kept (Replaces k) e f h = all_left e ∙ sym (mod_at-past _ k.0 st.queue (omega (arith, viewed-length waiting_view n b, ap length (all_left e))))
-
-  -- how many are left and how many wait then, of a queue that fits
-  pub queue-fits : (l : QueueChange) → Left l → n ≤ 32 → length (requeued (scene_view sc) l st).queue ≤ 32 → length_after n l ≤ 32
-  unfolding requeued set_queue scene_view
-  queue-fits Same e k h = k
-  queue-fits (Leaves j) e k h = k
-  queue-fits (Joins d) e k h = omega (arith, viewed-length waiting_view n b, ap length (all_left e), simp length-append at h)
-  queue-fits (Replaces j) e k h = k
+pub requeued-queue : (sc : D.Scene) (l : QueueChange) (st : R.Station) → queue_after sc.asked l st.queue ≡ (requeued sc l st).queue
+unfolding requeued set_queue
+requeued-queue sc Same st = refl
+requeued-queue sc (Leaves k) st = refl
+requeued-queue sc (Joins d) st = refl
+requeued-queue sc (Replaces k) st = refl

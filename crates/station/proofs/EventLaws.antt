@@ -1,11 +1,18 @@
 -- The outcome that is decided for a signal or for the operator's hand is what the rules do with it, on the records; and what was heard.
 use Prim.Native.Nat.{ℕ, ◌≤◌}
+use mathlib.Core.Bool.{cond}
 use mathlib.Core.List.{List}
+use mathlib.Core.Option.{none, some}
+use Rattle.std.specs.Prelude.{Some, None, Ok, Err}
+use Rattle.gate.specs.Asked.{asked_once}
 use mathlib.Core.Path.{◌≡◌, refl, ◌∙◌}
 use Rattle.units.specs.declared.SlotNumber.{SlotNumber}
 use Rattle.units.specs.declared.Tenths.{Tenths}
-use Rattle.sequence.specs.declared.Reading.{Reading}
-use Rattle.sequence.specs.Reading.{reading_of}
+use Rattle.sequence.specs.declared.Meaning.{Meaning}
+use Rattle.sequence.specs.declared.Refusal.{Refusal}
+use Rattle.sequence.proofs.AnswerLaws.{refused}
+use Rattle.sequence.specs.Answers.{Answer, refusal_number, answer_number, is_done, answered}
+use Rattle.sequence.specs.Reading.{answer_of, meaning_of, blank_meaning, meaning_read, reading_of}
 use Rattle.rules.specs.Rules.Words as W
 use Rattle.rules.specs.Rules.Words.{on_slot}
 use Rattle.rules.specs.Rules.Heard.{addressed, meaning}
@@ -18,7 +25,7 @@ use Rattle.requests.specs.Views.{mode_of, request_of}
 use Rattle.slots.specs.declared.Phase.{Phase}
 use Rattle.slots.specs.declared.Slot.{Slot}
 use Rattle.slots.specs.Phases.{phase_view}
-use Rattle.slots.specs.Views.{dealing_of, slot_view, config_for}
+use Rattle.slots.specs.Views.{dealing_of, slot_view}
 use Rattle.hearing.specs.declared.Heard.{Heard}
 use Rattle.hearing.specs.Said.{heard_of}
 use Rattle.outcomes.specs.declared.Outcome.{Outcome}
@@ -28,14 +35,31 @@ use Rattle.station.specs.declared.Station.{Station}
 use Rattle.station.specs.declared.Plain.{Plain}
 use Rattle.station.specs.declared.Plain.TheVariants.{Signal, Hand}
 use Rattle.station.specs.Model.{model_of, config_of}
-use Rattle.station.specs.Pieces.{slot_of, own_of, out_at, plain_view, by_plain}
+use Rattle.station.specs.Pieces.{unread, slot_of, own_of, out_at, plain_view, by_plain}
 use Rattle.station.proofs.PlaceLaws.{slot-view}
 use Rattle.station.proofs.StepLaws.{slot-acts}
 
 -- what symbols say that were read
-pub heard-is : (s : Station) (m : List ℕ) (r : Reading) → r ≡ reading_of m → (h : Heard) → heard_of h ≡ addressed (config_for s.mast s.count s.slots) r.meaning → heard_of h ≡ meaning (config_of s) m
-unfolding meaning config_of
-heard-is s m r e h k = rw e at k
+pub heard-is : (s : Station) (m : List ℕ) (h : Heard) → heard_of h ≡ addressed (config_of s) (meaning_read m) → heard_of h ≡ meaning (config_of s) m
+unfolding meaning
+heard-is s m h k = k
+
+-- what is read, or the refusal that is given
+pub read-done : (m : List ℕ) (x : Meaning) → Ok x ≡ reading_of m → (none ≡ unread m) × (x ≡ meaning_read m)
+unfolding reading_of meaning_read
+read-done m x e = go (answer_of m) e
+  where
+    go : (a : Answer) → Ok x ≡ answered a (meaning_of m) → (none ≡ asked_once (is_done a) (answer_number a)) × (x ≡ cond (is_done a) (meaning_of m) blank_meaning)
+    go None e = (refl, cc)
+    go (Some r) e = absurd (cc)
+
+pub read-refused : (m : List ℕ) (r : Refusal) → Err r ≡ reading_of m → some (refusal_number r) ≡ unread m
+unfolding reading_of
+read-refused m r e = go (answer_of m) e
+  where
+    go : (a : Answer) → Err r ≡ answered a (meaning_of m) → some (refusal_number r) ≡ asked_once (is_done a) (answer_number a)
+    go None e = absurd (cc)
+    go (Some q) e = let s : r ≡ q = cc in rw (refused q, s)
 
 plain-is : (c : W.Config) (i : ℕ) (st : R.Station) (r : R.Dealing) (q : W.Request) (m : Mode) → mode_of m ≡ r.request.mode → st.clock ≤ limit → (w : Plain) (p : Phase)
     → out_of i r q (by_plain w (time_of st) m p) st ≡ happened_on c i st (phase_view p r) (plain_view w)

@@ -1,21 +1,20 @@
 -- The records laid out anew, and the wait that falls due first: what is handed back of a station.
-use Prim.Native.Nat.{ℕ, zero, suc, ◌≤◌}
-use mathlib.Core.List.{List, [], ◌∷◌, map}
+use Prim.Native.Nat.{ℕ, zero, suc, ◌+◌, ◌≤◌}
+use mathlib.Core.List.{List, [], ◌∷◌, ◌++◌, map}
+use Rattle.std.specs.Prelude.{Option as Optional}
 use mathlib.Core.Path.{◌≡◌, refl, sym, ap, ◌∙◌}
 use native.Mathlib.Omega.{arith}
-use lib.ListN.{length}
+use lib.ListN.{length, take, drop, replicate}
 use Rattle.rules.specs.Rules.Bytes.{padded}
 use Rattle.rules.specs.Rules.Waits.{earliest}
 use Rattle.rules.specs.Rules.Station.{slot_table, table, next_due, due_at}
-use Rattle.requests.specs.Views.{viewed, left}
-use Rattle.requests.proofs.ArrayLaws.{viewed-length, left-all}
-use Rattle.slots.specs.declared.Slot.{Slot}
-use Rattle.slots.specs.declared.Waiting.{Waiting}
+use Rattle.requests.specs.Views.{viewed}
+use Rattle.requests.proofs.ArrayLaws.{viewed-length}
 use Rattle.slots.specs.declared.Due.{Due}
 use Rattle.slots.specs.Views.{slot_view, waiting_view, due_view, due_of}
 use Rattle.slots.specs.Images.{tidy_slot, tidy_waiting, blank_slot, blank_waiting}
 use Rattle.slots.proofs.ImageLaws.{tidied-slots, tidied-queue}
-use Rattle.slots.proofs.TidyLaws.{done_from, all_done, done-length}
+use Rattle.slots.proofs.TidyLaws.{done_from, all_done}
 use Rattle.due_times.specs.Joins.{queue_joined}
 use Rattle.due_times.proofs.DueLaws.{earliest-queue}
 use Rattle.station.specs.declared.Station.{Station}
@@ -23,15 +22,20 @@ use Rattle.station.specs.Model.{model_of, config_of, image_of}
 use Rattle.station.specs.Step.{due_image}
 
 module _ {A : Type 0} (f : A → A) (b : A) where
-  -- what is blank already stays so
-  again : (n : ℕ) (l : List A) → done_from f b n l n ≡ done_from f b n (done_from f b n l n) n
+  -- the k unused places written over with the blank, and nothing else done yet
+  pub blanked : (n k m : ℕ) (l z : List A) (x : A) → n + k ≡ length l → z ≡ replicate m x → m ≡ k → x ≡ b → take n l ++ (z ++ drop k (drop n l)) ≡ done_from f b n l n
   unfolding done_from
-  again n [] = refl
-  again zero (x ∷ l) = ap (λ r. b ∷ r) (again zero l)
-  again (suc n) (x ∷ l) = ap (λ r. x ∷ r) (again n l)
+  blanked n k m l z x h e p q = rw (e, p, q) (go n l h)
+    where
+      all_blank : (k : ℕ) (l : List A) → k ≡ length l → replicate k b ++ drop k l ≡ done_from f b zero l zero
+      all_blank k [] h = rw h
+      all_blank k (x ∷ l) h = rw h (ap (λ r. b ∷ r) (all_blank (length l) l refl))
 
-  pub done-again : (n : ℕ) (l a : List A) → a ≡ done_from f b n l n → a ≡ done_from f b n a n
-  done-again n l a e = rw e (again n l)
+      go : (n : ℕ) (l : List A) → n + k ≡ length l → take n l ++ (replicate k b ++ drop k (drop n l)) ≡ done_from f b n l n
+      go zero [] h = all_blank k [] (omega arith)
+      go zero (x ∷ l) h = all_blank k (x ∷ l) (omega arith)
+      go (suc n) [] h = absurd (omega arith)
+      go (suc n) (x ∷ l) h = ap (λ r. x ∷ r) (go n l (omega arith))
 
   pub done-view : {B : Type 0} (v : A → B) (n : ℕ) (l : List A) → viewed v n (done_from f b n l n) ≡ viewed v n l
   unfolding done_from viewed
@@ -40,9 +44,8 @@ module _ {A : Type 0} (f : A → A) (b : A) where
   done-view v (suc n) [] = refl
   done-view v (suc n) (x ∷ l) = ap (λ r. v x ∷ r) (done-view v n l)
 
-  pub done-whole : (n m : ℕ) (l a z : List A) → a ≡ done_from f b n l n → z ≡ done_from f b n a 0 → length l ≡ m → z ≡ padded b m (viewed f n l)
-  done-whole n m l a z e h k =
-      h ∙ ap (λ x. done_from f b n x 0) e ∙ all_done f b n (done_from f b n l n) ∙ rw (done-length f b n l n, k, done-view f n l)
+  pub done-whole : (n i m : ℕ) (l z : List A) → z ≡ done_from f b n l i → i ≡ 0 → length l ≡ m → z ≡ padded b m (viewed f n l)
+  done-whole n i m l z e j k = e ∙ rw j (all_done f b n l) ∙ ap (λ m. padded b m (viewed f n l)) k
 
 -- the station s, with its slots and its queue laid out anew
 module _ (s : Station) (few : s.count ≤ 16) (few_wait : s.waiting ≤ 32) (wide : length s.slots ≡ 16) (long : length s.queue ≡ 32) where
@@ -65,18 +68,11 @@ module _ (s : Station) (few : s.count ≤ 16) (few_wait : s.waiting ≤ 32) (wid
           ∙ ap (λ k. record { clock = y.clock; mast = y.mast; last = y.last; count = y.count; waiting = y.waiting; slots = k; queue = x.queue }) e
           ∙ ap (λ k. record { clock = y.clock; mast = y.mast; last = y.last; count = y.count; waiting = y.waiting; slots = y.slots; queue = k }) f
 
-  -- d is the earliest wait of the slots, e of all, seen in the arrays a and b once their unused places are blank
-  pub due-is : (a : List Slot) (b : List Waiting) (d e : Due) → a ≡ done_from tidy_slot blank_slot s.count s.slots s.count → b ≡ done_from tidy_waiting blank_waiting s.waiting s.queue s.waiting
-      → due_view d ≡ earliest (slot_table 0 (left slot_view s.count a 0)) → due_view e ≡ queue_joined 0 (map due_of (left waiting_view s.waiting b 0)) (due_view d)
+  -- d is the earliest wait of the slots, e of all
+  pub due-is : (d e : Optional Due) → due_view d ≡ earliest (slot_table 0 (viewed slot_view s.count s.slots)) → due_view e ≡ queue_joined 0 (map due_of (viewed waiting_view s.waiting s.queue)) (due_view d)
       → due_image (due_at (due_view e)) ≡ due_image (next_due (model_of s))
   unfolding next_due table model_of
-  due-is a b d e f g h k =
+  due-is d e h k =
       let q = viewed waiting_view s.waiting s.queue in
       let t = viewed slot_view s.count s.slots in
-      let x : left slot_view s.count a 0 ≡ t = left-all slot_view s.count a ∙ ap (viewed slot_view s.count) f ∙ done-view tidy_slot blank_slot slot_view s.count s.slots in
-      let y : left waiting_view s.waiting b 0 ≡ q = left-all waiting_view s.waiting b ∙ ap (viewed waiting_view s.waiting) g ∙ done-view tidy_waiting blank_waiting waiting_view s.waiting s.queue in
-      ap (λ z. due_image (due_at z))
-      (k
-      ∙ ap (λ z. queue_joined 0 (map due_of z) (due_view d)) y
-      ∙ ap (queue_joined 0 (map due_of q)) (h ∙ ap (λ z. earliest (slot_table 0 z)) x)
-      ∙ sym (earliest-queue 0 (map due_of q) (slot_table 0 t)))
+      ap (λ z. due_image (due_at z)) (k ∙ ap (queue_joined 0 (map due_of q)) h ∙ sym (earliest-queue 0 (map due_of q) (slot_table 0 t)))

@@ -9,26 +9,71 @@ use lib.ListN.{length}
 use borrow.Author.Tests.{leb-true}
 use Rattle.sequence.specs.Answers.{answer_number, is_done}
 use Rattle.sequence.specs.Refusals.{Row, first_refusal}
-use Rattle.rules.specs.Rules.Places.{is_some}
-use Rattle.rules.specs.Rules.Words.{Happened, signal, operator, What, on_slot, Ashore, from_ashore, ashore_in, Event}
+use Rattle.std.specs.Prelude.{Result, Ok, Err, IsErrAnd}
+use Rattle.rules.specs.Rules.Places.{Each, is_some}
+use Rattle.rules.specs.Rules.Words.{Happened, heard, signal, operator, What, on_channel70, on_slot, Ashore, from_ashore, ashore_in, Event}
 use Rattle.rules.specs.Rules.Station.{the_slot, fires}
 use Rattle.rules.specs.Rules.Sound.{limit, sound}
 use Rattle.rules.specs.Rules.Verdict.{unless, room_needed, overtaken, slot_there, read_in, barred, names_ship, names_mode, names_number, names_engaged, slot_to_be_had, refusals, verdict}
 use Rattle.gate.specs.declared.Look.{Look}
-use Rattle.gate.specs.Asked.{and_then, asked_always, asked_now, asked_on_slot}
-use Rattle.gate.proofs.AskedLaws.{one_more}
+use Rattle.gate.specs.declared.Refusal.{Refusal}
+use Rattle.gate.specs.Asked.{refusal_number, asked_once, asked_always, asked_now, asked_on_slot}
 use Rattle.slots.specs.Views.{signal_view, hand_view}
 use Rattle.station.specs.declared.Station.{Station}
 use Rattle.station.specs.declared.Plain.{Plain}
 use Rattle.station.specs.declared.Plain.TheVariants.{Signal, Hand}
 use Rattle.station.specs.Model.{model_of, config_of}
 use Rattle.station.specs.Step.{records_keep, refusal}
-use Rattle.station.specs.Pieces.{Sees, plain_view, closed_to}
+use Rattle.station.specs.Pieces.{Sees, Judged, unread, plain_view, closed_to}
 
 -- soundness, 29, is one test of two parts
 both-parts : {A : Type 0} (a b : Bool) (x y : A) → cond (a && b) x y ≡ cond a (cond b x y) y
 both-parts true b x y = refl
 both-parts false b x y = refl
+
+-- a refusal, or with none the next
+abbrev pub or_else : Option ℕ → Option ℕ → Option ℕ
+or_else none y = y
+or_else (some k) y = some k
+
+-- tests behind tests, where each that fails gives a number
+abbrev Numbered : List (Row (Option ℕ)) → Type 0
+Numbered rows = Each (λ r. is_some r.refusal ≡ true) rows
+
+in_turn : (rows more : List (Row (Option ℕ))) → Numbered rows → first_refusal (rows ++ more) none ≡ or_else (first_refusal rows none) (first_refusal more none)
+in_turn [] more h = refl
+in_turn (r ∷ rows) more h = go r.holds r.refusal h.0 (in_turn rows more h.1)
+  where
+    go : (p : Bool) (x : Option ℕ) → is_some x ≡ true → first_refusal (rows ++ more) none ≡ or_else (first_refusal rows none) (first_refusal more none)
+        → cond p (first_refusal (rows ++ more) none) x ≡ or_else (cond p (first_refusal rows none) x) (first_refusal more none)
+    go true x e i = i
+    go false none e i = cc
+    go false (some k) e i = refl
+
+-- of tests one behind the other: those that were passed, and the one that was not
+pub none-so-far : {x y z : Option ℕ} → none ≡ x → y ≡ z → y ≡ or_else x z
+none-so-far {z = z} h e = e ∙ ap (λ x. or_else x z) h
+
+pub refused-here : {x : Option ℕ} (y : Option ℕ) (k : ℕ) → some k ≡ x → some k ≡ or_else x y
+refused-here y k h = ap (λ x. or_else x y) h
+
+pub passed-one : (b : Bool) (n : ℕ) {y z : Option ℕ} → none ≡ asked_once b n → y ≡ z → y ≡ cond b z (some n)
+passed-one true n h e = e
+passed-one false n h e = let k : ◌≡◌ {A = Option ℕ} none (some n) = h in cc
+
+pub failed-one : (b : Bool) (k n : ℕ) (z : Option ℕ) → some k ≡ asked_once b n → some k ≡ cond b z (some n)
+failed-one true k n z h = let e : ◌≡◌ {A = Option ℕ} (some k) none = h in cc
+failed-one false k n z h = h
+
+-- a refusal that is handed on by `?`
+pub judged-err : {A : Type 0} (P : A → Type 0) {o : Option ℕ} {Q : Refusal → Type 0} (k : Refusal) (r : Result A Refusal) → IsErrAnd r Q → ((e : Refusal) → Q e → e ≡ k) → some (refusal_number k) ≡ o → Judged o P r
+judged-err P k (Ok a) h q e = absurd h
+judged-err P k (Err x) h q e = ap (λ z. some (refusal_number z)) (q x h) ∙ e
+
+-- a judgement whose refusal is told otherwise
+pub judged-as : {A : Type 0} (P : A → Type 0) {x y : Option ℕ} (r : Result A Refusal) → x ≡ y → Judged x P r → Judged y P r
+judged-as P (Ok a) e j = (j.0 ∙ e, j.1)
+judged-as P (Err r) e j = j ∙ e
 
 module _ (s : Station) (l : Look) (sees : Sees s l) (n t : ℕ) where
   -- what is asked of a call from ashore behind 33
@@ -62,30 +107,22 @@ module _ (s : Station) (l : Look) (sees : Sees s l) (n t : ℕ) where
   pub asked-on-slot : (i : ℕ) (h : Happened) → first_refusal (asked_on_slot l n t i ++ afterwards (on_slot i h)) none ≡ refusal s (record { time = t; room = n; what = on_slot i h })
   asked-on-slot i h = rw sees.slots (asked-now (on_slot i h) refl)
 
+  -- what is read on channel 70, and on a slot, behind its refusals
+  pub heard-now : (m : List ℕ) → or_else (first_refusal (asked_now l n t) none) (unread m) ≡ refusal s (record { time = t; room = n; what = on_channel70 m })
+  heard-now m = sym (in_turn (asked_now l n t) (besides (on_channel70 m)) (refl, (refl, (refl, (refl, (refl, tt)))))) ∙ asked-now (on_channel70 m) refl
+
+  pub heard-there : (i : ℕ) (m : List ℕ) → or_else (first_refusal (asked_on_slot l n t i) none) (unread m) ≡ refusal s (record { time = t; room = n; what = on_slot i (heard m) })
+  heard-there i m = sym (in_turn (asked_on_slot l n t i) (afterwards (on_slot i (heard m))) (refl, (refl, (refl, (refl, (refl, (refl, tt))))))) ∙ asked-on-slot i (heard m)
+
   -- 35, which only a hand can get
-  pub asked-plainly : (i : ℕ) (w : Plain) → first_refusal (asked_on_slot l n t i ++ (unless (not (closed_to (the_slot (model_of s) i) w)) 35 ∷ [])) none ≡ refusal s (record { time = t; room = n; what = on_slot i (plain_view w) })
-  asked-plainly i (Signal g) = asked-on-slot i (signal (signal_view g))
-  asked-plainly i (Hand h) = asked-on-slot i (operator (hand_view h))
+  pub asked-plainly : (i : ℕ) (w : Plain) → or_else (first_refusal (asked_on_slot l n t i) none) (asked_once (not (closed_to (the_slot (model_of s) i) w)) 35)
+      ≡ refusal s (record { time = t; room = n; what = on_slot i (plain_view w) })
+  asked-plainly i (Signal g) = sym (in_turn (asked_on_slot l n t i) (afterwards (on_slot i (signal (signal_view g)))) (refl, (refl, (refl, (refl, (refl, (refl, tt))))))) ∙ asked-on-slot i (signal (signal_view g))
+  asked-plainly i (Hand h) = sym (in_turn (asked_on_slot l n t i) (afterwards (on_slot i (operator (hand_view h)))) (refl, (refl, (refl, (refl, (refl, (refl, tt))))))) ∙ asked-on-slot i (operator (hand_view h))
 
-  -- one test more: the reader's, or the hand's
-  pub one-more-now : (b : Bool) (k : ℕ) → and_then (first_refusal (asked_now l n t) none) b k ≡ first_refusal (asked_now l n t ++ (unless b k ∷ [])) none
-  one-more-now b k = one_more (asked_now l n t) (refl, (refl, (refl, (refl, (refl, tt))))) b k
-
-  pub one-more-on-slot : (i : ℕ) (b : Bool) (k : ℕ) → and_then (first_refusal (asked_on_slot l n t i) none) b k ≡ first_refusal (asked_on_slot l n t i ++ (unless b k ∷ [])) none
-  one-more-on-slot i b k = one_more (asked_on_slot l n t i) (refl, (refl, (refl, (refl, (refl, (refl, tt)))))) b k
-
-  -- the five tests of a call from ashore, one behind the other
-  pub five-more : (a b c d e : Bool) → and_then (and_then (and_then (and_then (and_then (first_refusal (asked_now l n t) none) a 15) b 17) c 19) d 38) e 37
-      ≡ first_refusal (asked_now l n t ++ (unless a 15 ∷ unless b 17 ∷ unless c 19 ∷ unless d 38 ∷ unless e 37 ∷ [])) none
-  five-more a b c d e =
-      ap (λ v. and_then (and_then (and_then (and_then v b 17) c 19) d 38) e 37) (one-more-now a 15)
-      ∙ ap (λ v. and_then (and_then (and_then v c 19) d 38) e 37) (one_more (asked_now l n t ++ (unless a 15 ∷ [])) (refl, (refl, (refl, (refl, (refl, (refl, tt)))))) b 17)
-      ∙ ap (λ v. and_then (and_then v d 38) e 37) (one_more (asked_now l n t ++ (unless a 15 ∷ unless b 17 ∷ [])) (refl, (refl, (refl, (refl, (refl, (refl, (refl, tt))))))) c 19)
-      ∙ ap (λ v. and_then v e 37) (one_more (asked_now l n t ++ (unless a 15 ∷ unless b 17 ∷ unless c 19 ∷ [])) (refl, (refl, (refl, (refl, (refl, (refl, (refl, (refl, tt)))))))) d 38)
-      ∙ one_more (asked_now l n t ++ (unless a 15 ∷ unless b 17 ∷ unless c 19 ∷ unless d 38 ∷ [])) (refl, (refl, (refl, (refl, (refl, (refl, (refl, (refl, (refl, tt))))))))) e 37
-
-  pub asked-ashore : (x : Ashore) → first_refusal (asked_now l n t ++ ashore (some x)) none ≡ refusal s (record { time = t; room = n; what = from_ashore x })
-  asked-ashore x = asked-now (from_ashore x) refl
+  -- the five tests of a call from ashore
+  pub asked-ashore : (x : Ashore) → or_else (first_refusal (asked_now l n t) none) (first_refusal (ashore (some x)) none) ≡ refusal s (record { time = t; room = n; what = from_ashore x })
+  asked-ashore x = sym (in_turn (asked_now l n t) (ashore (some x)) (refl, (refl, (refl, (refl, (refl, tt)))))) ∙ asked-now (from_ashore x) refl
 
 -- what an accepted event has passed
 pub record Passed (s : Station) (e : Event) : Type 0 where

@@ -3,9 +3,11 @@ pub mod PlaceLaws
 pub mod ApplyLaws
 pub mod ChangeLaws
 pub mod FinishLaws
+pub mod LookLaws
 pub mod AskLaws
 pub mod GateLaws
 pub mod SceneLaws
+pub mod CarryLaws
 pub mod RedialLaws
 pub mod StepLaws
 pub mod ShoreLaws

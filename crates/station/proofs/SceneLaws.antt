@@ -7,7 +7,6 @@ use lib.ListN.{length, get_or}
 use Rattle.units.specs.declared.SlotNumber.{SlotNumber}
 use Rattle.units.specs.declared.Tenths.{Tenths}
 use Rattle.rules.specs.Rules.Words.{Request}
-use Rattle.rules.specs.Rules.Bytes.{channel_at}
 use Rattle.rules.specs.Rules.Station as R
 use Rattle.rules.specs.Rules.Station.{set_clock, next_due, none_left, used_up}
 use Rattle.rules.specs.Rules.Sound.{limit}
@@ -31,7 +30,7 @@ use Rattle.station.specs.declared.Station.{Station}
 use Rattle.station.specs.declared.Stepped.{Stepped}
 use Rattle.station.specs.Model.{model_of, config_of, image_of}
 use Rattle.station.specs.Step.{due_image}
-use Rattle.station.specs.Pieces.{slot_of, own_of, out_at, laid_of, enacted}
+use Rattle.station.specs.Pieces.{Shows, slot_of, own_of, out_at, laid_of, enacted}
 use Rattle.station.proofs.PlaceLaws.{slot-channel}
 use Rattle.station.proofs.ApplyLaws.{turned-queue}
 
@@ -39,10 +38,6 @@ scene-out : (s : Station) (t i : ℕ) (own : R.Dealing) (asked : Request) → t 
     → applied sc o (set_clock t (model_of s)) ≡ out_of i own asked o (set_clock t (model_of s))
 unfolding set_clock
 scene-out s t i own asked late sc o e = rw e (sym (outcome-applied i own asked (set_clock t (model_of s)) late o))
-
--- the scene of the slot i at the time t, where q is asked for
-abbrev pub Shows : Station → Tenths → SlotNumber → Request → Scene → Type 0
-Shows s t i q sc = (scene_view sc ≡ scene_of i.0 (own_of s i.0) q (set_clock t.0 (model_of s))) × ((sc.clock ≡ t) × (sc.channel ≡ channel_at (config_of s) sc.slot.0))
 
 -- how many may be rung back, where n wait
 rung-back : (s : Station) (t n : ℕ) → n ≡ length (model_of s).queue → ringable_of s.last n ≡ length (to_ring_back (set_clock t (model_of s)))
@@ -62,28 +57,26 @@ shows s t i q x w n k at first waiting few =
     (rw (few ∙ rung-back s t.0 n waiting, ap (λ (y : R.Waiting). y.request) first, at), (refl, ap (λ y. y.channel) at ∙ slot-channel s i.0))
 
 module _ (s : Station) (t : Tenths) (i : SlotNumber) (q : Request) (sc : Scene) (o : Outcome) (late : t.0 ≤ limit) (shows : Shows s t i q sc) where
-  pub out-is : applied (scene_view sc) o (set_clock sc.clock.0 (model_of s)) ≡ out_at s t i q o
+  pub out-is : applied (scene_view sc) o (set_clock t.0 (model_of s)) ≡ out_at s t i q o
   unfolding out_at
-  out-is =
-      ap (λ (u : Tenths). applied (scene_view sc) o (set_clock u.0 (model_of s))) shows.1.0
-      ∙ scene-out s t.0 i.0 (own_of s i.0) q late (scene_view sc) o shows.0
+  out-is = scene-out s t.0 i.0 (own_of s i.0) q late (scene_view sc) o shows.0
 
   -- the queue that the outcome leaves
-  pub queue-is : (out_at s t i q o).next.queue ≡ (requeued (scene_view sc) (queue_change sc.clock sc.ringable o) (set_clock sc.clock.0 (model_of s))).queue
+  pub queue-is : (out_at s t i q o).next.queue ≡ (requeued (scene_view sc) (queue_change t sc.ringable o) (set_clock t.0 (model_of s))).queue
   unfolding applied set_clock scene_view
-  queue-is = ap (λ (x : Out). x.next.queue) (sym out-is) ∙ turned-queue (scene_view sc) _ (requeued (scene_view sc) _ (set_clock sc.clock.0 (model_of s)))
+  queue-is = ap (λ (x : Out). x.next.queue) (sym out-is) ∙ turned-queue (scene_view sc) _ (requeued (scene_view sc) _ (set_clock t.0 (model_of s)))
 
-  pub told_is : (k : ℕ) (room : List ℕ) → telling sc (acts_of (scene_view sc) o) k room ≡ laid_of (config_of s) (out_at s t i q o).acts k room
+  told_is : (k : ℕ) (room : List ℕ) → telling sc (acts_of (scene_view sc) o) k room ≡ laid_of (config_of s) (out_at s t i q o).acts k room
   unfolding laid_of applied
   told_is k room = telling-sent (config_of s) sc shows.1.1 o k room ∙ ap (λ (x : Out). laid_from (map (sent_block (config_of s)) x.acts) k room) out-is
 
   -- told from block number k to block number n, and applied
-  module _ (next : Station) (moved : (model_of next ≡ (applied (scene_view sc) o (set_clock sc.clock.0 (model_of s))).next) × (config_of next ≡ config_of s))
+  module _ (next : Station) (moved : model_of next ≡ (applied (scene_view sc) o (set_clock t.0 (model_of s))).next) (kept : config_of next ≡ config_of s)
       (k n : ℕ) (room after : List ℕ) (told : (n ≡ (telling sc (acts_of (scene_view sc) o) k room).next) × (after ≡ (telling sc (acts_of (scene_view sc) o) k room).room)) where
     handed : ◌≡◌ {A = Stepped} (record { answer = answer_of o; count = n; due = due_image (next_due (model_of next)); station = image_of (config_of next) (model_of next) })
         (enacted (config_of s) (laid_of (config_of s) (out_at s t i q o).acts k room) (out_at s t i q o))
     unfolding enacted applied
-    handed = rw (moved.0, moved.1, told.0, told_is k room) (ap (enacted (config_of s) (laid_of (config_of s) (out_at s t i q o).acts k room)) out-is)
+    handed = rw (moved, kept, told.0, told_is k room) (ap (enacted (config_of s) (laid_of (config_of s) (out_at s t i q o).acts k room)) out-is)
 
     pub enacts : (a : ℕ) → a ≡ answer_of o → (r : Stepped) → r ≡ record { answer = a; count = n; due = due_image (next_due (model_of next)); station = image_of (config_of next) (model_of next) }
         → (r ≡ enacted (config_of s) (laid_of (config_of s) (out_at s t i q o).acts k room) (out_at s t i q o)) × (after ≡ (laid_of (config_of s) (out_at s t i q o).acts k room).room)

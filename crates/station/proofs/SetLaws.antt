@@ -22,9 +22,10 @@ use Rattle.slots.specs.declared.Slot.{Slot}
 use Rattle.slots.specs.declared.mast.Mast.{Mast}
 use Rattle.slots.specs.Views.{channel_of, alone, on_mast, named, config_for}
 use Rattle.slots.specs.Images.{slot_image, free_on, blank_slot, blank_waiting, tenths, slot_images}
-use Rattle.station.specs.declared.SetUp.{SetUp}
+use Rattle.std.specs.Prelude.{Ok, Err}
+use Rattle.gate.specs.declared.Refusal.TheVariants.{BadSetUp}
 use Rattle.station.specs.Model.{image_of}
-use Rattle.station.specs.Step.{channel_number, counted_of, chosen, sixteen_of, blank_station, set_up_of, set_up_by}
+use Rattle.station.specs.Step.{channel_number, counted_of, chosen, sixteen_of, set_up_of, set_up_by}
 
 channels-back : (m n : ℕ) (l : List Channel) → length l ≤ m → n ≡ length l → viewed channel_of n (padded blank_slot m (map free_on l)) ≡ l
 unfolding viewed padded free_on slot_image
@@ -47,7 +48,7 @@ counts mast (x ∷ l) = ap suc (counts mast l)
 
 -- ── what is refused ──────────────────────────────────────────────────────────
 
-pub set-up-refused : (c : Config) → config_keeps c ≡ false → ◌≡◌ {A = SetUp} (record { answer = 36; station = blank_station }) (set_up_of c)
+pub set-up-refused : (c : Config) → config_keeps c ≡ false → Err BadSetUp ≡ set_up_of c
 unfolding set_up_verdict
 set-up-refused c h = rw h
 
@@ -83,7 +84,7 @@ module _ (mast : Mast) (channels : List Channel) (n : ℕ) (w : length channels 
       ap (λ (l : List Channel). config_keeps (on_mast mast l)) (rw (e, le-leb n 16 h) back)
 
   pub set-up-done : config_keeps (on_mast mast (counted_of channels n)) ≡ true
-      → ◌≡◌ {A = SetUp} (record { answer = 0; station = record { clock = tenths 0; mast = mast; last = record { 0 = 0 }; count = n; waiting = 0; slots = padded blank_slot 16 (viewed free_on n channels); queue = padded blank_waiting 32 [] } }) (set_up_of (on_mast mast (counted_of channels n)))
+      → Ok (record { clock = tenths 0; mast = mast; last = record { 0 = 0 }; count = n; waiting = 0; slots = padded blank_slot 16 (viewed free_on n channels); queue = padded blank_waiting 32 [] }) ≡ (set_up_of (on_mast mast (counted_of channels n)))
   unfolding set_up_verdict image_of fresh viewed
   set-up-done k = rw (k, le-leb n 16 h, images mast (take n channels), counts mast (take n channels), counted)
 

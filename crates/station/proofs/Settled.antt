@@ -62,7 +62,7 @@ pub Station-give_back-settled : (κs : Lfts 1) (a : _) (r r' : _) (s s' : _)
     → Station-give_back.Post κs a r s → Station-give_back.Post κs a r' s' → (r ≡ r') × (s.1.1.1.0.now ≡ s'.1.1.1.0.now)
 Station-give_back-settled κs a r r' s s' p q = (p.0 ∙ sym q.0, p.1 ∙ sym q.1)
 
-pub Station-set_up-settled : (κs : Lfts 0) (a : _) (r r' : _) (s s' : _)
+pub Station-set_up-settled : (κs : Lfts 1) (a : _) (r r' : _) (s s' : _)
     → Station-set_up.Post κs a r s → Station-set_up.Post κs a r' s' → r ≡ r'
 Station-set_up-settled κs a r r' s s' p q = p ∙ sym q
 

@@ -9,7 +9,7 @@ use lib.ListN.{length, length-map}
 use borrow.Author.Tests.{le-leb}
 use Rattle.sequence.specs.Answers.{is_done}
 use Rattle.sequence.specs.Layout.{valid}
-use Rattle.sequence.specs.Reading.{reading_of}
+use Rattle.sequence.specs.Reading.{answer_of, meaning_read}
 use Rattle.sequence_theorems.proofs.RoundTrip.{reads-valid}
 use Rattle.rules.specs.Rules.Words.{Config, Happened, Event, on_slot}
 use Rattle.rules.specs.Rules.Actions.{Action}
@@ -43,8 +43,8 @@ unfolding stepped_by room_after next_due
 refused-is s l sees room e n h = rw (← h, sees.first) (refl, refl)
 
 -- what the reader accepts is valid
-pub reads : (m : List ℕ) → is_done (reading_of m).answer ≡ true → valid (reading_of m).meaning ≡ true
-unfolding reading_of
+pub reads : (m : List ℕ) → is_done (answer_of m) ≡ true → valid (meaning_read m) ≡ true
+unfolding meaning_read
 reads m h = rw h (reads-valid m h)
 
 forty : (c : Config) (l : List Action) → Forty (map (sent_block c) l)

@@ -1,7 +1,8 @@
 -- What an event does to the station of the rack and to the room, from the rules alone.
-use Rattle.std.specs.Prelude.{ℕ, ◌*◌, Bool, ◌&&◌, cond, List, [], ◌∷◌, ◌++◌, map, leb, length, take, drop}
+use Rattle.std.specs.Prelude.{ℕ, ◌*◌, Bool, ◌&&◌, cond, List, [], ◌∷◌, ◌++◌, map, leb, length, take, drop, Option as Optional, Some, None, Result, Ok, Err}
 use Rattle.std.proofs.Math.Option.{Option, none, some}
 use Rattle.units.specs.declared.Channel.{Channel}
+use Rattle.units.specs.declared.Tenths.{Tenths}
 use Rattle.sequence.specs.Refusals.{first_refusal}
 use Rattle.rules.specs.Rules.Places.{all}
 use Rattle.rules.specs.Rules.Words.{Config, Happened, What, on_slot, from_ashore, Event}
@@ -14,11 +15,10 @@ use Rattle.requests.specs.Views.{viewed, itself}
 use Rattle.slots.specs.Views.{alone, on_mast}
 use Rattle.slots.specs.Images.{tenths}
 use Rattle.sound_records.specs.Kept.{slot_exact, waiting_exact}
+use Rattle.gate.specs.declared.Refusal.{Refusal}
+use Rattle.gate.specs.declared.Refusal.TheVariants.{BadSetUp}
 use Rattle.station.specs.declared.Station.{Station}
-use Rattle.station.specs.declared.NextDue.{NextDue}
-use Rattle.station.specs.declared.NextDue.TheVariants.{Never, At}
 use Rattle.station.specs.declared.Stepped.{Stepped}
-use Rattle.station.specs.declared.SetUp.{SetUp}
 use Rattle.station.specs.Model.{model_of, config_of, image_of}
 
 -- ── an event ─────────────────────────────────────────────────────────────────
@@ -49,9 +49,9 @@ refusal s e = first_refusal (unless (records_keep s) 29 ∷ refusals (config_of 
 
 -- ── what is handed back ──────────────────────────────────────────────────────
 
-abbrev pub due_image : Option ℕ → NextDue
-due_image none = Never
-due_image (some t) = At (tenths t)
+abbrev pub due_image : Option ℕ → Optional Tenths
+due_image none = None
+due_image (some t) = Some (tenths t)
 
 -- "A refusal returns its number and no value .. and hands back the station unchanged, clock included."
 abbrev pub stepped_for : Station → Out → Option ℕ → Stepped
@@ -95,16 +95,17 @@ chosen n channels count = on_mast (alone n) (counted_of channels count)
 unfoldable pub sixteen_of : List ℕ → List Channel
 sixteen_of l = padded (channel_number 0) 16 (viewed channel_number 16 l)
 
--- with a refusal, "no value"
+-- no station was set up
 unfoldable pub blank_station : Station
 blank_station = image_of (given 0 []) (fresh (given 0 []))
 
-abbrev pub set_up_for : Config → Option ℕ → SetUp
-set_up_for c none = record { answer = 0; station = image_of c (fresh c) }
-set_up_for c (some n) = record { answer = n; station = blank_station }
+-- with a refusal, "no value"; there is but one, 36
+abbrev pub set_up_for : Config → Option ℕ → Result Station Refusal
+set_up_for c none = Ok (image_of c (fresh c))
+set_up_for c (some n) = Err BadSetUp
 
-abbrev pub set_up_of : Config → SetUp
+abbrev pub set_up_of : Config → Result Station Refusal
 set_up_of c = set_up_for c (set_up_verdict c)
 
-unfoldable pub set_up_by : ℕ → List ℕ → SetUp
+unfoldable pub set_up_by : ℕ → List ℕ → Result Station Refusal
 set_up_by n channels = set_up_of (given n channels)

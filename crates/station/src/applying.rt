@@ -1,9 +1,14 @@
-// What an outcome makes of a slot's record, and of the queue's.
-ghost use Rattle.std.specs.Prelude.{◌≡◌, ◌<◌};
-ghost use Rattle.station.specs.Changes.{slot_turned, leaving_of, entry_place, length_after};
+// What an outcome makes of a slot's record, and of the queue.
+ghost use Rattle.std.specs.Prelude.{◌≡◌, ◌≤◌, length};
+ghost use Rattle.rules.specs.Rules.Places.{drop_at};
+ghost use Rattle.rules.specs.Rules.Sound.{queue_room};
+ghost use Rattle.requests.specs.Views.{viewed, request_of};
+ghost use Rattle.slots.specs.Views.{waiting_view};
+ghost use Rattle.station.specs.Changes.{slot_turned, queue_after};
 
 use outcomes::{QueueChange, Turn};
-use slots::{MOST_WAITING, Slot};
+use requests::Request;
+use slots::{QUEUE_ROOM, Slot, Waiting};
 use telling::Scene;
 use units::CallNumber;
 
@@ -12,66 +17,68 @@ pub(crate) fn slot_turned(slot: Slot, turn: Turn, scene: Scene, last: CallNumber
     ensures { result ≡ slot_turned scene last slot turn }
 {
     let channel = slot.channel;
-    let call = scene.call;
-    let own = scene.own;
-    let asked = scene.asked;
-    let oldest = scene.oldest;
     match turn {
         Turn::Stays => slot,
         Turn::Own(phase) => Slot {
-            phase: phase,
-            channel: channel,
-            call: call,
-            request: own,
+            phase,
+            channel,
+            call: scene.call,
+            request: scene.own,
         },
         Turn::Asked(phase) => Slot {
-            phase: phase,
-            channel: channel,
+            phase,
+            channel,
             call: last,
-            request: asked,
+            request: scene.asked,
         },
         Turn::Oldest(phase) => Slot {
-            phase: phase,
-            channel: channel,
+            phase,
+            channel,
             call: last,
-            request: oldest,
+            request: scene.oldest,
         },
     }
 }
 
-// The place that is given up where so many wait; the queue's end where none is.
-pub(crate) fn leaving(change: QueueChange, waiting: u8) -> u8
-    ensures { result ≡ leaving_of waiting change }
+// Who waits behind the place that is given up moves up; how many wait then.
+pub(crate) fn moved_up(queue: &mut [Waiting; QUEUE_ROOM], waiting: u8, gap: u8) -> u8
+    requires { waiting ≤ queue_room }
+    ensures left { viewed waiting_view result queue.new ≡ drop_at gap (viewed waiting_view waiting queue.old) }
+    ensures fewer { result ≤ waiting }
+{
+    if waiting <= gap {
+        return waiting;
+    }
+    let gap = gap as usize;
+    queue.copy_within(gap + 1..waiting as usize, gap);
+    waiting - 1
+}
+
+// So many wait; the queue is changed, where that request is asked for. How many wait then.
+pub(crate) fn requeued(
+    queue: &mut [Waiting; QUEUE_ROOM],
+    waiting: u8,
+    change: QueueChange,
+    request: Request,
+) -> u8
+    requires within { waiting ≤ queue_room }
+    requires fits { length (queue_after (request_of request) change (viewed waiting_view waiting queue.old)) ≤ queue_room }
+    ensures queue { viewed waiting_view result queue.new ≡ queue_after (request_of request) change (viewed waiting_view waiting queue.old) }
+    ensures room { result ≤ queue_room }
+    ensures long { length queue.new ≡ queue_room }
 {
     match change {
         QueueChange::Same => waiting,
-        QueueChange::Leaves(place) => place.0,
-        QueueChange::Joins(_) => waiting,
-        QueueChange::Replaces(_) => waiting,
-    }
-}
-
-// The place that is written where so many wait; past the array where none is.
-pub(crate) fn entry_place(change: QueueChange, waiting: u8) -> u8
-    ensures { result ≡ entry_place waiting change }
-{
-    match change {
-        QueueChange::Same => MOST_WAITING,
-        QueueChange::Leaves(_) => MOST_WAITING,
-        QueueChange::Joins(_) => waiting,
-        QueueChange::Replaces(place) => place.0,
-    }
-}
-
-// How many wait then.
-pub(crate) fn length_after(change: QueueChange, waiting: u8) -> u8
-    requires { length_after waiting change < 256 }
-    ensures { result ≡ length_after waiting change }
-{
-    match change {
-        QueueChange::Same => waiting,
-        QueueChange::Leaves(_) => waiting,
-        QueueChange::Joins(_) => waiting + 1,
-        QueueChange::Replaces(_) => waiting,
+        QueueChange::Leaves(place) => moved_up(queue, waiting, place.0),
+        QueueChange::Joins(due) => {
+            queue[waiting as usize] = Waiting { request, due };
+            waiting + 1
+        }
+        QueueChange::Replaces(place) => {
+            if place.0 < waiting {
+                queue[place.0 as usize].request = request;
+            }
+            waiting
+        }
     }
 }

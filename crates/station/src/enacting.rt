@@ -1,137 +1,100 @@
 // What is decided is told, applied and handed back; or the event is refused.
 ghost use Rattle.std.specs.Prelude.{◌≡◌, ◌≤◌, length};
-ghost use Rattle.rules.specs.Rules.Sound.{limit, queue_room};
+ghost use Rattle.rules.specs.Rules.Sound.{queue_room};
 ghost use Rattle.rules.specs.Rules.Station.{due_at};
 ghost use Rattle.requests.specs.Views.{request_of};
 ghost use Rattle.slots.specs.Views.{due_view};
-ghost use Rattle.station.specs.Model.{config_of};
+ghost use Rattle.gate.specs.Asked.{refusal_number};
 ghost use Rattle.station.specs.Step.{due_image};
-ghost use Rattle.station.specs.Pieces.{out_at, handed_back, room_laid};
+ghost use Rattle.station.specs.Pieces.{Shows, out_at, handed_back, room_laid};
 
-use crate::applying::{entry_place, leaving, length_after, slot_turned};
+use crate::applying::{requeued, slot_turned};
 use crate::look::due_time;
+use crate::now::Now;
+use crate::tidying::{queue_anew, slots_anew};
 use crate::{Station, Stepped};
-use due_times::{loss_due, main_due, sooner_of};
+use gate::Refusal;
 use outcomes::Outcome;
-use outcomes::parts::{answer_of, entered, last_after, queue_change, ringable, turn_of};
-use requests::{Request, least};
-use slots::laying::{blank_slot, blank_waiting, tidy_slot, tidy_waiting};
-use slots::{Due, MOST_SLOTS, MOST_WAITING, QueuePlace, Wait};
+use outcomes::parts::{answer_of, last_after, queue_change, ringable, turn_of};
+use requests::Request;
+use slots::laying::blank_waiting;
+use slots::{Due, MOST_SLOTS};
 use telling::Scene;
-use units::{SlotNumber, Tenths};
+use units::SlotNumber;
 
 impl Station {
-    // An outcome of that slot, told from that block on; in one piece, since each call that is handed a station copies it.
+    // What an outcome of that slot is told and applied by.
+    fn scene(&self, now: Now, number: SlotNumber, request: Request) -> Scene
+        ensures { Shows self.now now.time number (request_of request) result }
+    {
+        let slot = self.slot_there(number);
+        let waiting = self.queue_length();
+        let oldest = if 0 < waiting {
+            self.queue[0]
+        } else {
+            blank_waiting()
+        };
+        Scene {
+            clock: now.time,
+            slot: number,
+            channel: slot.channel,
+            call: slot.call,
+            own: slot.request,
+            asked: request,
+            oldest: oldest.request,
+            ringable: ringable(self.last, waiting),
+        }
+    }
+
+    // An outcome of that slot, told from that block on.
     pub(crate) fn enact(
         mut self,
-        time: Tenths,
+        now: Now,
         number: SlotNumber,
         outcome: Outcome,
         request: Request,
         block: u8,
         room: &mut [u8],
     ) -> Stepped
-        requires time_le_limit { time.0 ≤ limit }
-        requires outcome_len_bound { length (out_at self time number (request_of request) outcome).next.queue ≤ queue_room }
-        ensures value { result ≡ handed_back self (out_at self time number (request_of request) outcome) block room.old }
-        ensures room_written { room.new ≡ room_laid self (out_at self time number (request_of request) outcome) block room.old }
+        requires { length (out_at self now.time number (request_of request) outcome).next.queue ≤ queue_room }
+        ensures value { result ≡ handed_back self (out_at self now.time number (request_of request) outcome) block room.old }
+        ensures room_written { room.new ≡ room_laid self (out_at self now.time number (request_of request) outcome) block room.old }
     {
-        let slots = least(self.count, MOST_SLOTS);
-        let waiting = least(self.waiting, MOST_WAITING);
-        let blank = blank_slot();
-        let nobody = blank_waiting();
-        let mut slot = blank;
-        if number.0 < slots as u32 {
-            slot = self.slots[number.0 as usize];
-        }
-        let mut head = nobody;
-        if 0 < waiting {
-            head = self.queue[0];
-        }
-        let channel = slot.channel;
-        let own = slot.request;
-        let oldest = head.request;
-        let call = slot.call;
-        let ringable = ringable(self.last, waiting);
-        let scene = Scene {
-            clock: time,
-            slot: number,
-            channel: channel,
-            call: call,
-            own: own,
-            asked: request,
-            oldest: oldest,
-            ringable: ringable,
-        };
+        let scene = self.scene(now, number, request);
         let told = scene.tell(outcome, block, room);
-        let change = queue_change(outcome, time, ringable);
-        let turn = turn_of(outcome, time, ringable);
+        let change = queue_change(outcome, now.time, scene.ringable);
+        let before = self.queue_length();
+        let waiting = requeued(&mut self.queue, before, change, request);
+        let turn = turn_of(outcome, now.time, scene.ringable);
         let last = last_after(turn, self.last);
-        if number.0 < slots as u32 {
+        let count = self.count.min(MOST_SLOTS);
+        if number.0 < count as u32 {
+            let slot = self.slots[number.0 as usize];
             self.slots[number.0 as usize] = slot_turned(slot, turn, scene, last);
         }
-        // who waits behind the place that is given up moves up
-        let mut gap = leaving(change, waiting);
-        while (gap as usize) + 1 < waiting as usize {
-            let next = self.queue[gap as usize + 1];
-            self.queue[gap as usize] = next;
-            gap += 1;
-        }
-        let kept = least(gap, waiting);
-        let place = entry_place(change, kept);
-        if place < MOST_WAITING {
-            let before = self.queue[place as usize];
-            self.queue[place as usize] = entered(change, before, request);
-        }
-        let after = length_after(change, kept);
-        self.clock = time;
+        let slots_first = slots_anew(&mut self.slots, count);
+        let first = queue_anew(&mut self.queue, waiting, slots_first);
+        self.clock = now.time;
         self.last = last;
-        self.count = slots;
-        self.waiting = after;
-        // laid out anew from the last place to the first, so that of two waits due together the earlier stands
-        let mut first = Due::Never;
-        let mut i = MOST_SLOTS;
-        while slots < i {
-            i -= 1;
-            self.slots[i as usize] = blank;
-        }
-        while 0 < i {
-            i -= 1;
-            let stored = self.slots[i as usize];
-            let with_main = main_due(stored, SlotNumber(i as u32), first);
-            first = loss_due(stored, SlotNumber(i as u32), with_main);
-            self.slots[i as usize] = tidy_slot(stored);
-        }
-        i = MOST_WAITING;
-        while after < i {
-            i -= 1;
-            self.queue[i as usize] = nobody;
-        }
-        while 0 < i {
-            i -= 1;
-            let entry = self.queue[i as usize];
-            let due = entry.due;
-            first = sooner_of(due, Wait::Entry(QueuePlace(i)), first);
-            self.queue[i as usize] = tidy_waiting(entry);
-        }
+        self.count = count;
+        self.waiting = waiting;
         Stepped {
+            station: self,
+            due: due_time(first),
             answer: answer_of(outcome),
             count: told,
-            due: due_time(first),
-            station: self,
         }
     }
 
     // "hands back the station unchanged, clock included"
-    pub(crate) fn refused(self, number: u8, first: Due) -> Stepped
-        ensures { result ≡ record { answer = number; count = 0; due = due_image (due_at (due_view first)); station = self } }
+    pub(crate) fn refused(self, refusal: Refusal, first: Option<Due>) -> Stepped
+        ensures { result ≡ record { answer = refusal_number refusal; count = 0; due = due_image (due_at (due_view first)); station = self } }
     {
-        let due = due_time(first);
         Stepped {
-            answer: number,
-            count: 0,
-            due: due,
             station: self,
+            due: due_time(first),
+            answer: refusal.number(),
+            count: 0,
         }
     }
 }

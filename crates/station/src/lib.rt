@@ -5,12 +5,14 @@ mod applying;
 mod calling;
 mod enacting;
 mod look;
+mod now;
 mod operator;
 mod places;
 mod plain_events;
 mod setting;
 mod shore_calls;
 mod signals;
+mod tidying;
 mod waits;
 mod working;
 
@@ -31,26 +33,13 @@ pub struct Station {
     pub waiting: u8,
 }
 
-#[derive(Clone, Copy)]
-pub enum NextDue {
-    Never,
-    At(Tenths),
-}
-
 // What an event hands back: the next station, the next due time, the answer's number, the count of actions.
 #[derive(Clone, Copy)]
 pub struct Stepped {
     pub station: Station,
-    pub due: NextDue,
+    pub due: Option<Tenths>,
     pub answer: u8,
     pub count: u8,
-}
-
-// What set-up hands back: the answer's number, and with 36 the blank station.
-#[derive(Clone, Copy)]
-pub struct SetUp {
-    pub answer: u8,
-    pub station: Station,
 }
 
 // What happens on a slot and is no sequence.

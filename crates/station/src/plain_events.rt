@@ -1,17 +1,18 @@
 // The plain events on a slot: the signals of a call and the operator's hand have one body.
 ghost use Rattle.std.specs.Prelude.{◌≡◌, not};
+ghost use Rattle.rules.specs.Rules.Words.{on_slot};
 ghost use Rattle.rules.specs.Rules.Calls.{barred_hand};
 ghost use Rattle.slots.specs.Views.{slot_view, hand_view};
-ghost use Rattle.station.specs.Step.{slot_at, stepped_by, room_after};
-ghost use Rattle.station.specs.Pieces.{plain_view, closed_to, by_plain};
+ghost use Rattle.station.specs.Step.{slot_at, refusal, stepped_by, room_after};
+ghost use Rattle.station.specs.Pieces.{Sees, Judged, slot_of, plain_view, closed_to, by_plain};
 
-use crate::places::slot_there;
+use crate::now::Now;
 use crate::{Plain, Station, Stepped};
 use deciding::{by_hand, by_signal};
-use gate::Verdict;
+use gate::{Look, Refusal, unless};
 use outcomes::Outcome;
 use requests::Mode;
-use slots::{Hand, Phase, SLOTS, Slot, is_free, is_taken};
+use slots::{Hand, Phase, Slot, is_free, is_taken};
 use units::{SlotNumber, Tenths};
 
 // The hand takes a free slot, and gives back a taken one.
@@ -43,26 +44,36 @@ fn by_plain(what: Plain, time: Tenths, mode: Mode, phase: Phase) -> Outcome
 }
 
 impl Station {
+    // The slot, where the event is accepted.
+    fn open_slot(
+        &self,
+        look: Look,
+        size: usize,
+        time: Tenths,
+        slot: SlotNumber,
+        what: Plain,
+    ) -> Result<Slot, Refusal>
+        requires { Sees self.now look }
+        ensures { Judged (refusal self.now (record { time = time.0; room = size; what = on_slot slot.0 (plain_view what) })) (λ s. s ≡ slot_of self.now slot.0) result }
+    {
+        look.judge_slot(size, time, slot)?;
+        let the_slot = self.slot_there(slot);
+        unless(may_happen(what, the_slot), Refusal::BarredHand)?;
+        Ok(the_slot)
+    }
+
     // Any of them.
     pub fn plainly(self, what: Plain, time: Tenths, slot: SlotNumber, room: &mut [u8]) -> Stepped
         ensures value { result ≡ stepped_by self (slot_at time.0 slot.0 (plain_view what) room.old) }
         ensures room_written { room.new ≡ room_after self room.old (slot_at time.0 slot.0 (plain_view what) room.old) }
     {
         let look = self.looked();
-        let first = look.due;
-        let stored = self.slots[slot.0 as usize % SLOTS];
-        let the_slot = slot_there(stored, slot, self.count);
-        let verdict = look
-            .judge_slot(room.len(), time, slot)
-            .and_then(may_happen(what, the_slot), 35);
-        match verdict {
-            Verdict::Refused(number) => self.refused(number, first),
-            Verdict::Accepted => {
+        match self.open_slot(look, room.len(), time, slot, what) {
+            Err(refusal) => self.refused(refusal, look.due),
+            Ok(the_slot) => {
                 let request = the_slot.request;
-                let mode = request.mode;
-                let phase = the_slot.phase;
-                let outcome = by_plain(what, time, mode, phase);
-                self.enact(time, slot, outcome, request, 0, room)
+                let outcome = by_plain(what, time, request.mode, the_slot.phase);
+                self.enact(Now { time }, slot, outcome, request, 0, room)
             }
         }
     }

@@ -4,12 +4,11 @@ ghost use Rattle.rules.specs.Rules.Words.{tick};
 ghost use Rattle.station.specs.Step.{event_at, stepped_by, room_after};
 ghost use Rattle.station.specs.Pieces.{wait_slot, due_slot, moment, by_wait, by_due};
 
-use crate::places::slot_there;
+use crate::now::Now;
 use crate::{Station, Stepped};
 use due_times::due_by;
-use gate::Verdict;
 use outcomes::Outcome;
-use slots::{Due, Phase, SLOTS, Wait};
+use slots::{Due, Phase, Wait};
 use units::{SlotNumber, Tenths};
 
 // The slot whose wait it is; a queue entry has none.
@@ -18,27 +17,26 @@ fn wait_slot(wait: Wait) -> SlotNumber
 {
     match wait {
         Wait::Entry(_) => SlotNumber(0),
-        Wait::Loss(slot) => slot,
-        Wait::Main(slot) => slot,
+        Wait::Loss(slot) | Wait::Main(slot) => slot,
     }
 }
 
-fn due_slot(due: Due) -> SlotNumber
+fn due_slot(due: Option<Due>) -> SlotNumber
     ensures { result ≡ due_slot due }
 {
     match due {
-        Due::Never => SlotNumber(0),
-        Due::In(_, wait) => wait_slot(wait),
+        None => SlotNumber(0),
+        Some(due) => wait_slot(due.wait),
     }
 }
 
 // "sets the clock to its due time; with none due the clock becomes t"
-fn moment(due: Due, time: Tenths) -> Tenths
+fn moment(due: Option<Due>, time: Tenths) -> Tenths
     ensures { result ≡ moment due time }
 {
     match due {
-        Due::Never => time,
-        Due::In(when, _) => when,
+        None => time,
+        Some(due) => due.at,
     }
 }
 
@@ -53,12 +51,12 @@ fn by_wait(wait: Wait, phase: Phase) -> Outcome
     }
 }
 
-fn by_due(due: Due, phase: Phase) -> Outcome
+fn by_due(due: Option<Due>, phase: Phase) -> Outcome
     ensures { result ≡ by_due due phase }
 {
     match due {
-        Due::Never => Outcome::Passes,
-        Due::In(_, wait) => by_wait(wait, phase),
+        None => Outcome::Passes,
+        Some(due) => by_wait(due.wait, phase),
     }
 }
 
@@ -69,20 +67,17 @@ impl Station {
         ensures room_written { room.new ≡ room_after self room.old (event_at time.0 tick room.old) }
     {
         let look = self.looked();
-        let first = look.due;
-        let verdict = look.judge(room.len(), time);
-        match verdict {
-            Verdict::Refused(number) => self.refused(number, first),
-            Verdict::Accepted => {
-                let due = due_by(first, time);
-                let when = moment(due, time);
+        match look.judge(room.len(), time) {
+            Err(refusal) => self.refused(refusal, look.due),
+            Ok(()) => {
+                let due = due_by(look.due, time);
+                let now = Now {
+                    time: moment(due, time),
+                };
                 let slot = due_slot(due);
-                let stored = self.slots[slot.0 as usize % SLOTS];
-                let the_slot = slot_there(stored, slot, self.count);
-                let request = the_slot.request;
-                let phase = the_slot.phase;
-                let outcome = by_due(due, phase);
-                self.enact(when, slot, outcome, request, 0, room)
+                let the_slot = self.slot_there(slot);
+                let outcome = by_due(due, the_slot.phase);
+                self.enact(now, slot, outcome, the_slot.request, 0, room)
             }
         }
     }

@@ -9,19 +9,18 @@ use Rattle.slots.specs.Views.{dealing_of}
 use Rattle.station.specs.Model.{model_of}
 use Rattle.station.specs.Pieces.{slot_of, own_of, whole_at}
 use Rattle.station.proofs.AskLaws.{ends_there, bq-ends}
-use Rattle.station.proofs.PlaceLaws.{slot-view, slot_is}
-use borrow.Author.Rules.{rules}
+use Rattle.station.proofs.PlaceLaws.{slot-view}
 use Rattle.station.proofs.Station.agreed.Goals as goal
 
 pub returns : goal.returns
 unfolding whole_at own_of set_clock request_of
 returns c = let x = c.args in
     let i = x.slot.0 in
-    let y = slot_of x.self i in
+    let y = slot_of x.self.now i in
     let r = dealing_of y in
     let q = request_of x.request in
-    let st : R.Station = set_clock x.time.0 (model_of x.self) in
-    rw (c.bq-outcome.ensures, c.is_by-own.ensures, slot_is x.self (search rules) i _ _ refl c.slot_there-the_slot.ensures)
-    (ends_there i r q _ st (bq-ends (is q.who r.request.who) x.time y.phase)
-    ∙ bq-is i st r q q.who (is q.who r.request.who) refl c.requires y.phase
-    ∙ ap (bq_for i q.who st) (slot-view x.self i))
+    let st : R.Station = set_clock x.now.time.0 (model_of x.self.now) in
+    rw (c.bq.ensures, c.is_by-own.ensures, c.slot_there-the_slot.ensures)
+    (ends_there i r q _ st (bq-ends (is q.who r.request.who) x.now.time y.phase)
+    ∙ bq-is i st r q q.who (is q.who r.request.who) refl x.now.within y.phase
+    ∙ ap (bq_for i q.who st) (slot-view x.self.now i))

@@ -7,4 +7,4 @@ use Rattle.station.proofs.Station.blank.Goals as goal
 
 pub returns : goal.returns
 unfolding blank_station image_of fresh padded
-returns c = rw (c.blank_waiting-nobody.ensures, c.blank_slot-blank.ensures) refl
+returns c = rw (c.blank_waiting.ensures, c.blank_slot.ensures) refl

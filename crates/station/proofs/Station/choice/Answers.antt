@@ -1,5 +1,6 @@
 use mathlib.Core.Bool.{cond}
-use mathlib.Core.Path.{refl, ap, ◌∙◌}
+use mathlib.Core.Logic.{inl, inr}
+use mathlib.Core.Path.{ap, ◌∙◌}
 use Rattle.rules.specs.Rules.Station as R
 use Rattle.rules.specs.Rules.Station.{set_clock}
 use Rattle.rules.specs.Rules.Requests.{ignored, rule_a}
@@ -12,9 +13,6 @@ use Rattle.station.specs.Pieces.{own_of, whole_at}
 use Rattle.station.proofs.AskLaws.{ends_there, data-ends}
 use Rattle.station.proofs.Station.choice.Goals as goal
 
-pub agreed-requires : goal.agreed-requires
-agreed-requires c = c.requires
-
 pub returns-in-CallRequest : goal.returns-in-CallRequest
 unfolding heard_on70
 returns-in-CallRequest c = rw c.in-CallRequest.is c.asked.ensures
@@ -23,27 +21,19 @@ pub returns-in-DataRequest : goal.returns-in-DataRequest
 unfolding whole_at heard_on70
 returns-in-DataRequest c = let x = c.args in
     let q = request_of x.heard.request in
-    let st : R.Station = set_clock x.time.0 (model_of x.self) in
-    rw (c.in-DataRequest.is, c.data_asked-outcome.ensures)
+    let st : R.Station = set_clock x.now.time.0 (model_of x.self.now) in
+    rw (c.in-DataRequest.is, c.of_none.ensures, c.data_asked.ensures)
     (ends_there 0 _ q _ st (data-ends c.is_being_called-called.result)
-    ∙ data_is 0 st (own_of x.self 0) q c.is_being_called-called.result
-    ∙ ap (λ b. cond b (ignored st) (rule_a st q.who q.number)) (c.is_being_called-called.ensures x.time.0))
+    ∙ data_is 0 st (own_of x.self.now 0) q c.is_being_called-called.result
+    ∙ ap (λ b. cond b (ignored st) (rule_a st q.who q.number)) (c.is_being_called-called.ensures x.now.time.0))
 
 pub returns-in-Bq : goal.returns-in-Bq
 unfolding heard_on70 set_clock
 returns-in-Bq c = rw c.in-Bq.is c.agreed.ensures
 
-pub returns-in-WorkingCall : goal.returns-in-WorkingCall
-unfolding whole_at whole_of out_of heard_on70
-returns-in-WorkingCall c = rw c.in-WorkingCall.is refl
-
-pub returns-in-EndOfCall : goal.returns-in-EndOfCall
-unfolding whole_at whole_of out_of heard_on70
-returns-in-EndOfCall c = rw c.in-EndOfCall.is refl
-
 pub returns-in-Declined : goal.returns-in-Declined
 returns-in-Declined c = rw c.in-Declined.is c.declined.ensures
 
-pub returns-in-Nothing : goal.returns-in-Nothing
+pub returns-in-WorkingCall : goal.returns-in-WorkingCall
 unfolding whole_at whole_of out_of heard_on70
-returns-in-Nothing c = rw c.in-Nothing.is refl
+returns-in-WorkingCall c = rw c.of_none-in-WorkingCall.ensures (elim c.in-WorkingCall.is [ inl e ↦ rw e | inr e ↦ elim e [ inl f ↦ rw f | inr f ↦ rw f ] ])

@@ -1,3 +1,4 @@
+use mathlib.Core.Logic.{inl, inr}
 use mathlib.Core.Path.{refl, ap, ◌∙◌}
 use Rattle.rules.specs.Rules.Station as R
 use Rattle.rules.specs.Rules.Station.{set_clock}
@@ -9,32 +10,27 @@ use Rattle.slots.specs.Views.{dealing_of}
 use Rattle.station.specs.Model.{model_of}
 use Rattle.station.specs.Pieces.{slot_of, own_of, whole_at}
 use Rattle.station.proofs.AskLaws.{ends_there, declined-ends}
-use Rattle.station.proofs.PlaceLaws.{slot-view, slot_is}
-use borrow.Author.Rules.{rules}
+use Rattle.station.proofs.PlaceLaws.{slot-view}
 use Rattle.station.proofs.Station.declined.Goals as goal
 
 pub returns-in-Nowhere : goal.returns-in-Nowhere
 unfolding heard_on70 declined_at whole_at whole_of out_of
-returns-in-Nowhere c = let x = c.args in
-    let h = rw c.in-Nowhere.is at (c.stands.ensures x.time.0) in
-    rw (← h) refl
+returns-in-Nowhere c =
+    elim c.in-Nowhere.is [
+      | inl e ↦ let h = rw e at (c.stands.ensures c.args.time.0) in rw (c.of_none.ensures, ← h) refl
+      | inr (k, e) ↦ let h = rw e at (c.stands.ensures c.args.time.0) in rw (c.of_none.ensures, ← h) refl
+    ]
 
 pub returns-in-Holds : goal.returns-in-Holds
 unfolding heard_on70 declined_at whole_at own_of set_clock
 returns-in-Holds c = let x = c.args in
     let i = c.in-Holds.slot.0 in
-    let y = slot_of x.self i in
-    let st : R.Station = set_clock x.time.0 (model_of x.self) in
+    let y = slot_of x.self.now i in
+    let st : R.Station = set_clock x.time.0 (model_of x.self.now) in
     let q = request_of x.request in
     let h = rw c.in-Holds.is at (c.stands.ensures x.time.0) in
-    rw (c.declined-outcome.ensures, slot_is x.self (search rules) i _ _ refl c.slot_there-the_slot.ensures)
+    rw (c.declined.ensures, c.slot_there.ensures)
     (ends_there i _ q _ st (declined-ends y.phase)
     ∙ declined-is i st (dealing_of y) q y.phase
-    ∙ ap (declined_on i st) (slot-view x.self i)
+    ∙ ap (declined_on i st) (slot-view x.self.now i)
     ∙ ap (declined_at st) h)
-
-pub returns-in-Waits : goal.returns-in-Waits
-unfolding heard_on70 declined_at whole_at whole_of out_of
-returns-in-Waits c = let x = c.args in
-    let h = rw c.in-Waits.is at (c.stands.ensures x.time.0) in
-    rw (← h) refl

@@ -7,17 +7,17 @@ use Rattle.station.proofs.Station.enact_whole.Goals.{Else-goes_on}
 
 -- nothing goes on
 alone : (b : Else-goes_on)
-    → whole_at b.args.self b.args.time b.args.choice.slot (request_of b.args.request) b.args.choice.outcome
-    ≡ out_at b.args.self b.args.time b.args.choice.slot (request_of b.args.request) b.args.choice.outcome
+    → whole_at b.args.self b.args.now.time b.args.choice.slot (request_of b.args.request) b.args.choice.outcome
+    ≡ out_at b.args.self b.args.now.time b.args.choice.slot (request_of b.args.request) b.args.choice.outcome
 alone b = ended _ _ _ _ _ (sym b.goes_on.ensures ∙ b.if-goes_on.false)
 
 pub go_on-requires : goal.go_on-requires
 go_on-requires c = let p = c.requires in
-    record { time_le_limit = p.time_le_limit; self_value = p.self_value; outcome_value = sym c.goes_on.ensures ∙ c.if-goes_on.true; request_len_bound = p.request_len_bound }
+    record { self_value = p.self_value; outcome_value = sym c.goes_on.ensures ∙ c.if-goes_on.true; request_len_bound = p.request_len_bound }
 
 pub enact-requires : goal.enact-requires
 enact-requires c = let b = (goal.at.enact-requires c).Else-goes_on in
-    record { time_le_limit = c.requires.time_le_limit; outcome_len_bound = rw (alone b) at c.requires.request_len_bound }
+    rw (alone b) at c.requires.request_len_bound
 
 pub returns : goal.returns
 returns c = let b = (goal.at.returns c).Else-goes_on in

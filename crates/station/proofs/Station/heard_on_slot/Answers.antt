@@ -1,7 +1,6 @@
 use Prim.Native.Nat.{ℕ}
 use mathlib.Core.Bool.{Bool}
 use mathlib.Core.List.{List}
-use mathlib.Core.Option.{none}
 use mathlib.Core.Path.{◌≡◌, refl, ap, ◌∙◌}
 use lib.ListN.{length}
 use Rattle.units.specs.declared.SlotNumber.{SlotNumber}
@@ -25,13 +24,12 @@ use Rattle.outcomes.specs.Does.{out_of}
 use Rattle.deciding.proofs.RuleLaws.{working-is, ship-end-is}
 use Rattle.station.specs.declared.Station.{Station}
 use Rattle.station.specs.Model.{model_of, config_of}
-use Rattle.station.specs.Step.{slot_at, refusal}
+use Rattle.station.specs.Step.{slot_at}
 use Rattle.station.specs.Pieces.{slot_of, own_of, out_at, by_kind}
-use Rattle.station.proofs.PlaceLaws.{slot-view, slot_is}
-use Rattle.station.proofs.GateLaws.{passed, asked-on-slot, one-more-on-slot}
+use Rattle.station.proofs.PlaceLaws.{slot-view}
+use Rattle.station.proofs.GateLaws.{passed}
 use Rattle.station.proofs.StepLaws.{refused-is, queue-fits, accepted-is, slot-acts}
 use Rattle.station.proofs.EventLaws.{heard-is}
-use borrow.Author.Rules.{rules}
 use Rattle.station.proofs.Station.heard_on_slot.Goals as goal
 use Rattle.station.proofs.Station.heard_on_slot.Goals.{After-by_kind-outcome}
 
@@ -62,38 +60,29 @@ acts s t n i x at o m h f own b e =
 abbrev event : After-by_kind-outcome → Event
 event z = slot_at z.args.time.0 z.args.slot.0 (heard z.args.symbols.now) z.args.room.now
 
-accepted : (b : After-by_kind-outcome) → none ≡ refusal b.args.self (event b)
-accepted b =
-    let x = b.args in
-    let sees = b.looked-look.ensures in
-    (rw (b.in-Accepted.is, b.judge_slot.ensures, b.read-said.ensures) at b.and_read-verdict.ensures)
-    ∙ one-more-on-slot _ _ sees (length x.room.now) x.time.0 x.slot.0 _ _
-    ∙ asked-on-slot _ _ sees (length x.room.now) x.time.0 x.slot.0 (heard x.symbols.now)
-
-decided : (b : After-by_kind-outcome) → out_at b.args.self b.args.time b.args.slot (request_of b.heard_in-heard.result.request) b.by_kind-outcome.result ≡ act (config_of b.args.self) (model_of b.args.self) (event b)
+decided : (b : After-by_kind-outcome) → out_at b.args.self b.args.time b.args.slot (request_of b.in-Ok.heard.request) b.by_kind-outcome.result ≡ act (config_of b.args.self) (model_of b.args.self) (event b)
 unfolding request_of
 decided b =
     let x = b.args in
-    let told = b.heard_in-heard in
-    acts x.self x.time (length x.room.now) x.slot _ (slot_is x.self (search rules) x.slot.0 _ _ refl b.slot_there-the_slot.ensures) _ x.symbols.now told.result
-    (heard-is x.self x.symbols.now _ b.read-said.ensures told.result told.ensures.result_value) _ b.is_by-own.ensures b.by_kind-outcome.ensures
+    acts x.self x.time (length x.room.now) x.slot _ b.slot_there-the_slot.ensures _ x.symbols.now b.in-Ok.heard
+    (heard-is x.self x.symbols.now b.in-Ok.heard b.in-Ok.ensures.1.1) _ b.is_by-own.ensures b.by_kind-outcome.ensures
+
+pub invariant_of-enact : goal.invariant_of-enact
+invariant_of-enact c = let x = c.args in record { within = (passed x.self (slot_at x.time.0 x.slot.0 (heard x.symbols.now) x.room.now) c.in-Ok.ensures.0).time }
 
 pub enact-requires : goal.enact-requires
 enact-requires c = let b = (goal.at.enact-requires c).After-by_kind-outcome in
     let x = c.args in
-    record { time_le_limit = (passed x.self (event b) (accepted b)).time; outcome_len_bound = queue-fits x.self x.room.now (event b) refl (accepted b) _ (decided b) }
+    queue-fits x.self x.room.now (event b) refl c.in-Ok.ensures.0 _ (decided b)
 
-pub returns-in-Refused : goal.returns-in-Refused
-returns-in-Refused c = let sees = c.looked-look.ensures in
-    let r = (refused-is _ _ sees _ (slot_at c.args.time.0 c.args.slot.0 (heard c.args.symbols.now) c.args.room.now) _
-    ((rw (c.in-Refused.is, c.judge_slot.ensures, c.read-said.ensures) at c.and_read-verdict.ensures)
-    ∙ one-more-on-slot _ _ sees (length c.args.room.now) c.args.time.0 c.args.slot.0 _ _
-    ∙ asked-on-slot _ _ sees (length c.args.room.now) c.args.time.0 c.args.slot.0 (heard c.args.symbols.now))) in
+pub returns-in-Err : goal.returns-in-Err
+returns-in-Err c = let x = c.args in
+    let r = refused-is _ _ c.looked-look.ensures _ (slot_at x.time.0 x.slot.0 (heard x.symbols.now) x.room.now) _ c.in-Err.ensures in
     record { value = c.refused.ensures ∙ r.0; room_written = r.1 }
 
-pub returns-in-Accepted : goal.returns-in-Accepted
-returns-in-Accepted c = let b = (goal.at.returns-in-Accepted c).After-by_kind-outcome in
+pub returns-in-Ok : goal.returns-in-Ok
+returns-in-Ok c = let b = (goal.at.returns-in-Ok c).After-by_kind-outcome in
     let x = c.args in
     let e = c.enact.ensures in
-    let p = accepted-is x.self x.room.now (event b) refl (accepted b) _ (decided b) in
+    let p = accepted-is x.self x.room.now (event b) refl c.in-Ok.ensures.0 _ (decided b) in
     record { value = e.value ∙ p.0; room_written = e.room_written ∙ p.1 }

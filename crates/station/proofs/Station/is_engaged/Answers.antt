@@ -1,21 +1,15 @@
-use mathlib.Core.Path.{refl, sym, ◌∙◌}
+use mathlib.Core.Path.{refl}
 use Rattle.rules.specs.Rules.Ashore.{engaged}
 use Rattle.station.specs.Model.{model_of}
+use Rattle.station.proofs.ShoreLaws.{slot-told, place-told}
 use Rattle.station.proofs.Station.is_engaged.Goals as goal
 
-pub returns-then-is_found : goal.returns-then-is_found
+pub returns-then-is_some : goal.returns-then-is_some
 unfolding engaged model_of
-returns-then-is_found c = let h = rw c.kept_for.ensures at (sym c.is_found.ensures ∙ c.if-is_found.true) in
-    rw h refl
+returns-then-is_some c =
+    rw (c.if-is_some.true, ← c.kept_for.ensures, ← slot-told c.kept_for.result, ← c.is_some.ensures, c.if-is_some.true) refl
 
-pub returns-in-At : goal.returns-in-At
+pub returns-else-is_some : goal.returns-else-is_some
 unfolding engaged model_of
-returns-in-At c = let h = rw c.kept_for.ensures at (sym c.is_found.ensures ∙ c.if-is_found.false) in
-    let p = rw c.in-At.is at c.place_of.ensures in
-    rw (h, ← p) refl
-
-pub returns-in-Nothing : goal.returns-in-Nothing
-unfolding engaged model_of
-returns-in-Nothing c = let h = rw c.kept_for.ensures at (sym c.is_found.ensures ∙ c.if-is_found.false) in
-    let p = rw c.in-Nothing.is at c.place_of.ensures in
-    rw (h, ← p) refl
+returns-else-is_some c =
+    rw (c.is_some-else-is_some.ensures, ← c.kept_for.ensures, ← c.place_of.ensures, ← slot-told c.kept_for.result, ← place-told c.place_of.result, ← c.is_some.ensures, c.if-is_some.false) refl

@@ -5,6 +5,7 @@ use borrow.Author.Rules.{rules}
 use Rattle.station.proofs.Station.queue_length.Goals as goal
 
 pub returns : goal.returns
-returns c = let s = c.args.self in
+returns c =
+    let s = c.args.self.now in
     let long : length s.queue ≡ 32 = search rules in
-    c.least.ensures ∙ queue-length s long
+    c.min.ensures ∙ queue-length s long

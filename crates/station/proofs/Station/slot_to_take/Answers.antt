@@ -7,6 +7,6 @@ pub returns-then-none_left : goal.returns-then-none_left
 unfolding model_of used_up
 returns-then-none_left c = rw (sym c.none_left.ensures ∙ c.if-none_left.true)
 
-pub returns : goal.returns
+pub returns-else-none_left : goal.returns-else-none_left
 unfolding model_of used_up
-returns c = rw (sym c.none_left.ensures ∙ c.if-none_left.false) c.first_free.ensures
+returns-else-none_left c = rw (sym c.none_left.ensures ∙ c.if-none_left.false) c.first_free.ensures

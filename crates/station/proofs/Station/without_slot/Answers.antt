@@ -10,4 +10,4 @@ pub returns : goal.returns
 unfolding model_of set_clock request_of without_slot
 returns c = let x = c.args in
     let q = request_of x.request in
-    λ t own. c.d_to_g.ensures.by_index t own q ∙ ap (d_to_g (set_clock t (model_of x.self)) q) c.place_of-place.ensures
+    λ t own. c.d_to_g.ensures.by_index t own q ∙ ap (d_to_g (set_clock t (model_of x.self.now)) q) c.place_of-place.ensures

@@ -1,0 +1,11 @@
+use mathlib.Core.Path.{refl, ◌∙◌}
+use Rattle.station.proofs.GateLaws.{heard-there, none-so-far, refused-here, judged-err, judged-as}
+use Rattle.station.proofs.Station.heard_there.Goals as goal
+
+pub returns-in_err-judge_slot : goal.returns-in_err-judge_slot
+returns-in_err-judge_slot c = let x = c.args in
+    judged-err _ c.in_err-judge_slot.field-0.0 _ c.from_residual.ensures.1 (λ e h. h) (refused-here _ _ c.in_err-judge_slot.ensures ∙ heard-there x.self.now x.look c.requires x.size x.time.0 x.slot.0 x.symbols.now)
+
+pub returns : goal.returns
+returns c = let x = c.args in
+    judged-as _ _ (none-so-far c.in_ok-judge_slot.ensures refl ∙ heard-there x.self.now x.look c.requires x.size x.time.0 x.slot.0 x.symbols.now) c.hears.ensures
