@@ -251,8 +251,11 @@ pub fn asked_again(mode: Mode, same: bool, spent: bool, phase: Phase) -> Outcome
 {
     match phase {
         Phase::Offered(_) if same => Outcome::Repeats,
-        Phase::Offered(_) | Phase::RingBack(_) | Phase::RingBackAgain(_) | Phase::Acknowledged(_) =>
-            while_left(spent, Outcome::Renews),
+        Phase::Offered(_) => while_left(spent, Outcome::Renews),
+        Phase::RingBack(_) | Phase::RingBackAgain(_) | Phase::Acknowledged(_) => while_left(
+            spent,
+            Outcome::Renews,
+        ),
         Phase::Dialling(_, carrier) | Phase::DialledOut(_, carrier) => rule_c(
             mode,
             Talk::Unanswered,
