@@ -5,8 +5,6 @@ use mathlib.Core.Bool.{Bool, true, false, cond, ◌&&◌}
 use mathlib.Core.List.{List, ◌∷◌}
 use mathlib.Core.Option.{Option, none, some}
 use mathlib.Core.Path.{◌≡◌, refl, ap}
-use mir.Val.{has_key}
-use types.Run.{OneOf, miss}
 use Rattle.units.specs.declared.Tenths.{Tenths}
 use Rattle.units.specs.declared.Duration.{Duration}
 use Rattle.rules.specs.Rules.Words as W
@@ -14,8 +12,6 @@ use Rattle.rules.specs.Rules.Words.{is, Party, Config}
 use Rattle.rules.specs.Rules.Places.{is_some}
 use Rattle.rules.specs.Rules.Station as R
 use Rattle.rules.specs.Rules.Station.{free, taken, pending, busy, held, offered, first_ring_back, second_ring_back, acknowledged, first_call, second_call, ringing, dialling, dialled_out, answered, ship_of, kept_for, call_number_in, is_called_in, answered_in, loss_due, main_due}
-use Rattle.rules.specs.Rules.Requests.{is_of, owns}
-use Rattle.rules.specs.Rules.Ashore.{keeps_for}
 use Rattle.rules.proofs.PlaceLaws.{and-true}
 use Rattle.rules.specs.Rules.Sound.{listed, owner, request_keeps, duration_keeps, slot_keeps, loss_fits, slot_fits}
 use Rattle.requests.specs.Images.{request_image, blank_request}
@@ -23,7 +19,7 @@ use Rattle.slots.specs.declared.Carrier.{Carrier}
 use Rattle.slots.specs.declared.Carrier.TheVariants.{Present, Lost}
 use Rattle.slots.specs.declared.Phase.{Phase}
 use Rattle.slots.specs.declared.Phase.TheVariants.{Free, Offered, RingBack, RingBackAgain, Acknowledged, Dialling, Answered, Hold, Taken, DialledOut, Called, CalledAgain, Ringing}
-use Rattle.slots.specs.Phases.{carrier_of, phase_view, carrier_image, phase_image, kept_in, stored, owned, called_in, answered_since, lasted_in, span_of, due_in, span_fits, carrier_in}
+use Rattle.slots.specs.Phases.{carrier_of, phase_view, carrier_image, phase_image, kept_in, stored, owned, called_in, answered_since, lasted_in, span_of, span_fits, carrier_in}
 use Rattle.slots.specs.Images.{image_or, stored_image, Short, ShortSlot}
 
 -- what is so in each phase is so
@@ -55,20 +51,6 @@ by-phase P a b c d e x y z w v f g h (DialledOut t l) = v t l
 by-phase P a b c d e x y z w v f g h (Called t) = f t
 by-phase P a b c d e x y z w v f g h (CalledAgain t) = g t
 by-phase P a b c d e x y z w v f g h (Ringing t) = h t
-
--- ── an arm for several variants, or for all that are left: it is right where it is right for each of them ──
-
--- a claim, made where the test holds
-abbrev pub Where : Bool → Type 0 → Type 0
-Where true C = C
-Where false C = Unit {0}
-
-pub where-held : (ks : List ℕ) (n : ℕ) {C : Type 0} → OneOf ks n → Where (has_key ks n) C → C
-where-held ks n {C} h = go (has_key ks n) refl
-  where
-    go : (b : Bool) → has_key ks n ≡ b → Where b C → C
-    go true e c = c
-    go false e c = absurd (miss ks n (rw e tt) h)
 
 -- ── laid out again it is the phase, and what was laid out is found again ──
 
@@ -139,24 +121,6 @@ stored-kept (held r n t) = refl
 ship-view : (p : Phase) (r : R.Dealing) → ship_of (phase_view p r) ≡ cond (owned p) (some r.request.who) none
 ship-view p r = by-phase (λ p. ship_of (phase_view p r) ≡ cond (owned p) (some r.request.who) none) refl (λ t. refl) (λ t. refl) (λ t. refl) (λ t. refl) (λ t c. refl) (λ t c. refl) (λ t n. refl) refl (λ t c. refl) (λ t. refl) (λ t. refl) (λ t. refl) p
 
-pub owns-view : (x : Party) (p : Phase) (r : R.Dealing) → owns x (phase_view p r) ≡ cond (owned p) (is x r.request.who) false
-owns-view x p r = rw (ship-view p r) (go (owned p))
-  where
-    go : (b : Bool) → is_of x (cond b (some r.request.who) none) ≡ cond b (is x r.request.who) false
-    go true = refl
-    go false = refl
-
--- the ship whose request it keeps, in a hold too
-kept-for-view : (p : Phase) (r : R.Dealing) → kept_for (phase_view p r) ≡ cond (stored p) (some r.request.who) none
-kept-for-view p r = by-phase (λ p. kept_for (phase_view p r) ≡ cond (stored p) (some r.request.who) none) refl (λ t. refl) (λ t. refl) (λ t. refl) (λ t. refl) (λ t c. refl) (λ t c. refl) (λ t n. refl) refl (λ t c. refl) (λ t. refl) (λ t. refl) (λ t. refl) p
-
-pub keeps-for-view : (x : Party) (p : Phase) (r : R.Dealing) → keeps_for x (phase_view p r) ≡ cond (stored p) (is x r.request.who) false
-keeps-for-view x p r = rw (kept-for-view p r) (go (stored p))
-  where
-    go : (b : Bool) → is_of x (cond b (some r.request.who) none) ≡ cond b (is x r.request.who) false
-    go true = refl
-    go false = refl
-
 pub owner-view : (p : Phase) (r : R.Dealing) (l : List Party) → owner (phase_view p r) l ≡ cond (owned p) (r.request.who ∷ l) l
 owner-view p r l = rw (ship-view p r) (go (owned p))
   where
@@ -194,14 +158,6 @@ fits-view c p r =
     (λ t n. refl) refl
     (λ t l. either_way (span_fits c (span_of (DialledOut t l))) (loss_fits c r.request.mode (carrier_of l)))
     (λ t. refl) (λ t. refl) (λ t. refl) p
-
--- ── when its waits fall due ──
-
-pub loss-view : (p : Phase) (r : R.Dealing) → loss_due (phase_view p r) ≡ carrier_of (carrier_in p)
-loss-view p r = by-phase (λ p. loss_due (phase_view p r) ≡ carrier_of (carrier_in p)) refl (λ t. refl) (λ t. refl) (λ t. refl) (λ t. refl) (λ t l. refl) (λ t l. refl) (λ t n. refl) refl (λ t c. refl) (λ t. refl) (λ t. refl) (λ t. refl) p
-
-pub main-view : (p : Phase) (r : R.Dealing) → main_due (phase_view p r) ≡ due_in (span_of p)
-main-view p r = by-phase (λ p. main_due (phase_view p r) ≡ due_in (span_of p)) refl (λ t. refl) (λ t. refl) (λ t. refl) (λ t. refl) (λ t l. refl) (λ t l. refl) (λ t n. refl) refl (λ t c. refl) (λ t. refl) (λ t. refl) (λ t. refl) p
 
 -- what a slot stores is short where every request is that keeps the rules
 pub short-slot : (c : Config) → ((r : W.Request) → request_keeps c r ≡ true → Short r) → (s : R.Slot) → slot_keeps c s ≡ true → ShortSlot s

@@ -1,12 +1,16 @@
 -- An array laid out anew: forward into another array, or in place from its last element to its first.
 use Prim.Native.Nat.{ℕ, zero, suc, ◌-◌, ◌<◌, ◌≤◌}
+use mathlib.Core.Bool.{Bool, true, false, cond}
 use mathlib.Core.List.{List, [], ◌∷◌}
-use mathlib.Core.Path.{◌≡◌, refl, ap}
+use mathlib.Core.Path.{◌≡◌, refl, ap, ◌∙◌}
 use native.Mathlib.Nat.{le_of_suc-le-suc, not-suc-le-zero}
 use native.Mathlib.Omega.{arith}
+use lib.Dec.{ltb}
 use lib.ListN.{length, get_or, set}
 use Rattle.rules.specs.Rules.Bytes.{padded}
-use Rattle.requests.specs.Views.{viewed}
+use Rattle.requests.specs.Views.{viewed, itself}
+use Rattle.requests.proofs.ArrayLaws.{viewed-at, viewed-past}
+use borrow.Author.Tests.{ltb-true, ltb-false}
 
 -- a blank behind the list changes nothing
 pub padded-blank : {B : Type 0} (b : B) (m : ℕ) (l : List B) (i : ℕ) → length l ≤ i → set (padded b m l) i b ≡ padded b m l
@@ -80,3 +84,19 @@ module _ {A : Type 0} (f : A → A) (b : A) where
 
     pub done-unused : n < i → set (done_from n l i) (i - 1) b ≡ done_from n l (i - 1)
     done-unused h = let s : suc (i - 1) ≡ i = omega arith in rw s at (unused n l (i - 1) (omega arith))
+
+-- a digit of a number laid out anew
+padded-at : (m : ℕ) (l : List ℕ) (i : ℕ) → i < m → get_or (padded 0 m l) i 0 ≡ get_or l i 0
+unfolding padded
+padded-at zero l i h = absurd (not-suc-le-zero h)
+padded-at (suc m) [] zero h = refl
+padded-at (suc m) [] (suc i) h = padded-at m [] i (le_of_suc-le-suc h)
+padded-at (suc m) (x ∷ l) zero h = refl
+padded-at (suc m) (x ∷ l) (suc i) h = padded-at m l i (le_of_suc-le-suc h)
+
+pub digit-at : (m n : ℕ) (l : List ℕ) (i : ℕ) → length l ≡ m → i < m → get_or (padded 0 m (viewed itself n l)) i 0 ≡ cond (ltb i n) (get_or l i 0) 0
+digit-at m n l i e h = padded-at m (viewed itself n l) i h ∙ go (ltb i n) refl
+  where
+    go : (b : Bool) → ltb i n ≡ b → get_or (viewed itself n l) i 0 ≡ cond b (get_or l i 0) 0
+    go true t = viewed-at itself n l i 0 0 (ltb-true i n t) (omega arith)
+    go false t = viewed-past itself n l i 0 (omega (arith, ltb-false i n t))

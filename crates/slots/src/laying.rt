@@ -1,5 +1,5 @@
 // Records with nothing left in their unused places.
-ghost use Rattle.std.specs.Prelude.{◌≡◌, ◌≤◌, min};
+ghost use Rattle.std.specs.Prelude.{◌≡◌, cond, ltb};
 ghost use Rattle.sequence.specs.Figures.{most_digits};
 ghost use Rattle.rules.specs.Rules.Bytes.{padded};
 ghost use Rattle.requests.specs.Views.{viewed, itself};
@@ -7,91 +7,70 @@ ghost use Rattle.requests.specs.Images.{tidy_request};
 ghost use Rattle.slots.specs.Images.{free_on, blank_slot, blank_waiting, tidy_slot, tidy_waiting};
 
 use crate::{Phase, Slot, Waiting, stores};
-use requests::{Request, blank_request, least};
+use requests::{Request, blank_request};
 use sequence::{DIGITS, MOST_DIGITS, Number};
 use units::{CallNumber, Channel, Tenths};
 
-// A digit, or less where no more may stand; that it is a byte is told here, since of an array's elements nobody knows it.
-fn at_most(digit: u8, most: u8) -> u8
-    ensures value { result ≡ min digit most }
-    ensures digit_bound { digit ≤ 255 }
+// What is kept of a digit at a place: 0 where none is in use, by the smaller of two, which the compiler works out for all sixteen at once.
+fn kept(digit: u8, place: usize, count: u8) -> u8
+    ensures { result ≡ cond (ltb place count) digit 0 }
 {
-    least(digit, most)
+    digit.min(if place < count as usize { 255 } else { 0 })
 }
 
-// The first `count` digits, and 0 behind them: by the smaller of two, which the compiler works out for all sixteen at once.
+// The first `count` digits, and 0 behind them.
 fn cleared(digits: [u8; DIGITS], count: u8) -> [u8; DIGITS]
     ensures { result ≡ padded 0 most_digits (viewed itself count digits) }
 {
-    let mut kept = [0u8; DIGITS];
-    let mut i: u8 = 0;
-    while i < MOST_DIGITS {
-        let digit = digits[i as usize];
-        let most: u8 = if i < count { 255 } else { 0 };
-        kept[i as usize] = at_most(digit, most);
-        i += 1;
+    let mut cleared = digits;
+    for (place, digit) in cleared.iter_mut().enumerate() {
+        *digit = kept(*digit, place, count);
     }
-    kept
+    cleared
 }
 
 fn tidy_request(request: Request) -> Request
     ensures { result ≡ tidy_request request }
 {
     let number = request.number;
-    let stored = number.count;
-    let count = least(stored, MOST_DIGITS);
-    let places = number.digits;
-    let digits = cleared(places, stored);
-    let mode = request.mode;
     Request {
-        ship: request.ship,
-        station: request.station,
-        mode: mode,
-        second: request.second,
         number: Number {
-            count: count,
-            digits: digits,
+            count: number.count.min(MOST_DIGITS),
+            digits: cleared(number.digits, number.count),
         },
+        ..request
     }
 }
 
 pub fn tidy_slot(slot: Slot) -> Slot
     ensures { result ≡ tidy_slot slot }
 {
-    let phase = slot.phase;
-    let channel = slot.channel;
-    let request = slot.request;
-    let call = slot.call;
-    if stores(phase) {
-        let tidied = tidy_request(request);
+    if stores(slot.phase) {
         return Slot {
-            phase: phase,
-            channel: channel,
-            call: call,
-            request: tidied,
+            request: tidy_request(slot.request),
+            ..slot
         };
     }
-    let blank = blank_request();
     Slot {
-        phase: phase,
-        channel: channel,
         call: CallNumber(0),
-        request: blank,
+        request: blank_request(),
+        ..slot
     }
 }
 
+#[tactic(auto, unfolding(crate::specs::Images::free_on, crate::specs::Images::slot_image))]
 pub fn free_on(channel: Channel) -> Slot
     ensures { result ≡ free_on channel }
 {
-    let blank = blank_request();
     Slot {
         phase: Phase::Free,
-        channel: channel,
+        channel,
         call: CallNumber(0),
-        request: blank,
+        request: blank_request(),
     }
 }
 
+#[tactic(auto, unfolding(crate::specs::Images::blank_slot, crate::specs::Images::free_on))]
 pub fn blank_slot() -> Slot
     ensures { result ≡ blank_slot }
 {
@@ -101,21 +80,18 @@ pub fn blank_slot() -> Slot
 pub fn tidy_waiting(entry: Waiting) -> Waiting
     ensures { result ≡ tidy_waiting entry }
 {
-    let due = entry.due;
-    let request = entry.request;
-    let tidied = tidy_request(request);
     Waiting {
-        due: due,
-        request: tidied,
+        due: entry.due,
+        request: tidy_request(entry.request),
     }
 }
 
+#[tactic(auto, unfolding(crate::specs::Images::blank_waiting))]
 pub fn blank_waiting() -> Waiting
     ensures { result ≡ blank_waiting }
 {
-    let blank = blank_request();
     Waiting {
         due: Tenths(0),
-        request: blank,
+        request: blank_request(),
     }
 }

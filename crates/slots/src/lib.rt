@@ -140,19 +140,18 @@ pub fn stores(phase: Phase) -> bool
     ensures { result ≡ stored phase }
 {
     match phase {
-        Phase::Free => false,
-        Phase::Offered(_) => true,
-        Phase::RingBack(_) => true,
-        Phase::RingBackAgain(_) => true,
-        Phase::Acknowledged(_) => true,
-        Phase::Dialling(_, _) => true,
-        Phase::DialledOut(_, _) => true,
-        Phase::Answered(_, _) => true,
-        Phase::Hold(_, _) => true,
-        Phase::Taken => false,
-        Phase::Called(_) => true,
-        Phase::CalledAgain(_) => true,
-        Phase::Ringing(_) => true,
+        Phase::Free | Phase::Taken => false,
+        Phase::Offered(_)
+        | Phase::RingBack(_)
+        | Phase::RingBackAgain(_)
+        | Phase::Acknowledged(_)
+        | Phase::Dialling(_, _)
+        | Phase::Answered(_, _)
+        | Phase::Hold(_, _)
+        | Phase::DialledOut(_, _)
+        | Phase::Called(_)
+        | Phase::CalledAgain(_)
+        | Phase::Ringing(_) => true,
     }
 }
 
@@ -161,19 +160,17 @@ pub fn has_ship(phase: Phase) -> bool
     ensures { result ≡ owned phase }
 {
     match phase {
-        Phase::Free => false,
-        Phase::Offered(_) => true,
-        Phase::RingBack(_) => true,
-        Phase::RingBackAgain(_) => true,
-        Phase::Acknowledged(_) => true,
-        Phase::Dialling(_, _) => true,
-        Phase::DialledOut(_, _) => true,
-        Phase::Answered(_, _) => true,
-        Phase::Hold(_, _) => false,
-        Phase::Taken => false,
-        Phase::Called(_) => true,
-        Phase::CalledAgain(_) => true,
-        Phase::Ringing(_) => true,
+        Phase::Free | Phase::Hold(_, _) | Phase::Taken => false,
+        Phase::Offered(_)
+        | Phase::RingBack(_)
+        | Phase::RingBackAgain(_)
+        | Phase::Acknowledged(_)
+        | Phase::Dialling(_, _)
+        | Phase::Answered(_, _)
+        | Phase::DialledOut(_, _)
+        | Phase::Called(_)
+        | Phase::CalledAgain(_)
+        | Phase::Ringing(_) => true,
     }
 }
 
@@ -182,62 +179,30 @@ pub fn is_called(phase: Phase) -> bool
     ensures { result ≡ called_in phase }
 {
     match phase {
-        Phase::Free => false,
-        Phase::Offered(_) => false,
-        Phase::RingBack(_) => false,
-        Phase::RingBackAgain(_) => false,
-        Phase::Acknowledged(_) => false,
-        Phase::Dialling(_, _) => false,
-        Phase::DialledOut(_, _) => false,
-        Phase::Answered(_, _) => false,
-        Phase::Hold(_, _) => false,
-        Phase::Taken => false,
-        Phase::Called(_) => true,
-        Phase::CalledAgain(_) => true,
-        Phase::Ringing(_) => true,
+        Phase::Called(_) | Phase::CalledAgain(_) | Phase::Ringing(_) => true,
+        Phase::Free
+        | Phase::Offered(_)
+        | Phase::RingBack(_)
+        | Phase::RingBackAgain(_)
+        | Phase::Acknowledged(_)
+        | Phase::Dialling(_, _)
+        | Phase::Answered(_, _)
+        | Phase::Hold(_, _)
+        | Phase::Taken
+        | Phase::DialledOut(_, _) => false,
     }
 }
 
 pub fn is_free(slot: Slot) -> bool
     ensures { result ≡ is_free (slot_view slot) }
 {
-    let phase = slot.phase;
-    match phase {
-        Phase::Free => true,
-        Phase::Offered(_) => false,
-        Phase::RingBack(_) => false,
-        Phase::RingBackAgain(_) => false,
-        Phase::Acknowledged(_) => false,
-        Phase::Dialling(_, _) => false,
-        Phase::DialledOut(_, _) => false,
-        Phase::Answered(_, _) => false,
-        Phase::Hold(_, _) => false,
-        Phase::Taken => false,
-        Phase::Called(_) => false,
-        Phase::CalledAgain(_) => false,
-        Phase::Ringing(_) => false,
-    }
+    matches!(slot.phase, Phase::Free)
 }
 
 pub fn is_taken(slot: Slot) -> bool
     ensures { result ≡ is_taken (slot_view slot) }
 {
-    let phase = slot.phase;
-    match phase {
-        Phase::Free => false,
-        Phase::Offered(_) => false,
-        Phase::RingBack(_) => false,
-        Phase::RingBackAgain(_) => false,
-        Phase::Acknowledged(_) => false,
-        Phase::Dialling(_, _) => false,
-        Phase::DialledOut(_, _) => false,
-        Phase::Answered(_, _) => false,
-        Phase::Hold(_, _) => false,
-        Phase::Taken => true,
-        Phase::Called(_) => false,
-        Phase::CalledAgain(_) => false,
-        Phase::Ringing(_) => false,
-    }
+    matches!(slot.phase, Phase::Taken)
 }
 
 // The duration that a hold tells.
@@ -245,19 +210,8 @@ pub fn lasted_in(phase: Phase) -> Option<Duration>
     ensures { result ≡ lasted_in phase }
 {
     match phase {
-        Phase::Free => None,
-        Phase::Offered(_) => None,
-        Phase::RingBack(_) => None,
-        Phase::RingBackAgain(_) => None,
-        Phase::Acknowledged(_) => None,
-        Phase::Dialling(_, _) => None,
-        Phase::DialledOut(_, _) => None,
-        Phase::Answered(_, _) => None,
         Phase::Hold(_, lasted) => lasted,
-        Phase::Taken => None,
-        Phase::Called(_) => None,
-        Phase::CalledAgain(_) => None,
-        Phase::Ringing(_) => None,
+        _ => None,
     }
 }
 
@@ -265,18 +219,14 @@ pub fn span_of(phase: Phase) -> Span
     ensures { result ≡ span_of phase }
 {
     match phase {
-        Phase::Free => Span::Untimed,
-        Phase::Offered(due) => Span::Until(due, OFFER_WAIT),
-        Phase::RingBack(due) => Span::Until(due, RING_BACK_WAIT),
-        Phase::RingBackAgain(due) => Span::Until(due, RING_BACK_WAIT),
-        Phase::Acknowledged(due) => Span::Until(due, OFFER_WAIT),
+        Phase::Free | Phase::Taken => Span::Untimed,
+        Phase::Offered(due) | Phase::Acknowledged(due) => Span::Until(due, OFFER_WAIT),
+        Phase::RingBack(due) | Phase::RingBackAgain(due) => Span::Until(due, RING_BACK_WAIT),
         Phase::Dialling(due, _) => Span::Until(due, DIALLING_WAIT),
         Phase::DialledOut(due, _) => Span::Until(due, REPLY_WAIT),
         Phase::Answered(start, _) => Span::Since(start),
         Phase::Hold(due, _) => Span::Until(due, HOLD_WAIT),
-        Phase::Taken => Span::Untimed,
-        Phase::Called(due) => Span::Until(due, CALL_WAIT),
-        Phase::CalledAgain(due) => Span::Until(due, CALL_WAIT),
+        Phase::Called(due) | Phase::CalledAgain(due) => Span::Until(due, CALL_WAIT),
         Phase::Ringing(due) => Span::Until(due, RINGING_WAIT),
     }
 }
@@ -286,19 +236,18 @@ pub fn carrier_in(phase: Phase) -> Carrier
     ensures { result ≡ carrier_in phase }
 {
     match phase {
-        Phase::Free => Carrier::Present,
-        Phase::Offered(_) => Carrier::Present,
-        Phase::RingBack(_) => Carrier::Present,
-        Phase::RingBackAgain(_) => Carrier::Present,
-        Phase::Acknowledged(_) => Carrier::Present,
-        Phase::Dialling(_, carrier) => carrier,
-        Phase::DialledOut(_, carrier) => carrier,
-        Phase::Answered(_, carrier) => carrier,
-        Phase::Hold(_, _) => Carrier::Present,
-        Phase::Taken => Carrier::Present,
-        Phase::Called(_) => Carrier::Present,
-        Phase::CalledAgain(_) => Carrier::Present,
-        Phase::Ringing(_) => Carrier::Present,
+        Phase::Dialling(_, carrier) | Phase::DialledOut(_, carrier) | Phase::Answered(_, carrier) =>
+            carrier,
+        Phase::Free
+        | Phase::Offered(_)
+        | Phase::RingBack(_)
+        | Phase::RingBackAgain(_)
+        | Phase::Acknowledged(_)
+        | Phase::Hold(_, _)
+        | Phase::Taken
+        | Phase::Called(_)
+        | Phase::CalledAgain(_)
+        | Phase::Ringing(_) => Carrier::Present,
     }
 }
 
@@ -315,17 +264,15 @@ fn loss_when(carrier: Carrier) -> Option<Tenths>
 pub fn loss_of(slot: Slot) -> Option<Tenths>
     ensures { when_view result ≡ loss_due (slot_view slot) }
 {
-    let phase = slot.phase;
-    loss_when(carrier_in(phase))
+    loss_when(carrier_in(slot.phase))
 }
 
 fn main_when(span: Span) -> Option<Tenths>
     ensures { when_view result ≡ due_in span }
 {
     match span {
-        Span::Untimed => None,
         Span::Until(due, _) => Some(due),
-        Span::Since(_) => None,
+        Span::Untimed | Span::Since(_) => None,
     }
 }
 
@@ -333,6 +280,5 @@ fn main_when(span: Span) -> Option<Tenths>
 pub fn main_of(slot: Slot) -> Option<Tenths>
     ensures { when_view result ≡ main_due (slot_view slot) }
 {
-    let phase = slot.phase;
-    main_when(span_of(phase))
+    main_when(span_of(slot.phase))
 }

@@ -19,6 +19,7 @@ pub fn is_ours(mast: Mast, identity: u32) -> bool
 }
 
 // Whether it is a coast station's.
+#[tactic(auto, unfolding(rules::specs::Rules::Sound::identity_keeps))]
 pub fn mast_keeps(mast: Mast) -> bool
     ensures { result ≡ identity_keeps (named mast) }
 {

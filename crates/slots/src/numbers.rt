@@ -17,8 +17,5 @@ pub fn none_left(last: CallNumber) -> bool
 pub fn number_after(last: CallNumber) -> CallNumber
     ensures { result ≡ record { 0 = number_after last.0 } }
 {
-    if none_left(last) {
-        return last;
-    }
-    CallNumber(last.0 + 1)
+    CallNumber(last.0.saturating_add(1))
 }

@@ -1,12 +1,13 @@
-use Prim.Native.Nat.{◌-◌, ◌≤◌, min}
+use Prim.Native.Nat.{ℕ, ◌<◌, ◌≤◌}
+use mathlib.Core.Bool.{cond}
 use mathlib.Core.Path.{◌≡◌}
-use lib.ListN.{length}
-use Rattle.requests.specs.Views.{viewed, itself}
-use Rattle.rules.specs.Rules.Bytes.{padded}
+use lib.Dec.{ltb}
+use lib.ListN.{get_or}
 use Rattle.slots.proofs.laying.cleared.Given as goal
 
-abbrev pub invariant-loop-i : goal.invariant-loop-i
-invariant-loop-i l = (length l.digits ≡ 16) × (l.i ≤ 16) × (length l.kept ≡ 16) × (l.kept ≡ padded 0 16 (viewed itself (min l.i l.count) l.digits))
-
-abbrev pub decreases-loop-i : goal.decreases-loop-i
-decreases-loop-i l = 16 - l.i
+abbrev pub invariant-loop-place : goal.invariant-loop-place
+invariant-loop-place l =
+    record {
+      done : (k : ℕ) → k < l.place → get_or l.digit-items k 0 ≡ cond (ltb k l.count) (get_or l.fn.digits k 0) 0;
+      left : (k : ℕ) → l.place ≤ k → get_or l.digit-items k 0 ≡ get_or l.fn.digits k 0;
+    }

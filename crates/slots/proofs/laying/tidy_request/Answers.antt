@@ -11,4 +11,4 @@ pub returns : goal.returns
 unfolding tidy_request request_image request_of digits_of
 returns c = let q = c.args.request in
     let wide : length q.number.digits ≡ 16 = search rules in
-    rw (c.cleared-digits.ensures, c.least-count.ensures, mode-back q.mode, viewed-length itself q.number.count q.number.digits, wide)
+    rw (c.cleared.ensures, c.min.ensures, mode-back q.mode, viewed-length itself q.number.count q.number.digits, wide)

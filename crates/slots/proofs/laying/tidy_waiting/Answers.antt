@@ -4,4 +4,4 @@ use Rattle.slots.proofs.laying.tidy_waiting.Goals as goal
 
 pub returns : goal.returns
 unfolding tidy_waiting waiting_image tidy_request
-returns c = rw c.tidy_request-tidied.ensures
+returns c = rw c.tidy_request.ensures
