@@ -1,6 +1,6 @@
 -- What is left of a list from a place on: the turns of the loops over symbols.
 use Prim.Native.Nat.{ℕ, ◌+◌, ◌<◌, ◌≤◌}
-use mathlib.Core.Path.{◌≡◌, refl}
+use mathlib.Core.Path.{◌≡◌, refl, ◌∙◌}
 use mathlib.Core.Bool.{Bool, true, false, ◌&&◌}
 use mathlib.Core.List.{List, [], ◌∷◌}
 use native.Mathlib.Numerals.{add-one}
@@ -20,6 +20,15 @@ or-is x (a ∷ s) = or-is (bit_xor x a) s
 pub all-is : (m : ℕ) (s : List ℕ) → all_at_most m s ≡ list_all (λ a. leb a m) s
 all-is m [] = refl
 all-is m (a ∷ s) = rw (all-is m s)
+
+pub fold-within : (m : ℕ) (b : Bool) (s : List ℕ) → fold (λ b a. b && leb a m) b s ≡ (b && all_at_most m s)
+fold-within m true [] = refl
+fold-within m false [] = refl
+fold-within m b (a ∷ s) = fold-within m (b && leb a m) s ∙ both b
+  where
+    both : (b : Bool) → ((b && leb a m) && all_at_most m s) ≡ (b && (leb a m && all_at_most m s))
+    both true = refl
+    both false = refl
 
 pub rest : (s : List ℕ) (i : ℕ) → i < length s → drop i s ≡ get_or s i 0 ∷ drop (i + 1) s
 rest s i h = rw (add-one, drop-cons s i 0)

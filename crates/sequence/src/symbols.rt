@@ -9,10 +9,13 @@ pub fn at(symbols: &[u8], place: usize) -> u8
     symbols.get(place).copied().unwrap_or(0)
 }
 
+// Looks at every symbol, also past the first that is over it: so the compiler compares several at once.
 pub fn all_at_most(symbols: &[u8], most: u8) -> bool
     ensures { result ≡ all_at_most most symbols.now }
 {
-    symbols.iter().all(|symbol| *symbol <= most)
+    symbols
+        .iter()
+        .fold(true, |within, symbol| within & (*symbol <= most))
 }
 
 pub fn exclusive_or(symbols: &[u8]) -> u8
