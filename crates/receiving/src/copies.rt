@@ -1,10 +1,10 @@
 // The symbols of a transmission that starts at a place of what was heard.
 ghost use Rattle.std.specs.Prelude.{◌≡◌, [], ◌∷◌, ◌+◌, ◌/◌, ◌≤◌, ◌<◌, ◌==◌, length, position};
 ghost use Rattle.sequence.specs.Figures.{longest};
-ghost use Rattle.characters.specs.Code.{none};
+ghost use Rattle.characters.specs.Rows.{in_row};
+ghost use Rattle.characters.specs.Code.{none, no_character, symbol_of};
 ghost use Rattle.transmission.specs.Phasing.{most_lost, characters_of, heard, heard_at};
 ghost use Rattle.transmission.specs.Copies.{first_good, symbol_at, symbols_from, count_of};
-ghost use Rattle.receiving.specs.Copies.{IsTable};
 
 use characters::{NO_CHARACTER, NONE, symbol_table};
 use phasing::character_at;
@@ -26,69 +26,74 @@ const FIRST_FORMAT: usize = FIRST_COPY - 2;
 
 const FORMAT_REPEAT: usize = REPEAT - 2;
 
-// The symbol, or none, at a place of what was heard, by the table of all characters.
-fn heard_at(characters: &[u8], table: &[u8], place: usize) -> u8
-    requires { IsTable table.now }
-    ensures { result ≡ heard_at (heard (characters_of characters.now)) place }
-{
-    let character = character_at(characters, place);
-    if character < NO_CHARACTER {
-        return table[character as usize];
-    }
-    NONE
+// What was heard, and the table of all characters by which it is read.
+#[derive(Clone, Copy)]
+struct Heard<'a> {
+    characters: &'a [u8],
+    table: &'a [u8; NO_CHARACTER as usize],
+    ghost is_table: { table.now ≡ in_row symbol_of 0 no_character },
 }
 
-// "the repeat used where the first copy is none"
-fn first_good(characters: &[u8], table: &[u8], first: usize, repeat: usize) -> u8
-    requires { IsTable table.now }
-    ensures { result ≡ first_good (heard (characters_of characters.now)) (first ∷ repeat ∷ []) }
-{
-    let symbol = heard_at(characters, table, first);
-    if symbol == NONE {
-        return heard_at(characters, table, repeat);
+impl Heard<'_> {
+    // The symbol, or none, at a place.
+    fn at(&self, place: usize) -> u8
+        ensures { result ≡ heard_at (heard (characters_of self.now.characters.now)) place }
+    {
+        let character = character_at(self.characters, place);
+        if character < NO_CHARACTER {
+            return self.table[character as usize];
+        }
+        NONE
     }
-    symbol
+
+    // "the repeat used where the first copy is none"
+    fn first_good(&self, first: usize, repeat: usize) -> u8
+        ensures { result ≡ first_good (heard (characters_of self.now.characters.now)) (first ∷ repeat ∷ []) }
+    {
+        let symbol = self.at(first);
+        if symbol == NONE {
+            return self.at(repeat);
+        }
+        symbol
+    }
+
+    // The format stands twice, so that it has "four places in the order sent".
+    fn format(&self, start: usize) -> u8
+        requires { start ≤ most_lost + length self.now.characters.now / 2 }
+        ensures { result ≡ symbol_at (heard (characters_of self.now.characters.now)) start 0 }
+    {
+        let symbol = self.first_good(start + FIRST_FORMAT, start + FIRST_COPY);
+        if symbol == NONE {
+            return self.first_good(start + FORMAT_REPEAT, start + REPEAT);
+        }
+        symbol
+    }
+
+    // "each symbol sent again after four other characters"
+    fn symbol(&self, start: usize, k: usize) -> u8
+        requires { (start ≤ most_lost + length self.now.characters.now / 2) × (k < longest) }
+        ensures { result ≡ symbol_at (heard (characters_of self.now.characters.now)) start k }
+    {
+        if k == 0 {
+            return self.format(start);
+        }
+        self.first_good(start + FIRST_COPY + 2 * k, start + REPEAT + 2 * k)
+    }
 }
 
-// The format stands twice, so that it has "four places in the order sent".
-fn format_at(characters: &[u8], table: &[u8], start: usize) -> u8
-    requires { IsTable table.now × (start ≤ most_lost + length characters.now / 2) }
-    ensures { result ≡ symbol_at (heard (characters_of characters.now)) start 0 }
-{
-    let symbol = first_good(characters, table, start + FIRST_FORMAT, start + FIRST_COPY);
-    if symbol == NONE {
-        return first_good(characters, table, start + FORMAT_REPEAT, start + REPEAT);
-    }
-    symbol
-}
-
-// "each symbol sent again after four other characters"
-fn symbol_at(characters: &[u8], table: &[u8], start: usize, k: usize) -> u8
-    requires { IsTable table.now × (start ≤ most_lost + length characters.now / 2) × (k < longest) }
-    ensures { result ≡ symbol_at (heard (characters_of characters.now)) start k }
-{
-    if k == 0 {
-        return format_at(characters, table, start);
-    }
-    first_good(
-        characters,
-        table,
-        start + FIRST_COPY + 2 * k,
-        start + REPEAT + 2 * k,
-    )
-}
-
-// As many symbols as the longest sequence has.
-pub(crate) fn symbols_from(characters: &[u8], start: usize) -> [u8; LONGEST]
+// Reads as many symbols as the longest sequence has.
+pub(crate) fn read_symbols(characters: &[u8], start: usize, symbols: &mut [u8; LONGEST])
     requires { start ≤ most_lost + length characters.now / 2 }
-    ensures { result ≡ symbols_from (heard (characters_of characters.now)) start }
+    ensures { symbols.new ≡ symbols_from (heard (characters_of characters.now)) start }
 {
     let table = symbol_table();
-    let mut symbols = [0u8; LONGEST];
+    let heard = Heard {
+        characters,
+        table: &table,
+    };
     for k in 0..LONGEST {
-        symbols[k] = symbol_at(characters, &table, start, k);
+        symbols[k] = heard.symbol(start, k);
     }
-    symbols
 }
 
 // "ends with the symbol after the first 117, 122 or 127"

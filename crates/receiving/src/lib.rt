@@ -9,7 +9,7 @@ ghost use Rattle.receiving.specs.Copies.{answer_to_copies};
 
 mod copies;
 
-use crate::copies::{REPEAT, count_of, first_unread, symbols_from};
+use crate::copies::{REPEAT, count_of, first_unread, read_symbols};
 use phasing::best_start;
 use sequence::LONGEST;
 use transmission::{MOST_LOST, Refusal};
@@ -40,7 +40,8 @@ pub fn read_transmission(characters: &[u8], room: &mut [u8]) -> Result<usize, Re
     let Some(best) = best_start(characters) else {
         return Err(Refusal::NoPhasing);
     };
-    let all = symbols_from(characters, best.place);
+    let mut all = [0u8; LONGEST];
+    read_symbols(characters, best.place, &mut all);
     let count = count_of(&all);
     let symbols = &all[..count];
     judge_copies(characters, best.place, symbols)?;

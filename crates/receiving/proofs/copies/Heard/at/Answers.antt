@@ -1,15 +1,12 @@
 use mathlib.Core.Path.{sym, ap, ◌∙◌}
 use Rattle.characters.specs.Code.{symbol_of, no_character}
-use Rattle.characters.proofs.RowLaws.{at_place, length-in-row}
+use Rattle.characters.proofs.RowLaws.{at_place}
 use Rattle.characters.proofs.CodeLaws.{over-is-none}
 use Rattle.phasing.proofs.CharacterLaws.{heard-is}
-use Rattle.receiving.proofs.copies.heard_at.Goals as goal
-
-pub bounds-table-character : goal.bounds-table-character
-bounds-table-character c = rw (c.requires, length-in-row symbol_of 0 no_character) c.if-character-lt-NO_CHARACTER.true
+use Rattle.receiving.proofs.copies.Heard.at.Goals as goal
 
 pub returns-then-character-lt-NO_CHARACTER : goal.returns-then-character-lt-NO_CHARACTER
-returns-then-character-lt-NO_CHARACTER c = rw c.requires
+returns-then-character-lt-NO_CHARACTER c = rw c.args.self.now.is_table
     (at_place symbol_of no_character _ c.if-character-lt-NO_CHARACTER.true ∙ ap symbol_of c.character_at-character.ensures ∙ sym (heard-is _ _))
 
 pub returns : goal.returns
