@@ -2,26 +2,10 @@
 use mathlib.Core.Path.{◌≡◌, refl, sym, ◌∙◌}
 use mathlib.Core.Bool.{Bool, true, false, not, cond, ◌&&◌}
 use mathlib.Core.List.{List, [], ◌∷◌}
-use borrow.Author.Tests.{not-true, not-false}
+use borrow.Author.Tests.{not-true}
 use Rattle.sequence.specs.Refusals.{Row, row, first_refusal, all_hold}
 use Rattle.sequence.specs.Answers.{Answer, done, is_done}
 use Rattle.sequence.proofs.Tests.{both_true}
-
--- `if !test(s) { return .. }`: what the test ensures of its result, and what the branch says of it
-pub held : {r b : Bool} → r ≡ b → not r ≡ false → b ≡ true
-held {r} e f = sym e ∙ not-false r f
-
-pub failed : {r b : Bool} → r ≡ b → not r ≡ true → b ≡ false
-failed {r} e f = sym e ∙ not-true r f
-
--- a row whose test holds is passed, and one whose test fails gives its refusal
-pub passed-row : {A : Type 0} (b : Bool) (refusal : A) (rows : List (Row A)) (last : A) → b ≡ true
-    → first_refusal (row b refusal ∷ rows) last ≡ first_refusal rows last
-passed-row b refusal rows last e = rw e
-
-pub stopped-row : {A : Type 0} (b : Bool) (refusal : A) (rows : List (Row A)) (last : A) → b ≡ false
-    → first_refusal (row b refusal ∷ rows) last ≡ refusal
-stopped-row b refusal rows last e = rw e
 
 -- where every test holds, the last answer is given
 pub all_held : {A : Type 0} (rows : List (Row A)) (last : A) → all_hold rows ≡ true → first_refusal rows last ≡ last

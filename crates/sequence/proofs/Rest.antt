@@ -1,5 +1,5 @@
 -- What is left of a list from a place on: the turns of the loops over symbols.
-use Prim.Native.Nat.{ℕ, ◌+◌, ◌<◌, ◌≤◌}
+use Prim.Native.Nat.{ℕ, ◌+◌, ◌<◌}
 use mathlib.Core.Path.{◌≡◌, refl, ◌∙◌}
 use mathlib.Core.Bool.{Bool, true, false, ◌&&◌}
 use mathlib.Core.List.{List, [], ◌∷◌}
@@ -7,9 +7,8 @@ use native.Mathlib.Numerals.{add-one}
 use lib.Bits.{bit_xor}
 use lib.Dec.{leb}
 use Rattle.std.specs.List.{fold, list_all}
-use lib.ListN.{length, drop, get_or, drop_of_length-le}
+use lib.ListN.{length, drop, get_or}
 use lib.Seq.{drop-cons}
-use borrow.Author.Tests.{le-leb, lt-leb}
 use Rattle.sequence.specs.Symbols.{exclusive_or, all_at_most}
 
 -- the two words on symbols as folds of the library, which its lemmas on iterators speak of
@@ -35,22 +34,3 @@ rest s i h = rw (add-one, drop-cons s i 0)
 
 pub or_turn : (x : ℕ) (s : List ℕ) (i : ℕ) → i < length s → exclusive_or (bit_xor x (get_or s i 0)) (drop (i + 1) s) ≡ exclusive_or x (drop i s)
 or_turn x s i h = rw (rest s i h)
-
--- a symbol within the bound, and one over it
-pub all-turn : (m : ℕ) (s : List ℕ) (i : ℕ) (b : Bool) → i < length s → get_or s i 0 ≤ m → (b && all_at_most m (drop (i + 1) s)) ≡ (b && all_at_most m (drop i s))
-all-turn m s i b h le = rw (rest s i h, le-leb _ _ le)
-
-pub all-over : (m : ℕ) (s : List ℕ) (i : ℕ) (b : Bool) → i < length s → m < get_or s i 0 → false ≡ (b && all_at_most m (drop i s))
-all-over m s i b h gt = rw (rest s i h, lt-leb _ _ gt) (no b)
-  where
-    no : (b : Bool) → false ≡ (b && false)
-    no true = refl
-    no false = refl
-
--- nothing is left
-pub all_end : (m : ℕ) (s : List ℕ) (i : ℕ) (b : Bool) → length s ≤ i → b ≡ (b && all_at_most m (drop i s))
-all_end m s i b h = rw (drop_of_length-le s {i = i} h) (same b)
-  where
-    same : (b : Bool) → b ≡ (b && true)
-    same true = refl
-    same false = refl
