@@ -77,6 +77,7 @@ pub(crate) fn telecommands_in(symbols: &[u8]) -> bool
     telecommands_ok(at(symbols, 12), at(symbols, 13))
 }
 
+// The three symbols of a field go one by one, as in the definitions: an array of them would only be taken apart again.
 fn blank_symbols(x: u8, y: u8, z: u8) -> bool
     ensures { result ≡ blank_symbols x y z }
 {

@@ -87,7 +87,7 @@ pub enum Field {
     Duration(Duration),
 }
 
-// A number of 1 to 16 digits; the unused digits are 0.
+// A number of 1 to 16 digits; the unused digits are 0. An array with a count: memory is fixed, and C's meaning block has both.
 #[derive(Clone, Copy)]
 pub struct Number {
     pub digits: [u8; DIGITS],
