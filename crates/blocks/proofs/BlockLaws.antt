@@ -9,7 +9,7 @@ use Rattle.std.specs.Prelude.{Result, Ok, Err}
 use Rattle.std.specs.Result.{OkIff, result_unwrap_or}
 use Rattle.std.proofs.lemmas.List.{take_min}
 use Rattle.rules.specs.Rules.Bytes.{padded, block}
-use Rattle.requests.proofs.ArrayLaws.{padded-length}
+use Rattle.rules.proofs.Payloads.{padded-length}
 use Rattle.actions.specs.contracts.Kind.{the_type}
 use Rattle.actions.specs.declared.Kind.{Kind}
 use Rattle.actions.specs.declared.Kind.TheVariants.{CarrierOn, CarrierOff, SendOnChannel70, SendOnWorking, Dial, ReleaseLine, Charge}

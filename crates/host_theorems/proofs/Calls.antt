@@ -20,7 +20,7 @@ use Rattle.rules.specs.Rules.Ashore.{is_mode}
 use Rattle.rules.specs.Rules.Station.{Station}
 use Rattle.rules.specs.Rules.Sound.{limit, number_keeps}
 use Rattle.rules.specs.Rules.Verdict.{reader_says, read_on}
-use Rattle.rules.proofs.PlaceLaws.{and-true}
+use Rattle.sequence.proofs.Tests.{both_true}
 use Rattle.rules.proofs.Accepted.{Accepted, accepted}
 use Rattle.soundness.proofs.FitLaws.{sound-fits}
 use Rattle.station.specs.declared.Stepped.{Stepped}
@@ -108,7 +108,7 @@ module _ (b room : List ℕ) (time : ℕ) where
 in_bytes : (most : ℕ) → most ≤ 255 → (l : List ℕ) → all_at_most most l ≡ true → InBytes l
 in_bytes most few [] h = refl
 in_bytes most few (a ∷ l) h =
-    let w = and-true (leb a most) (all_at_most most l) h in
+    let w = both_true (leb a most) (all_at_most most l) h in
     rw (le-leb a 255 (omega (arith, leb-true a most w.0))) (in_bytes most few l w.1)
 
 read-in-bytes : (m : List ℕ) → is_done (reader_says m) ≡ true → InBytes m
@@ -122,7 +122,7 @@ happened-in-c (operator n) r = tt
 
 ship-in-c : (n : ℕ) → is_ship n ≡ true → n < 4294967296
 unfolding is_ship
-ship-in-c n h = omega (arith, leb-true n 799999999 (and-true (leb 200000000 n) (leb n 799999999) h).1)
+ship-in-c n h = omega (arith, leb-true n 799999999 (both_true (leb 200000000 n) (leb n 799999999) h).1)
 
 mode-in-c : (n : ℕ) → is_mode n ≡ true → n < 4294967296
 mode-in-c n h = go (eqb n 100) refl h
@@ -133,7 +133,7 @@ mode-in-c n h = go (eqb n 100) refl h
 
 digits-in-c : (l : List ℕ) → number_keeps l ≡ true → InBytes l
 unfolding number_keeps
-digits-in-c l h = in_bytes 9 (omega arith) l (and-true (within 1 16 (length l)) (all_at_most 9 l) h).1
+digits-in-c l h = in_bytes 9 (omega arith) l (both_true (within 1 16 (length l)) (all_at_most 9 l) h).1
 
 module _ (c : Config) (st : Station) (e : Event) (a : Accepted c st e) (few : length st.slots ≤ 16) where
   what-in-c : (w : What) → e.what ≡ w → WhatInC w

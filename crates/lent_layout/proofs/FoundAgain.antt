@@ -23,7 +23,7 @@ use Rattle.requests.specs.declared.Mode.TheVariants.{Simplex, Duplex}
 use Rattle.requests.specs.declared.Request.{Request}
 use Rattle.requests.specs.Images.{request_image, blank_request}
 use Rattle.requests.specs.Views.{viewed}
-use Rattle.requests.proofs.ArrayLaws.{padded-length}
+use Rattle.rules.proofs.Payloads.{padded-length}
 use Rattle.slots.specs.declared.Slot.{Slot}
 use Rattle.slots.specs.declared.Waiting.{Waiting}
 use Rattle.slots.specs.Phases.{kept_in}

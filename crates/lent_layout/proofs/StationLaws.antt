@@ -9,7 +9,7 @@ use lib.ListN.{length, get_or, take, drop, length-append}
 use lib.Seq.{drop_at}
 use lib.Dec.{eqb}
 use borrow.Author.Tests.{eq-eqb}
-use Rattle.requests.proofs.ArrayLaws.{padded-length}
+use Rattle.rules.proofs.Payloads.{padded-length}
 use Rattle.units.specs.declared.Tenths.{Tenths}
 use Rattle.units.specs.declared.CallNumber.{CallNumber}
 use Rattle.slots.specs.declared.mast.Mast.{Mast}

@@ -13,12 +13,6 @@ use Rattle.rules.specs.Rules.Places.{all, mod_at}
 use Rattle.rules.specs.Rules.Bytes.{padded}
 use Rattle.requests.specs.Views.{viewed, left}
 
-pub padded-length : {B : Type 0} (b : B) (m : ℕ) (l : List B) → length (padded b m l) ≡ m
-unfolding padded
-padded-length b zero l = refl
-padded-length b (suc m) [] = ap suc (padded-length b m [])
-padded-length b (suc m) (x ∷ l) = ap suc (padded-length b m l)
-
 pub padded-front : {B : Type 0} (b : B) (m : ℕ) (l : List B) → length l ≤ m → take (length l) (padded b m l) ≡ l
 unfolding padded
 padded-front b m [] h = refl

@@ -16,7 +16,8 @@ use Rattle.rules.specs.Rules.Station.{Slot, ship_of, Waiting, Station, due_after
 use Rattle.rules.specs.Rules.Sound.{config_keeps, one_slot_each, slot_keeps, waiting_keeps, limit, queue_room, listed, owners, no_ship_twice, slot_fits, place_fits, stored_keeps, times_fit, sound}
 use Rattle.rules.specs.Rules.Requests.{owns, waits_for}
 use Rattle.rules.specs.Rules.Verdict.{room_needed, overtaken, slot_there, read_in, barred, names_ship, names_mode, names_number, names_engaged, slot_to_be_had, refusals, verdict}
-use Rattle.rules.proofs.PlaceLaws.{or-false, and-true}
+use Rattle.sequence.proofs.Tests.{both_true}
+use Rattle.rules.proofs.PlaceLaws.{or-false}
 use Rattle.rules.proofs.Asked.{owned, rest-distinct}
 use Rattle.rules.proofs.Base.{begun_by, fitting}
 
@@ -29,7 +30,7 @@ gives r = is_some r.refusal
 -- where none is given every test holds
 pub none-held : (rows : List (Row (Option ℕ))) → all gives rows ≡ true → first_refusal rows none ≡ none → all_hold rows ≡ true
 none-held [] n h = refl
-none-held (r ∷ rows) n h = let g = and-true (gives r) (all gives rows) n in go r.holds g.0 (none-held rows g.1) h
+none-held (r ∷ rows) n h = let g = both_true (gives r) (all gives rows) n in go r.holds g.0 (none-held rows g.1) h
   where
     some_is : (o : Option ℕ) → is_some o ≡ true → o ≡ none → false ≡ true
     some_is none e k = e
@@ -56,19 +57,19 @@ pub accepted : (cfg : Config) (st : Station) (e : Event) → verdict cfg st e �
 unfolding verdict refusals
 accepted cfg st e h =
     let rows = none-held (refusals cfg st e) refl h in
-    let a = and-true (sound cfg st) _ rows in
-    let r = and-true (leb room_needed e.room) _ a.1 in
-    let l = and-true (leb e.time limit) _ r.1 in
-    let b = and-true (leb st.clock e.time) _ l.1 in
-    let d = and-true (not (overtaken st e.time e.what)) _ b.1 in
-    let s = and-true (slot_there (length st.slots) e.what) _ d.1 in
-    let u = and-true (is_done (read_in e.what)) _ s.1 in
-    let o = and-true (not (barred st e.what)) _ u.1 in
-    let p = and-true (names_ship (ashore_in e.what)) _ o.1 in
-    let m = and-true (names_mode (ashore_in e.what)) _ p.1 in
-    let n = and-true (names_number (ashore_in e.what)) _ m.1 in
-    let g = and-true (not (names_engaged cfg st (ashore_in e.what))) _ n.1 in
-    let f = and-true (slot_to_be_had st (ashore_in e.what)) _ g.1 in
+    let a = both_true (sound cfg st) _ rows in
+    let r = both_true (leb room_needed e.room) _ a.1 in
+    let l = both_true (leb e.time limit) _ r.1 in
+    let b = both_true (leb st.clock e.time) _ l.1 in
+    let d = both_true (not (overtaken st e.time e.what)) _ b.1 in
+    let s = both_true (slot_there (length st.slots) e.what) _ d.1 in
+    let u = both_true (is_done (read_in e.what)) _ s.1 in
+    let o = both_true (not (barred st e.what)) _ u.1 in
+    let p = both_true (names_ship (ashore_in e.what)) _ o.1 in
+    let m = both_true (names_mode (ashore_in e.what)) _ p.1 in
+    let n = both_true (names_number (ashore_in e.what)) _ m.1 in
+    let g = both_true (not (names_engaged cfg st (ashore_in e.what))) _ n.1 in
+    let f = both_true (slot_to_be_had st (ashore_in e.what)) _ g.1 in
     record { is-sound = a.0; in-limit = l.0; in-time = b.0; none-due = not-true _ d.0; there = s.0; readable = u.0; ship = p.0; mode = m.0; number = n.0; not-engaged = not-true _ g.0; a-slot = f.0 }
 
 -- ── what soundness gives ─────────────────────────────────────────────────────
@@ -87,14 +88,14 @@ pub record Sound (cfg : Config) (st : Station) : Type 0 where
 pub sounds : (cfg : Config) (st : Station) → sound cfg st ≡ true → Sound cfg st
 unfolding sound stored_keeps no_ship_twice times_fit
 sounds cfg st h =
-    let a = and-true (config_keeps cfg) _ h in
-    let b = and-true (one_slot_each cfg st) _ a.1 in
-    let c = and-true (stored_keeps cfg st) _ b.1 in
-    let k = and-true (all (slot_keeps cfg) st.slots) _ c.0 in
-    let d = and-true (leb st.clock limit) _ c.1 in
-    let e = and-true (leb (length st.queue) queue_room) _ d.1 in
-    let f = and-true (no_ship_twice st) _ e.1 in
-    let g = and-true (all (slot_fits st.clock) st.slots) _ f.1 in
+    let a = both_true (config_keeps cfg) _ h in
+    let b = both_true (one_slot_each cfg st) _ a.1 in
+    let c = both_true (stored_keeps cfg st) _ b.1 in
+    let k = both_true (all (slot_keeps cfg) st.slots) _ c.0 in
+    let d = both_true (leb st.clock limit) _ c.1 in
+    let e = both_true (leb (length st.queue) queue_room) _ d.1 in
+    let f = both_true (no_ship_twice st) _ e.1 in
+    let g = both_true (all (slot_fits st.clock) st.slots) _ f.1 in
     record { config = a.0; one_each = b.0; slots-keep = k.0; queue-keeps = k.1; in-limit = d.0; room = e.0; no-twice = f.0; slots-fit = g.0; places-fit = g.1 }
 
 pub is-sound : (cfg : Config) (st : Station) → Sound cfg st → sound cfg st ≡ true
@@ -103,7 +104,7 @@ is-sound cfg st s = rw (s.config, s.one_each, s.slots-keep, s.queue-keeps, s.in-
 
 all-begun : (c : ℕ) (ss : List Slot) → all (slot_fits c) ss ≡ true → all (begun_by c) ss ≡ true
 all-begun c [] h = refl
-all-begun c (s ∷ ss) h = let w = and-true (slot_fits c s) (all (slot_fits c) ss) h in rw ((fitting c s w.0).started, all-begun c ss w.1) refl
+all-begun c (s ∷ ss) h = let w = both_true (slot_fits c s) (all (slot_fits c) ss) h in rw ((fitting c s w.0).started, all-begun c ss w.1) refl
 
 pub begun_all : (cfg : Config) (st : Station) → Sound cfg st → all (begun_by st.clock) st.slots ≡ true
 begun_all cfg st s = all-begun st.clock st.slots s.slots-fit
@@ -115,12 +116,12 @@ all-running p w (some d) r f h = rw (f d refl) h
 
 slots-due : (c i : ℕ) (ss : List Slot) → all (slot_fits c) ss ≡ true → all (λ p. leb c p.at) (slot_table i ss) ≡ true
 slots-due c i [] h = refl
-slots-due c i (s ∷ ss) h = let w = and-true (slot_fits c s) (all (slot_fits c) ss) h in
+slots-due c i (s ∷ ss) h = let w = both_true (slot_fits c s) (all (slot_fits c) ss) h in
     all-running (λ p. leb c p.at) (loss i) (loss_due s) _ (fitting c s w.0).loss-from (all-running (λ p. leb c p.at) (main i) (main_due s) _ (fitting c s w.0).main-from (slots-due c (suc i) ss w.1))
 
 queue-due : (c k : ℕ) (q : List Waiting) (r : List Due) → all (place_fits c) q ≡ true → all (λ p. leb c p.at) r ≡ true → all (λ p. leb c p.at) (queue_table k (map (λ w. w.due) q) r) ≡ true
 queue-due c k [] r h e = e
-queue-due c k (w ∷ q) r h e = let v = and-true (place_fits c w) (all (place_fits c) q) h in rw (and-true (leb c w.due) (leb w.due (due_after c queue_wait)) v.0).0 (queue-due c (suc k) q r v.1 e)
+queue-due c k (w ∷ q) r h e = let v = both_true (place_fits c w) (all (place_fits c) q) h in rw (both_true (leb c w.due) (leb w.due (due_after c queue_wait)) v.0).0 (queue-due c (suc k) q r v.1 e)
 
 pub due_all : (cfg : Config) (st : Station) → Sound cfg st → all (λ p. leb st.clock p.at) (table st) ≡ true
 unfolding table

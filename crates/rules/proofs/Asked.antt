@@ -15,7 +15,8 @@ use Rattle.rules.specs.Rules.Sound.{listed, owner, owners}
 use Rattle.rules.specs.Rules.Requests.{Out, to_ring_back, rung_back, freed_for, freed, coast_end, is_of, owns, slot_of, place_of, stands_at, no_number, repeated, afresh, d_to_g, redial, requested}
 use Rattle.rules.specs.ListAlone.Book.{Stop, Column, Book, blank, at_column, Call}
 use Rattle.rules.specs.ListAlone.Reading.{again, tell, let_go, hush, reads, stop_of, asked_again, stops_again}
-use Rattle.rules.proofs.PlaceLaws.{or-false, and-true, shift_none, lowest-there}
+use Rattle.sequence.proofs.Tests.{both_true}
+use Rattle.rules.proofs.PlaceLaws.{or-false, shift_none, lowest-there}
 use Rattle.rules.proofs.Base.{by-kind, by-stage, line_of, a-caller, call_in, view, seen, is_true, counts, stay, stands, Calling, no_call, a_call, calling, slot-mapped, slot-lowest}
 use Rattle.rules.proofs.Ruling.{again_of, Ruling, passes, repeats, renews, runs-out, redials, b_or_c-ruling}
 use Rattle.rules.proofs.Pieces.{Good, good-also, coast_end-good, d_to_g-good}
@@ -64,14 +65,14 @@ owned x s r h d = go (ship_of s) h d
   where
     go : (o : Option Party) → is_of x o ≡ true → distinct is (listed o r) ≡ true → elem is x r ≡ false
     go none h d = cc
-    go (some y) h d = rw (is_true x y h) (not-true (elem is y r) (and-true (not (elem is y r)) (distinct is r) d).0)
+    go (some y) h d = rw (is_true x y h) (not-true (elem is y r) (both_true (not (elem is y r)) (distinct is r) d).0)
 
 pub rest-distinct : (s : Slot) (r : List Party) → distinct is (owner s r) ≡ true → distinct is r ≡ true
 rest-distinct s r d = go (ship_of s) d
   where
     go : (o : Option Party) → distinct is (listed o r) ≡ true → distinct is r ≡ true
     go none d = d
-    go (some y) d = (and-true (not (elem is y r)) (distinct is r) d).1
+    go (some y) d = (both_true (not (elem is y r)) (distinct is r) d).1
 
 touched : (t : ℕ) (x : Party) (k i : ℕ) (ss : List Slot) (q : List Party) → distinct is (owners ss q) ≡ true → lowest (owns x) ss ≡ some i → Touched t x k i ss
 touched t x k i [] q d h = record { one-column = cc; one-stop = cc }

@@ -19,7 +19,8 @@ use Rattle.rules.specs.ListAlone.Reading.{CountedColumn, goes_on, at_counted_col
 use Rattle.rules.specs.Statement.{deeds_of, charges_of}
 use Rattle.rules.specs.Rules.Places.{lowest, all, Each, mod_at}
 use Rattle.rules.specs.Rules.Sound.{fits, stage_fits, loss_fits, slot_fits}
-use Rattle.rules.proofs.PlaceLaws.{mod_at-mod_at, mod_at-map, mod_at-same, mod_at-none, and-true, all-at, each_at, lowest-is}
+use Rattle.sequence.proofs.Tests.{both_true}
+use Rattle.rules.proofs.PlaceLaws.{mod_at-mod_at, mod_at-map, mod_at-same, mod_at-none, all-at, each_at, lowest-is}
 use native.Mathlib.Omega.{arith}
 
 -- ── a law on every slot, on every kind before the dialling, on every stage of a call ──
@@ -348,11 +349,11 @@ pub record Fitting (c : ℕ) (s : Slot) : Type 0 where
   pub later : (t : ℕ) → c ≤ t → ((d : ℕ) → loss_due s ≡ some d → t ≤ d) → ((d : ℕ) → main_due s ≡ some d → t ≤ d) → slot_fits t s ≡ true
 
 pub within-later : (c t w d : ℕ) → c ≤ t → t ≤ d → fits c w d ≡ true → fits t w d ≡ true
-within-later c t w d h k e = let a = leb-true d (c + (w + 1)) (and-true (leb c d) (leb d (c + (w + 1))) e).1 in rw (le-leb t d k, le-leb d (t + (w + 1)) (omega arith)) refl
+within-later c t w d h k e = let a = leb-true d (c + (w + 1)) (both_true (leb c d) (leb d (c + (w + 1))) e).1 in rw (le-leb t d k, le-leb d (t + (w + 1)) (omega arith)) refl
 
 module _ (c : ℕ) where
   due-from : (w u : ℕ) → fits c w u ≡ true → (d : ℕ) → ◌≡◌ {A = Option ℕ} (some u) (some d) → leb c d ≡ true
-  due-from w u h d e = let y : u ≡ d = cc in rw (← y) (and-true (leb c u) (leb u (due_after c w)) h).0
+  due-from w u h d e = let y : u ≡ d = cc in rw (← y) (both_true (leb c u) (leb u (due_after c w)) h).0
 
   loss-due : (m : Mode) (l : Option ℕ) → loss_fits c m l ≡ true → (d : ℕ) → l ≡ some d → leb c d ≡ true
   loss-due m none h d e = cc
@@ -386,7 +387,7 @@ module _ (c : ℕ) where
   fitting free h = record { started = refl; main-from = λ d e. cc; loss-from = λ d e. cc; later = λ t u f g. refl }
   fitting taken h = record { started = refl; main-from = λ d e. cc; loss-from = λ d e. cc; later = λ t u f g. refl }
   fitting (pending k r d) h = record { started = refl; main-from = due-from (kind_wait k) d h; loss-from = λ d e. cc; later = λ t u f g. within-later c t (kind_wait k) d u (g d refl) h }
-  fitting (busy r g l) h = let w = and-true (stage_fits c g) (loss_fits c r.request.mode l) h in busy-fitting r g l w.0 w.1
+  fitting (busy r g l) h = let w = both_true (stage_fits c g) (loss_fits c r.request.mode l) h in busy-fitting r g l w.0 w.1
   fitting (held r n d) h = record { started = refl; main-from = due-from hold_wait d h; loss-from = λ d e. cc; later = λ t u f g. within-later c t hold_wait d u (g d refl) h }
 
 -- a wait begun now fits, that of an offer or a ring-back too

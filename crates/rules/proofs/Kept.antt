@@ -17,7 +17,7 @@ use Rattle.rules.specs.Rules.Calls.{act}
 use Rattle.rules.specs.Rules.Verdict.{unless, verdict, set_up_verdict, final}
 use Rattle.rules.specs.ListAlone.Reading.{moment}
 use Rattle.rules.specs.Statement.{AlwaysSound, AlwaysFits}
-use Rattle.rules.proofs.PlaceLaws.{and-true}
+use Rattle.sequence.proofs.Tests.{both_true}
 use Rattle.rules.proofs.Base.{seen, fresh-all, fresh-length}
 use Rattle.rules.proofs.Accepted.{none-held, accepted, Sound, sounds, is-sound}
 use Rattle.rules.proofs.Run.{final-on, final-past}
@@ -71,7 +71,7 @@ stays-sound cfg st e v = is-sound cfg (act cfg st e).next (next-sound cfg st e v
 
 no-owners : (ss : List Slot) → all (λ s. not (is_some (ship_of s))) ss ≡ true → owners ss [] ≡ []
 no-owners [] h = refl
-no-owners (s ∷ ss) h = let w = and-true (not (is_some (ship_of s))) _ h in go (ship_of s) w.0 (no-owners ss w.1)
+no-owners (s ∷ ss) h = let w = both_true (not (is_some (ship_of s))) _ h in go (ship_of s) w.0 (no-owners ss w.1)
   where
     go : (o : Option Party) → not (is_some o) ≡ true → owners ss [] ≡ [] → listed o (owners ss []) ≡ []
     go none n h = h
@@ -80,7 +80,7 @@ no-owners (s ∷ ss) h = let w = and-true (not (is_some (ship_of s))) _ h in go 
 fresh-sound : (cfg : Config) → set_up_verdict cfg ≡ none → sound cfg (fresh cfg) ≡ true
 unfolding set_up_verdict fresh one_slot_each
 fresh-sound cfg set = is-sound cfg (fresh cfg) (record {
-  config = (and-true (config_keeps cfg) _ (none-held (unless (config_keeps cfg) 36 ∷ []) refl set)).0;
+  config = (both_true (config_keeps cfg) _ (none-held (unless (config_keeps cfg) 36 ∷ []) refl set)).0;
   one_each = eq-eqb (length (fresh cfg).slots) (length cfg.channels) (fresh-length cfg);
   slots-keep = fresh-all cfg (slot_keeps cfg) refl;
   queue-keeps = refl;
@@ -110,7 +110,7 @@ pub always-fits : AlwaysFits
 unfolding AlwaysFits AlwaysSound config_keeps channels_keep one_slot_each
 always-fits cfg set es =
     let s = sounds cfg (final cfg es (fresh cfg)) (always-sound cfg set es) in
-    let c = (and-true (within 1 16 (length cfg.channels)) _ (and-true (identity_keeps cfg) _ s.config).1).0 in
-    let m = leb-true (length cfg.channels) 16 (and-true (leb 1 (length cfg.channels)) _ c).1 in
+    let c = (both_true (within 1 16 (length cfg.channels)) _ (both_true (identity_keeps cfg) _ s.config).1).0 in
+    let m = leb-true (length cfg.channels) 16 (both_true (leb 1 (length cfg.channels)) _ c).1 in
     let n = eqb-true (length (final cfg es (fresh cfg)).slots) (length cfg.channels) s.one_each in
     (omega arith, leb-true (length (final cfg es (fresh cfg)).queue) 32 s.room)

@@ -12,7 +12,7 @@ use Rattle.rules.specs.Rules.Places.{lowest}
 use Rattle.rules.specs.Rules.Words.{Mode, simplex, duplex, mode_number, Config, ours, Ours}
 use Rattle.rules.specs.Rules.Heard.{Heard, nothing, sent_by, is_blank, says, same_channel, slot_named, bq_on, agrees, kind_of, addressed}
 use Rattle.rules.specs.Rules.Kinds.{Plain, Means, as_call_request, as_data_request, as_working_call, as_end_of_call, as_bq, as_declined, as_nothing, OnlyThese, AllThese, ModesKept}
-use Rattle.rules.proofs.PlaceLaws.{and-true}
+use Rattle.sequence.proofs.Tests.{both_true}
 
 blank-is : (f : Field) → is_blank f ≡ true → f ≡ Blank
 blank-is Blank h = refl
@@ -26,8 +26,8 @@ or-true false b h G p q = q h
 module _ (c : Config) (m : Meaning) where
   plain : (e f : ℕ) → Ours c m.address → says e f m ≡ true → Plain c e f m
   plain e f a h =
-      let p = and-true (eqb m.end e && eqb m.first f) (is_blank m.field) h in
-      let q = and-true (eqb m.end e) (eqb m.first f) p.0 in
+      let p = both_true (eqb m.end e && eqb m.first f) (is_blank m.field) h in
+      let q = both_true (eqb m.end e) (eqb m.first f) p.0 in
       record { to-this = a; ends = eqb-true m.end e q.0; begins = eqb-true m.first f q.1; empty = blank-is m.field p.1 }
 
   means-if : (b : Bool) (x y : Heard) → (b ≡ true → Means c m x) → Means c m y → Means c m (cond b x y)
@@ -53,7 +53,7 @@ module _ (c : Config) (m : Meaning) where
       (means-if (says 117 105 m) _ _ (λ h. as_end_of_call (plain 117 105 a h))
       (means-if (agrees m) _ _
       (λ h.
-      let p = and-true (eqb m.end 122) (eqb m.first 100 || eqb m.first 101) h in
+      let p = both_true (eqb m.end 122) (eqb m.first 100 || eqb m.first 101) h in
       let e = eqb-true m.end 122 p.0 in
       or-true (eqb m.first 100) (eqb m.first 101) p.1 _ (λ k. bq-means a e simplex (eqb-true m.first 100 k) m.field refl) (λ k. bq-means a e duplex (eqb-true m.first 101 k) m.field refl))
       (means-if (says 122 104 m) _ _ (λ h. as_declined (plain 122 104 a h)) as_nothing))))))

@@ -13,7 +13,7 @@ use Rattle.rules.specs.Rules.Waits.{Due, sooner, earliest, if_due}
 use Rattle.rules.specs.Rules.Station.{Station, table, fires}
 use Rattle.rules.specs.Rules.Verdict.{verdict}
 use Rattle.rules.specs.ListAlone.Reading.{moment_of, moment}
-use Rattle.rules.proofs.PlaceLaws.{and-true}
+use Rattle.sequence.proofs.Tests.{both_true}
 use Rattle.rules.proofs.Base.{seen}
 use Rattle.rules.proofs.Accepted.{accepted, Sound, sounds, due_all}
 use Rattle.rules.proofs.Order.{due-is}
@@ -26,7 +26,7 @@ From t p = leb t p.at
 
 earliest-all : (p : Due → Bool) (l : List Due) (d : Due) → all p l ≡ true → earliest l ≡ some d → p d ≡ true
 earliest-all p [] d h e = cc
-earliest-all p (q ∷ l) d h e = let w = and-true (p q) (all p l) h in go (earliest l) refl (λ z. earliest-all p l z w.1) w.0 e
+earliest-all p (q ∷ l) d h e = let w = both_true (p q) (all p l) h in go (earliest l) refl (λ z. earliest-all p l z w.1) w.0 e
   where
     pick : (b : Bool) (z : Due) → p q ≡ true → p z ≡ true → cond b (some q) (some z) ≡ some d → p d ≡ true
     pick true z hq hz k = let y : q ≡ d = cc in rw (← y) hq
@@ -39,7 +39,7 @@ earliest-all p (q ∷ l) d h e = let w = and-true (p q) (all p l) h in go (earli
 -- no wait is due before the earliest
 from_less : (t u : ℕ) → t ≤ u → (l : List Due) → all (From u) l ≡ true → all (From t) l ≡ true
 from_less t u h [] e = refl
-from_less t u h (p ∷ l) e = let a = and-true (leb u p.at) (all (From u) l) e in let b = leb-true u p.at a.0 in rw (le-leb t p.at (omega arith)) (from_less t u h l a.1)
+from_less t u h (p ∷ l) e = let a = both_true (leb u p.at) (all (From u) l) e in let b = leb-true u p.at a.0 in rw (le-leb t p.at (omega arith)) (from_less t u h l a.1)
 
 data Least (l : List Due) : Option Due → Type 0 where
   empty : l ≡ [] → Least l none

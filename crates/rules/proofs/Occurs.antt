@@ -6,7 +6,8 @@ use Prim.Native.Nat.{ℕ, ◌+◌, ◌≤◌}
 use native.Mathlib.Omega.{arith}
 use borrow.Author.Tests.{not-true}
 use Rattle.rules.specs.Rules.Places.{elem, distinct}
-use Rattle.rules.proofs.PlaceLaws.{or-false, and-true}
+use Rattle.sequence.proofs.Tests.{both_true}
+use Rattle.rules.proofs.PlaceLaws.{or-false}
 
 abbrev pub bit : Bool → ℕ
 bit true = 1
@@ -36,7 +37,7 @@ module _ {A : Type 0} (same : A → A → Bool) where
 
   pub distinct-occurs : ((x y : A) → same x y ≡ true → x ≡ y) → (x : A) (l : List A) → distinct same l ≡ true → occurs x l ≤ 1
   distinct-occurs equal x [] h = omega arith
-  distinct-occurs equal x (y ∷ l) h = let w = and-true (not (elem same y l)) (distinct same l) h in go (same x y) refl (elem-occurs y l (not-true (elem same y l) w.0)) (distinct-occurs equal x l w.1)
+  distinct-occurs equal x (y ∷ l) h = let w = both_true (not (elem same y l)) (distinct same l) h in go (same x y) refl (elem-occurs y l (not-true (elem same y l) w.0)) (distinct-occurs equal x l w.1)
     where
       go : (b : Bool) → same x y ≡ b → occurs y l ≡ 0 → occurs x l ≤ 1 → bit (same x y) + occurs x l ≤ 1
       go true e k ih = rw (e, equal x y e) (omega arith)

@@ -20,7 +20,7 @@ use Rattle.rules.specs.ListAlone.LineWords.{Word, worded, idle, outward, answer,
 use Rattle.rules.specs.Statement.{deeds_of, charges_of, owed}
 use Rattle.rules.specs.Rules.Sound.{stage_fits, loss_fits, slot_fits}
 use Rattle.rules.proofs.Base.{by-kind, by-stage, said_of, view, silence-is, new-wait, again-fits, agreed-fits, called-again-fits, ringing-fits}
-use Rattle.rules.proofs.PlaceLaws.{and-true}
+use Rattle.sequence.proofs.Tests.{both_true}
 use borrow.Author.Tests.{le-leb}
 use native.Mathlib.Omega.{arith}
 
@@ -178,9 +178,9 @@ turned-fits i t _ _ _ (to-call r d) h = called-again-fits r t
 turned-fits i t _ _ _ (to-rings k r d z) h = ringing-fits r t
 turned-fits i t _ _ _ (to-answer r d) h = rw (le-leb t t (omega arith)) refl
 turned-fits i t _ _ _ (to-ring r d) h = again-fits r t
-turned-fits i t _ _ _ (to-stage r g q c z) h = rw z (and-true (stage_fits t g) (loss_fits t r.request.mode c) h).1
-turned-fits i t _ _ _ (to-lose r g c) h = let f = and-true (stage_fits t g) (loss_fits t r.request.mode c) h in down_fits t g r.request.mode c f.0 f.1
-turned-fits i t _ _ _ (to-regain r g c) h = rw (and-true (stage_fits t g) (loss_fits t r.request.mode c) h).0 refl
+turned-fits i t _ _ _ (to-stage r g q c z) h = rw z (both_true (stage_fits t g) (loss_fits t r.request.mode c) h).1
+turned-fits i t _ _ _ (to-lose r g c) h = let f = both_true (stage_fits t g) (loss_fits t r.request.mode c) h in down_fits t g r.request.mode c f.0 f.1
+turned-fits i t _ _ _ (to-regain r g c) h = rw (both_true (stage_fits t g) (loss_fits t r.request.mode c) h).0 refl
 turned-fits i t _ _ _ (to-hold r g c) h = new-wait t hold_wait
 turned-fits i t _ _ _ to_take h = refl
 

@@ -22,7 +22,7 @@ use Rattle.rules.specs.Rules.Sound.{number_keeps, request_keeps}
 use Rattle.rules.specs.Rules.Station.{Dealing}
 use Rattle.rules.specs.Rules.Requests.{bill}
 use Rattle.rules.specs.Rules.Bytes.{padded, number_of, answer_to, able_said, unable_said, over_said, block, channel_at, payload_of, block_of, block_size}
-use Rattle.rules.proofs.PlaceLaws.{and-true}
+use Rattle.sequence.proofs.Tests.{both_true}
 
 pub padded-length : {A : Type 0} (b : A) (n : ℕ) (l : List A) → length (padded b n l) ≡ n
 unfolding padded
@@ -113,9 +113,9 @@ module _ (cfg : Config) where
   pub dial-slim : (i : ℕ) (r : Request) → request_keeps cfg r ≡ true → Slim cfg (does (dial i r.number))
   unfolding payload_of request_keeps number_keeps
   dial-slim i r k =
-      let a = and-true (is_ship r.who.ship) _ k in
-      let b = and-true (ours cfg r.who.station) _ a.1 in
-      let c = and-true (within 100 126 r.second) _ b.1 in
-      let n = and-true (within 1 16 (length r.number)) _ c.1 in
-      let l = leb-true (length r.number) 16 (and-true (leb 1 (length r.number)) _ n.0).1 in
+      let a = both_true (is_ship r.who.ship) _ k in
+      let b = both_true (ours cfg r.who.station) _ a.1 in
+      let c = both_true (within 100 126 r.second) _ b.1 in
+      let n = both_true (within 1 16 (length r.number)) _ c.1 in
+      let l = leb-true (length r.number) 16 (both_true (leb 1 (length r.number)) _ n.0).1 in
       omega arith

@@ -2,13 +2,14 @@
 use mathlib.Core.Path.{◌≡◌, refl, ap}
 use mathlib.Core.Logic.{◌⊎◌, inl, inr}
 use mathlib.Core.List.{List, [], ◌∷◌, ◌++◌, map}
-use mathlib.Core.Bool.{Bool, true, false, cond, ◌&&◌, ◌||◌}
+use mathlib.Core.Bool.{Bool, true, false, cond, ◌||◌}
 use mathlib.Core.Option.{Option, none, some}
 use Prim.Native.Nat.{ℕ, zero, suc, ◌≤◌, ◌<◌}
 use native.Mathlib.Omega.{arith}
 use lib.Dec.{eqb}
 use lib.ListN.{get_or, length}
 use borrow.Author.Tests.{eqb-true}
+use Rattle.sequence.proofs.Tests.{both_true}
 use Rattle.rules.specs.Rules.Places.{mod_at, drop_at, shift, lowest, all, Each, elem}
 
 -- ── tests ────────────────────────────────────────────────────────────────────
@@ -16,10 +17,6 @@ use Rattle.rules.specs.Rules.Places.{mod_at, drop_at, shift, lowest, all, Each, 
 pub or-false : (a b : Bool) → (a || b) ≡ false → (a ≡ false) × (b ≡ false)
 or-false true b h = let k : true ≡ false = h in (cc, cc)
 or-false false b h = (refl, h)
-
-pub and-true : (a b : Bool) → (a && b) ≡ true → (a ≡ true) × (b ≡ true)
-and-true true b h = (refl, h)
-and-true false b h = let k : false ≡ true = h in (cc, cc)
 
 -- ── the element at a place changed ────────────────────────────────────────────
 
@@ -98,22 +95,22 @@ shift_none (some n) h = cc
 
 pub all_set : {A : Type 0} (f : A → Bool) (i : ℕ) (p : A) (ss : List A) → all f ss ≡ true → f p ≡ true → all f (mod_at (λ y. p) i ss) ≡ true
 all_set f i p [] h k = refl
-all_set f zero p (s ∷ ss) h k = rw k (and-true (f s) (all f ss) h).1
-all_set f (suc i) p (s ∷ ss) h k = let w = and-true (f s) (all f ss) h in rw w.0 (all_set f i p ss w.1 k)
+all_set f zero p (s ∷ ss) h k = rw k (both_true (f s) (all f ss) h).1
+all_set f (suc i) p (s ∷ ss) h k = let w = both_true (f s) (all f ss) h in rw w.0 (all_set f i p ss w.1 k)
 
 pub all-at : {A : Type 0} (f : A → Bool) (d : A) → f d ≡ true → (i : ℕ) (ss : List A) → all f ss ≡ true → f (get_or ss i d) ≡ true
 all-at f d z i [] h = z
-all-at f d z zero (s ∷ ss) h = (and-true (f s) (all f ss) h).0
-all-at f d z (suc i) (s ∷ ss) h = all-at f d z i ss (and-true (f s) (all f ss) h).1
+all-at f d z zero (s ∷ ss) h = (both_true (f s) (all f ss) h).0
+all-at f d z (suc i) (s ∷ ss) h = all-at f d z i ss (both_true (f s) (all f ss) h).1
 
 pub all_end : {A : Type 0} (f : A → Bool) (l : List A) (x : A) → all f l ≡ true → f x ≡ true → all f (l ++ x ∷ []) ≡ true
 all_end f [] x h k = rw k refl
-all_end f (y ∷ l) x h k = let a = and-true (f y) (all f l) h in rw a.0 (all_end f l x a.1 k)
+all_end f (y ∷ l) x h k = let a = both_true (f y) (all f l) h in rw a.0 (all_end f l x a.1 k)
 
 pub all-dropped : {A : Type 0} (f : A → Bool) (k : ℕ) (l : List A) → all f l ≡ true → all f (drop_at k l) ≡ true
 all-dropped f k [] h = refl
-all-dropped f zero (x ∷ l) h = (and-true (f x) (all f l) h).1
-all-dropped f (suc k) (x ∷ l) h = let a = and-true (f x) (all f l) h in rw a.0 (all-dropped f k l a.1)
+all-dropped f zero (x ∷ l) h = (both_true (f x) (all f l) h).1
+all-dropped f (suc k) (x ∷ l) h = let a = both_true (f x) (all f l) h in rw a.0 (all-dropped f k l a.1)
 
 pub dropped-length : {A : Type 0} (k : ℕ) (l : List A) → length (drop_at k l) ≤ length l
 dropped-length k [] = omega arith
@@ -123,7 +120,7 @@ dropped-length (suc k) (x ∷ l) = omega (arith, dropped-length k l)
 -- of one that stands among them
 pub all-elem : (f : ℕ → Bool) (l : List ℕ) → all f l ≡ true → (k : ℕ) → elem eqb k l ≡ true → f k ≡ true
 all-elem f [] h k e = cc
-all-elem f (x ∷ l) h k e = let w = and-true (f x) (all f l) h in go (eqb k x) refl w.0 (all-elem f l w.1 k) e
+all-elem f (x ∷ l) h k e = let w = both_true (f x) (all f l) h in go (eqb k x) refl w.0 (all-elem f l w.1 k) e
   where
     go : (b : Bool) → eqb k x ≡ b → f x ≡ true → (elem eqb k l ≡ true → f k ≡ true) → (b || elem eqb k l) ≡ true → f k ≡ true
     go true q one more e = rw (eqb-true k x q) one

@@ -20,7 +20,7 @@ use Rattle.rules.specs.Rules.Words.{Party, Mode, simplex, duplex, mode_number, R
 use Rattle.rules.specs.Rules.Actions.{Ender, the_ship, the_coast}
 use Rattle.rules.specs.Rules.Sound.{number_keeps, request_keeps, duration_keeps}
 use Rattle.rules.specs.Rules.Bytes.{padded, number_of, answer_to, able_said, unable_said, lasted_field, end_symbol, over_said}
-use Rattle.rules.proofs.PlaceLaws.{and-true}
+use Rattle.sequence.proofs.Tests.{both_true}
 use Rattle.rules.proofs.Payloads.{padded-length}
 
 -- ── the number ───────────────────────────────────────────────────────────────
@@ -29,7 +29,7 @@ padded-small : (k n : ℕ) (l : List ℕ) → all_at_most k l ≡ true → all_a
 unfolding padded
 padded-small k zero l h = refl
 padded-small k (suc n) [] h = rw (leb-zero k) (padded-small k n [] refl)
-padded-small k (suc n) (x ∷ l) h = let a = and-true (leb x k) (all_at_most k l) h in rw a.0 (padded-small k n l a.1)
+padded-small k (suc n) (x ∷ l) h = let a = both_true (leb x k) (all_at_most k l) h in rw a.0 (padded-small k n l a.1)
 
 rest-zero : (n : ℕ) (l : List ℕ) → all_at_most 0 (drop (length l) (padded 0 n l)) ≡ true
 unfolding padded
@@ -40,7 +40,7 @@ rest-zero (suc n) (x ∷ l) = rest-zero n l
 number-sent : (l : List ℕ) → number_keeps l ≡ true → number_ok (number_of l) ≡ true
 unfolding number_keeps number_ok
 number-sent l h =
-    let a = and-true (within 1 16 (length l)) (all_at_most 9 l) h in
+    let a = both_true (within 1 16 (length l)) (all_at_most 9 l) h in
     rw (a.0, padded-length 0 16 l, padded-small 9 16 l a.1, rest-zero 16 l) refl
 
 -- ── an answer ────────────────────────────────────────────────────────────────
@@ -90,9 +90,9 @@ module _ (cfg : Config) (coast : (n : ℕ) → Ours cfg n → is_coast n ≡ tru
   parts : Parts r
   unfolding request_keeps
   parts =
-      let a = and-true (is_ship r.who.ship) _ keeps in
-      let b = and-true (ours cfg r.who.station) _ a.1 in
-      let c = and-true (within 100 126 r.second) _ b.1 in
+      let a = both_true (is_ship r.who.ship) _ keeps in
+      let b = both_true (ours cfg r.who.station) _ a.1 in
+      let c = both_true (within 100 126 r.second) _ b.1 in
       record { ship = a.0; station = coast r.who.station (eqb-true _ _ b.0); second = c.0; number = c.1 }
 
   -- the acknowledgement, and the ring-back

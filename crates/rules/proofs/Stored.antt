@@ -18,7 +18,8 @@ use Rattle.rules.specs.Rules.Actions.{Action}
 use Rattle.rules.specs.Rules.Station.{Slot, Waiting, Station, the_slot, set_slot, set_clock, set_queue, answered_at, ring_back_of, offer_of, called_of, new_call}
 use Rattle.rules.specs.Rules.Sound.{request_keeps, duration_keeps, slot_keeps, waiting_keeps}
 use Rattle.rules.specs.Rules.Requests.{rung_back, freed_for, freed, lasted, rule_d, rule_f, to_ring_back}
-use Rattle.rules.proofs.PlaceLaws.{and-true, mod_at-length, all_set, all_end, all-dropped}
+use Rattle.sequence.proofs.Tests.{both_true}
+use Rattle.rules.proofs.PlaceLaws.{mod_at-length, all_set, all_end, all-dropped}
 use Rattle.rules.proofs.Outcome.{becomes, Move, to-dial, to-agree, to-ring, to-call, to-rings, to-answer, to-stage, to-lose, to-regain, to-hold, to_take}
 use Rattle.rules.proofs.Walk.{Closed}
 use Rattle.rules.proofs.Base.{slot-all, rung-first}
@@ -88,7 +89,7 @@ module _ (cfg : Config) where
   unfolding freed_for rung_back
   freed_for-stored i st s [] e = set-stored i _ st refl s
   freed_for-stored i st s (w ∷ q) e =
-      let k = and-true (waiting_keeps cfg w) (all (waiting_keeps cfg) q) (rw (rung-first st w q e).1 at s.queue-keeps) in
+      let k = both_true (waiting_keeps cfg w) (all (waiting_keeps cfg) q) (rw (rung-first st w q e).1 at s.queue-keeps) in
       begun-stored i (ring_back_of w.request st) (set_queue q st) k.0 (queue-stored q st k.1 s)
 
   freed-stored : (i : ℕ) (st : Station) → Stored cfg st → Stored cfg (freed i st).next
@@ -97,8 +98,8 @@ module _ (cfg : Config) where
 
   all-renewed : (r : Request) → request_keeps cfg r ≡ true → (k : ℕ) (q : List Waiting) → all (waiting_keeps cfg) q ≡ true → all (waiting_keeps cfg) (mod_at (λ w. record { request = r; due = w.due }) k q) ≡ true
   all-renewed r h k [] a = refl
-  all-renewed r h zero (w ∷ q) a = rw h (and-true (waiting_keeps cfg w) (all (waiting_keeps cfg) q) a).1
-  all-renewed r h (suc k) (w ∷ q) a = let b = and-true (waiting_keeps cfg w) (all (waiting_keeps cfg) q) a in rw b.0 (all-renewed r h k q b.1)
+  all-renewed r h zero (w ∷ q) a = rw h (both_true (waiting_keeps cfg w) (all (waiting_keeps cfg) q) a).1
+  all-renewed r h (suc k) (w ∷ q) a = let b = both_true (waiting_keeps cfg w) (all (waiting_keeps cfg) q) a in rw b.0 (all-renewed r h k q b.1)
 
   rule_d-stored : (k : ℕ) (st : Station) (r : Request) → request_keeps cfg r ≡ true → Stored cfg st → Stored cfg (rule_d k st r).next
   unfolding rule_d

@@ -17,7 +17,7 @@ use Rattle.rules.specs.Rules.Verdict.{verdict, play, final}
 use Rattle.rules.specs.ListAlone.Book.{Note, Stop, Call, quiet, called, dialled, talking, Book, at_places, blank}
 use Rattle.rules.specs.ListAlone.Reading.{join, read, reads, turn, stops_in, Numbered, numbered, is_talking, talkers, counted, talked, talked_by, falling, moment}
 use Rattle.rules.specs.Statement.{notes, charged, owed, tenths_in, uncharged_from, uncharged_slot, uncharged_slots, uncharged_tenths, TenthsAgree}
-use Rattle.rules.proofs.PlaceLaws.{and-true}
+use Rattle.sequence.proofs.Tests.{both_true}
 use Rattle.rules.proofs.Base.{by-kind, by-stage, line_of, call_in, view, seen, Calling, no_call, a-caller, a_call, calling, fresh-mapped, begun, begun_by}
 use Rattle.rules.proofs.Accepted.{accepted, sounds, begun_all}
 use Rattle.rules.proofs.Run.{note_of, turn_is, stops-are, play-on, play-past, final-on, final-past, fresh-seen}
@@ -76,7 +76,7 @@ add-both d x y p q a b h k = omega arith
 advance : (c t : ℕ) → c ≤ t → (ss : List Slot) → all (begun_by c) ss ≡ true → talked_by t (map view ss) ≡ talked_by c (map view ss) + (t - c) * talkers (map view ss)
 advance c t h [] e = omega arith
 advance c t h (s ∷ ss) e =
-    let w = and-true (begun_by c s) (all (begun_by c) ss) e in
+    let w = both_true (begun_by c s) (all (begun_by c) ss) e in
     let a = advance-one c t h (view s).call (since-slot c s ∙ w.0) in
     let r = advance c t h ss w.1 in
     add-both (t - c) (talked c (view s).call) (talked_by c (map view ss)) (is_talking (view s).call) (talkers (map view ss)) (talked t (view s).call) (talked_by t (map view ss)) a r

@@ -14,7 +14,8 @@ use Rattle.rules.specs.Rules.Actions.{Action}
 use Rattle.rules.specs.Rules.Station.{Dealing, Kind, Slot, pending, Waiting, Station, the_slot, set_slot, set_queue, new_call, due_after, queue_wait, ring_back_of, offer_of, called_of}
 use Rattle.rules.specs.Rules.Sound.{queue_room, slot_fits, place_fits}
 use Rattle.rules.specs.Rules.Requests.{to_ring_back, rung_back, freed_for, freed, owns, waits_for, place_of, rule_d, rule_f}
-use Rattle.rules.proofs.PlaceLaws.{and-true, lowest-is, all_set, all_end, all-dropped, dropped-length}
+use Rattle.sequence.proofs.Tests.{both_true}
+use Rattle.rules.proofs.PlaceLaws.{lowest-is, all_set, all_end, all-dropped, dropped-length}
 use Rattle.rules.proofs.Base.{is_true, rung-first, slot-all, offer-fits, call_fits, ring-fits, new-wait}
 use Rattle.rules.proofs.Accepted.{Sound}
 use Rattle.rules.proofs.Occurs.{bit}
@@ -78,7 +79,7 @@ freed_for-whole i st w [] e = turn-whole i st (the_slot st i) refl w _ refl (λ 
 freed_for-whole i st w (v ∷ q) e = record {
   once = λ x. less (count_s x (mod_at (λ y. ring_back_of v.request st) i st.slots)) (bit (owns x (the_slot st i))) (count_s x st.slots) (bit (is x v.request.who)) (count_q x q) (count_set x i (ring_back_of v.request st) st) (rw (rung-first st v q e).1 at (w.once x));
   fit = all_set (slot_fits st.clock) i (ring_back_of v.request st) st.slots w.fit (ring-fits v.request st);
-  placed = (and-true (place_fits st.clock v) (all (place_fits st.clock) q) (rw (rung-first st v q e).1 at w.placed)).1;
+  placed = (both_true (place_fits st.clock v) (all (place_fits st.clock) q) (rw (rung-first st v q e).1 at w.placed)).1;
   room = shorter (length q) (rw (rung-first st v q e).1 at w.room);
 }
   where
@@ -104,7 +105,7 @@ renew-alike : (c : ℕ) (r : Request) (k : ℕ) (q : List Waiting) → is r.who 
     → Alike c (mod_at (λ w. record { request = r; due = w.due }) k q) q
 renew-alike c r k [] h = record { ships = λ x. refl; places = λ h. h; many = refl }
 renew-alike c r zero (v ∷ q) h = record { ships = λ x. rw (is_true r.who v.request.who h) refl; places = λ h. h; many = refl }
-renew-alike c r (suc k) (v ∷ q) h = let a = renew-alike c r k q h in record { ships = λ x. ap (λ n. bit (is x v.request.who) + n) (a.ships x); places = λ h. let k = and-true (place_fits c v) (all (place_fits c) q) h in rw k.0 (a.places k.1); many = ap suc a.many }
+renew-alike c r (suc k) (v ∷ q) h = let a = renew-alike c r k q h in record { ships = λ x. ap (λ n. bit (is x v.request.who) + n) (a.ships x); places = λ h. let k = both_true (place_fits c v) (all (place_fits c) q) h in rw k.0 (a.places k.1); many = ap suc a.many }
 
 rule_d-whole : (k : ℕ) (st : Station) (r : Request) → place_of r.who st ≡ some k → Whole st → Whole (rule_d k st r).next
 unfolding rule_d set_queue

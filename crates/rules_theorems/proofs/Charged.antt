@@ -17,7 +17,7 @@ use Rattle.rules.specs.Rules.Verdict.{verdict}
 use Rattle.rules.specs.ListAlone.Book.{Stop, Call, quiet, called, dialled, talking}
 use Rattle.rules.specs.ListAlone.Reading.{stops_in, falling, moment, stop_of}
 use Rattle.rules.specs.Statement.{owed, InOrder, NumbersFit, ChargesFit, FourBytes, EndsAt}
-use Rattle.rules.proofs.PlaceLaws.{and-true}
+use Rattle.sequence.proofs.Tests.{both_true}
 use Rattle.rules.proofs.Base.{by-kind, by-stage, line_of, call_in, view, seen, Calling, no_call, a-caller, a_call, calling}
 use Rattle.rules.proofs.Accepted.{accepted, sounds}
 use Rattle.rules.proofs.Run.{note_of, stops-are}
@@ -35,7 +35,7 @@ known (talking r b) = leb r.request.who.ship 799999999 && ltb r.call_number 4294
 
 ship-known : (c : Config) (r : Request) → request_keeps c r ≡ true → leb r.who.ship 799999999 ≡ true
 unfolding request_keeps is_ship
-ship-known c r k = (and-true (leb 200000000 r.who.ship) _ (and-true (is_ship r.who.ship) _ k).0).1
+ship-known c r k = (both_true (leb 200000000 r.who.ship) _ (both_true (is_ship r.who.ship) _ k).0).1
 
 call_known : (c : Config) (r : Dealing) (g : Stage) → request_keeps c r.request ≡ true → r.call_number < 4294967296 → known (call_in r g) ≡ true
 call_known c r g k n = by-stage (λ s. known (call_in r s) ≡ true) (λ d. refl) (λ d. refl) (λ b. rw (ship-known c r.request k, lt-ltb r.call_number 4294967296 n) refl) g
@@ -50,7 +50,7 @@ slot-known c s k n = go s (view s).call (calling s) k n
 
 all_known : (c : Config) (ss : List Slot) → all (slot_keeps c) ss ≡ true → Each (λ s. call_number_in s < 4294967296) ss → all (λ l. known l.call) (map view ss) ≡ true
 all_known c [] k n = refl
-all_known c (s ∷ ss) k n = let w = and-true (slot_keeps c s) (all (slot_keeps c) ss) k in rw (slot-known c s w.0 n.0) (all_known c ss w.1 n.1)
+all_known c (s ∷ ss) k n = let w = both_true (slot_keeps c s) (all (slot_keeps c) ss) k in rw (slot-known c s w.0 n.0) (all_known c ss w.1 n.1)
 
 abbrev Known : Stop → Type 0
 Known s = (s.ship ≤ 799999999) × (s.call_number < 4294967296)
@@ -59,7 +59,7 @@ one_known : (t i : ℕ) (k : Call) → known k ≡ true → Each Known (stop_of 
 one_known t i quiet e = tt
 one_known t i (called r b) e = tt
 one_known t i (dialled r o) e = tt
-one_known t i (talking r b) e = let w = and-true (leb r.request.who.ship 799999999) (ltb r.call_number 4294967296) e in ((leb-true r.request.who.ship 799999999 w.0, ltb-true r.call_number 4294967296 w.1), tt)
+one_known t i (talking r b) e = let w = both_true (leb r.request.who.ship 799999999) (ltb r.call_number 4294967296) e in ((leb-true r.request.who.ship 799999999 w.0, ltb-true r.call_number 4294967296 w.1), tt)
 
 stops-known : (c : Config) (st : Station) (e : Event) → verdict c st e ≡ none → NumbersFit st → Each Known (stops_in c (seen st) (note_of e (act c st e).acts))
 unfolding stops_in seen

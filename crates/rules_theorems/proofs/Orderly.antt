@@ -15,7 +15,7 @@ use Rattle.rules.specs.Rules.Verdict.{verdict, play, final}
 use Rattle.rules.specs.ListAlone.Book.{Stop, Call, quiet, called, dialled, talking, Book, blank_book}
 use Rattle.rules.specs.ListAlone.Reading.{stops_in, Numbered, stops, read_all, talked_by, lengths, counted_by_calls, falling, moment, stop_of, stops_at}
 use Rattle.rules.specs.Statement.{notes, owed, owed_for, ChargesAreStops, tenths_in, uncharged_tenths, TenthsAgree, CountsAgree, InOrder, ClockIsNow, EndsAt}
-use Rattle.rules.proofs.PlaceLaws.{and-true}
+use Rattle.sequence.proofs.Tests.{both_true}
 use Rattle.rules.proofs.Base.{view, seen, begun_by}
 use Rattle.rules.proofs.Accepted.{accepted, sounds, begun_all}
 use Rattle.rules.proofs.Run.{note_of, stops-are, fresh-seen, charges-are-stops}
@@ -39,7 +39,7 @@ module _ (cfg : Config) (c t : ℕ) (h : c ≤ t) where
 
 all-since : (c : ℕ) (ss : List Slot) → all (begun_by c) ss ≡ true → all (λ l. since c l.call) (map view ss) ≡ true
 all-since c [] h = refl
-all-since c (s ∷ ss) h = let w = and-true (begun_by c s) (all (begun_by c) ss) h in rw (since-slot c s, w.0) (all-since c ss w.1)
+all-since c (s ∷ ss) h = let w = both_true (begun_by c s) (all (begun_by c) ss) h in rw (since-slot c s, w.0) (all-since c ss w.1)
 
 owed-each : (t : ℕ) (ss : List Stop) → Each (λ s. EndsAt t (owed s)) ss → Each (EndsAt t) (map owed ss)
 owed-each t [] g = tt

@@ -11,7 +11,8 @@ use Rattle.rules.specs.Rules.Waits.{Due}
 use Rattle.rules.specs.ListAlone.Book.{Stop, Call, quiet, Column, Book, blank, column}
 use Rattle.rules.specs.ListAlone.Reading.{stop_of, call_of, asked_again, stops_again, stops_at}
 use Rattle.rules.proofs.Hears.{Hears, says_nothing, says-begun, says-answered, says-over, says-end, Hearing, no-column, one-column, all-columns, event-hearing}
-use Rattle.rules.proofs.PlaceLaws.{and-true, each_append}
+use Rattle.sequence.proofs.Tests.{both_true}
+use Rattle.rules.proofs.PlaceLaws.{each_append}
 
 -- of a stop that a call gives where it passes a test
 module _ (cfg : Config) (t : ℕ) (P : Stop → Type 0) (fine : Call → Bool) (still : fine quiet ≡ true) (one : (i : ℕ) (k : Call) → fine k ≡ true → Each P (stop_of t i k)) where
@@ -21,12 +22,12 @@ module _ (cfg : Config) (t : ℕ) (P : Stop → Type 0) (fine : Call → Bool) (
 
   again-stops : (x : Party) (i : ℕ) (ls : List Column) → all (λ l. fine l.call) ls ≡ true → Each P (stops_again t x i ls)
   again-stops x i [] e = tt
-  again-stops x i (l ∷ ls) e = let w = and-true (fine l.call) (all (λ l. fine l.call) ls) e in each_append P (cond (asked_again x l.call l.gone) (stop_of t i l.call) []) (stops_again t x (suc i) ls) (stop-if (asked_again x l.call l.gone) (stop_of t i l.call) (one i l.call w.0)) (again-stops x (suc i) ls w.1)
+  again-stops x i (l ∷ ls) e = let w = both_true (fine l.call) (all (λ l. fine l.call) ls) e in each_append P (cond (asked_again x l.call l.gone) (stop_of t i l.call) []) (stops_again t x (suc i) ls) (stop-if (asked_again x l.call l.gone) (stop_of t i l.call) (one i l.call w.0)) (again-stops x (suc i) ls w.1)
 
   at-column : (i : ℕ) (ls : List Column) → all (λ l. fine l.call) ls ≡ true → fine (get_or ls i blank).call ≡ true
   at-column i [] e = still
-  at-column zero (l ∷ ls) e = (and-true (fine l.call) (all (λ l. fine l.call) ls) e).0
-  at-column (suc i) (l ∷ ls) e = at-column i ls (and-true (fine l.call) (all (λ l. fine l.call) ls) e).1
+  at-column zero (l ∷ ls) e = (both_true (fine l.call) (all (λ l. fine l.call) ls) e).0
+  at-column (suc i) (l ∷ ls) e = at-column i ls (both_true (fine l.call) (all (λ l. fine l.call) ls) e).1
 
   hears-stops : (i : ℕ) (e : What) (f : Column → Column) (s : Call → List Stop) → Hears t i e f s → (k : Call) → fine k ≡ true → Each P (s k)
   hears-stops i e _ _ (says_nothing f h) k g = tt

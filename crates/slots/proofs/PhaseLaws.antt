@@ -12,7 +12,7 @@ use Rattle.rules.specs.Rules.Words.{is, Party, Config}
 use Rattle.rules.specs.Rules.Places.{is_some}
 use Rattle.rules.specs.Rules.Station as R
 use Rattle.rules.specs.Rules.Station.{free, taken, pending, busy, held, offered, first_ring_back, second_ring_back, acknowledged, first_call, second_call, ringing, dialling, dialled_out, answered, ship_of, kept_for, call_number_in, is_called_in, answered_in, loss_due, main_due}
-use Rattle.rules.proofs.PlaceLaws.{and-true}
+use Rattle.sequence.proofs.Tests.{both_true}
 use Rattle.rules.specs.Rules.Sound.{listed, owner, request_keeps, duration_keeps, slot_keeps, loss_fits, slot_fits}
 use Rattle.requests.specs.Images.{request_image, blank_request}
 use Rattle.slots.specs.declared.Carrier.{Carrier}
@@ -165,4 +165,4 @@ short-slot c short free h = tt
 short-slot c short taken h = tt
 short-slot c short (pending k r t) h = short r.request h
 short-slot c short (busy r g l) h = short r.request h
-short-slot c short (held r n t) h = short r.request (and-true (request_keeps c r.request) _ h).0
+short-slot c short (held r n t) h = short r.request (both_true (request_keeps c r.request) _ h).0

@@ -13,32 +13,32 @@ use Rattle.rules.specs.Rules.Words.{Config, Request, ours}
 use Rattle.rules.specs.Rules.Places.{all, Each}
 use Rattle.rules.specs.Rules.Station as R
 use Rattle.rules.specs.Rules.Sound.{identity_keeps, channels_keep, config_keeps, one_slot_each, number_keeps, request_keeps, slot_keeps, waiting_keeps, sound}
-use Rattle.rules.proofs.PlaceLaws.{and-true}
+use Rattle.sequence.proofs.Tests.{both_true}
 use Rattle.rules.proofs.Accepted.{sounds}
 use Rattle.slots.specs.Images.{Short, ShortSlot, Fits}
 use Rattle.slots.proofs.PhaseLaws.{short-slot}
 
 each_of : {A : Type 0} (f : A → Bool) (P : A → Type 0) → ((x : A) → f x ≡ true → P x) → (l : List A) → all f l ≡ true → Each P l
 each_of f P g [] h = tt
-each_of f P g (x ∷ l) h = let a = and-true (f x) (all f l) h in (g x a.0, each_of f P g l a.1)
+each_of f P g (x ∷ l) h = let a = both_true (f x) (all f l) h in (g x a.0, each_of f P g l a.1)
 
 module _ (c : Config) where
   short : (r : Request) → request_keeps c r ≡ true → Short r
   unfolding request_keeps number_keeps
   short r h =
-      let a = and-true (is_ship r.who.ship) _ h in
-      let b = and-true (ours c r.who.station) _ a.1 in
-      let d = and-true (within 100 126 r.second) _ b.1 in
-      let e = and-true (within 1 16 (length r.number)) _ d.1 in
-      let f = and-true (leb 1 (length r.number)) _ e.0 in
+      let a = both_true (is_ship r.who.ship) _ h in
+      let b = both_true (ours c r.who.station) _ a.1 in
+      let d = both_true (within 100 126 r.second) _ b.1 in
+      let e = both_true (within 1 16 (length r.number)) _ d.1 in
+      let f = both_true (leb 1 (length r.number)) _ e.0 in
       leb-true (length r.number) 16 f.1
 
   few-channels : config_keeps c ≡ true → length c.channels ≤ 16
   unfolding config_keeps channels_keep
   few-channels h =
-      let a = and-true (identity_keeps c) _ h in
-      let b = and-true (within 1 16 (length c.channels)) _ a.1 in
-      let d = and-true (leb 1 (length c.channels)) _ b.0 in
+      let a = both_true (identity_keeps c) _ h in
+      let b = both_true (within 1 16 (length c.channels)) _ a.1 in
+      let d = both_true (leb 1 (length c.channels)) _ b.0 in
       leb-true (length c.channels) 16 d.1
 
   one_each : (m : R.Station) → one_slot_each c m ≡ true → length m.slots ≡ length c.channels

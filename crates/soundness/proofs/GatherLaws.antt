@@ -17,10 +17,11 @@ use Rattle.rules.specs.Rules.Heard.{same_channel}
 use Rattle.rules.specs.Rules.Station.{Dealing}
 use Rattle.sequence.specs.Field.{channel_ok}
 use Rattle.rules.specs.Rules.Sound.{channels_keep, request_keeps, duration_keeps, slot_keeps, waiting_keeps, owner, owners}
-use Rattle.rules.proofs.PlaceLaws.{and-true}
+use Rattle.sequence.proofs.Tests.{both_true}
 use Rattle.rules.specs.Rules.Bytes.{padded}
 use Rattle.requests.specs.Views.{viewed, left, itself, request_of}
-use Rattle.requests.proofs.ArrayLaws.{padded-length, padded-front, padded-snoc, viewed-more, viewed-min, viewed-length, left-all, left-more}
+use Rattle.rules.proofs.Payloads.{padded-length}
+use Rattle.requests.proofs.ArrayLaws.{padded-front, padded-snoc, viewed-more, viewed-min, viewed-length, left-all, left-more}
 use Rattle.slots.specs.declared.Phase.{Phase}
 use Rattle.slots.specs.declared.Slot.{Slot}
 use Rattle.slots.specs.declared.Waiting.{Waiting}
@@ -161,7 +162,7 @@ module _ (c : Config) where
   unfolding is
   ship-among x [] k h = refl
   ship-among x (y ∷ l) k h =
-      let a = and-true (here y) (all here l) h in
+      let a = both_true (here y) (all here l) h in
       let e : eqb x.station y.station ≡ true = eq-eqb x.station y.station (eqb-true x.station _ k ∙ sym (eqb-true y.station _ a.0)) in
       rw (e, ship-among x l k a.1) (ap (λ b. b || elem eqb x.ship (map ship l)) (and_yes (eqb x.ship y.ship)))
     where
@@ -171,11 +172,11 @@ module _ (c : Config) where
 
   ships-once : (l : List Party) → all here l ≡ true → distinct is l ≡ distinct eqb (map ship l)
   ships-once [] h = refl
-  ships-once (x ∷ l) h = let a = and-true (here x) (all here l) h in rw (ship-among x l a.0 a.1, ships-once l a.1)
+  ships-once (x ∷ l) h = let a = both_true (here x) (all here l) h in rw (ship-among x l a.0 a.1, ships-once l a.1)
 
   request-here : (r : Request) → request_keeps c r ≡ true → here r.who ≡ true
   unfolding request_keeps
-  request-here r h = (and-true (here r.who) _ (and-true (is_ship r.who.ship) _ h).1).0
+  request-here r h = (both_true (here r.who) _ (both_true (is_ship r.who.ship) _ h).1).0
 
   owner_here : (p : Phase) (r : Dealing) (l : List Party) → slot_keeps c (phase_view p r) ≡ true → all here l ≡ true → all here (owner (phase_view p r) l) ≡ true
   owner_here p r l k h = rw (owner-view p r l) (go (owned p) refl)
@@ -183,16 +184,16 @@ module _ (c : Config) where
       go : (b : Bool) → owned p ≡ b → all here (cond b (r.request.who ∷ l) l) ≡ true
       go true e =
           let keeps : (duration_keeps (lasted_in p) && request_keeps c r.request) ≡ true = rw (owned-stored p e) at (sym (keeps-view c p r) ∙ k) in
-          rw (request-here r.request (and-true (duration_keeps (lasted_in p)) _ keeps).1, h)
+          rw (request-here r.request (both_true (duration_keeps (lasted_in p)) _ keeps).1, h)
       go false e = h
 
   owners-here : (ss : List Slot) (l : List Party) → all (slot_keeps c) (map slot_view ss) ≡ true → all here l ≡ true → all here (owners (map slot_view ss) l) ≡ true
   owners-here [] l k h = h
-  owners-here (s ∷ ss) l k h = let a = and-true (slot_keeps c (slot_view s)) _ k in owner_here s.phase (dealing_of s) (owners (map slot_view ss) l) a.0 (owners-here ss l a.1 h)
+  owners-here (s ∷ ss) l k h = let a = both_true (slot_keeps c (slot_view s)) _ k in owner_here s.phase (dealing_of s) (owners (map slot_view ss) l) a.0 (owners-here ss l a.1 h)
 
   queue-here : (q : List Waiting) → all (waiting_keeps c) (map waiting_view q) ≡ true → all here (map (λ w. w.request.who) (map waiting_view q)) ≡ true
   queue-here [] h = refl
-  queue-here (w ∷ q) h = let a = and-true (request_keeps c (request_of w.request)) _ h in rw (request-here (request_of w.request) a.0, queue-here q a.1)
+  queue-here (w ∷ q) h = let a = both_true (request_keeps c (request_of w.request)) _ h in rw (request-here (request_of w.request) a.0, queue-here q a.1)
 
 -- whose the slots are, and who waits
 owners-ships : (l : List Slot) (q : List Waiting) → map ship (owners (map slot_view l) (map (λ w. w.request.who) (map waiting_view q))) ≡ ships_of (map itself l) ++ map ship_at q

@@ -14,7 +14,7 @@ use Rattle.rules.specs.Rules.Places.{all, distinct}
 use Rattle.rules.specs.Rules.Heard.{same_channel}
 use Rattle.rules.specs.Rules.Station as R
 use Rattle.rules.specs.Rules.Sound.{identity_keeps, channels_keep, config_keeps, one_slot_each, slot_keeps, waiting_keeps, slot_fits, place_fits, limit, sound}
-use Rattle.rules.proofs.PlaceLaws.{and-true}
+use Rattle.sequence.proofs.Tests.{both_true}
 use Rattle.rules.proofs.Accepted.{sounds, is-sound}
 use Rattle.requests.specs.Views.{viewed, itself}
 use Rattle.requests.proofs.ArrayLaws.{viewed-length}
@@ -93,19 +93,19 @@ module _ (mast : Mast) (clock : Tenths) where
     ahead h =
         let l = viewed channel_of n a in
         let k : length l ≡ min n 16 = viewed-length channel_of n a ∙ ap (min n) ea in
-        let ships = and-true (distinct eqb (ships_of (viewed itself n a) ++ viewed ship_at m b)) _ h in
-        let numbers = and-true (distinct eqb (viewed number_of n a)) _ ships.1 in
-        let queue = and-true (all (waiting_sound mast clock) (viewed itself m b)) _ numbers.1 in
-        let slots = and-true (all (slot_sound mast clock) (viewed itself n a)) _ queue.1 in
-        let counts = and-true (leb n 16) _ slots.1 in
-        let places = and-true (leb m 32) _ counts.1 in
-        let one = and-true (leb 1 n) _ places.1 in
-        let coast = and-true (identity_keeps (named mast)) (leb clock.0 limit) one.1 in
-        let channel = and-true (all channel_ok l) _ (sym (slots-parts n a) ∙ slots.0) in
-        let fit = and-true (all (slot_fits clock.0) (viewed slot_view n a)) _ channel.1 in
-        let keep = and-true (all (slot_keeps (named mast)) (viewed slot_view n a)) (all slot_exact (viewed itself n a)) fit.1 in
-        let fits = and-true (all (place_fits clock.0) (viewed waiting_view m b)) _ (sym (queue-parts m b) ∙ queue.0) in
-        let keeps = and-true (all (waiting_keeps (named mast)) (viewed waiting_view m b)) (all waiting_exact (viewed itself m b)) fits.1 in
+        let ships = both_true (distinct eqb (ships_of (viewed itself n a) ++ viewed ship_at m b)) _ h in
+        let numbers = both_true (distinct eqb (viewed number_of n a)) _ ships.1 in
+        let queue = both_true (all (waiting_sound mast clock) (viewed itself m b)) _ numbers.1 in
+        let slots = both_true (all (slot_sound mast clock) (viewed itself n a)) _ queue.1 in
+        let counts = both_true (leb n 16) _ slots.1 in
+        let places = both_true (leb m 32) _ counts.1 in
+        let one = both_true (leb 1 n) _ places.1 in
+        let coast = both_true (identity_keeps (named mast)) (leb clock.0 limit) one.1 in
+        let channel = both_true (all channel_ok l) _ (sym (slots-parts n a) ∙ slots.0) in
+        let fit = both_true (all (slot_fits clock.0) (viewed slot_view n a)) _ channel.1 in
+        let keep = both_true (all (slot_keeps (named mast)) (viewed slot_view n a)) (all slot_exact (viewed itself n a)) fit.1 in
+        let fits = both_true (all (place_fits clock.0) (viewed waiting_view m b)) _ (sym (queue-parts m b) ∙ queue.0) in
+        let keeps = both_true (all (waiting_keeps (named mast)) (viewed waiting_view m b)) (all waiting_exact (viewed itself m b)) fits.1 in
         let least = le-leb 1 (length l) (omega (arith, k, leb-true 1 n one.0)) in
         let most = le-leb (length l) 16 (omega (arith, k)) in
         let good = is-sound (config_for mast n a) station (record {
@@ -125,15 +125,15 @@ module _ (mast : Mast) (clock : Tenths) where
     unfolding head_sound config_keeps identity_keeps channels_keep
     back h =
         let l = viewed channel_of n a in
-        let parts = and-true (leb n 16 && (leb m 32 && (all slot_exact (viewed itself n a) && all waiting_exact (viewed itself m b)))) _ h in
-        let counts = and-true (leb n 16) _ parts.0 in
-        let places = and-true (leb m 32) _ counts.1 in
-        let exact = and-true (all slot_exact (viewed itself n a)) (all waiting_exact (viewed itself m b)) places.1 in
+        let parts = both_true (leb n 16 && (leb m 32 && (all slot_exact (viewed itself n a) && all waiting_exact (viewed itself m b)))) _ h in
+        let counts = both_true (leb n 16) _ parts.0 in
+        let places = both_true (leb m 32) _ counts.1 in
+        let exact = both_true (all slot_exact (viewed itself n a)) (all waiting_exact (viewed itself m b)) places.1 in
         let good = sounds (config_for mast n a) station parts.1 in
-        let coast = and-true (identity_keeps (named mast)) _ good.config in
-        let count = and-true (within 1 16 (length l)) _ coast.1 in
-        let channel = and-true (all channel_ok l) (distinct same_channel l) count.1 in
-        let least = leb-true 1 (length l) (and-true (leb 1 (length l)) _ count.0).0 in
+        let coast = both_true (identity_keeps (named mast)) _ good.config in
+        let count = both_true (within 1 16 (length l)) _ coast.1 in
+        let channel = both_true (all channel_ok l) (distinct same_channel l) count.1 in
+        let least = leb-true 1 (length l) (both_true (leb 1 (length l)) _ count.0).0 in
         let one = le-leb 1 n (omega (arith, least, viewed-length channel_of n a)) in
         let keep = sym (slots-alike mast l [] n a) ∙ good.slots-keep in
         let keeps = sym (queue-alike mast l [] m b) ∙ good.queue-keeps in

@@ -21,7 +21,7 @@ use Rattle.rules.specs.Rules.Calls.{happened_on, act_at, act}
 use Rattle.rules.specs.Statement.{AtMostEight}
 use Rattle.rules.proofs.Eight.{at-most-eight}
 use Rattle.rules.proofs.Kept.{stays-sound}
-use Rattle.requests.proofs.ArrayLaws.{padded-length}
+use Rattle.rules.proofs.Payloads.{padded-length}
 use Rattle.slots.specs.Views.{due_view}
 use Rattle.actions.specs.Blocks.{holds, put_count, put_room}
 use Rattle.actions.specs.Sent.{sent_payload, sent_on, sent_block}

@@ -16,7 +16,8 @@ use Rattle.rules.specs.Rules.Station.{is_free}
 use Rattle.rules.specs.Rules.Verdict.{verdict}
 use Rattle.rules.specs.Rules.Bytes.{padded, number_of}
 use Rattle.rules.specs.Statement.{uncharged_slots, uncharged_tenths}
-use Rattle.rules.proofs.PlaceLaws.{and-true, shift_none}
+use Rattle.sequence.proofs.Tests.{both_true}
+use Rattle.rules.proofs.PlaceLaws.{shift_none}
 use Rattle.requests.specs.Views.{viewed, itself}
 use Rattle.requests.specs.Images.{request_image, blank_request}
 use Rattle.slots.specs.declared.Slot.{Slot}
@@ -38,13 +39,13 @@ module _ {A : Type 0} (p : A → Bool) where
   all-taken : (n : ℕ) (l : List A) → all p l ≡ true → all p (take n l) ≡ true
   all-taken zero l h = refl
   all-taken (suc n) [] h = refl
-  all-taken (suc n) (x ∷ l) h = let w = and-true (p x) (all p l) h in rw w.0 (all-taken n l w.1)
+  all-taken (suc n) (x ∷ l) h = let w = both_true (p x) (all p l) h in rw w.0 (all-taken n l w.1)
 
   all-padded : (b : A) → p b ≡ true → (n : ℕ) (l : List A) → all p l ≡ true → all p (padded b n l) ≡ true
   unfolding padded
   all-padded b k zero l h = refl
   all-padded b k (suc n) [] h = rw k (all-padded b k n [] refl)
-  all-padded b k (suc n) (x ∷ l) h = let w = and-true (p x) (all p l) h in rw w.0 (all-padded b k n l w.1)
+  all-padded b k (suc n) (x ∷ l) h = let w = both_true (p x) (all p l) h in rw w.0 (all-padded b k n l w.1)
 
   all-itself : (l : List A) → all p (map itself l) ≡ all p l
   all-itself [] = refl

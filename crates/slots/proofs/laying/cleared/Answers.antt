@@ -5,7 +5,7 @@ use Rattle.std.proofs.Common.{rules}
 use Rattle.std.proofs.lemmas.List.{ext_get_or}
 use Rattle.rules.specs.Rules.Bytes.{padded}
 use Rattle.requests.specs.Views.{viewed, itself}
-use Rattle.requests.proofs.ArrayLaws.{padded-length}
+use Rattle.rules.proofs.Payloads.{padded-length}
 use Rattle.slots.proofs.TidyLaws.{digit-at}
 use Rattle.slots.proofs.laying.cleared.Goals as goal
 
