@@ -12,7 +12,7 @@ use Rattle.outcomes.specs.Does as D
 use Rattle.outcomes.specs.Does.{acts_of, free_acts}
 use Rattle.telling.specs.Tells.{ended_acts, again_acts, drop_call_acts}
 
-closing : D.Scene → Outcome → List Action
+pub closing : D.Scene → Outcome → List Action
 closing sc Clears = does (carrier_off sc.slot) ∷ []
 closing sc (CoastEnds k) = ended_acts sc the_coast k
 closing sc (ShipEnds k) = ended_acts sc the_ship k
@@ -37,7 +37,7 @@ closing sc CallsAgain = []
 closing sc StartsRinging = []
 closing sc Transmits = []
 
-saying : D.Scene → Outcome → List Action
+pub saying : D.Scene → Outcome → List Action
 saying sc Dials = does (dial sc.slot sc.own.request.number) ∷ []
 saying sc RingsBackAgain = does (call_ship sc.slot sc.own.request) ∷ []
 saying sc CallsAgain = does (call_ship sc.slot sc.own.request) ∷ []
@@ -63,7 +63,7 @@ saying sc (SaysAgain n) = []
 saying sc (Drops k) = []
 
 pub parts : (sc : D.Scene) (o : Outcome) → closing sc o ++ saying sc o ≡ acts_of sc o
-unfolding acts_of
+unfolding acts_of closing saying
 parts sc Ignored = refl
 parts sc Passes = refl
 parts sc (Turns p) = refl
