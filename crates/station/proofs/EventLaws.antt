@@ -4,7 +4,6 @@ use mathlib.Core.Bool.{cond}
 use mathlib.Core.List.{List}
 use mathlib.Core.Option.{none, some}
 use Rattle.std.specs.Prelude.{Some, None, Ok, Err}
-use Rattle.gate.specs.Asked.{asked_once}
 use mathlib.Core.Path.{◌≡◌, refl, ◌∙◌}
 use Rattle.units.specs.declared.SlotNumber.{SlotNumber}
 use Rattle.units.specs.declared.Tenths.{Tenths}
@@ -35,7 +34,7 @@ use Rattle.station.specs.declared.Station.{Station}
 use Rattle.station.specs.declared.Plain.{Plain}
 use Rattle.station.specs.declared.Plain.TheVariants.{Signal, Hand}
 use Rattle.station.specs.Model.{model_of, config_of}
-use Rattle.station.specs.Pieces.{unread, slot_of, own_of, out_at, plain_view, by_plain}
+use Rattle.station.specs.Pieces.{asked_once, unread, slot_of, own_of, out_at, plain_view, by_plain}
 use Rattle.station.proofs.PlaceLaws.{slot-view}
 use Rattle.station.proofs.StepLaws.{slot-acts}
 

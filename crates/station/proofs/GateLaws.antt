@@ -17,14 +17,14 @@ use Rattle.rules.specs.Rules.Sound.{limit, sound}
 use Rattle.rules.specs.Rules.Verdict.{unless, room_needed, overtaken, slot_there, read_in, barred, names_ship, names_mode, names_number, names_engaged, slot_to_be_had, refusals, verdict}
 use Rattle.gate.specs.declared.Look.{Look}
 use Rattle.gate.specs.declared.Refusal.{Refusal}
-use Rattle.gate.specs.Asked.{refusal_number, asked_once, asked_always, asked_now, asked_on_slot}
+use Rattle.gate.specs.Asked.{refusal_number, asked_always, asked_now, asked_on_slot}
 use Rattle.slots.specs.Views.{signal_view, hand_view}
 use Rattle.station.specs.declared.Station.{Station}
 use Rattle.station.specs.declared.Plain.{Plain}
 use Rattle.station.specs.declared.Plain.TheVariants.{Signal, Hand}
 use Rattle.station.specs.Model.{model_of, config_of}
 use Rattle.station.specs.Step.{records_keep, refusal}
-use Rattle.station.specs.Pieces.{Sees, Judged, unread, plain_view, closed_to}
+use Rattle.station.specs.Pieces.{asked_once, Sees, Judged, unread, plain_view, closed_to}
 
 -- soundness, 29, is one test of two parts
 both-parts : {A : Type 0} (a b : Bool) (x y : A) → cond (a && b) x y ≡ cond a (cond b x y) y
@@ -57,13 +57,13 @@ none-so-far {z = z} h e = e ∙ ap (λ x. or_else x z) h
 pub refused-here : {x : Option ℕ} (y : Option ℕ) (k : ℕ) → some k ≡ x → some k ≡ or_else x y
 refused-here y k h = ap (λ x. or_else x y) h
 
-pub passed-one : (b : Bool) (n : ℕ) {y z : Option ℕ} → none ≡ asked_once b n → y ≡ z → y ≡ cond b z (some n)
-passed-one true n h e = e
-passed-one false n h e = let k : ◌≡◌ {A = Option ℕ} none (some n) = h in cc
+pub passed-one : (b : Bool) (r : Refusal) {y z : Option ℕ} → ◌≡◌ {A = Result (Unit {0}) Refusal} (Ok tt) (cond b (Ok tt) (Err r)) → y ≡ z → y ≡ cond b z (some (refusal_number r))
+passed-one true r h e = e
+passed-one false r h e = absurd (cc)
 
-pub failed-one : (b : Bool) (k n : ℕ) (z : Option ℕ) → some k ≡ asked_once b n → some k ≡ cond b z (some n)
-failed-one true k n z h = let e : ◌≡◌ {A = Option ℕ} (some k) none = h in cc
-failed-one false k n z h = h
+pub failed-one : (b : Bool) (k r : Refusal) (z : Option ℕ) → ◌≡◌ {A = Result (Unit {0}) Refusal} (Err k) (cond b (Ok tt) (Err r)) → some (refusal_number k) ≡ cond b z (some (refusal_number r))
+failed-one true k r z h = absurd (cc)
+failed-one false k r z h = let e : k ≡ r = cc in ap (λ x. some (refusal_number x)) e
 
 -- a refusal that is handed on by `?`
 pub judged-err : {A : Type 0} (P : A → Type 0) {o : Option ℕ} {Q : Refusal → Type 0} (k : Refusal) (r : Result A Refusal) → IsErrAnd r Q → ((e : Refusal) → Q e → e ≡ k) → some (refusal_number k) ≡ o → Judged o P r

@@ -8,12 +8,15 @@ use lib.ListN.{length, get_or, take}
 use lib.Seq.{take_all}
 use Rattle.rules.specs.Rules.Places.{all}
 use Rattle.requests.specs.Views.{viewed, left, itself}
-use Rattle.requests.proofs.ArrayLaws.{left-all, left-more, viewed-itself, viewed-min}
+use Rattle.requests.proofs.ArrayLaws.{left-all, left-more, viewed-min}
 use Rattle.slots.proofs.ImageLaws.{map-itself}
 
 pub viewed-all : {A B : Type 0} (v : A → B) (l : List A) → viewed v (length l) l ≡ map v l
 unfolding viewed
 viewed-all v l = ap (map v) (take_all (length l) l (omega arith))
+
+pub itself-all : {A : Type 0} (l : List A) → viewed itself (length l) l ≡ l
+itself-all l = viewed-all itself l ∙ map-itself l
 
 turned : (a b : Bool) → (a && b) ≡ (b && a)
 turned true true = refl
@@ -31,7 +34,7 @@ module _ {A : Type 0} (f : A → Bool) (l : List A) where
       ∙ ap (all f) (sym (left-more itself (length l) l (i - 1) d (omega arith) (omega arith)))
 
   pub all-tested : (i : ℕ) → i ≡ 0 → {s : Bool} → s ≡ all f (left itself (length l) l i) → s ≡ all f l
-  all-tested i e h = h ∙ ap (λ z. all f (left itself (length l) l z)) e ∙ ap (all f) (left-all itself (length l) l ∙ viewed-itself (length l) l (omega arith))
+  all-tested i e h = h ∙ ap (λ z. all f (left itself (length l) l z)) e ∙ ap (all f) (left-all itself (length l) l ∙ itself-all l)
 
 -- the slice of as many as are in use
 pub seen-slice : {A B : Type 0} (v : A → B) (n m k : ℕ) (l : List A) → length l ≡ k → m ≡ min n k → map v (take m l) ≡ viewed v n l

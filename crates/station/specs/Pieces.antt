@@ -1,5 +1,5 @@
 -- Words of the contracts of private functions; only the proofs need them.
-use Rattle.std.specs.Prelude.{ℕ, Bool, false, ◌&&◌, ◌≡◌, List, map, length, get_or, Option as Optional, Some, None, Result, Ok, Err}
+use Rattle.std.specs.Prelude.{ℕ, Bool, false, cond, ◌&&◌, ◌≡◌, List, map, length, get_or, Option as Optional, Some, None, Result, Ok, Err}
 use Rattle.std.proofs.Math.Option.{Option, none, some}
 use Rattle.units.specs.declared.SlotNumber.{SlotNumber}
 use Rattle.units.specs.declared.Tenths.{Tenths}
@@ -30,7 +30,7 @@ use Rattle.actions.specs.Sent.{sent_block}
 use Rattle.blocks.specs.Laid.{Laid, laid_from}
 use Rattle.gate.specs.declared.Look.{Look}
 use Rattle.gate.specs.declared.Refusal.{Refusal}
-use Rattle.gate.specs.Asked.{refusal_number, asked_once}
+use Rattle.gate.specs.Asked.{refusal_number}
 use Rattle.hearing.specs.declared.Heard.{Heard}
 use Rattle.hearing.specs.Said.{asked_in, heard_of}
 use Rattle.hearing.specs.declared.HeardKind.{HeardKind}
@@ -60,6 +60,10 @@ pub record Sees (s : Station) (l : Look) : Type 0 where
 abbrev pub Judged : {A : Type 0} → Option ℕ → (A → Type 0) → Result A Refusal → Type 0
 Judged o P (Ok a) = (none ≡ o) × P a
 Judged o P (Err r) = some (refusal_number r) ≡ o
+
+-- one test, with the number that is given where it fails
+abbrev pub asked_once : Bool → ℕ → Option ℕ
+asked_once b n = cond b none (some n)
 
 -- the reader's refusal of symbols; what they say, once they are read
 abbrev pub unread : List ℕ → Option ℕ

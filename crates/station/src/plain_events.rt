@@ -9,9 +9,10 @@ ghost use Rattle.station.specs.Pieces.{Sees, Judged, slot_of, plain_view, closed
 use crate::now::Now;
 use crate::{Plain, Station, Stepped};
 use deciding::{by_hand, by_signal};
-use gate::{Look, Refusal, unless};
+use gate::{Look, Refusal};
 use outcomes::Outcome;
 use requests::Mode;
+use sequence::unless;
 use slots::{Hand, Phase, Slot, is_free, is_taken};
 use units::{SlotNumber, Tenths};
 

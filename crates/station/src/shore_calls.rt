@@ -11,11 +11,11 @@ ghost use Rattle.station.specs.Pieces.{Sees, Judged};
 use crate::now::Now;
 use crate::{Station, Stepped};
 use ashore::{digits_keep, is_mode, request_from};
-use gate::{Look, Refusal, unless};
+use gate::{Look, Refusal};
 use outcomes::Outcome;
 use searches::{first_free, kept_for, place_of};
-use sequence::Refusal as Unfit;
 use sequence::parts::is_ship;
+use sequence::{Refusal as Unfit, unless};
 use slots::numbers::none_left;
 use units::{SlotNumber, Tenths};
 

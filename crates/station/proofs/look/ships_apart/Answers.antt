@@ -6,11 +6,10 @@ use lib.ListN.{length, get_or}
 use Rattle.rules.specs.Rules.Places.{distinct}
 use Rattle.rules.specs.Rules.Bytes.{padded}
 use Rattle.requests.specs.Views.{viewed, itself}
-use Rattle.requests.proofs.ArrayLaws.{viewed-itself}
 use Rattle.slots.specs.Views.{no_slot, no_waiting}
 use Rattle.soundness.specs.Soundly.{ships_of, ship_at}
 use Rattle.soundness.proofs.GatherLaws.{filled_more, ship-more, ship-none, ship-waits, ships-front}
-use Rattle.station.proofs.LookLaws.{viewed-all}
+use Rattle.station.proofs.LookLaws.{viewed-all, itself-all}
 use Rattle.station.proofs.look.ships_apart.Goals as goal
 use Rattle.station.proofs.look.ships_apart.Goals.{then-has_ship, else-has_ship}
 
@@ -60,5 +59,5 @@ returns c =
     let e : l.entry-index ≡ length b = omega arith in
     c.all_apart.ensures
     ∙ ap (distinct eqb) (ships-front (length a) (length a) a (length b) (length b) b l.ships l.count (omega arith) (omega arith) (omega arith) (rw e at l.invariant.filled))
-    ∙ ap (λ z. distinct eqb (ships_of z ++ viewed ship_at (length b) b)) (viewed-itself (length a) a (omega arith))
+    ∙ ap (λ z. distinct eqb (ships_of z ++ viewed ship_at (length b) b)) (itself-all a)
     ∙ ap (λ z. distinct eqb (ships_of a ++ z)) (viewed-all ship_at b)
