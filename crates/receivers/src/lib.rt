@@ -1,8 +1,8 @@
 // Two receivers on the mast: the first valid sequence in the bytes of the one or, failing that, of the other.
 #![tactic(auto)]
 
-ghost use Rattle.std.specs.Prelude.{◌≡◌, ◌+◌, ◌≤◌, length};
-ghost use Rattle.sequence.specs.Figures.{shortest};
+ghost use Rattle.std.specs.Prelude.{◌≡◌, ◌+◌, ◌≤◌, ◌==◌, length, position, take, drop};
+ghost use Rattle.sequence.specs.Figures.{shortest, format};
 ghost use Rattle.receivers.specs.Finding.{begins_with, length_at, found_from, first_in, found_in};
 ghost use Rattle.receivers.specs.Finding.{bytes_of, stretch_found, placed_at, place_found};
 
@@ -57,35 +57,25 @@ fn length_at(bytes: &[u8]) -> Option<usize>
     None
 }
 
-// How many of the next four places are passed over: those before the first that holds the format. Each costs one look.
-fn passed_over(bytes: &[u8], place: usize) -> usize
+// Of the next four places, how many stand before the first that holds the format.
+fn format_among(bytes: &[u8], place: usize) -> Option<usize>
     requires { place + 4 ≤ length bytes.now }
-    ensures { (found_from (place + result) bytes.now ≡ found_from place bytes.now) × (result ≤ 4) }
+    ensures { result ≡ position (λ byte. byte == format) (take 4 (drop place bytes.now)) }
 {
-    if bytes[place] == FORMAT {
-        return 0;
-    }
-    if bytes[place + 1] == FORMAT {
-        return 1;
-    }
-    if bytes[place + 2] == FORMAT {
-        return 2;
-    }
-    if bytes[place + 3] == FORMAT {
-        return 3;
-    }
-    4
+    bytes[place..place + 4]
+        .iter()
+        .position(|byte| *byte == FORMAT)
 }
 
-// The next place, from one on, that holds the format, or one that is not before the end. The end is asked for once in four places.
+// The next place, from one on, that holds the format, or one that is not before the end. The end is asked for once in four places: a loop by
+// while and not over a range, since it hands back where it stands.
 fn format_from(bytes: &[u8], from: usize, end: usize) -> usize
     requires { end + 3 ≤ length bytes.now }
     ensures { (found_from result bytes.now ≡ found_from from bytes.now) × (from ≤ result) }
 {
     let mut place = from;
     while place < end {
-        let passed = passed_over(bytes, place);
-        if passed < 4 {
+        if let Some(passed) = format_among(bytes, place) {
             return place + passed;
         }
         place += 4;
@@ -99,6 +89,7 @@ fn first_before(bytes: &[u8], end: usize) -> Option<Stretch>
     ensures { result ≡ first_in bytes.now }
 {
     let mut place = format_from(bytes, 0, end);
+    // Each turn goes on at the next format, and not at the next place.
     while place < end {
         if let Some(count) = length_at(&bytes[place..]) {
             return Some(Stretch { place, count });
