@@ -1,12 +1,12 @@
 // What each event does: by the slot's phase, and for a ship that stands nowhere; what the documents do not name is ignored. No rule
-// holds a station.
+// holds a station. A rule is handed what its sentence names, and no struct of time, mode and phase, of which it would read a part.
 #![tactic(auto)]
 
 ghost use Rattle.std.specs.Prelude.{◌≡◌};
 ghost use Rattle.deciding.specs.Decides.{dialled_out_by, off_hook_by, up_by, loss_from, down_by, coast_end_by, hung_by, working_by};
 ghost use Rattle.deciding.specs.Decides.{ship_end_by, bq_by};
 ghost use Rattle.deciding.specs.Decides.{declined_by, data_by};
-ghost use Rattle.deciding.specs.Decides.{by_signal, take_by, give_back_by, by_hand, main_due_by, rule_c_by, asked_again_by};
+ghost use Rattle.deciding.specs.Decides.{by_signal, by_hand, main_due_by, rule_c_by, asked_again_by};
 ghost use Rattle.deciding.specs.Decides.{while_left, newcomer_by, d_to_g_by};
 
 use due_times::{carrier_wait, due_after};
@@ -107,6 +107,7 @@ fn on_hook(phase: Phase) -> Outcome
     }
 }
 
+// Which signal it was is told as a value, so a `match` chooses the rule.
 pub fn by_signal(signal: Signal, time: Tenths, mode: Mode, phase: Phase) -> Outcome
     ensures { result ≡ by_signal signal time mode phase }
 {
@@ -183,32 +184,14 @@ pub fn data_asked(called: bool) -> Outcome
     }
 }
 
-// The operator "takes a free slot".
-fn take(phase: Phase) -> Outcome
-    ensures { result ≡ take_by phase }
-{
-    match phase {
-        Phase::Free => Outcome::Turns(Phase::Taken),
-        _ => Outcome::Ignored,
-    }
-}
-
-// "or gives it back (freed)"
-fn give_back(phase: Phase) -> Outcome
-    ensures { result ≡ give_back_by phase }
-{
-    match phase {
-        Phase::Taken => Outcome::Frees,
-        _ => Outcome::Ignored,
-    }
-}
-
+// The operator "takes a free slot .. or gives it back (freed)".
 pub fn by_hand(hand: Hand, phase: Phase) -> Outcome
     ensures { result ≡ by_hand hand phase }
 {
-    match hand {
-        Hand::Takes => take(phase),
-        Hand::GivesBack => give_back(phase),
+    match (hand, phase) {
+        (Hand::Takes, Phase::Free) => Outcome::Turns(Phase::Taken),
+        (Hand::GivesBack, Phase::Taken) => Outcome::Frees,
+        _ => Outcome::Ignored,
     }
 }
 
@@ -245,7 +228,8 @@ fn while_left(spent: bool, outcome: Outcome) -> Outcome
     if spent { Outcome::Unable(107) } else { outcome }
 }
 
-// b or c, by the mode of the slot's own request, whether the one asked is the same, and whether the numbers are used up.
+// b or c, by the mode of the slot's own request, whether the one asked is the same, and whether the numbers are used up. The phase is
+// told as a value, so a `match` chooses.
 pub fn asked_again(mode: Mode, same: bool, spent: bool, phase: Phase) -> Outcome
     ensures { result ≡ asked_again_by mode same spent phase }
 {

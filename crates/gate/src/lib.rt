@@ -13,7 +13,7 @@ use sequence::unless;
 use slots::Due;
 use units::{LIMIT, SlotNumber, Tenths};
 
-// Of a station: whether it is sound, its clock, how many slots it has, the wait that falls due first.
+// Of a station: whether it is sound, its clock, how many slots it has, the wait that falls due first, told of an unsound one too.
 #[derive(Clone, Copy)]
 pub struct Look {
     pub sound: bool,
@@ -67,6 +67,7 @@ impl From<sequence::Refusal> for Refusal {
     }
 }
 
+// The room's size and the time are the event's, each with a test of its own: a struct of the two would be made to be taken apart.
 impl Look {
     // The refusals of every event: 29 to 32.
     pub fn judge(self, size: usize, time: Tenths) -> Result<(), Refusal>

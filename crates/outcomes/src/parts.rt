@@ -70,7 +70,7 @@ fn free_turn(time: Tenths, ringable: u8) -> Turn
     }
 }
 
-// What becomes of the slot at that time, where so many may be rung back.
+// What becomes of the slot at that time, where so many may be rung back; `telling::Scene`, above this crate, holds the two.
 pub fn turn_of(outcome: Outcome, time: Tenths, ringable: u8) -> Turn
     ensures { result ≡ turn_of time ringable outcome }
 {

@@ -127,7 +127,7 @@ impl Scene {
         }
     }
 
-    // An outcome's actions, in order.
+    // An outcome's actions, in order: an outcome is a value, so a `match` chooses them.
     fn say(&self, outcome: Outcome, told: &mut Told)
         ensures { Tells self.now (acts_of (scene_view self.now) outcome) told.old told.new }
     {
