@@ -5,6 +5,7 @@ use mathlib.Core.Bool.{Bool, true, false, cond, ◌&&◌}
 use mathlib.Core.List.{List, ◌∷◌}
 use mathlib.Core.Option.{Option, none, some}
 use mathlib.Core.Path.{◌≡◌, refl, ap}
+use Rattle.std.proofs.Math.Bool.{and_comm}
 use Rattle.units.specs.declared.Tenths.{Tenths}
 use Rattle.units.specs.declared.Duration.{Duration}
 use Rattle.rules.specs.Rules.Words as W
@@ -136,15 +137,9 @@ called-view p r = by-phase (λ p. called_in p ≡ is_called_in (phase_view p r))
 
 -- ── it keeps the rules, and its times fit, where what it stores and tells and its times do ──
 
-either_way : (a b : Bool) → (a && b) ≡ (b && a)
-either_way true true = refl
-either_way true false = refl
-either_way false true = refl
-either_way false false = refl
-
 pub keeps-view : (c : Config) (p : Phase) (r : R.Dealing) → slot_keeps c (phase_view p r) ≡ cond (stored p) (duration_keeps (lasted_in p) && request_keeps c r.request) true
 unfolding duration_keeps
-keeps-view c p r = by-phase (λ p. slot_keeps c (phase_view p r) ≡ cond (stored p) (duration_keeps (lasted_in p) && request_keeps c r.request) true) refl (λ t. refl) (λ t. refl) (λ t. refl) (λ t. refl) (λ t l. refl) (λ t l. refl) (λ t n. either_way (request_keeps c r.request) (duration_keeps n)) refl (λ t l. refl) (λ t. refl) (λ t. refl) (λ t. refl) p
+keeps-view c p r = by-phase (λ p. slot_keeps c (phase_view p r) ≡ cond (stored p) (duration_keeps (lasted_in p) && request_keeps c r.request) true) refl (λ t. refl) (λ t. refl) (λ t. refl) (λ t. refl) (λ t l. refl) (λ t l. refl) (λ t n. and_comm (request_keeps c r.request) (duration_keeps n)) refl (λ t l. refl) (λ t. refl) (λ t. refl) (λ t. refl) p
 
 pub owned-stored : (p : Phase) → owned p ≡ true → stored p ≡ true
 owned-stored = by-phase (λ p. owned p ≡ true → stored p ≡ true) (λ h. h) (λ t h. refl) (λ t h. refl) (λ t h. refl) (λ t h. refl) (λ t c h. refl) (λ t c h. refl) (λ t n h. refl) (λ h. h) (λ t c h. refl) (λ t h. refl) (λ t h. refl) (λ t h. refl)
@@ -153,10 +148,10 @@ pub fits-view : (c : ℕ) (p : Phase) (r : R.Dealing) → slot_fits c (phase_vie
 fits-view c p r =
     by-phase (λ p. slot_fits c (phase_view p r) ≡ (loss_fits c r.request.mode (carrier_of (carrier_in p)) && span_fits c (span_of p)))
     refl (λ t. refl) (λ t. refl) (λ t. refl) (λ t. refl)
-    (λ t l. either_way (span_fits c (span_of (Dialling t l))) (loss_fits c r.request.mode (carrier_of l)))
-    (λ t l. either_way (span_fits c (span_of (Answered t l))) (loss_fits c r.request.mode (carrier_of l)))
+    (λ t l. and_comm (span_fits c (span_of (Dialling t l))) (loss_fits c r.request.mode (carrier_of l)))
+    (λ t l. and_comm (span_fits c (span_of (Answered t l))) (loss_fits c r.request.mode (carrier_of l)))
     (λ t n. refl) refl
-    (λ t l. either_way (span_fits c (span_of (DialledOut t l))) (loss_fits c r.request.mode (carrier_of l)))
+    (λ t l. and_comm (span_fits c (span_of (DialledOut t l))) (loss_fits c r.request.mode (carrier_of l)))
     (λ t. refl) (λ t. refl) (λ t. refl) p
 
 -- what a slot stores is short where every request is that keeps the rules

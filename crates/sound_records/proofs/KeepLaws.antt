@@ -8,6 +8,8 @@ use native.Mathlib.Nat.{sub-zero}
 use lib.Dec.{leb, ltb}
 use lib.ListN.{length, take, drop}
 use borrow.Author.Tests.{le-leb, lt-leb, leb-true, leb-false, ltb-true, ltb-false}
+use Rattle.std.proofs.Math.Bool.{and_assoc, and-false}
+use Rattle.std.proofs.lemmas.List.{map-id}
 use Rattle.sequence.specs.Symbols.{all_at_most}
 use Rattle.units.specs.declared.Channel.{Channel}
 use Rattle.rules.specs.Rules.Places.{all}
@@ -20,7 +22,6 @@ use Rattle.slots.specs.declared.Waiting.{Waiting}
 use Rattle.slots.specs.declared.mast.Mast.{Mast}
 use Rattle.slots.specs.Views.{on_mast, dealing_of, slot_view, waiting_view}
 use Rattle.slots.proofs.PhaseLaws.{keeps-view}
-use Rattle.slots.proofs.ImageLaws.{map-itself}
 use Rattle.sound_records.specs.Kept.{digits_fit, number_exact}
 
 module _ (mast : Mast) (c d : List Channel) where
@@ -46,15 +47,7 @@ module _ (mast : Mast) (c d : List Channel) where
 
 pub viewed-take : {A : Type 0} (n : ℕ) (l : List A) → viewed itself n l ≡ take n l
 unfolding viewed
-viewed-take n l = map-itself (take n l)
-
-pub and_assoc : (a b c : Bool) → (a && (b && c)) ≡ ((a && b) && c)
-and_assoc true b c = refl
-and_assoc false b c = refl
-
-pub and_no : (a : Bool) → false ≡ (a && false)
-and_no true = refl
-and_no false = refl
+viewed-take n l = map-id (take n l)
 
 -- ── the digits of a number in one pass ──
 
@@ -69,7 +62,7 @@ digits-parts count i (d ∷ l) = go (ltb i count) refl (digits-parts count (suc 
     go : (b : Bool) → ltb i count ≡ b → digits_fit count (suc i) l ≡ (all_at_most 9 (take (count - suc i) l) && all_at_most 0 (drop (count - suc i) l)) → digits_fit count i (d ∷ l) ≡ (all_at_most 9 (take (count - i) (d ∷ l)) && all_at_most 0 (drop (count - i) (d ∷ l)))
     go true e ih = let h = ltb-true i count e in
         let k : count - i ≡ suc (count - suc i) = omega arith in
-        rw (e, k, ih) (and_assoc (leb d 9) (all_at_most 9 (take (count - suc i) l)) (all_at_most 0 (drop (count - suc i) l)))
+        rw (e, k, ih) (sym (and_assoc (leb d 9) (all_at_most 9 (take (count - suc i) l)) (all_at_most 0 (drop (count - suc i) l))))
     go false e ih = let h = ltb-false i count e in
         let k : count - i ≡ 0 = omega arith in
         let j : count - suc i ≡ 0 = omega arith in
@@ -81,7 +74,7 @@ unfolding number_keeps number_exact digits_of
 number_parts n e = go (leb 1 n.count) (leb n.count 16) refl refl
   where
     go : (a b : Bool) → leb 1 n.count ≡ a → leb n.count 16 ≡ b → (number_keeps (digits_of n) && (b && all_at_most 0 (drop n.count n.digits))) ≡ (a && (b && digits_fit n.count 0 n.digits))
-    go a false p q = sym (and_no (number_keeps (digits_of n))) ∙ and_no a
+    go a false p q = and-false (number_keeps (digits_of n)) ∙ sym (and-false a)
     go false true p q = let h = leb-false 1 n.count p in rw (lt-leb 1 (length (viewed itself n.count n.digits)) (omega (arith, viewed-length itself n.count n.digits)))
     go true true p q =
         let h = leb-true 1 n.count p in

@@ -5,6 +5,7 @@ use mathlib.Core.List.{List, [], ◌∷◌, ◌++◌, map, append_assoc, append-
 use mathlib.Core.Path.{◌≡◌, refl, sym, ap, ◌∙◌}
 use native.Mathlib.Omega.{arith}
 use lib.Dec.{eqb, leb}
+use Rattle.std.proofs.Math.Bool as B
 use Rattle.std.specs.List.{list_all}
 use Rattle.std.proofs.lemmas.List.{take-map}
 use lib.ListN.{length, take, get_or, set, length-append}
@@ -144,12 +145,8 @@ channel_parts n a e =
     let one = least_one n (length l) k in
     let good : list_all (λ s. channel_ok (channel_of s)) (take (min n 16) a) ≡ all channel_ok l = all-listed channel_of channel_ok (take (min n 16) a) ∙ ap (all channel_ok) (first channel_of) in
     let apart : distinct eqb (take (min n 16) (map number_of a)) ≡ distinct same_channel l = ap (distinct eqb) (take-map number_of (min n 16) a ∙ first number_of) ∙ channels-apart n a in
-    rw (few, one, good, apart) (drop_true (leb 1 n) _)
+    rw (few, one, good, apart, B.and-true (leb 1 n))
   where
-    drop_true : (a b : Bool) → ((a && true) && b) ≡ (a && b)
-    drop_true true b = refl
-    drop_true false b = refl
-
     first : {B : Type 0} (v : Slot → B) → map v (take (min n 16) a) ≡ viewed v n a
     first v = rw e at (viewed-min v n a)
 
@@ -164,11 +161,7 @@ module _ (c : Config) where
   ship-among x (y ∷ l) k h =
       let a = both_true (here y) (all here l) h in
       let e : eqb x.station y.station ≡ true = eq-eqb x.station y.station (eqb-true x.station _ k ∙ sym (eqb-true y.station _ a.0)) in
-      rw (e, ship-among x l k a.1) (ap (λ b. b || elem eqb x.ship (map ship l)) (and_yes (eqb x.ship y.ship)))
-    where
-      and_yes : (b : Bool) → (b && true) ≡ b
-      and_yes true = refl
-      and_yes false = refl
+      rw (e, ship-among x l k a.1) (ap (λ b. b || elem eqb x.ship (map ship l)) (B.and-true (eqb x.ship y.ship)))
 
   ships-once : (l : List Party) → all here l ≡ true → distinct is l ≡ distinct eqb (map ship l)
   ships-once [] h = refl
