@@ -10,10 +10,10 @@ LEFT, RIGHT, FULL, HALF = 20, 540, 400, 230
 STEPS = {
     'coast_heard_on_slot': ('coast', LEFT, 1, FULL, 'the entry for this kind of event', ['returned', 'station_after', 'room_left']),
     'station_from': ('lent_layout', LEFT, 2, FULL, 'bytes to a station by value', ['station_from']),
-    'heard_on_slot': ('station', LEFT, 3, FULL, 'the method for this kind of event', ['stepped_by', 'room_after']),
-    'read': ('reading', LEFT, 4, FULL, 'symbols to their meaning', ['reading_of']),
-    'looked': ('station', LEFT, 5, FULL, 'is it sound, and which wait is due first', ['Sees']),
-    'judge_slot, and_read': ('gate', LEFT, 6, FULL, "the refusals, in document 01's order", ['asked_on_slot', 'first_refusal', 'and_then']),
+    'heard_on_slot, heard_there, hears': ('station', LEFT, 3, FULL, 'the method for this kind of event', ['stepped_by', 'room_after', 'Judged']),
+    'looked': ('station', LEFT, 4, FULL, 'is it sound, and which wait is due first', ['Sees']),
+    'judge_slot': ('gate', LEFT, 5, FULL, "the refusals, in document 01's order", ['asked_on_slot', 'first_refusal']),
+    'read': ('reading', LEFT, 6, FULL, 'symbols to their meaning, or a refusal', ['reading_of']),
     'heard_in': ('hearing', LEFT, 7, FULL, 'which kind of sequence, and who asks for what', ['heard_of', 'addressed']),
     'by_kind': ('station', LEFT, 8, FULL, 'which rule it is for', ['by_kind']),
     'working_call': ('deciding', LEFT, 9, FULL, "an outcome, by the slot's phase", ['working_by']),
@@ -26,7 +26,7 @@ STEPS = {
 }
 CALLS = {  # what each calls
     'coast_heard_on_slot': ['station_from', 'heard_on_slot', 'hand_back'],
-    'heard_on_slot': ['read', 'looked', 'judge_slot', 'and_read', 'refused', 'heard_in', 'by_kind', 'enact'],
+    'heard_on_slot, heard_there, hears': ['looked', 'judge_slot', 'read', 'refused', 'heard_in', 'by_kind', 'enact'],
     'by_kind': ['working_call'], 'enact': ['tell', 'turn_of', 'queue_change'], 'hand_back': ['lay_station'],
 }
 # Where definitions and laws say what the picture says of them: a file, what stands there, and the names in that line.
