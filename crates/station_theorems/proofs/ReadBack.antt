@@ -1,6 +1,6 @@
 -- What is laid out in blocks is read back from them.
 use Prim.Native.Nat.{ℕ, ◌+◌, ◌*◌, ◌/◌, ◌%◌, ◌≤◌, ◌<◌}
-use mathlib.Core.Path.{◌≡◌, refl, ap, ◌∙◌}
+use mathlib.Core.Path.{◌≡◌, refl, sym, ap, ◌∙◌}
 use mathlib.Core.Bool.{true, false}
 use mathlib.Core.List.{List, [], ◌∷◌, ◌++◌, map, append_assoc}
 use native.Mathlib.Omega.{arith}
@@ -8,12 +8,11 @@ use lib.Dec.{eqb}
 use lib.ListN.{length, take, drop}
 use lib.Seq.{take_at, drop_at}
 use Rattle.units.specs.declared.Channel.{Channel as ChannelNumber}
-use Rattle.units.specs.declared.Lasted.{Lasted}
-use Rattle.units.specs.declared.Lasted.TheVariants.{Nothing, Lasting}
+use Rattle.units.specs.declared.Duration.{Duration}
+use Rattle.std.specs.Prelude.{Option as Optional, Some, None}
 use Rattle.sequence.specs.declared.Meaning.{Meaning}
-use Rattle.sequence.specs.declared.Reading.{Reading}
 use Rattle.sequence.specs.Layout.{valid, layout}
-use Rattle.sequence.specs.Reading.{reading_of}
+use Rattle.sequence.specs.Reading.{meaning_read}
 use Rattle.writing.proofs.Valid.{parts}
 use Rattle.writing.proofs.EvenedLaws.{fit}
 use Rattle.sequence_theorems.proofs.RoundTrip.{reads-back}
@@ -27,13 +26,14 @@ use Rattle.rules.proofs.Payloads.{block-length, Slim}
 use Rattle.requests.proofs.ArrayLaws.{padded-front}
 use Rattle.actions.specs.Sent.{speaks}
 use Rattle.actions.proofs.Speaking.{Speaks}
+use Rattle.station.proofs.EventLaws.{read-done}
 use Rattle.station_theorems.specs.Rooms.{mode_in, request_in, answer_in, ender_in, lasted_in, over_in, four_at, charge_in, payload_in, action_as, action_in, actions_in, shown_in}
 use Rattle.station_theorems.specs.Statement.{laid_out}
 
 -- ── a sequence that was sent ─────────────────────────────────────────────────
 
-meaning-back : (m : Meaning) → valid m ≡ true → (reading_of (layout m)).meaning ≡ m
-meaning-back m v = ap (λ (r : Reading). r.meaning) (reads-back m v)
+meaning-back : (m : Meaning) → valid m ≡ true → meaning_read (layout m) ≡ m
+meaning-back m v = sym (read-done (layout m) m (sym (reads-back m v))).1
 
 -- the digits of a number that was laid out in sixteen places
 digits-back : (m : Meaning) (l : List ℕ) → valid m ≡ true → m.number ≡ number_of l → take (length l) (padded 0 16 l) ≡ l
@@ -63,11 +63,11 @@ ender-back : (e : Ender) → ender_in (end_symbol e) ≡ e
 ender-back the_ship = refl
 ender-back the_coast = refl
 
-lasted-back : (n : Lasted) → lasted_in (lasted_field n) ≡ n
-lasted-back Nothing = refl
-lasted-back (Lasting d) = refl
+lasted-back : (n : Optional Duration) → lasted_in (lasted_field n) ≡ n
+lasted-back None = refl
+lasted-back (Some d) = refl
 
-over-back : (i : ℕ) (e : Ender) (x : Party) (l : List ℕ) (n : Lasted) → valid (over_said e x l n) ≡ true → over_in i (over_said e x l n) ≡ over i e x l n
+over-back : (i : ℕ) (e : Ender) (x : Party) (l : List ℕ) (n : Optional Duration) → valid (over_said e x l n) ≡ true → over_in i (over_said e x l n) ≡ over i e x l n
 unfolding over_in over_said answer_to
 over-back i e x l n v = rw (ender-back e, lasted-back n, digits-back (over_said e x l n) l v refl)
 

@@ -13,10 +13,17 @@ use Rattle.rules.specs.Rules.Bytes.{padded}
 use Rattle.requests.proofs.ArrayLaws.{padded-front}
 use Rattle.station.proofs.ImageLaws.{run_fits}
 use Rattle.station.specs.declared.Station.{Station}
-use Rattle.station.specs.Step.{channel_number, chosen, set_up_for}
+use Rattle.std.specs.Prelude.{Ok}
+use Rattle.rules.specs.Rules.Station.{fresh}
+use Rattle.station.specs.Model.{image_of}
+use Rattle.station.specs.Step.{channel_number, chosen}
 use Rattle.station_theorems.specs.Steps.{Step, SetUpAs, by-set-up, HandsOn, events_in}
 use Rattle.station_theorems.specs.Scripts.{EveryScriptIsTraced}
-use Rattle.station_theorems.proofs.Steps.{step_for, step-allowed}
+use Rattle.station_theorems.proofs.Steps.{life, lent, step_for, step-allowed}
+
+-- the station that is set up
+abbrev set_up_as : Config → Station
+set_up_as c = image_of c (fresh c)
 
 -- ── a script ─────────────────────────────────────────────────────────────────
 
@@ -37,14 +44,14 @@ walk (e ∷ es) s =
 
 -- the channels in sixteen places, and their count
 begun : (identity : ℕ) (channels : List Channel) (n : ℕ) → set_up_verdict (chosen identity channels n) ≡ none
-    → SetUpAs (chosen identity channels n) (set_up_for (chosen identity channels n) none).station
+    → SetUpAs (chosen identity channels n) (set_up_as (chosen identity channels n))
 begun identity channels n v =
-    by-set-up tt (identity, (channels, (n, tt))) (set_up_for (chosen identity channels n) none) (identity, (channels, (n, tt))) (rw v) refl
+    by-set-up life (identity, (lent channels, (n, tt))) (Ok (set_up_as (chosen identity channels n))) (identity, (lent channels, (n, tt))) (rw v) (set_up_as (chosen identity channels n)) refl
 
 few : (c : Config) → set_up_verdict c ≡ none → length c.channels ≤ 16
 few c v = let f = run_fits c v [] in omega (arith, f.beside, f.few)
 
-pub beginning : (c : Config) → set_up_verdict c ≡ none → SetUpAs c (set_up_for c none).station
+pub beginning : (c : Config) → set_up_verdict c ≡ none → SetUpAs c (set_up_as c)
 beginning c v =
     let n = length c.channels in
     let places = padded (channel_number 0) 16 c.channels in
@@ -54,5 +61,5 @@ beginning c v =
 pub every-script-is-traced : EveryScriptIsTraced
 unfolding EveryScriptIsTraced
 every-script-is-traced c set es =
-    let w = walk es (set_up_for c none).station in
-    record { steps = w.steps; trace = record { first = (set_up_for c none).station; begun = beginning c set; steps = w.hands }; script = w.script }
+    let w = walk es (set_up_as c) in
+    record { steps = w.steps; trace = record { first = set_up_as c; begun = beginning c set; steps = w.hands }; script = w.script }

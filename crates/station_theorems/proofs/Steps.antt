@@ -63,14 +63,14 @@ allowed-does _ (by-give-back κs a r s p) = record { back_is = p.0; left_is = p.
 allowed-does _ (by-call-from-ashore κs a r s p) = record { back_is = p.0; left_is = p.1 }
 allowed-does _ (by-tick κs a r s p) = record { back_is = p.0; left_is = p.1 }
 
--- lifetimes, and a slice of numbers lent for one
-life : Lfts 1
+-- lifetimes, and a slice lent for one
+pub life : Lfts 1
 life = ([], tt)
 
 pub lives : Lfts 2
 lives = ([], life)
 
-abbrev pub lent : List ℕ → Bor (List ℕ)
+abbrev pub lent : {A : Type 0} → List A → Bor (List A)
 lent l = record { ref_ptr = (0, 0); now = l }
 
 -- and one that may be written through

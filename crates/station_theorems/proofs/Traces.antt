@@ -1,7 +1,7 @@
 -- A trace is a run of the rules: the same entries, the same station, the same print.
 use Prim.Native.Nat.{ℕ, ◌*◌, ◌≤◌}
-use mathlib.Core.Path.{◌≡◌, refl, ap, ◌∙◌}
-use mathlib.Core.Bool.{Bool, true, false, cond}
+use mathlib.Core.Path.{◌≡◌, refl, sym, ap, ◌∙◌}
+use mathlib.Core.Bool.{true, false}
 use mathlib.Core.List.{List, [], ◌∷◌, ◌++◌}
 use mathlib.Core.Option.{Option, none, some}
 use native.Mathlib.Omega.{arith}
@@ -11,7 +11,7 @@ use Rattle.rules.specs.Rules.Places.{Each}
 use Rattle.rules.specs.Rules.Words.{Config, Event}
 use Rattle.rules.specs.Rules.Station as R
 use Rattle.rules.specs.Rules.Station.{fresh, next_due}
-use Rattle.rules.specs.Rules.Sound.{sound, config_keeps}
+use Rattle.rules.specs.Rules.Sound.{sound}
 use Rattle.rules.specs.Rules.Calls.{act}
 use Rattle.rules.specs.Rules.Verdict.{verdict, set_up_verdict, step, play, final}
 use Rattle.rules.specs.Rules.Bytes.{blocks}
@@ -23,7 +23,7 @@ use Rattle.rules.proofs.Eight.{at-most-eight}
 use Rattle.rules.proofs.Answered.{zero-or-one, sound-not-29}
 use Rattle.slots.specs.Images.{Fits}
 use Rattle.soundness.proofs.FitLaws.{sound-fits}
-use Rattle.station.specs.declared.SetUp.{SetUp}
+use Rattle.std.specs.Prelude.{Ok}
 use Rattle.station.specs.declared.Stepped.{Stepped}
 use Rattle.station.specs.declared.Station.{Station}
 use Rattle.station.specs.Model.{model_of, config_of, image_of}
@@ -41,25 +41,15 @@ use Rattle.station_theorems.proofs.Steps.{allowed-does, back-for, left-for, bloc
 
 -- ── what set-up hands back ───────────────────────────────────────────────────
 
-only-36 : (c : Config) (n : ℕ) → set_up_verdict c ≡ some n → n ≡ 36
-unfolding set_up_verdict
-only-36 c n e = go (config_keeps c) e
+set-up-done : (c : Config) (s : Station) → Ok s ≡ set_up_for c (set_up_verdict c) → (set_up_verdict c ≡ none) × (s ≡ image_of c (fresh c))
+set-up-done c s p = go (set_up_verdict c) refl p
   where
-    go : (b : Bool) → cond b none (some 36) ≡ some n → n ≡ 36
-    go true e = cc
-    go false e = cc
-
-set-up-done : (c : Config) (r : SetUp) → r ≡ set_up_for c (set_up_verdict c) → r.answer ≡ 0 → (set_up_verdict c ≡ none) × (r.station ≡ image_of c (fresh c))
-set-up-done c r p z = go (set_up_verdict c) refl p
-  where
-    go : (o : Option ℕ) → set_up_verdict c ≡ o → r ≡ set_up_for c o → (set_up_verdict c ≡ none) × (r.station ≡ image_of c (fresh c))
-    go none e p = (e, ap (λ (u : SetUp). u.station) p)
-    go (some n) e p =
-        let a : r.answer ≡ n = ap (λ (u : SetUp). u.answer) p in
-        absurd (omega (arith, only-36 c n e))
+    go : (o : Option ℕ) → set_up_verdict c ≡ o → Ok s ≡ set_up_for c o → (set_up_verdict c ≡ none) × (s ≡ image_of c (fresh c))
+    go none e p = (e, cc)
+    go (some n) e p = absurd (cc)
 
 pub started : (c : Config) (s : Station) → SetUpAs c s → (set_up_verdict c ≡ none) × (s ≡ image_of c (fresh c))
-started _ _ (by-set-up κs a r s p z) = set-up-done (chosen a.0 a.1.0 a.1.1.0) r p z
+started _ _ (by-set-up κs a r s p begun z) = set-up-done (chosen a.0 a.1.0.now a.1.1.0) begun (sym z ∙ p)
 
 -- ── one step, on a station that was laid out for a sound model ───────────────
 

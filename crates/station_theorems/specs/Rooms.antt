@@ -1,12 +1,11 @@
 -- The actions that the bytes of a room tell: "Actions handed out" of document 01, from the bytes back to the words.
-use Rattle.std.specs.Prelude.{ℕ, zero, suc, ◌+◌, ◌*◌, cond, List, [], ◌∷◌, ◌++◌, eqb, get_or, take, drop}
-use Rattle.units.specs.declared.Lasted.{Lasted}
-use Rattle.units.specs.declared.Lasted.TheVariants.{Nothing, Lasting}
+use Rattle.std.specs.Prelude.{ℕ, zero, suc, ◌+◌, ◌*◌, cond, List, [], ◌∷◌, ◌++◌, eqb, get_or, take, drop, Option as Optional, Some, None}
+use Rattle.units.specs.declared.Duration.{Duration as LastedFor}
 use Rattle.sequence.specs.declared.Field.{Field}
 use Rattle.sequence.specs.declared.Field.TheVariants.{Blank, Channel, Duration}
 use Rattle.sequence.specs.declared.Meaning.{Meaning}
 use Rattle.sequence.specs.Figures.{first_simplex, first_unable, end_rq, end_bq}
-use Rattle.sequence.specs.Reading.{reading_of}
+use Rattle.sequence.specs.Reading.{meaning_read}
 use Rattle.rules.specs.Rules.Words.{Party, Mode, simplex, duplex, Request}
 use Rattle.rules.specs.Rules.Words.{Deed, carrier_on, carrier_off, acknowledge, call_ship, unable, dial, release_line}
 use Rattle.rules.specs.Rules.Words.{ringing_on, ringing_off, busy_tone}
@@ -37,10 +36,10 @@ answer_in slot m =
 abbrev pub ender_in : ℕ → Ender
 ender_in end = cond (eqb end end_bq) the_ship the_coast
 
-abbrev pub lasted_in : Field → Lasted
-lasted_in Blank = Nothing
-lasted_in (Channel n) = Nothing
-lasted_in (Duration d) = Lasting d
+abbrev pub lasted_in : Field → Optional LastedFor
+lasted_in Blank = None
+lasted_in (Channel n) = None
+lasted_in (Duration d) = Some d
 
 unfoldable pub over_in : ℕ → Meaning → Action
 over_in slot m = over slot (ender_in m.end) (party_in m) (digits_in m.number) (lasted_in m.field)
@@ -71,8 +70,8 @@ unfoldable pub action_as : ℕ → ℕ → List ℕ → List Action
 action_as kind slot p =
     cond (eqb kind 1) (does (carrier_on slot) ∷ [])
     (cond (eqb kind 2) (does (carrier_off slot) ∷ [])
-    (cond (eqb kind 3) (does (answer_in slot (reading_of p).meaning) ∷ [])
-    (cond (eqb kind 4) (over_in slot (reading_of p).meaning ∷ [])
+    (cond (eqb kind 3) (does (answer_in slot (meaning_read p)) ∷ [])
+    (cond (eqb kind 4) (over_in slot (meaning_read p) ∷ [])
     (cond (eqb kind 5) (does (dial slot p) ∷ [])
     (cond (eqb kind 6) (does (release_line slot) ∷ [])
     (cond (eqb kind 7) (charge (charge_in slot p) ∷ [])

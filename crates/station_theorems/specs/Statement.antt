@@ -1,5 +1,5 @@
 -- What is claimed of every trace: the theorem on charges and what stands beside it, carried from the rules to the station as it runs.
-use Rattle.std.specs.Prelude.{ℕ, ◌+◌, ◌*◌, ◌<◌, ◌≤◌, ◌≡◌, ◌⊎◌, Bool, true, false, cond, ◌&&◌, List, [], ◌∷◌, ◌++◌, eqb, leb, length, take, drop, get_or}
+use Rattle.std.specs.Prelude.{ℕ, ◌+◌, ◌*◌, ◌<◌, ◌≤◌, ◌≡◌, ◌⊎◌, Bool, true, false, cond, ◌&&◌, List, [], ◌∷◌, ◌++◌, eqb, leb, length, take, drop, get_or, Option as Optional, Some, None}
 use Rattle.std.proofs.Math.Option.{none}
 use Rattle.rules.specs.Rules.Places.{Each, distinct}
 use Rattle.rules.specs.Rules.Words.{Config, ashore_in, Event}
@@ -22,8 +22,7 @@ use Rattle.slots.specs.declared.Slot.{Slot}
 use Rattle.slots.specs.Phases.{answered_since}
 use Rattle.slots.specs.Views.{slot_view}
 use Rattle.slots.specs.Images.{Fits}
-use Rattle.station.specs.declared.NextDue.{NextDue}
-use Rattle.station.specs.declared.NextDue.TheVariants.{Never, At}
+use Rattle.units.specs.declared.Tenths.{Tenths}
 use Rattle.station.specs.declared.Station.{Station}
 use Rattle.station.specs.Model.{model_of, config_of}
 use Rattle.station.specs.Step.{records_keep}
@@ -176,9 +175,9 @@ RackUsedUpStays = (x : Step) → Allowed x → accepted x ≡ true → x.before.
     → (x.back.station.last.0 ≡ 4294967295) × (ashore_in x.event.what ≡ none)
 
 -- answer, clock, action count, next due time; then each action from the room's bytes
-abbrev pub due_in : NextDue → List ℕ
-due_in Never = []
-due_in (At t) = t.0 ∷ []
+abbrev pub due_in : Optional Tenths → List ℕ
+due_in None = []
+due_in (Some t) = t.0 ∷ []
 
 abbrev pub shown_by : Step → List (List ℕ)
 shown_by x =

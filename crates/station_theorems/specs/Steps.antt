@@ -1,5 +1,5 @@
 -- A step of the rack: a method's call that its contract allows, as the checker reads it; and a trace, which hands each station on.
-use Rattle.std.specs.Prelude.{ℕ, ◌≡◌, List, [], ◌∷◌}
+use Rattle.std.specs.Prelude.{ℕ, ◌≡◌, List, [], ◌∷◌, Ok}
 use contract.Lifetimes.{Lfts}
 use Rattle.rules.specs.Rules.Words.{Config, heard, dialling_ended, off_hook, on_hook, carrier_up, carrier_down, takes, gives_back}
 use Rattle.rules.specs.Rules.Words.{tick, on_channel70, Event}
@@ -66,10 +66,10 @@ pub data Allowed : Step → Type 0 where
       (event_at a.1.0.0 tick a.1.1.0.now)
       a.0 a.1.1.0.now r s.1.1.0.now)
 
--- what set-up handed back with the answer 0, for an identity and a channel list
+-- what set-up handed back, not refused, for an identity and a channel list
 pub data SetUpAs : Config → Station → Type 0 where
-  by-set-up : (κs : Lfts 0) (a : _) (r : _) (s : _) → Station-set_up.Post κs a r s → r.answer ≡ 0
-      → SetUpAs (chosen a.0 a.1.0 a.1.1.0) r.station
+  by-set-up : (κs : Lfts 1) (a : _) (r : _) (s : _) → Station-set_up.Post κs a r s → (begun : Station) → r ≡ Ok begun
+      → SetUpAs (chosen a.0 a.1.0.now a.1.1.0) begun
 
 -- steps one after the other, each on the station that the one before handed back
 abbrev pub HandsOn : Station → List Step → Type 0
