@@ -1,6 +1,6 @@
 -- Each piece of which the events are made: what the list reads from its deeds is what it leaves.
 use mathlib.Core.Path.{◌≡◌, refl, sym, ap, ◌∙◌}
-use mathlib.Core.List.{List, [], ◌∷◌, ◌++◌, map}
+use mathlib.Core.List.{List, [], ◌∷◌, ◌++◌, map, map-append}
 use mathlib.Core.Bool.{Bool, true, false, cond}
 use mathlib.Core.Option.{Option, none, some}
 use Prim.Native.Nat.{ℕ, zero, suc, ◌+◌, ◌<◌}
@@ -33,10 +33,6 @@ Good t b cs o = GoodBy none t b cs o
 pub good-if : (t : ℕ) (b : Book) (cs : List Stop) (c : Bool) (x y : Out) → (c ≡ true → Good t b cs x) → (c ≡ false → Good t b cs y) → Good t b cs (cond c x y)
 good-if t b cs true x y p q = p refl
 good-if t b cs false x y p q = q refl
-
-map-append : {A B : Type 0} (f : A → B) (a b : List A) → map f (a ++ b) ≡ map f a ++ map f b
-map-append f [] b = refl
-map-append f (x ∷ a) b = ap (λ r. f x ∷ r) (map-append f a b)
 
 pub good-also : (t : ℕ) (b k : Book) (cs ds : List Stop) (a : List Action) (o : Out) → reads none t (deeds_of a) b ≡ k → charges_of a ≡ map owed cs → Good t k ds o → Good t b (cs ++ ds) (also a o)
 good-also t b k cs ds a o h c g = record {

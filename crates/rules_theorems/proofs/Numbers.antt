@@ -1,7 +1,7 @@
 -- 02, no. 4: call numbers never go back; those that a station holds have been given, and are what the list counts; what is told when they
 -- are used up; no two charges have the same.
 use mathlib.Core.Path.{◌≡◌, refl, sym, ap, ◌∙◌}
-use mathlib.Core.List.{List, [], ◌∷◌, ◌++◌, map}
+use mathlib.Core.List.{List, [], ◌∷◌, ◌++◌, map, map-append}
 use mathlib.Core.Bool.{Bool, true, false, cond, ◌&&◌}
 use mathlib.Core.Option.{Option, none, some}
 use Prim.Native.Nat.{ℕ, zero, suc, ◌+◌, ◌≤◌, ◌<◌}
@@ -326,11 +326,7 @@ module _ (n : ℕ) where
   freed-spent i st = freed_for-spent i st (to_ring_back st) refl
 
   billed-append : (a b : List Action) → billed n (a ++ b) ≡ billed n a + billed n b
-  billed-append a b = rw (charges-append a b, map-append (charges_of a) (charges_of b)) (occurs-append eqb n (map (λ (h : Charge). h.call_number) (charges_of a)) (map (λ (h : Charge). h.call_number) (charges_of b)))
-    where
-      map-append : (a b : List Charge) → map (λ (h : Charge). h.call_number) (a ++ b) ≡ map (λ (h : Charge). h.call_number) a ++ map (λ (h : Charge). h.call_number) b
-      map-append [] b = refl
-      map-append (x ∷ a) b = ap (λ r. x.call_number ∷ r) (map-append a b)
+  billed-append a b = rw (charges-append a b, map-append (λ (h : Charge). h.call_number) (charges_of a) (charges_of b)) (occurs-append eqb n (map (λ (h : Charge). h.call_number) (charges_of a)) (map (λ (h : Charge). h.call_number) (charges_of b)))
 
   -- ── whatever happens to a slot ──
 
