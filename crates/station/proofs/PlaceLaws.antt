@@ -1,17 +1,13 @@
 -- What a slot's record stands for.
-use Prim.Native.Nat.{ℕ, zero, suc, ◌%◌, ◌<◌, ◌≤◌, min}
-use mathlib.Core.Bool.{Bool, true, false, cond}
+use Prim.Native.Nat.{ℕ, zero, suc, ◌<◌, ◌≤◌, min}
 use mathlib.Core.List.{List, [], ◌∷◌, map}
-use mathlib.Core.Path.{◌≡◌, refl, sym, ◌∙◌}
+use mathlib.Core.Path.{◌≡◌, refl, sym}
 use native.Mathlib.Omega.{arith}
-use lib.Dec.{ltb}
 use lib.ListN.{length, get_or, take}
-use borrow.Author.Tests.{ltb-true, ltb-false}
 use Rattle.rules.specs.Rules.Bytes.{channel_at}
 use Rattle.rules.specs.Rules.Station.{the_slot}
 use Rattle.requests.specs.Views.{viewed, itself}
 use Rattle.requests.proofs.ArrayLaws.{viewed-at, viewed-past, viewed-length}
-use Rattle.slots.specs.declared.Slot.{Slot}
 use Rattle.slots.specs.Images.{blank_slot, blank_waiting, slot_image}
 use Rattle.slots.specs.Views.{slot_view, waiting_view, channel_of, no_slot, no_waiting}
 use Rattle.station.specs.declared.Station.{Station}
@@ -45,17 +41,6 @@ module _ (s : Station) (wide : length s.slots ≡ 16) where
   pub slot-past : (i : ℕ) → min s.count 16 ≤ i → blank_slot ≡ slot_of s i
   unfolding slot_of
   slot-past i h = sym (viewed-past itself s.count s.slots i blank_slot (omega arith))
-
-  -- the record x at the place of the slot i, or the blank one
-  pub slot_is : (i : ℕ) (x y : Slot) → x ≡ get_or s.slots (i % 16) no_slot → y ≡ cond (ltb i (min s.count 16)) x blank_slot → y ≡ slot_of s i
-  slot_is i x y at e = e ∙ go (ltb i (min s.count 16)) refl
-    where
-      go : (b : Bool) → ltb i (min s.count 16) ≡ b → cond b x blank_slot ≡ slot_of s i
-      go true t =
-          let h : i < min s.count 16 = ltb-true i (min s.count 16) t in
-          let k : i % 16 ≡ i = omega (arith, h) in
-          at ∙ rw k (slot-in i h)
-      go false t = slot-past i (ltb-false i (min s.count 16) t)
 
 module _ (s : Station) (long : length s.queue ≡ 32) where
   pub oldest-in : 0 < min s.waiting 32 → waiting_view (get_or s.queue 0 no_waiting) ≡ get_or (model_of s).queue 0 (waiting_view blank_waiting)

@@ -31,9 +31,6 @@ pub returns-in-Bq : goal.returns-in-Bq
 unfolding heard_on70 set_clock
 returns-in-Bq c = rw c.in-Bq.is c.agreed.ensures
 
-pub returns-in-Declined : goal.returns-in-Declined
-returns-in-Declined c = rw c.in-Declined.is c.declined.ensures
-
 pub returns-in-WorkingCall : goal.returns-in-WorkingCall
 unfolding whole_at whole_of out_of heard_on70
 returns-in-WorkingCall c = rw c.of_none-in-WorkingCall.ensures (elim c.in-WorkingCall.is [ inl e ↦ rw e | inr e ↦ elim e [ inl f ↦ rw f | inr f ↦ rw f ] ])
