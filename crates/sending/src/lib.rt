@@ -55,7 +55,8 @@ fn first_dx(symbols: &[u8], place: usize) -> u8
     }
 }
 
-// Lays the first eight places, in which RX has its phasing.
+// Lays the first eight places, in which RX has its phasing. It is asked here and below that symbols and room fit: a struct that holds both
+// would lend the room through a field, and each contract would speak of it by one step more.
 fn lay_phasing(symbols: &[u8], room: &mut [u8])
     requires { Fit symbols.now room.old }
     ensures { room.new ≡ places_laid symbols.now 0 8 room.old }

@@ -1,12 +1,8 @@
 use mathlib.Core.Path.{sym, ◌∙◌}
 use native.Mathlib.Omega.{arith}
-use Rattle.phasing.proofs.CharacterLaws.{standing-first, one_more, no_more, standing-last}
+use Rattle.phasing.proofs.CharacterLaws.{one_more, no_more}
 use Rattle.phasing.proofs.standing_in.Goals as goal
 use Rattle.phasing.proofs.standing_in.Goals.{then-character_at-character, else-character_at-character}
-
-pub loop-i-init : goal.loop-i-init
-loop-i-init c = let s = c.args in
-    (standing-first s.characters.now s.wanted.now s.place, omega arith)
 
 pub loop-i-preserved : goal.loop-i-preserved
 loop-i-preserved c = let l = c.loop-i in
@@ -18,6 +14,3 @@ loop-i-preserved c = let l = c.loop-i in
       | else-character_at-character w ↦
           (rw w.count-is (no_more _ _ _ l.i l.count h (λ k. w.if-character_at-character.false (e ∙ k)) l.invariant.0), omega arith)
     ]
-
-pub returns : goal.returns
-returns c = standing-last _ _ _ c.loop-i.i c.loop-i.count c.loop-i-test.false c.loop-i.invariant.0

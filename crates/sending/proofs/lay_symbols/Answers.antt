@@ -7,20 +7,12 @@ use Rattle.transmission.proofs.LayoutLaws.{dx-symbol, rx-format, rx-symbol}
 use Rattle.sending.proofs.LaidLaws.{no-places-laid, place-laid, ends-laid, room-kept}
 use Rattle.sending.proofs.lay_symbols.Goals as goal
 
-pub bounds-symbols-0 : goal.bounds-symbols-0
-bounds-symbols-0 c = omega arith
-
 pub loop-k-init : goal.loop-k-init
 loop-k-init c = let s = c.args.symbols.now in (
   no-places-laid s c.args.room.now 8,
   c.character_of-before.ensures ∙ ap character_of (sym (rx-format s 0)),
   c.character_of-before.ensures ∙ ap character_of (sym (rx-symbol s 0 0)),
 )
-
-pub lay_place-requires : goal.lay_place-requires
-lay_place-requires c = let l = c.loop-k in
-    let same = room-kept c.args.symbols.now c.args.room.now c.requires 8 (7 + l.k) (omega arith) (omega arith) l.invariant.0 in
-    omega arith
 
 pub loop-k-preserved : goal.loop-k-preserved
 loop-k-preserved c = let l = c.loop-k in
@@ -38,11 +30,6 @@ loop-k-preserved c = let l = c.loop-k in
       rw g (character ∙ ap character_of (sym (rx-symbol s l.k 0))),
     )
 
-pub lay_place-requires-2 : goal.lay_place-requires-2
-lay_place-requires-2 c = let l = c.loop-k in
-    let same = room-kept c.args.symbols.now c.args.room.now c.requires 8 (7 + l.k) (omega arith) (omega arith) l.invariant.0 in
-    omega arith
-
 pub lay_place-requires-3 : goal.lay_place-requires-3
 lay_place-requires-3 c = let l = c.loop-k in
     let stored = c.lay_place-2 in
@@ -56,7 +43,3 @@ returns c = let l = c.loop-k in
     c.lay_place-3.ensures
     ∙ rw (c.lay_place-2.ensures, l.invariant.0, k)
     (ends-laid c.args.symbols.now c.args.room.now c.requires _ _ (rw k at l.invariant.1) (rw k at l.invariant.2))
-
-pub shape_of-room : goal.shape_of-room
-shape_of-room c = let s = c.args.symbols.now in
-    room-kept s c.args.room.now c.requires 8 (length s + 9) (omega arith) (omega arith) (returns c)

@@ -1,6 +1,6 @@
-use mathlib.Core.Path.{◌≡◌, sym, ◌∙◌}
+use mathlib.Core.Path.{sym, ◌∙◌}
 use native.Mathlib.Omega.{arith}
-use Rattle.transmission.proofs.SymbolLaws.{ends-from-19, ends-here, ends-later, ends-at-last}
+use Rattle.transmission.proofs.SymbolLaws.{ends-from-19, ends-here, ends-later}
 use Rattle.receiving.proofs.copies.count_of.Goals as goal
 
 pub loop-place-init : goal.loop-place-init
@@ -13,7 +13,3 @@ returns-then-end_ok c = let l = c.loop-place in
 pub loop-place-preserved : goal.loop-place-preserved
 loop-place-preserved c = let l = c.loop-place in
     sym (ends-later c.args.symbols.now l.place c.loop-place-test.true (omega arith) (sym c.if-end_ok.ensures)) ∙ l.invariant
-
-pub returns : goal.returns
-returns c = let e : c.loop-place.place ≡ 26 = omega arith in
-    sym (ends-at-last c.args.symbols.now) ∙ (rw e at c.loop-place.invariant)
