@@ -1,16 +1,19 @@
 -- One text behind the other in a room.
-use mathlib.Core.Bool.{Bool, true, false, cond}
+use mathlib.Core.Bool.{Bool, true, false, cond, not}
 use mathlib.Core.List.{List, [], ◌∷◌, ◌++◌, append_assoc, append-nil}
 use mathlib.Core.Path.{◌≡◌, refl, sym, ◌∙◌, ap}
-use Prim.Native.Nat.{ℕ, ◌+◌, ◌-◌, ◌*◌, ◌<◌, ◌≤◌}
+use Prim.Native.Nat.{ℕ, zero, suc, ◌+◌, ◌-◌, ◌*◌, ◌<◌, ◌≤◌}
 use native.Mathlib.Omega.{arith}
 use native.Mathlib.Nat.{add-zero}
 use native.Mathlib.Numerals.{add-one}
-use lib.Dec.{eqb}
-use lib.ListN.{length, get_or, set, take, drop, length-append, length-take, take-append-drop, drop_of_length-le, length-drop}
+use lib.Dec.{eqb, ltb}
+use lib.ListN.{length, get_or, set, take, drop, length-append, length-take, take-append-drop, length-drop}
 use lib.Seq.{paste, set_split, take_at, drop_at, drop-drop, take-suc, take-length, take_all, append_snoc}
-use borrow.Author.Tests.{eq-eqb, ne_eqb}
-use Rattle.sequence.proofs.Rest.{rest}
+use borrow.Author.Tests.{ltb-false}
+use Rattle.std.specs.List.{position_or_len}
+use Rattle.std.proofs.lemmas.List.Sums.{prefix_len-le-length}
+use Rattle.std.specs.Option.{unwrap_or}
+use Rattle.std.specs.Prelude.{Option as Optional, Some, None}
 use Rattle.printing.specs.Texts.{ten_digits, shortened, decimal, numbers_text, put_at, Put}
 
 -- ── the laws of putting ──────────────────────────────────────────────────────
@@ -49,18 +52,37 @@ copied l s laid at n e h = record { behind = rw e; laid = h ∙ rw (e, take-leng
 
 -- ── a number ─────────────────────────────────────────────────────────────────
 
-module _ (s : List ℕ) (i : ℕ) where
-  pub zero-leads : i + 1 < length s → get_or s i 0 ≡ 48 → shortened (drop (i + 1) s) ≡ shortened (drop i s)
-  unfolding shortened
-  zero-leads h e = rw (rest s i (omega arith), rest s (i + 1) h, eq-eqb _ _ e)
+-- where the first digit stands that is no 0, of all but the last
+leading : (l : List ℕ) (n : ℕ) → length l ≡ n + 1 → shortened l ≡ drop (position_or_len (λ d. not (eqb d 48)) (take n l)) l
+unfolding shortened
+leading [] n h = absurd (omega arith)
+leading (d ∷ []) zero h = refl
+leading (d ∷ []) (suc n) h = absurd (omega arith)
+leading (d ∷ e ∷ l) zero h = absurd (omega arith)
+leading (d ∷ e ∷ l) (suc n) h = go (eqb d 48) (leading (e ∷ l) n (omega arith))
+  where
+    p : ℕ
+    p = position_or_len (λ d. not (eqb d 48)) (take n (e ∷ l))
 
-  pub no-zero-leads : i + 1 < length s → (get_or s i 0 ≡ 48 → ⊥) → shortened (drop i s) ≡ drop i s
-  unfolding shortened
-  no-zero-leads h e = rw (rest s i (omega arith), rest s (i + 1) h, ne_eqb _ _ e)
+    go : (b : Bool) → shortened (e ∷ l) ≡ drop p (e ∷ l) → cond b (shortened (e ∷ l)) (d ∷ e ∷ l) ≡ drop (cond (not (not b)) (1 + p) 0) (d ∷ e ∷ l)
+    go true r = let q : 1 + p ≡ suc p = omega arith in rw q r
+    go false r = refl
 
-  pub last-stays : length s ≡ i + 1 → shortened (drop i s) ≡ drop i s
-  unfolding shortened
-  last-stays e = rw (rest s i (omega arith), drop_of_length-le s {i = i + 1} (omega arith))
+pub or-all : (n m : ℕ) → n ≤ m → unwrap_or (cond (ltb n m) (Some n) None) m ≡ n
+or-all n m h = go (ltb n m) refl
+  where
+    go : (b : Bool) → ltb n m ≡ b → unwrap_or (cond b (Some n) None) m ≡ n
+    go true e = refl
+    go false e = omega (arith, ltb-false n m e)
+
+pub zeros-lead : (l : List ℕ) (r : Optional ℕ) (n : ℕ) → 1 ≤ length l
+    → r ≡ cond (ltb (position_or_len (λ d. not (eqb d 48)) (take (length l - 1) l)) (length (take (length l - 1) l))) (Some (position_or_len (λ d. not (eqb d 48)) (take (length l - 1) l))) None
+    → n ≡ unwrap_or r (length l - 1) → shortened l ≡ drop n l
+zeros-lead l r n h e f =
+    let w : length (take (length l - 1) l) ≡ length l - 1 = simp length-take (omega arith) in
+    let p = position_or_len (λ d. not (eqb d 48)) (take (length l - 1) l) in
+    let g : n ≡ p = f ∙ ap (λ o. unwrap_or o (length l - 1)) (rw w at e) ∙ or-all p (length l - 1) (rw w at (prefix_len-le-length (λ d. not (not (eqb d 48))) (take (length l - 1) l))) in
+    rw g (leading l (length l - 1) (omega arith))
 
 shortened-length : (l : List ℕ) → length (shortened l) ≤ length l
 unfolding shortened

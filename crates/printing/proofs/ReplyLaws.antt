@@ -7,19 +7,22 @@ use native.Mathlib.Nat.{zero-add}
 use native.Mathlib.Numerals.{add-one}
 use lib.ListN.{length, get_or, take, drop, length-append, length-take}
 use borrow.Author.Tests.{le-leb, lt-leb}
-use Rattle.station.specs.declared.NextDue.{NextDue}
-use Rattle.station.specs.declared.NextDue.TheVariants.{Never, At}
+use Rattle.std.specs.Prelude.{Option as Optional, Some, None}
+use Rattle.units.specs.declared.Tenths.{Tenths}
 use Rattle.printing.specs.Texts.{decimal, numbers_text, Put}
 use Rattle.printing.specs.Replies.{due_text, head_text, payload_in, action_text, action_texts, block_at, reply_text, put_text, put_length}
 use Rattle.printing.proofs.PutLaws.{then, decimal-length, numbers-length}
 
-pub due-length : (due : NextDue) → length (due_text due) ≤ 11
-due-length Never = omega arith
-due-length (At t) = omega (arith, decimal-length t.0)
+pub due-length : (due : Optional Tenths) → length (due_text due) ≤ 11
+due-length None = omega arith
+due-length (Some t) = omega (arith, decimal-length t.0)
+
+-- how long the parts of a reply are at most
+pub ruleset lengths = (decimal-length, numbers-length, due-length)
 
 -- ── the first line ───────────────────────────────────────────────────────────
 
-module _ (answer clock count : ℕ) (due : NextDue) where
+module _ (answer clock count : ℕ) (due : Optional Tenths) where
   -- the first two, three and four of its texts
   two : length (decimal answer ++ (32 ∷ decimal clock)) ≤ 21
   two = omega (arith, decimal-length answer, decimal-length clock, length-append (decimal answer) (32 ∷ decimal clock))
@@ -83,7 +86,7 @@ actions-more i room = let e : 40 * i + 40 - 40 * i ≡ 40 = omega arith in rw (a
 
 -- ── the whole ────────────────────────────────────────────────────────────────
 
-module _ (answer clock count : ℕ) (due : NextDue) (room l : List ℕ) where
+module _ (answer clock count : ℕ) (due : Optional Tenths) (room l : List ℕ) where
   pub too_short : length l < 4096 → (0 ≡ put_length l (reply_text answer clock count due room)) × (l ≡ put_text l (reply_text answer clock count due room))
   unfolding put_length put_text
   too_short h = (rw (lt-leb 4096 (length l) h), rw (lt-leb 4096 (length l) h))
@@ -96,7 +99,7 @@ module _ (answer clock count : ℕ) (due : NextDue) (room l : List ℕ) where
       (rw (le-leb 4096 (length l) h, ← e) (w.behind ∙ zero-add _), rw (le-leb 4096 (length l) h, ← e) w.laid)
 
 -- no reply is longer than the room
-pub reply-length : (answer clock count : ℕ) (due : NextDue) (room : List ℕ) → length (reply_text answer clock count due room) ≤ 4096
+pub reply-length : (answer clock count : ℕ) (due : Optional Tenths) (room : List ℕ) → length (reply_text answer clock count due room) ≤ 4096
 unfolding reply_text
 reply-length answer clock count due room =
     omega (arith, head-length answer clock count due, actions-length (min count 8) room, length-append (head_text answer clock count due) (action_texts (min count 8) room))

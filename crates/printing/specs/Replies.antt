@@ -1,18 +1,18 @@
 -- "It prints answer, clock, action count, next due time (`-` if none), then each action as kind, slot, payload bytes in decimal."
+use Rattle.std.specs.Prelude.{Option as Optional, Some, None}
 use Rattle.std.specs.Prelude.{cond, List, [], ◌∷◌, ◌++◌, ℕ, zero, suc, ◌*◌, min, leb, length, get_or, take, drop}
 use Rattle.rules.specs.Rules.Bytes.{most_actions, block_size, payload_room}
-use Rattle.station.specs.declared.NextDue.{NextDue}
-use Rattle.station.specs.declared.NextDue.TheVariants.{Never, At}
+use Rattle.units.specs.declared.Tenths.{Tenths}
 use Rattle.printing.specs.Texts.{decimal, numbers_text, put_at}
 
 abbrev pub line_feed : List ℕ
 line_feed = 10 ∷ []
 
-abbrev pub due_text : NextDue → List ℕ
-due_text Never = 32 ∷ 45 ∷ []
-due_text (At t) = 32 ∷ decimal t.0
+abbrev pub due_text : Optional Tenths → List ℕ
+due_text None = 32 ∷ 45 ∷ []
+due_text (Some t) = 32 ∷ decimal t.0
 
-unfoldable pub head_text : ℕ → ℕ → ℕ → NextDue → List ℕ
+unfoldable pub head_text : ℕ → ℕ → ℕ → Optional Tenths → List ℕ
 head_text answer clock count due = decimal answer ++ (32 ∷ decimal clock) ++ (32 ∷ decimal count) ++ due_text due ++ line_feed
 
 -- "kind, slot, payload length, 0, payload, zeros"
@@ -31,7 +31,7 @@ action_texts zero room = []
 action_texts (suc k) room = action_texts k room ++ action_text (block_at k room)
 
 -- "At most 8 a step"
-unfoldable pub reply_text : ℕ → ℕ → ℕ → NextDue → List ℕ → List ℕ
+unfoldable pub reply_text : ℕ → ℕ → ℕ → Optional Tenths → List ℕ → List ℕ
 reply_text answer clock count due room = head_text answer clock count due ++ action_texts (min count most_actions) room
 
 -- the longest answer fits in it

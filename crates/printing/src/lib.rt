@@ -9,8 +9,6 @@ mod texts;
 
 use crate::rows::{put_actions, put_head};
 use actions::{ACTIONS, ROOM};
-use requests::least;
-use station::NextDue;
 use units::Tenths;
 
 const MOST_ACTIONS: u8 = ACTIONS as u8;
@@ -23,17 +21,17 @@ pub fn put_reply(
     answer: u8,
     clock: Tenths,
     count: u8,
-    due: NextDue,
-    blocks: [u8; ROOM],
+    due: Option<Tenths>,
+    blocks: &[u8; ROOM],
     out: &mut [u8],
 ) -> usize
-    ensures value { result ≡ put_length out.old (reply_text answer clock.0 count due blocks) }
-    ensures out_after { out.new ≡ put_text out.old (reply_text answer clock.0 count due blocks) }
+    ensures value { result ≡ put_length out.old (reply_text answer clock.0 count due blocks.now) }
+    ensures out_after { out.new ≡ put_text out.old (reply_text answer clock.0 count due blocks.now) }
 {
     if out.len() < ANSWER_ROOM {
         return 0;
     }
-    let shown = least(count, MOST_ACTIONS);
+    let shown = count.min(MOST_ACTIONS);
     let next = put_head(answer, clock, count, due, out);
-    put_actions(&blocks, shown as usize, out, next)
+    put_actions(blocks, shown as usize, out, next)
 }

@@ -7,26 +7,31 @@ ghost use Rattle.printing.specs.Replies.{due_text, head_text, action_text, actio
 
 use crate::texts::{put_byte, put_field, put_fields, put_number};
 use actions::{BLOCK, PAYLOAD};
-use requests::least;
-use station::NextDue;
 use units::Tenths;
 
 // "`-` if none"
-fn put_due(due: NextDue, out: &mut [u8], at: usize) -> usize
+fn put_due(due: Option<Tenths>, out: &mut [u8], at: usize) -> usize
     requires { at + 11 ≤ length out.old }
     ensures { Put out.old out.new at result (due_text due) }
 {
     match due {
-        NextDue::Never => {
+        None => {
             let next = put_byte(32, out, at);
             put_byte(45, out, next)
         }
-        NextDue::At(time) => put_field(time.0, out, at),
+        Some(time) => put_field(time.0, out, at),
     }
 }
 
 // "answer, clock, action count, next due time"
-pub(crate) fn put_head(answer: u8, clock: Tenths, count: u8, due: NextDue, out: &mut [u8]) -> usize
+#[tactic(auto, using(crate::proofs::ReplyLaws::lengths))]
+pub(crate) fn put_head(
+    answer: u8,
+    clock: Tenths,
+    count: u8,
+    due: Option<Tenths>,
+    out: &mut [u8],
+) -> usize
     requires { 44 ≤ length out.old }
     ensures { Put out.old out.new 0 result (head_text answer clock.0 count due) }
 {
@@ -40,11 +45,12 @@ pub(crate) fn put_head(answer: u8, clock: Tenths, count: u8, due: NextDue, out: 
 const MOST_BYTES: u8 = PAYLOAD as u8;
 
 // "kind, slot, payload bytes in decimal"
+#[tactic(auto, using(crate::proofs::ReplyLaws::lengths))]
 fn put_action(block: &[u8], out: &mut [u8], at: usize) -> usize
     requires { (length block.now ≡ block_size) × (at + 418 ≤ length out.old) }
     ensures { Put out.old out.new at result (action_text block.now) }
 {
-    let length = least(block[2], MOST_BYTES) as usize;
+    let length = block[2].min(MOST_BYTES) as usize;
     let next = put_number(block[0] as u32, out, at);
     let next = put_field(block[1] as u32, out, next);
     let next = put_fields(&block[4..4 + length], out, next);
@@ -56,11 +62,9 @@ pub(crate) fn put_actions(blocks: &[u8], count: usize, out: &mut [u8], at: usize
     ensures { Put out.old out.new at result (action_texts count blocks.now) }
 {
     let mut next = at;
-    let mut i: usize = 0;
-    while i < count {
+    for i in 0..count {
         let start = BLOCK * i;
         next = put_action(&blocks[start..start + BLOCK], out, next);
-        i += 1;
     }
     next
 }

@@ -14,14 +14,13 @@ fn put_bytes(bytes: &[u8], out: &mut [u8], at: usize) -> usize
     requires { at + length bytes.now ≤ length out.old }
     ensures { Put out.old out.new at result bytes.now }
 {
-    let mut i = 0;
-    while i < bytes.len() {
-        out[at + i] = bytes[i];
-        i += 1;
-    }
-    at + i
+    let end = at + bytes.len();
+    out[at..end].copy_from_slice(bytes);
+    end
 }
 
+// A row for each, as the definition has them: to map the places to digits, each place would have to be shown not to be 0.
+#[tactic(auto, unfolding(crate::specs::Texts::ten_digits))]
 fn ten_digits(number: u32) -> [u8; 10]
     ensures { result ≡ ten_digits number }
 {
@@ -45,14 +44,8 @@ fn zeros(digits: &[u8]) -> usize
     ensures digits_value { shortened digits.now ≡ drop result digits.now }
     ensures upper_bound { result ≤ length digits.now }
 {
-    let mut i = 0;
-    while i + 1 < digits.len() {
-        if digits[i] != 48 {
-            return i;
-        }
-        i += 1;
-    }
-    i
+    let last = digits.len() - 1;
+    digits[..last].iter().position(|d| *d != 48).unwrap_or(last)
 }
 
 pub(crate) fn put_number(number: u32, out: &mut [u8], at: usize) -> usize
@@ -78,10 +71,8 @@ pub(crate) fn put_fields(numbers: &[u8], out: &mut [u8], at: usize) -> usize
     ensures { Put out.old out.new at result (numbers_text numbers.now) }
 {
     let mut next = at;
-    let mut i = 0;
-    while i < numbers.len() {
-        next = put_field(numbers[i] as u32, out, next);
-        i += 1;
+    for number in numbers {
+        next = put_field(*number as u32, out, next);
     }
     next
 }

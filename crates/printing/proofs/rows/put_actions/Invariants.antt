@@ -1,4 +1,3 @@
-use Prim.Native.Nat.{◌≤◌, ◌-◌}
 use mathlib.Core.Path.{◌≡◌}
 use lib.ListN.{length}
 use Rattle.printing.specs.Texts.{Put}
@@ -6,7 +5,4 @@ use Rattle.printing.specs.Replies.{action_texts}
 use Rattle.printing.proofs.rows.put_actions.Given as goal
 
 abbrev pub invariant-loop-i : goal.invariant-loop-i
-invariant-loop-i l = Put l.initial.out l.out l.at l.next (action_texts l.i l.blocks) × (l.i ≤ l.count) × (length l.out ≡ length l.initial.out)
-
-abbrev pub decreases-loop-i : goal.decreases-loop-i
-decreases-loop-i l = l.count - l.i
+invariant-loop-i l = Put l.initial.out l.out l.at l.next (action_texts l.i l.blocks) × (length l.out ≡ length l.initial.out)
