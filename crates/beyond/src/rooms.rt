@@ -1,51 +1,28 @@
 // 30: a room under 320 bytes; and which bytes of a room stay as they were.
 use crate::answered;
 use crate::stations::{busy, named};
-use check::same;
-use station::{Station, Stepped};
+use station::Station;
 use std::io;
 use units::Tenths;
 
-// What a case gets in place of an answer where a byte was written that should have stayed.
-pub(crate) const CHANGED: u8 = 255;
-
-// Whether a room of 165s, 320 of them at most, is still so from a place on.
+// Whether a room of 165s is still so from a place on.
 pub(crate) fn untouched_from(room: &[u8], from: usize) -> bool {
-    let before = [165u8; 320];
-    let length = room.len();
-    if 320 < length {
-        return false;
-    }
-    if length < from {
-        return false;
-    }
-    same(&room[from..length], &before[from..length])
-}
-
-fn tick_in_part(station: Station, time: Tenths, room: &mut [u8], length: usize) -> Stepped {
-    if length < room.len() {
-        return station.tick(time, &mut room[0..length]);
-    }
-    station.tick(time, room)
+    room.iter().skip(from).all(|byte| *byte == 165)
 }
 
 // The answer to a tick in a room of that length. A refusal has no action.
-fn ticked_in(station: Station, time: Tenths, length: usize) -> u8 {
+fn ticked_in(station: Station, time: Tenths, length: usize) -> Option<u8> {
     let mut room = [165u8; 320];
-    let stepped = tick_in_part(station, time, &mut room, length);
-    if untouched_from(&room, stepped.count as usize * 40) {
-        return stepped.answer;
-    }
-    CHANGED
+    let stepped = station.tick(time, &mut room[..length.min(320)]);
+    untouched_from(&room, stepped.count as usize * 40).then_some(stepped.answer)
 }
 
 // The answer at the station's own clock, when nothing happens: refused, 29, where it is not sound.
-pub(crate) fn judged(station: Station) -> u8 {
-    let clock = station.clock;
-    ticked_in(station, clock, 320)
+pub(crate) fn judged(station: Station) -> Option<u8> {
+    ticked_in(station, station.clock, 320)
 }
 
-fn busy_in(time: Tenths, length: usize) -> u8 {
+fn busy_in(time: Tenths, length: usize) -> Option<u8> {
     ticked_in(busy(), time, length)
 }
 
@@ -59,36 +36,38 @@ pub(crate) fn request() -> [u8; 24] {
 
 // How many actions rule c gives where a slot is free and a ship waits, which no run leads to.
 fn most_actions() -> u8 {
-    let symbols = request();
     let mut room = [165u8; 320];
-    let stepped = busy().heard_on_channel_70(Tenths(1100), &symbols, &mut room);
+    let stepped = busy().heard_on_channel_70(Tenths(1100), &request(), &mut room);
     stepped.count
 }
 
 pub(crate) fn try_rooms(rt: &impl Print) -> io::Result<()> {
     let unsound = ticked_in(named(200056789), Tenths(1000), 319);
     let late = busy_in(Tenths(4000000001), 319);
-    answered(
-        rt,
-        b"30 a room of 319 bytes",
-        busy_in(Tenths(1000), 319),
-        30,
-    )?;
-    answered(rt, b"30 no room at all", busy_in(Tenths(1000), 0), 30)?;
-    answered(
-        rt,
-        b"a room of 320 bytes is enough",
-        busy_in(Tenths(1000), 320),
-        0,
-    )?;
-    answered(
-        rt,
-        b"six actions, and the bytes after them stay",
-        busy_in(Tenths(1451), 320),
-        0,
-    )?;
-    answered(rt, b"eight actions are the most: rule c", most_actions(), 8)?;
-    answered(rt, b"29 before 30", unsound, 29)?;
-    answered(rt, b"30 before 31", late, 30)?;
-    answered(rt, b"30 before 32", busy_in(Tenths(999), 319), 30)
+    let cases = [
+        ("30 a room of 319 bytes", busy_in(Tenths(1000), 319), 30),
+        ("30 no room at all", busy_in(Tenths(1000), 0), 30),
+        (
+            "a room of 320 bytes is enough",
+            busy_in(Tenths(1000), 320),
+            0,
+        ),
+        (
+            "six actions, and the bytes after them stay",
+            busy_in(Tenths(1451), 320),
+            0,
+        ),
+        (
+            "eight actions are the most: rule c",
+            Some(most_actions()),
+            8,
+        ),
+        ("29 before 30", unsound, 29),
+        ("30 before 31", late, 30),
+        ("30 before 32", busy_in(Tenths(999), 319), 30u8),
+    ];
+    for (title, given, wanted) in cases {
+        answered(rt, title, given, wanted)?;
+    }
+    Ok(())
 }

@@ -3,12 +3,12 @@ use requests::{Mode, Request};
 use sequence::Number;
 use slots::{Carrier, Phase, Slot, Waiting};
 use station::Station;
-use units::{CallNumber, Channel, Lasted, Tenths};
+use units::{CallNumber, Channel, Tenths};
 
 // A number that begins with 5551234, and the digit behind it.
 pub(crate) fn number_of(count: u8, eighth: u8) -> Number {
     Number {
-        count: count,
+        count,
         digits: [5, 5, 5, 1, 2, 3, 4, eighth, 0, 0, 0, 0, 0, 0, 0, 0],
     }
 }
@@ -22,11 +22,11 @@ pub(crate) fn no_number() -> Number {
 
 fn request_of(ship: u32, station: u32, number: Number) -> Request {
     Request {
-        ship: ship,
-        station: station,
+        ship,
+        station,
         mode: Mode::Simplex,
         second: 126,
-        number: number,
+        number,
     }
 }
 
@@ -50,7 +50,7 @@ fn usual_slot() -> Slot {
 
 fn waiting(ship: u32, due: Tenths) -> Waiting {
     Waiting {
-        due: due,
+        due,
         request: request_of(ship, 2001234, number_of(7, 0)),
     }
 }
@@ -71,8 +71,7 @@ fn made(
     let mut channels = [Channel(0); 16];
     channels[0] = Channel(26);
     channels[1] = Channel(27);
-    let set_up = Station::set_up(2001234, channels, 2);
-    let mut station = set_up.station;
+    let mut station = Station::set_up(2001234, &channels, 2).unwrap_or(Station::blank());
     station.clock = clock;
     station.mast.identity = identity;
     station.count = count;
@@ -127,10 +126,10 @@ pub(crate) fn with_counts(count: u8, waiting: u8) -> Station {
 
 fn with_slot(phase: Phase, channel: Channel, request: Request) -> Station {
     let slot = Slot {
-        phase: phase,
-        channel: channel,
+        phase,
+        channel,
         call: CallNumber(7),
-        request: request,
+        request,
     };
     made(Tenths(1000), 2001234, 2, 1, slot, usual_waiting())
 }
@@ -149,55 +148,6 @@ pub(crate) fn with_waiting(ship: u32, due: Tenths) -> Station {
     made(Tenths(1000), 2001234, 2, 1, usual_slot(), first)
 }
 
-fn in_phase(phase: Phase) -> Station {
+pub(crate) fn in_phase(phase: Phase) -> Station {
     with_slot(phase, Channel(26), usual_request())
-}
-
-// And in each phase that has a wait.
-pub(crate) fn offered(due: Tenths) -> Station {
-    in_phase(Phase::Offered(due))
-}
-
-pub(crate) fn rung_back(due: Tenths) -> Station {
-    in_phase(Phase::RingBack(due))
-}
-
-pub(crate) fn rung_back_again(due: Tenths) -> Station {
-    in_phase(Phase::RingBackAgain(due))
-}
-
-pub(crate) fn agreed(due: Tenths) -> Station {
-    in_phase(Phase::Acknowledged(due))
-}
-
-pub(crate) fn called(due: Tenths) -> Station {
-    in_phase(Phase::Called(due))
-}
-
-pub(crate) fn called_again(due: Tenths) -> Station {
-    in_phase(Phase::CalledAgain(due))
-}
-
-pub(crate) fn ringing(due: Tenths) -> Station {
-    in_phase(Phase::Ringing(due))
-}
-
-pub(crate) fn dialling(due: Tenths) -> Station {
-    in_phase(Phase::Dialling(due, Carrier::Present))
-}
-
-pub(crate) fn dialled_out(due: Tenths) -> Station {
-    in_phase(Phase::DialledOut(due, Carrier::Present))
-}
-
-pub(crate) fn talking(since: Tenths) -> Station {
-    in_phase(Phase::Answered(since, Carrier::Present))
-}
-
-pub(crate) fn silent(due: Tenths) -> Station {
-    in_phase(Phase::Answered(Tenths(900), Carrier::Lost(due)))
-}
-
-pub(crate) fn held(due: Tenths, lasted: Lasted) -> Station {
-    in_phase(Phase::Hold(due, lasted))
 }
