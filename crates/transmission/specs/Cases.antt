@@ -1,12 +1,13 @@
 -- Transmissions written, started and read, worked out by hand: cases.
-use Rattle.std.specs.Prelude.{ℕ, ◌-◌, Result, List, [], ◌∷◌, ◌++◌, map, length, take, drop, set, replicate}
+use Rattle.std.specs.Prelude.{ℕ, ◌-◌, Option as Optional, Some, None, Result, List, [], ◌∷◌, ◌++◌, map, length, take, drop, set, replicate}
 use Rattle.characters.specs.Code.{character_of, none}
 use Rattle.characters.specs.Cases.{Case, gives}
 use Rattle.transmission.specs.declared.Refusal.{Refusal}
+use Rattle.transmission.specs.declared.Start.{Start}
 use Rattle.transmission.specs.Answers.{answer_number, answer_told, count_told}
 use Rattle.transmission.specs.Layout.{sent, transmission, bytes_of}
 use Rattle.transmission.specs.Writing.{transmission_written, room_after_writing}
-use Rattle.transmission.specs.Phasing.{characters_of, heard, best_start}
+use Rattle.transmission.specs.Phasing.{characters_of, heard, best_start, found_start}
 use Rattle.transmission.specs.Reading.{transmission_read, room_after_reading}
 
 -- ── symbols ──────────────────────────────────────────────────────────────────
@@ -63,10 +64,23 @@ writing_cases =
 abbrev pub handed : List ℕ → List ℕ
 handed symbols = map character_of symbols
 
--- a start, by its place and its count of phasing characters: place 11 is the first character handed in; 0 and 0 where there is none
+-- a start, by its place and its count of phasing characters: place 11 is the first character handed in; 0 and 0 where there is none,
+-- and then it is not found
+abbrev pub numbers_of : Start → List ℕ
+numbers_of s = s.place ∷ s.phasing ∷ []
+
+abbrev pub found_numbers : Optional Start → List ℕ
+found_numbers None = []
+found_numbers (Some s) = numbers_of s
+
+abbrev pub start_numbers : List ℕ → List ℕ
+start_numbers symbols = numbers_of (best_start (heard (handed symbols))) ++ found_numbers (found_start (best_start (heard (handed symbols))))
+
 abbrev pub starts : List ℕ → ℕ → ℕ → Case
-starts symbols place phasing =
-    gives ((best_start (heard (handed symbols))).place ∷ (best_start (heard (handed symbols))).phasing ∷ []) (place ∷ phasing ∷ [])
+starts symbols place phasing = gives (start_numbers symbols) (place ∷ phasing ∷ place ∷ phasing ∷ [])
+
+abbrev pub starts_nowhere : List ℕ → Case
+starts_nowhere symbols = gives (start_numbers symbols) (0 ∷ 0 ∷ [])
 
 abbrev pub phasing_cases : List Case
 phasing_cases =
@@ -74,20 +88,20 @@ phasing_cases =
     gives (characters_of (125 ∷ 2 ∷ 111 ∷ [])) (637 ∷ [])
     -- three RX, and two; two DX and one RX; one DX and two RX, and one; three DX, and six
     ∷ starts (111 ∷ none ∷ 110 ∷ none ∷ 109 ∷ []) 10 3
-    ∷ starts (111 ∷ none ∷ 110 ∷ none ∷ none ∷ []) 0 0
+    ∷ starts_nowhere (111 ∷ none ∷ 110 ∷ none ∷ none ∷ [])
     ∷ starts (125 ∷ 111 ∷ 125 ∷ []) 11 3
     ∷ starts (125 ∷ 111 ∷ none ∷ 110 ∷ []) 11 3
-    ∷ starts (125 ∷ 111 ∷ []) 0 0
-    ∷ starts (125 ∷ none ∷ 125 ∷ none ∷ 125 ∷ []) 0 0
-    ∷ starts (125 ∷ none ∷ 125 ∷ none ∷ 125 ∷ none ∷ 125 ∷ none ∷ 125 ∷ none ∷ 125 ∷ []) 0 0
+    ∷ starts_nowhere (125 ∷ 111 ∷ [])
+    ∷ starts_nowhere (125 ∷ none ∷ 125 ∷ none ∷ 125 ∷ [])
+    ∷ starts_nowhere (125 ∷ none ∷ 125 ∷ none ∷ 125 ∷ none ∷ 125 ∷ none ∷ 125 ∷ none ∷ 125 ∷ [])
     -- not in their places: without a character between them, and 109 in the place of 110
-    ∷ starts (111 ∷ 110 ∷ 109 ∷ []) 0 0
-    ∷ starts (111 ∷ none ∷ 109 ∷ none ∷ 108 ∷ []) 0 0
+    ∷ starts_nowhere (111 ∷ 110 ∷ 109 ∷ [])
+    ∷ starts_nowhere (111 ∷ none ∷ 109 ∷ none ∷ 108 ∷ [])
     -- the last two DX and the last RX places
     ∷ starts (125 ∷ none ∷ 125 ∷ none ∷ none ∷ none ∷ none ∷ 104 ∷ []) 3 3
     -- eleven of the beginning lost, and twelve
     ∷ starts (106 ∷ 123 ∷ 105 ∷ 123 ∷ 104 ∷ []) 0 3
-    ∷ starts (123 ∷ 105 ∷ 123 ∷ 104 ∷ []) 0 0
+    ∷ starts_nowhere (123 ∷ 105 ∷ 123 ∷ 104 ∷ [])
     -- behind one of three characters a whole one, and one of four; of two equal ones the first
     ∷ starts (111 ∷ none ∷ 110 ∷ none ∷ 109 ∷ take 16 p1_sent) 16 14
     ∷ starts (125 ∷ 111 ∷ 125 ∷ 125 ∷ 111 ∷ 125 ∷ 110 ∷ []) 14 4

@@ -2,7 +2,7 @@ use mathlib.Core.Path.{◌≡◌, sym, ◌∙◌}
 use mathlib.Core.Bool.{true}
 use native.Mathlib.Omega.{arith}
 use lib.Dec.{leb}
-use lib.ListN.{length, length-take}
+use lib.ListN.{length}
 use borrow.Author.Tests.{le-leb}
 use Rattle.receivers.specs.Finding.{begins_with}
 use Rattle.receivers.proofs.LengthLaws.{read-valid, too_few, no-end-there}
@@ -14,9 +14,6 @@ returns-then-bytes-count c = elim c.then-bytes-count.branch [
   | then-bytes-count-via-then-bytes-count w ↦ sym (too_few _ _ w.if-bytes-count.true)
   | then-bytes-count-via-else-bytes-count+then-not-end_ok w ↦ sym (no-end-there _ _ (sym w.end_ok.ensures ∙ w.if-not-end_ok.true))
 ]
-
-pub slice_bounds-read-end : goal.slice_bounds-read-end
-slice_bounds-read-end c = simp length-take (omega arith)
 
 pub returns : goal.returns
 unfolding begins_with

@@ -1,10 +1,7 @@
-use mathlib.Core.Path.{refl, sym, ◌∙◌}
+use mathlib.Core.Path.{sym, ◌∙◌}
 use native.Mathlib.Omega.{arith}
 use Rattle.receivers.proofs.FirstLaws.{to-the-format, all-four}
 use Rattle.receivers.proofs.format_from.Goals as goal
-
-pub loop-place-init : goal.loop-place-init
-loop-place-init c = (refl, omega arith, omega arith)
 
 pub returns-in-Some : goal.returns-in-Some
 returns-in-Some c = let l = c.loop-place in
@@ -13,6 +10,3 @@ returns-in-Some c = let l = c.loop-place in
 pub loop-place-preserved : goal.loop-place-preserved
 loop-place-preserved c = let l = c.loop-place in
     (all-four _ l.place (omega arith) (sym c.in_default.ensures) ∙ l.invariant.0, omega arith, l.invariant.2)
-
-pub returns : goal.returns
-returns c = let i = c.loop-place.invariant in (i.0, i.1)
