@@ -1,13 +1,9 @@
 -- Any two results that meet a contract are equal.
 use mathlib.Core.Path.{◌≡◌, sym, ◌∙◌}
 use contract.Lifetimes.{Lfts}
-use Rattle.requests.proofs.least.Reads as least
 use Rattle.requests.proofs.blank_request.Reads as blank_request
 use Rattle.requests.proofs.sameness.is_by.Reads as is_by
 use Rattle.requests.proofs.sameness.same_request.Reads as same_request
-
-pub least-settled : (κs : Lfts 0) (a : _) (r r' : _) (s s' : _) → least.Post κs a r s → least.Post κs a r' s' → r ≡ r'
-least-settled κs a r r' s s' p q = p ∙ sym q
 
 pub blank_request-settled : (κs : Lfts 0) (a : _) (r r' : _) (s s' : _) → blank_request.Post κs a r s → blank_request.Post κs a r' s' → r ≡ r'
 blank_request-settled κs a r r' s s' p q = p ∙ sym q

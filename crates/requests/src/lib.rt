@@ -3,7 +3,7 @@
 
 pub mod sameness;
 
-ghost use Rattle.std.specs.Prelude.{◌≡◌, min};
+ghost use Rattle.std.specs.Prelude.{◌≡◌};
 ghost use Rattle.requests.specs.Images.{blank_request};
 
 use sequence::{DIGITS, Number};
@@ -22,13 +22,6 @@ pub struct Request {
     pub second: u8,
     pub ship: u32,
     pub station: u32,
-}
-
-// The smaller of two.
-pub fn least(a: u8, b: u8) -> u8
-    ensures { result ≡ min a b }
-{
-    if a <= b { a } else { b }
 }
 
 #[tactic(auto, unfolding(crate::specs::Images::blank_request))]
