@@ -1,39 +1,22 @@
 // One case: each answer is compared with the rows that name it.
-use crate::saying::{say, say_first, say_number};
-use crate::{ANSWER_ROOM, Tally, Trial};
-use check::same;
+use crate::tallies::Tally;
+use script::Session;
 use std::io;
 
-// Whether the answer goes on with what stands behind the mark of a row.
-fn goes_on(answer: &[u8], named: usize, row: &[u8]) -> bool {
-    if row.len() < 2 {
-        return false;
-    }
-    let more = row.len() - 2;
-    if answer.len() < named {
-        return false;
-    }
-    if answer.len() - named < more {
-        return false;
-    }
-    let end = named + more;
-    same(&answer[named..end], &row[2..])
-}
+const ANSWER_ROOM: usize = 4096;
 
-fn behind(named: usize, row: &[u8]) -> usize {
-    if row.len() < 2 {
-        return named;
-    }
-    if ANSWER_ROOM < named {
-        return named;
-    }
-    named + (row.len() - 2)
+// A case in progress: the answer to the last line handed in, and how much of it the table has named.
+#[derive(Clone, Copy)]
+pub(crate) struct Trial {
+    right: bool,
+    answer: [u8; ANSWER_ROOM],
+    count: usize,
+    named: usize,
 }
 
 impl Trial {
-    pub(crate) fn fresh(open: bool) -> Trial {
+    pub(crate) fn fresh() -> Trial {
         Trial {
-            open: open,
             right: true,
             answer: [0; ANSWER_ROOM],
             count: 0,
@@ -42,68 +25,65 @@ impl Trial {
     }
 
     // The first fault of a case is printed, with the whole answer that was given.
-    pub(crate) fn fault(self, rt: &impl Print, number: u64) -> io::Result<Trial> {
-        let answer = self.answer;
-        let count = self.count;
-        if self.right {
-            say(rt, b"WRONG at line ")?;
-            say_number(rt, number)?;
-            say(rt, b", where the answer is\n")?;
-            say_first(rt, &answer, count)?;
+    pub(crate) fn fault(&mut self, rt: &impl Print, number: u64) -> io::Result<()> {
+        self.named = self.count;
+        if !self.right {
+            return Ok(());
         }
-        Ok(Trial {
-            open: true,
-            right: false,
-            answer: answer,
-            count: count,
-            named: count,
-        })
+        self.right = false;
+        println!(rt; "WRONG at line {number}, where the answer is")?;
+        rt.write_all(&self.answer[..self.count.min(ANSWER_ROOM)])
     }
 
     // All of the last answer must be named before another line is handed in and before a case ends.
-    pub(crate) fn all_named(self, rt: &impl Print, number: u64) -> io::Result<Trial> {
+    fn all_named(&mut self, rt: &impl Print, number: u64) -> io::Result<()> {
         if self.named == self.count {
-            return Ok(self);
+            return Ok(());
         }
         self.fault(rt, number)
     }
 
-    pub(crate) fn answered(self, answer: [u8; ANSWER_ROOM], count: usize) -> Trial {
-        Trial {
-            open: true,
-            right: self.right,
-            answer: answer,
-            count: count,
-            named: 0,
-        }
+    // A line of the script is handed to the session.
+    pub(crate) fn hand_in(
+        &mut self,
+        rt: &impl Print,
+        number: u64,
+        session: Session,
+        line: &[u8],
+    ) -> io::Result<Session> {
+        self.all_named(rt, number)?;
+        self.answer = [0; ANSWER_ROOM];
+        let fed = session.feed(line, &mut self.answer);
+        self.count = fed.count;
+        self.named = 0;
+        Ok(fed.session)
     }
 
-    pub(crate) fn name(self, rt: &impl Print, number: u64, row: &[u8]) -> io::Result<Trial> {
-        let answer = self.answer;
-        if !goes_on(&answer, self.named, row) {
+    // Whether the answer goes on with that text.
+    pub(crate) fn name(&mut self, rt: &impl Print, number: u64, text: &[u8]) -> io::Result<()> {
+        let left = &self.answer[self.named.min(ANSWER_ROOM)..];
+        if !left.starts_with(text) {
             return self.fault(rt, number);
         }
-        Ok(Trial {
-            open: self.open,
-            right: self.right,
-            answer: answer,
-            count: self.count,
-            named: behind(self.named, row),
-        })
+        self.named = self.named.saturating_add(text.len());
+        Ok(())
     }
 
     // The end of a case; one that handed nothing in shows nothing.
-    pub(crate) fn close(self, rt: &impl Print, number: u64, tally: Tally) -> io::Result<Tally> {
-        if !self.open {
-            return Ok(tally);
-        }
-        let last = self.all_named(rt, number)?;
-        if last.right && 0 < last.count {
+    pub(crate) fn close(
+        mut self,
+        rt: &impl Print,
+        number: u64,
+        tally: &mut Tally,
+    ) -> io::Result<()> {
+        self.all_named(rt, number)?;
+        if self.right && 0 < self.count {
             return tally.right(rt);
         }
-        if last.right {
-            say(rt, b"WRONG, nothing is handed in\n")?;
+        if self.right {
+            println!(rt; "WRONG, nothing is handed in")?;
         }
-        Ok(tally.wrong())
+        tally.wrong();
+        Ok(())
     }
 }

@@ -1,15 +1,13 @@
 -- From the record of a line to what the line says.
-use mathlib.Core.Bool.{Bool, true, false}
+use mathlib.Core.Bool.{Bool, true}
 use mathlib.Core.List.{List, [], ◌∷◌, map}
 use mathlib.Core.Option.{Option, none, some}
 use mathlib.Core.Path.{◌≡◌, refl, ◌∙◌, ap}
-use Prim.Native.Nat.{ℕ, zero, suc, ◌+◌, ◌-◌, ◌<◌, ◌≤◌, min}
+use Prim.Native.Nat.{ℕ, zero, suc, ◌-◌, ◌≤◌, min}
 use native.Mathlib.Omega.{arith}
-use lib.ListN.{length, take, drop, get_or, set, replicate, length-map, get_or-map}
-use lib.Seq.{paste}
-use borrow.Author.Tests.{leb-true, eq-eqb, ne_eqb}
+use lib.ListN.{length, drop, get_or, length-map}
+use borrow.Author.Tests.{leb-true}
 use Rattle.units.specs.declared.Channel.{Channel}
-use Rattle.sequence.proofs.Paste.{front-turn}
 use Rattle.sequence.proofs.Tests.{both_true}
 use Rattle.rules.specs.Rules.Places.{all}
 use Rattle.rules.specs.Rules.Bytes.{padded}
@@ -17,14 +15,14 @@ use Rattle.requests.proofs.ArrayLaws.{padded-front}
 use Rattle.lines.specs.declared.Form.{Form}
 use Rattle.lines.specs.declared.Form.TheVariants.{Symbols, SlotSymbols, Signalled, Operated, Called, Alone}
 use Rattle.lines.specs.Lines.{Said, sets_up, happens, form_what, command_of, numbers_of, set_up_said, is_symbol, is_number, in_range}
-use Rattle.lines.specs.Readable.{line_image}
+use Rattle.std.specs.Prelude.{Option as Optional, Some, None}
+use Rattle.lines.specs.declared.line.Line.{Line}
+use Rattle.lines.specs.declared.Command.TheVariants.{SetUp as SetsUp, Happens}
+use Rattle.lines.specs.Readable.{HoldsSaid, ReadAs}
 use Rattle.lines.proofs.SaidLaws.{names-form, by_form}
-use Rattle.station.specs.declared.Station.{Station}
-use Rattle.station.specs.declared.SetUp.{SetUp}
 use Rattle.station.specs.Step.{given, chosen, sixteen_of, set_up_of, set_up_by}
 use Rattle.station.proofs.SetLaws.{set-up-numbers}
-use Rattle.script.specs.Answering.{desk, unchanged, after_set_up}
-use Rattle.script.specs.Lining.{byte_of, part, line_what, line_said}
+use Rattle.script.specs.Lining.{byte_of, part, what_of, line_said}
 
 -- ── the list behind the first numbers ────────────────────────────────────────
 
@@ -51,11 +49,6 @@ behind-third x y z l h =
 
 -- ── symbols as bytes ─────────────────────────────────────────────────────────
 
-pub narrow-turn : (ns s : List ℕ) (i v : ℕ) → length ns ≡ 100 → i < 100 → s ≡ paste (replicate 100 0) 0 (map byte_of ns) i → v ≡ byte_of (get_or ns i 0)
-    → set s i v ≡ paste (replicate 100 0) 0 (map byte_of ns) (i + 1)
-narrow-turn ns s i v w h e f =
-    rw (e, f, ← get_or-map byte_of ns i 0) (front-turn (replicate 100 0) (map byte_of ns) i h (omega (arith, length-map ns byte_of)))
-
 narrowed : (n : ℕ) (l : List ℕ) → map byte_of (padded 0 n l) ≡ padded 0 n (map byte_of l)
 unfolding padded
 narrowed zero l = refl
@@ -81,7 +74,8 @@ symbols-second x y l h e =
 
 module _ (time : ℕ) where
   what-back : (f : Form) (slot : ℕ) (symbols : List ℕ) → length (numbers_of (happens time (form_what f slot symbols))) ≤ 99
-      → in_range (happens time (form_what f slot symbols)) ≡ true → line_what f (line_image (some (happens time (form_what f slot symbols)))) ≡ form_what f slot symbols
+      → in_range (happens time (form_what f slot symbols)) ≡ true
+      → what_of f (length (numbers_of (happens time (form_what f slot symbols)))) (padded 0 100 (numbers_of (happens time (form_what f slot symbols)))) ≡ form_what f slot symbols
   unfolding padded in_range
   what-back Symbols slot symbols h e =
       let s = (both_true (is_number time) (all is_symbol symbols) e).1 in
@@ -95,45 +89,43 @@ module _ (time : ℕ) where
       ap (λ l. form_what Called ship (get_or numbers 0 0 ∷ l)) (behind-third time ship (get_or numbers 0 0) (drop 1 numbers) (omega arith))
   what-back Alone slot symbols h e = refl
 
-  form-back : (f : Form) (slot : ℕ) (symbols : List ℕ) → length (numbers_of (happens time (form_what f slot symbols))) ≤ 99
+  form-back : (line : Line) (f : Form) (slot : ℕ) (symbols : List ℕ) → HoldsSaid line (happens time (form_what f slot symbols))
       → in_range (happens time (form_what f slot symbols)) ≡ true
-      → line_said (line_image (some (happens time (form_what f slot symbols)))) ≡ some (happens time (form_what f slot symbols))
+      → line_said (Some line) ≡ some (happens time (form_what f slot symbols))
   unfolding line_said padded
-  form-back f slot symbols h e = rw (names-form f slot symbols) (ap (λ w. some (happens time w)) (what-back f slot symbols h e))
+  form-back line f slot symbols p e =
+      let q : Some line.command ≡ Some (Happens f) = p.command ∙ names-form f slot symbols in
+      let k : line.command ≡ Happens f = cc in
+      rw (k, p.count, p.numbers) (ap (λ w. some (happens time w)) (what-back f slot symbols (omega (arith, p.count, line.few)) e))
 
-set-up-back : (n : ℕ) (l : List ℕ) → length (numbers_of (set_up_said n l)) ≤ 99 → line_said (line_image (some (set_up_said n l))) ≡ some (set_up_said n l)
+set-up-back : (line : Line) (n : ℕ) (l : List ℕ) → HoldsSaid line (set_up_said n l) → line_said (Some line) ≡ some (set_up_said n l)
 unfolding line_said command_of padded
-set-up-back n l h = ap (λ r. some (set_up_said n r)) (behind-first n l (omega arith))
+set-up-back line n l p =
+    let q : Some line.command ≡ Some SetsUp = p.command in
+    let k : line.command ≡ SetsUp = cc in
+    rw (k, p.count, p.numbers) (ap (λ r. some (set_up_said n r)) (behind-first n l (omega (arith, p.count, line.few))))
 
 -- what an unreadable line says is in range too
 abbrev pub in_range_of : Option Said → Bool
 in_range_of none = true
 in_range_of (some said) = in_range said
 
-pub said-back : (o : Option Said) → (line_image o).count ≤ 99 → in_range_of o ≡ true → line_said (line_image o) ≡ o
+pub said-back : (o : Option Said) (l : Optional Line) → ReadAs l o → in_range_of o ≡ true → line_said l ≡ o
 unfolding line_said
-said-back none h e = refl
-said-back (some (sets_up a)) h e = set-up-back _ _ h
-said-back (some (happens time what)) h e =
+said-back none None p e = refl
+said-back none (Some line) p e = elim p [ ]
+said-back (some said) None p e = elim p [ ]
+said-back (some (sets_up a)) (Some line) p e = set-up-back line _ _ p
+said-back (some (happens time what)) (Some line) p e =
     by_form
-    (λ w. length (numbers_of (happens time w)) ≤ 99 → in_range (happens time w) ≡ true → line_said (line_image (some (happens time w))) ≡ some (happens time w))
-    (form-back time)
-    what h e
+    (λ w. HoldsSaid line (happens time w) → in_range (happens time w) ≡ true → line_said (Some line) ≡ some (happens time w))
+    (form-back time line)
+    what p e
 
 -- ── a set-up ─────────────────────────────────────────────────────────────────
 
 -- the numbers behind the first, as channels
-pub channels-as : (l : List ℕ) (f k : ℕ) (a : List Channel) → f ≡ min 1 k → a ≡ sixteen_of (take (k - f) (drop f l))
-    → set_up_of (chosen (get_or l 0 0) a (length (take (k - f) (drop f l)))) ≡ set_up_of (given (get_or l 0 0) (part 1 k l))
+pub channels-as : (first : ℕ) (l : List ℕ) (a : List Channel) → a ≡ sixteen_of l
+    → set_up_of (chosen first a (length l)) ≡ set_up_of (given first l)
 unfolding set_up_by
-channels-as l f k a e g =
-    let ns = take (k - f) (drop f l) in
-    let u : set_up_of (chosen (get_or l 0 0) a (length ns)) ≡ set_up_by (get_or l 0 0) ns = rw g (set-up-numbers (get_or l 0 0) ns _ refl) in
-    u ∙ ap (λ i. set_up_by (get_or l 0 0) (take (k - i) (drop i l))) e
-
-module _ (station : Station) (u v : SetUp) (p : u ≡ v) where
-  pub set-as : u.answer ≡ 0 → unchanged (desk true u.station) 0 ≡ after_set_up (desk false station) v
-  set-as e = rw (← p, eq-eqb u.answer 0 e)
-
-  pub set-not : (u.answer ≡ 0 → ⊥) → unchanged (desk false station) u.answer ≡ after_set_up (desk false station) v
-  set-not e = rw (← p, ne_eqb u.answer 0 e)
+channels-as first l a e = rw e (set-up-numbers first l _ refl)

@@ -24,8 +24,7 @@ use Rattle.slots.specs.Images.{Fits}
 use Rattle.soundness.proofs.FitLaws.{sound-fits}
 use Rattle.lines.specs.Lines.{Asked, Said, sets_up, happens}
 use Rattle.lines.specs.Readable.{reads_as}
-use Rattle.station.specs.declared.Station.{Station}
-use Rattle.station.specs.declared.NextDue.TheVariants.{Never}
+use Rattle.std.specs.Prelude.{Some, None}
 use Rattle.station.specs.Model.{model_of, image_of}
 use Rattle.station.specs.Step.{due_image, set_up_for}
 use Rattle.station.proofs.ImageLaws.{model-back}
@@ -36,9 +35,8 @@ use Rattle.station_theorems.proofs.Traces.{done-back, done-left, refused-back}
 use Rattle.printing.specs.Replies.{action_texts, reply_text}
 use Rattle.printing.specs.Statement.{rows_text}
 use Rattle.printing.proofs.PrintedLaws.{first-is, reply-is}
-use Rattle.script.specs.declared.Desk.{Desk}
 use Rattle.script.specs.declared.Handled.{Handled}
-use Rattle.script.specs.Answering.{desk, unchanged, after_set_up, asked_for, handled_for, shown_for, no_blocks, desk_after, reply_to}
+use Rattle.script.specs.Answering.{Desk, unchanged, after_set_up, asked_for, handled_for, shown_for, no_blocks, desk_after, reply_to}
 use Rattle.script.specs.Session.{begun}
 use Rattle.script.specs.Transcript.{answers_from, transcript}
 use Rattle.script.specs.Printed.{said_in, event_of, nothing_but, out_of, printed_on, no_station, printed_from, TranscriptIsPrinted, says_event, RoomNeeded, EventsArePrinted}
@@ -64,8 +62,8 @@ answered d line (b ∷ script) = go (which (eqb b 10)) (answered (desk_after d (
 
 -- what was said is answered so, and the next station is again such a one
 record Comes (c : Config) (m : R.Station) (said : Option Said) : Type 0 where
-  reply : reply_to (desk true (image_of c m)) said ≡ rows_text (lines c (out_of c m said))
-  after : desk_after (desk true (image_of c m)) said ≡ desk true (image_of c (out_of c m said).next)
+  reply : reply_to (Some (image_of c m)) said ≡ rows_text (lines c (out_of c m said))
+  after : desk_after (Some (image_of c m)) said ≡ Some (image_of c (out_of c m said).next)
   sounds : sound c (out_of c m said).next ≡ true
 
 clock-is : (c : Config) (m : R.Station) → (image_of c m).clock.0 ≡ m.clock
@@ -133,7 +131,7 @@ comes c m good none = record { reply = only c m good 40; after = refl; sounds = 
 comes c m good (some (sets_up a)) = record { reply = only c m good 41; after = refl; sounds = good }
 comes c m good (some (happens time what)) = event-comes c m good time what
 
-on-station : (said : List (Option Said)) (c : Config) (m : R.Station) → sound c m ≡ true → answers (desk true (image_of c m)) said ≡ flat_map rows_text (printed_on c m said)
+on-station : (said : List (Option Said)) (c : Config) (m : R.Station) → sound c m ≡ true → answers (Some (image_of c m)) said ≡ flat_map rows_text (printed_on c m said)
 unfolding answers printed_on flat_map
 on-station [] c m good = refl
 on-station (x ∷ more) c m good =
@@ -142,7 +140,7 @@ on-station (x ∷ more) c m good =
 
 -- ── before a set-up that is not refused ──────────────────────────────────────
 
-without : (answer : ℕ) → reply_text answer 0 0 Never no_blocks ≡ rows_text (no_station answer)
+without : (answer : ℕ) → reply_text answer 0 0 None no_blocks ≡ rows_text (no_station answer)
 unfolding reply_text action_texts rows_text flat_map
 without answer = rw (first-is answer 0 0 none)
 
@@ -158,61 +156,59 @@ refused-36 c n = go (config_keeps c)
     go true e = cc
     go false e = cc
 
-module _ (s : Station) where
-  unread : (reply_to (desk false s) none ≡ rows_text (no_station 40)) × (desk_after (desk false s) none ≡ desk false s)
+unread : (reply_to None none ≡ rows_text (no_station 40)) × (desk_after None none ≡ None)
+unfolding reply_to desk_after
+unread = (without 40, refl)
+
+early : (time : ℕ) (what : What)
+    → (reply_to None (some (happens time what)) ≡ rows_text (no_station 41)) × (desk_after None (some (happens time what)) ≡ None)
+unfolding reply_to desk_after
+early time what = (without 41, refl)
+
+module _ (a : Asked) where
+  abbrev asked : Config
+  asked = asked_for a
+
+  handled : (o : Option ℕ) → set_up_verdict asked ≡ o → handled_for None no_blocks (some (sets_up a)) ≡ after_set_up (set_up_for asked o)
+  handled o v = ap (λ (x : Option ℕ). after_set_up (set_up_for asked x)) v
+
+  set-up : set_up_verdict asked ≡ none
+      → (reply_to None (some (sets_up a)) ≡ rows_text (lines asked (done (fresh asked))))
+      × (desk_after None (some (sets_up a)) ≡ Some (image_of asked (fresh asked)))
   unfolding reply_to desk_after
-  unread = (without 40, refl)
+  set-up v = (
+    ap (λ (h : Handled). shown_for h no_blocks) (handled none v) ∙ only asked (fresh asked) (fresh-sound asked v) 0,
+    ap (λ (h : Handled). h.desk) (handled none v),
+  )
 
-  early : (time : ℕ) (what : What)
-      → (reply_to (desk false s) (some (happens time what)) ≡ rows_text (no_station 41)) × (desk_after (desk false s) (some (happens time what)) ≡ desk false s)
+  not-set-up : (n : ℕ) → set_up_verdict asked ≡ some n
+      → (reply_to None (some (sets_up a)) ≡ rows_text (no_station n))
+      × (desk_after None (some (sets_up a)) ≡ None)
   unfolding reply_to desk_after
-  early time what = (without 41, refl)
+  not-set-up n v =
+      let same : handled_for None no_blocks (some (sets_up a)) ≡ unchanged None n = handled (some n) v ∙ ap (unchanged None) (sym (refused-36 asked n v)) in
+      (ap (λ (h : Handled). shown_for h no_blocks) same ∙ without n, ap (λ (h : Handled). h.desk) same)
 
-  module _ (a : Asked) where
-    abbrev asked : Config
-    asked = asked_for a
-
-    handled : (o : Option ℕ) → set_up_verdict asked ≡ o → handled_for (desk false s) no_blocks (some (sets_up a)) ≡ after_set_up (desk false s) (set_up_for asked o)
-    handled o v = ap (λ (x : Option ℕ). after_set_up (desk false s) (set_up_for asked x)) v
-
-    set-up : set_up_verdict asked ≡ none
-        → (reply_to (desk false s) (some (sets_up a)) ≡ rows_text (lines asked (done (fresh asked))))
-        × (desk_after (desk false s) (some (sets_up a)) ≡ desk true (image_of asked (fresh asked)))
-    unfolding reply_to desk_after
-    set-up v = (
-      ap (λ (h : Handled). shown_for h no_blocks) (handled none v) ∙ only asked (fresh asked) (fresh-sound asked v) 0,
-      ap (λ (h : Handled). h.desk) (handled none v),
-    )
-
-    not-set-up : (n : ℕ) → set_up_verdict asked ≡ some n
-        → (reply_to (desk false s) (some (sets_up a)) ≡ rows_text (no_station n))
-        × (desk_after (desk false s) (some (sets_up a)) ≡ desk false s)
-    unfolding reply_to desk_after
-    not-set-up n v =
-        let z : eqb n 0 ≡ false = rw (refused-36 asked n v) refl in
-        let same : handled_for (desk false s) no_blocks (some (sets_up a)) ≡ unchanged (desk false s) n = handled (some n) v ∙ rw z refl in
-        (ap (λ (h : Handled). shown_for h no_blocks) same ∙ without n, ap (λ (h : Handled). h.desk) same)
-
-from-begin : (said : List (Option Said)) (s : Station) → answers (desk false s) said ≡ flat_map rows_text (printed_from said)
+from-begin : (said : List (Option Said)) → answers None said ≡ flat_map rows_text (printed_from said)
 unfolding answers printed_from flat_map
-from-begin [] s = refl
-from-begin (none ∷ more) s = rw ((unread s).0, (unread s).1, from-begin more s)
-from-begin (some (happens time what) ∷ more) s = rw ((early s time what).0, (early s time what).1, from-begin more s)
-from-begin (some (sets_up a) ∷ more) s = go (set_up_verdict (asked_for a)) refl (from-begin more s)
+from-begin [] = refl
+from-begin (none ∷ more) = rw (unread.0, unread.1, from-begin more)
+from-begin (some (happens time what) ∷ more) = rw ((early time what).0, (early time what).1, from-begin more)
+from-begin (some (sets_up a) ∷ more) = go (set_up_verdict (asked_for a)) refl (from-begin more)
   where
-    go : (o : Option ℕ) → set_up_verdict (asked_for a) ≡ o → answers (desk false s) more ≡ flat_map rows_text (printed_from more)
-        → answers (desk false s) (some (sets_up a) ∷ more) ≡ flat_map rows_text (printed_from (some (sets_up a) ∷ more))
+    go : (o : Option ℕ) → set_up_verdict (asked_for a) ≡ o → answers None more ≡ flat_map rows_text (printed_from more)
+        → answers None (some (sets_up a) ∷ more) ≡ flat_map rows_text (printed_from (some (sets_up a) ∷ more))
     go none v later =
         let c = asked_for a in
-        let x = set-up s a v in
+        let x = set-up a v in
         rw (v, x.0, x.1, on-station more c (fresh c) (fresh-sound c v))
-    go (some n) v later = let x = not-set-up s a n v in rw (v, x.0, x.1, later)
+    go (some n) v later = let x = not-set-up a n v in rw (v, x.0, x.1, later)
 
 -- ── the whole ────────────────────────────────────────────────────────────────
 
 pub transcript-is-printed : TranscriptIsPrinted
 unfolding TranscriptIsPrinted transcript begun
-transcript-is-printed script = answered begun.desk [] script ∙ from-begin (said_in [] script) begun.desk.station
+transcript-is-printed script = answered begun.desk [] script ∙ from-begin (said_in [] script)
 
 as-printed : (c : Config) (es : List Event) (st : R.Station) → Each RoomNeeded es → printed_on c st (map says_event es) ≡ printed c es st
 unfolding printed_on printed

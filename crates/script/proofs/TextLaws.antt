@@ -1,38 +1,45 @@
 -- The line so far, byte by byte, and what it says.
-use mathlib.Core.Bool.{true}
-use mathlib.Core.List.{List}
+use mathlib.Core.Bool.{Bool, true, false, cond, not}
+use mathlib.Core.List.{List, [], ◌∷◌}
 use mathlib.Core.Option.{Option, none, some}
-use mathlib.Core.Path.{◌≡◌, refl}
-use Prim.Native.Nat.{ℕ, suc, ◌+◌, ◌<◌, ◌≤◌, min}
+use mathlib.Core.Path.{◌≡◌, refl, ◌∙◌, ap}
+use Prim.Native.Nat.{ℕ, suc, ◌+◌, min}
 use native.Mathlib.Omega.{arith}
-use lib.Dec.{leb}
-use lib.ListN.{length, take, drop, get_or, drop_of_length-le}
+use lib.Dec.{leb, ltb, eqb}
+use lib.ListN.{length, take}
 use lib.Seq.{take_all}
-use borrow.Author.Tests.{eq-eqb, ne_eqb, leb-true, leb-false}
-use Rattle.sequence.proofs.Rest.{rest}
+use borrow.Author.Tests.{leb-true, leb-false}
+use Rattle.std.specs.List.{position_or_len}
+use Rattle.std.specs.Option.{unwrap_or}
+use Rattle.std.specs.Prelude.{Option as Optional, Some, None}
+use Rattle.std.proofs.lemmas.List.Sums.{prefix_len-le-length}
+use Rattle.printing.proofs.PutLaws.{or-all}
 use Rattle.sequence.proofs.Tests.{Either, yes!, no!, which}
 use Rattle.lines.specs.Lines.{Said}
 use Rattle.lines.specs.Readable.{reads_as}
 use Rattle.lines.proofs.Exactly.{reads-exactly}
 use Rattle.script.specs.declared.Text.{Text}
-use Rattle.script.specs.Session.{add_byte, add_bytes, says_text, before_feed}
+use Rattle.script.specs.Session.{says_text, before_feed}
 use Rattle.script.proofs.LineLaws.{in_range_of}
 
-module _ (s : List ℕ) (i : ℕ) where
-  pub byte_more : i < length s → (t : Text) → add_bytes (add_byte t (get_or s i 0)) (drop (i + 1) s) ≡ add_bytes t (drop i s)
-  byte_more h t = rw (rest s i h)
+-- before a line feed, as the place that is looked for
+first-feed : (l : List ℕ) → before_feed l ≡ position_or_len (λ b. eqb b 10) l
+first-feed [] = refl
+first-feed (b ∷ l) = go (eqb b 10) (first-feed l)
+  where
+    p : ℕ
+    p = position_or_len (λ b. eqb b 10) l
 
-  pub bytes-all : length s ≤ i → (t : Text) → add_bytes t (drop i s) ≡ t
-  bytes-all h t = rw (drop_of_length-le s {i = i} h)
+    go : (x : Bool) → before_feed l ≡ p → cond x 0 (suc (before_feed l)) ≡ cond (not x) (1 + p) 0
+    go true e = refl
+    go false e = omega (arith, e)
 
-  pub feed-here : i < length s → get_or s i 0 ≡ 10 → before_feed (drop i s) ≡ 0
-  feed-here h e = rw (rest s i h, eq-eqb _ _ e)
-
-  pub no-feed-here : i < length s → (get_or s i 0 ≡ 10 → ⊥) → before_feed (drop i s) ≡ suc (before_feed (drop (i + 1) s))
-  no-feed-here h e = rw (rest s i h, ne_eqb _ _ e)
-
-  pub no-more-feeds : length s ≤ i → before_feed (drop i s) ≡ 0
-  no-more-feeds h = rw (drop_of_length-le s {i = i} h)
+pub before-feed : (l : List ℕ) (r : Optional ℕ) (n : ℕ)
+    → r ≡ cond (ltb (position_or_len (λ b. eqb b 10) l) (length l)) (Some (position_or_len (λ b. eqb b 10) l)) None
+    → n ≡ unwrap_or r (length l) → n ≡ before_feed l
+before-feed l r n e f =
+    let p = position_or_len (λ b. eqb b 10) l in
+    rw first-feed (f ∙ ap (λ o. unwrap_or o (length l)) e ∙ or-all p (length l) (prefix_len-le-length (λ b. not (eqb b 10)) l))
 
 -- a text that says it is longer than its bytes has no more of them
 pub kept-says : (t : Text) (n : ℕ) → length t.bytes ≡ 201 → n ≡ min t.length 201 → reads_as (take n t.bytes) ≡ says_text t

@@ -1,5 +1,5 @@
 -- A session that is fed with a script prints its transcript.
-use mathlib.Core.Bool.{Bool, true, false, cond}
+use mathlib.Core.Bool.{false}
 use mathlib.Core.List.{List, [], ◌∷◌, ◌++◌, append_assoc, append-nil}
 use mathlib.Core.Option.{Option}
 use mathlib.Core.Path.{◌≡◌, refl, sym, ◌∙◌, ap}
@@ -19,10 +19,9 @@ use Rattle.lines.proofs.ReadLaws.{too_long}
 use Rattle.printing.specs.Texts.{put_at}
 use Rattle.printing.specs.Replies.{put_text, put_length}
 use Rattle.printing.proofs.ReplyLaws.{reply-length}
-use Rattle.script.specs.declared.Desk.{Desk}
 use Rattle.script.specs.declared.Session.{Session}
 use Rattle.script.specs.declared.Text.{Text}
-use Rattle.script.specs.Answering.{handled_for, blocks_for, clock_of, due_of, no_blocks, desk_after, reply_to}
+use Rattle.script.specs.Answering.{Desk, handled_for, blocks_for, clock_of, due_of, no_blocks, desk_after, reply_to}
 use Rattle.script.specs.Session.{no_text, add_byte, add_bytes, says_text, before_feed, begun, fed_for, room_for, fed_with, room_with, ended, room_ended}
 use Rattle.script.specs.Transcript.{answers_from, transcript, session_of, line_after, Feeds, Ends, Begins, Prints, fed, over, PrintsTranscript}
 
@@ -88,14 +87,6 @@ reply-short d o =
     reply-length h.answer (clock_of h.desk).0 h.count (due_of h.desk) (blocks_for d no_blocks o)
 
 -- ── up to the line feed ──────────────────────────────────────────────────────
-
-feed-within : (bytes : List ℕ) → before_feed bytes ≤ length bytes
-feed-within [] = omega arith
-feed-within (b ∷ bytes) = go (eqb b 10) (feed-within bytes)
-  where
-    go : (x : Bool) → before_feed bytes ≤ length bytes → cond x 0 (suc (before_feed bytes)) ≤ length (b ∷ bytes)
-    go true h = omega arith
-    go false h = omega arith
 
 up-to-feed : (d : Desk) (line bytes more : List ℕ)
     → answers_from d line (bytes ++ more) ≡ answers_from d (line ++ take (before_feed bytes) bytes) (drop (before_feed bytes) bytes ++ more)

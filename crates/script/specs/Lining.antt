@@ -1,12 +1,13 @@
 -- What a line says, out of the record that it was read into.
 use Rattle.std.specs.Prelude.{List, [], ◌∷◌, map, ℕ, ◌-◌, ◌%◌, min, get_or, take, drop}
+use Rattle.std.specs.Prelude.{Option as Optional, Some, None}
 use Rattle.std.proofs.Math.Option.{Option, none, some}
 use Rattle.rules.specs.Rules.Words.{Config, What, Event}
 use Rattle.lines.specs.declared.Form.{Form}
 use Rattle.lines.specs.declared.Form.TheVariants.{Symbols, SlotSymbols, Signalled, Operated, Called, Alone}
 use Rattle.lines.specs.declared.Command.{Command}
-use Rattle.lines.specs.declared.Command.TheVariants.{Unreadable, SetUp, Happens}
-use Rattle.lines.specs.declared.Line.{Line}
+use Rattle.lines.specs.declared.Command.TheVariants.{SetUp, Happens}
+use Rattle.lines.specs.declared.line.Line.{Line}
 use Rattle.lines.specs.Lines.{Said, happens, form_what, set_up_said}
 use Rattle.station.specs.Step.{event_at, given}
 
@@ -29,8 +30,11 @@ behind (Operated h) count l = []
 behind Called count l = get_or l 2 0 ∷ part 3 count l
 behind Alone count l = []
 
+abbrev pub what_of : Form → ℕ → List ℕ → What
+what_of f count l = form_what f (get_or l 1 0) (behind f count l)
+
 abbrev pub line_what : Form → Line → What
-line_what f line = form_what f (get_or line.numbers 1 0) (behind f line.count line.numbers)
+line_what f line = what_of f line.count line.numbers
 
 abbrev pub line_event : Form → Line → List ℕ → Event
 line_event f line room = event_at (get_or line.numbers 0 0) (line_what f line) room
@@ -40,9 +44,9 @@ abbrev pub line_asks : Line → Config
 line_asks line = given (get_or line.numbers 0 0) (part 1 line.count line.numbers)
 
 abbrev pub command_said : Command → Line → Option Said
-command_said Unreadable line = none
 command_said SetUp line = some (set_up_said (get_or line.numbers 0 0) (part 1 line.count line.numbers))
 command_said (Happens f) line = some (happens (get_or line.numbers 0 0) (line_what f line))
 
-unfoldable pub line_said : Line → Option Said
-line_said line = command_said line.command line
+unfoldable pub line_said : Optional Line → Option Said
+line_said None = none
+line_said (Some line) = command_said line.command line

@@ -1,15 +1,13 @@
 -- The line so far, and what bytes make of a session.
-use Rattle.std.specs.Prelude.{Bool, false, cond, List, [], ◌∷◌, ℕ, suc, ◌+◌, leb, ltb, eqb, length, set, take, replicate}
+use Rattle.std.specs.Prelude.{None, cond, List, [], ◌∷◌, ℕ, suc, ◌+◌, leb, ltb, eqb, length, set, take, replicate}
 use Rattle.std.proofs.Math.Option.{Option}
 use Rattle.lines.specs.Lines.{Said}
 use Rattle.lines.specs.Readable.{reads_as, longest_line}
 use Rattle.printing.specs.Replies.{put_text, put_length, answer_room}
-use Rattle.station.specs.declared.Station.{Station}
-use Rattle.station.specs.Step.{blank_station}
 use Rattle.script.specs.declared.Text.{Text}
 use Rattle.script.specs.declared.Session.{Session}
 use Rattle.script.specs.declared.Fed.{Fed}
-use Rattle.script.specs.Answering.{desk, desk_after, reply_to}
+use Rattle.script.specs.Answering.{Desk, desk_after, reply_to}
 
 -- ── the line so far ──────────────────────────────────────────────────────────
 
@@ -40,19 +38,19 @@ before_feed (byte ∷ more) = cond (eqb byte 10) 0 (suc (before_feed more))
 
 -- ── a session ────────────────────────────────────────────────────────────────
 
--- "No station yet": a blank one in its place
+-- "No station yet"
 unfoldable pub begun : Session
-begun = record { desk = desk false blank_station; text = no_text }
+begun = record { desk = None; text = no_text }
 
 abbrev pub untaken : Session → Fed
 untaken s = record { used = 0; count = 0; session = s }
 
-abbrev pub answered : ℕ → Bool → Station → Text → List ℕ → Fed
-answered used stands station text room =
+abbrev pub answered : ℕ → Desk → Text → List ℕ → Fed
+answered used d text room =
     record {
       used = used;
-      count = put_length room (reply_to (desk stands station) (says_text text));
-      session = record { desk = desk_after (desk stands station) (says_text text); text = no_text };
+      count = put_length room (reply_to d (says_text text));
+      session = record { desk = desk_after d (says_text text); text = no_text };
     }
 
 -- the line so far with the bytes before a line feed
@@ -62,7 +60,7 @@ text_with s bytes = add_bytes s.text (take (before_feed bytes) bytes)
 abbrev pub fed_for : Session → List ℕ → List ℕ → Fed
 fed_for s bytes room =
     cond (ltb (before_feed bytes) (length bytes))
-    (answered (before_feed bytes + 1) s.desk.stands s.desk.station (text_with s bytes) room)
+    (answered (before_feed bytes + 1) s.desk (text_with s bytes) room)
     (record { used = before_feed bytes; count = 0; session = record { desk = s.desk; text = text_with s bytes } })
 
 abbrev pub room_for : Session → List ℕ → List ℕ → List ℕ
@@ -80,7 +78,7 @@ room_with s bytes room = cond (leb answer_room (length room)) (room_for s bytes 
 
 -- at the end of the input
 abbrev pub end_for : Session → List ℕ → Fed
-end_for s room = cond (eqb s.text.length 0) (untaken s) (answered 0 s.desk.stands s.desk.station s.text room)
+end_for s room = cond (eqb s.text.length 0) (untaken s) (answered 0 s.desk s.text room)
 
 unfoldable pub ended : Session → List ℕ → Fed
 ended s room = cond (leb answer_room (length room)) (end_for s room) (untaken s)

@@ -2,8 +2,7 @@
 use Rattle.std.specs.Prelude.{cond, List, [], ◌∷◌, ◌++◌, ◌≡◌, ℕ, ◌≤◌, eqb, ltb, length, take, drop}
 use Rattle.lines.specs.Readable.{reads_as}
 use Rattle.printing.specs.Replies.{answer_room}
-use Rattle.script.specs.declared.Desk.{Desk}
-use Rattle.script.specs.Answering.{desk_after, reply_to}
+use Rattle.script.specs.Answering.{Desk, desk_after, reply_to}
 use Rattle.script.specs.declared.Fed.{Fed}
 use Rattle.script.specs.declared.Session.{Session}
 use Rattle.script.specs.Session.{no_text, add_bytes, before_feed, begun, fed_with, room_with, ended, room_ended}

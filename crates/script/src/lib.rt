@@ -8,13 +8,6 @@ mod texts;
 use lines::LONGEST_LINE;
 use station::Station;
 
-// No station, or one.
-#[derive(Clone, Copy)]
-pub struct Desk {
-    pub stands: bool,
-    pub station: Station,
-}
-
 // "one over 200 characters": so many bytes of a line tell whether it is, and no further one is kept.
 pub const KEPT_BYTES: usize = LONGEST_LINE + 1;
 
@@ -25,9 +18,10 @@ pub struct Text {
     pub bytes: [u8; KEPT_BYTES],
 }
 
+// With no station, or one that stands.
 #[derive(Clone, Copy)]
 pub struct Session {
-    pub desk: Desk,
+    pub desk: Option<Station>,
     pub text: Text,
 }
 
@@ -44,5 +38,5 @@ pub struct Fed {
 struct Handled {
     answer: u8,
     count: u8,
-    desk: Desk,
+    desk: Option<Station>,
 }

@@ -1,9 +1,8 @@
 // The line so far.
 ghost use Rattle.std.specs.Prelude.{◌≡◌, ◌≤◌, length};
-ghost use Rattle.lines.specs.Readable.{line_image};
+ghost use Rattle.lines.specs.Readable.{ReadAs};
 ghost use Rattle.script.specs.Session.{no_text, add_byte, add_bytes, says_text, before_feed};
 
-use crate::desks::least_length;
 use crate::{KEPT_BYTES, Text};
 use lines::{Line, read};
 
@@ -16,31 +15,25 @@ pub(crate) fn no_text() -> Text
     }
 }
 
-fn with_byte(text: Text, byte: u8) -> Text
-    ensures { result ≡ add_byte text byte }
-{
-    let length = text.length;
-    if KEPT_BYTES <= length {
-        return text;
-    }
-    let mut bytes = text.bytes;
-    bytes[length] = byte;
-    Text {
-        length: length + 1,
-        bytes: bytes,
+impl Text {
+    #[tactic(auto, unfolding(crate::specs::Session::add_byte))]
+    fn push(&mut self, byte: u8)
+        ensures { self.new ≡ add_byte self.old byte }
+    {
+        if self.length < KEPT_BYTES {
+            self.bytes[self.length] = byte;
+            self.length += 1;
+        }
     }
 }
 
-pub(crate) fn with_bytes(text: Text, bytes: &[u8]) -> Text
+pub(crate) fn with_bytes(mut text: Text, bytes: &[u8]) -> Text
     ensures { result ≡ add_bytes text bytes.now }
 {
-    let mut next = text;
-    let mut i = 0;
-    while i < bytes.len() {
-        next = with_byte(next, bytes[i]);
-        i += 1;
+    for byte in bytes {
+        text.push(*byte);
     }
-    next
+    text
 }
 
 // How many bytes stand before the first line feed.
@@ -48,21 +41,14 @@ pub(crate) fn before_feed(bytes: &[u8]) -> usize
     ensures value { result ≡ before_feed bytes.now }
     ensures upper_bound { result ≤ length bytes.now }
 {
-    let mut i = 0;
-    while i < bytes.len() {
-        if bytes[i] == 10 {
-            return i;
-        }
-        i += 1;
-    }
-    i
+    bytes
+        .iter()
+        .position(|byte| *byte == 10)
+        .unwrap_or(bytes.len())
 }
 
-pub(crate) fn line_of(text: Text) -> Line
-    ensures value { result ≡ line_image (says_text text) }
-    ensures count_bound { result.count ≤ 99 }
+pub(crate) fn line_of(text: Text) -> Option<Line>
+    ensures { ReadAs result (says_text text) }
 {
-    let bytes = text.bytes;
-    let length = least_length(text.length, KEPT_BYTES);
-    read(&bytes[..length])
+    read(&text.bytes[..text.length.min(KEPT_BYTES)])
 }

@@ -11,20 +11,11 @@ use Rattle.script.proofs.desks.channels_of.Goals as goal
 
 pub loop-i-init : goal.loop-i-init
 unfolding padded viewed
-loop-i-init c = (c.least_length-count.ensures, omega arith, search rules, refl)
-
-pub offset_bounds-numbers-i : goal.offset_bounds-numbers-i
-offset_bounds-numbers-i c = omega arith
-
-pub overflow_add-i : goal.overflow_add-i
-overflow_add-i c = omega arith
-
-pub loop-i-smaller : goal.loop-i-smaller
-loop-i-smaller c = omega arith
+loop-i-init c = (c.min-i-end.ensures, search rules, refl)
 
 pub loop-i-preserved : goal.loop-i-preserved
 loop-i-preserved c = let l = c.loop-i in
-    (l.invariant.0, omega arith, simp length-set l.invariant.2, rw l.invariant.3 (laid_more channel_number (channel_number 0) 16 l.i c.args.numbers.now 0 (omega arith) (omega arith)))
+    (l.invariant.0, simp length-set l.invariant.1, rw l.invariant.2 (laid_more channel_number (channel_number 0) 16 l.i c.args.numbers.now 0 (omega arith) (omega arith)))
 
 pub returns : goal.returns
-returns c = c.loop-i.invariant.3 ∙ all_laid c.args.numbers.now c.loop-i.i (omega arith)
+returns c = c.loop-i.invariant.2 ∙ all_laid c.args.numbers.now c.loop-i.i (omega arith)
