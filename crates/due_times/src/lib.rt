@@ -34,12 +34,22 @@ pub fn due_after(start: Tenths, wait: Tenths) -> Tenths
     Tenths(start.0.saturating_add(wait.0).saturating_add(1))
 }
 
+// The same wait, put together anew: handed on whole, it takes its unused bytes along, and an event takes longer.
+fn anew(due: Option<Due>) -> Option<Due>
+    ensures { result ≡ due }
+{
+    due.map(|wait| Due {
+        at: wait.at,
+        wait: wait.wait,
+    })
+}
+
 // The wait, or `first` where that falls due before it.
 pub fn sooner_of(due: Due, first: Option<Due>) -> Option<Due>
     ensures { due_view result ≡ sooner (record { what = wait_view due.wait; at = due.at.0 }) (due_view first) }
 {
     match first {
-        Some(earlier) if earlier.at < due.at => first,
+        Some(earlier) if earlier.at < due.at => Some(earlier),
         _ => Some(due),
     }
 }
@@ -49,7 +59,7 @@ fn sooner_when(when: Option<Tenths>, wait: Wait, first: Option<Due>) -> Option<D
     ensures { due_view result ≡ join_due (wait_view wait) (when_view when) (due_view first) }
 {
     match when {
-        None => first,
+        None => anew(first),
         Some(at) => sooner_of(Due { at, wait }, first),
     }
 }

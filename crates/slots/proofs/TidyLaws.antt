@@ -1,4 +1,4 @@
--- An array laid out anew: forward into another array, or in place from its last element to its first.
+-- An array laid out anew in place, from its last element to its first; a digit of a number laid out anew.
 use Prim.Native.Nat.{ℕ, zero, suc, ◌-◌, ◌<◌, ◌≤◌}
 use mathlib.Core.Bool.{Bool, true, false, cond}
 use mathlib.Core.List.{List, [], ◌∷◌}
@@ -12,15 +12,6 @@ use Rattle.requests.specs.Views.{viewed, itself}
 use Rattle.requests.proofs.ArrayLaws.{viewed-at, viewed-past}
 use borrow.Author.Tests.{ltb-true, ltb-false}
 
--- a blank behind the list changes nothing
-pub padded-blank : {B : Type 0} (b : B) (m : ℕ) (l : List B) (i : ℕ) → length l ≤ i → set (padded b m l) i b ≡ padded b m l
-unfolding padded
-padded-blank b zero l i h = refl
-padded-blank b (suc m) [] zero h = refl
-padded-blank b (suc m) [] (suc i) h = ap (λ r. b ∷ r) (padded-blank b m [] i (omega arith))
-padded-blank b (suc m) (x ∷ l) zero h = absurd (not-suc-le-zero h)
-padded-blank b (suc m) (x ∷ l) (suc i) h = ap (λ r. x ∷ r) (padded-blank b m l i (le_of_suc-le-suc h))
-
 module _ {A : Type 0} (f : A → A) (b : A) where
   -- the array l of which the first n are in use, laid out anew from the place i on
   unfoldable pub done_from : ℕ → List A → ℕ → List A
@@ -30,26 +21,11 @@ module _ {A : Type 0} (f : A → A) (b : A) where
   done_from zero (x ∷ l) (suc i) = x ∷ done_from zero l i
   done_from (suc n) (x ∷ l) (suc i) = x ∷ done_from n l i
 
-  pub none_done : (n : ℕ) (l : List A) (i : ℕ) → length l ≤ i → l ≡ done_from n l i
-  unfolding done_from
-  none_done n [] i h = refl
-  none_done n (x ∷ l) zero h = absurd (not-suc-le-zero h)
-  none_done zero (x ∷ l) (suc i) h = ap (λ r. x ∷ r) (none_done zero l i (le_of_suc-le-suc h))
-  none_done (suc n) (x ∷ l) (suc i) h = ap (λ r. x ∷ r) (none_done n l i (le_of_suc-le-suc h))
-
   pub all_done : (n : ℕ) (l : List A) → done_from n l 0 ≡ padded b (length l) (viewed f n l)
   unfolding done_from padded viewed
   all_done n [] = refl
   all_done zero (x ∷ l) = ap (λ r. b ∷ r) (all_done zero l)
   all_done (suc n) (x ∷ l) = ap (λ r. f x ∷ r) (all_done n l)
-
-  pub done-length : (n : ℕ) (l : List A) (i : ℕ) → length (done_from n l i) ≡ length l
-  unfolding done_from
-  done-length n [] i = refl
-  done-length zero (x ∷ l) zero = ap suc (done-length zero l zero)
-  done-length (suc n) (x ∷ l) zero = ap suc (done-length n l zero)
-  done-length zero (x ∷ l) (suc i) = ap suc (done-length zero l i)
-  done-length (suc n) (x ∷ l) (suc i) = ap suc (done-length n l i)
 
   at : (n : ℕ) (l : List A) (i : ℕ) (d : A) → get_or (done_from n l (suc i)) i d ≡ get_or l i d
   unfolding done_from
@@ -66,14 +42,6 @@ module _ {A : Type 0} (f : A → A) (b : A) where
   used (suc n) (x ∷ l) zero d h k = refl
   used (suc n) (x ∷ l) (suc i) d h k = ap (λ r. x ∷ r) (used n l i d (le_of_suc-le-suc h) (le_of_suc-le-suc k))
 
-  unused : (n : ℕ) (l : List A) (i : ℕ) → n ≤ i → set (done_from n l (suc i)) i b ≡ done_from n l i
-  unfolding done_from
-  unused n [] i h = refl
-  unused zero (x ∷ l) zero h = refl
-  unused zero (x ∷ l) (suc i) h = ap (λ r. x ∷ r) (unused zero l i (omega arith))
-  unused (suc n) (x ∷ l) zero h = absurd (not-suc-le-zero h)
-  unused (suc n) (x ∷ l) (suc i) h = ap (λ r. x ∷ r) (unused n l i (le_of_suc-le-suc h))
-
   module _ (n : ℕ) (l : List A) (i : ℕ) (z : 0 < i) where
     -- what is yet to come stands as it stood
     pub done_at : (d : A) → get_or (done_from n l i) (i - 1) d ≡ get_or l (i - 1) d
@@ -81,9 +49,6 @@ module _ {A : Type 0} (f : A → A) (b : A) where
 
     pub done-used : (d : A) → i ≤ n → i ≤ length l → set (done_from n l i) (i - 1) (f (get_or l (i - 1) d)) ≡ done_from n l (i - 1)
     done-used d h k = let s : suc (i - 1) ≡ i = omega arith in rw s at (used n l (i - 1) d (omega arith) (omega arith))
-
-    pub done-unused : n < i → set (done_from n l i) (i - 1) b ≡ done_from n l (i - 1)
-    done-unused h = let s : suc (i - 1) ≡ i = omega arith in rw s at (unused n l (i - 1) (omega arith))
 
 -- a digit of a number laid out anew
 padded-at : (m : ℕ) (l : List ℕ) (i : ℕ) → i < m → get_or (padded 0 m l) i 0 ≡ get_or l i 0

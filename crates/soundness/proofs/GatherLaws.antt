@@ -1,5 +1,5 @@
 -- Numbers gathered from a station's records, and what it says of the records that none of them stands twice.
-use Prim.Native.Nat.{ℕ, ◌+◌, ◌-◌, ◌<◌, ◌≤◌, min}
+use Prim.Native.Nat.{ℕ, ◌+◌, ◌<◌, ◌≤◌, min}
 use mathlib.Core.Bool.{Bool, true, false, cond, ◌&&◌, ◌||◌}
 use mathlib.Core.List.{List, [], ◌∷◌, ◌++◌, map, append_assoc, append-nil}
 use mathlib.Core.Path.{◌≡◌, refl, sym, ap, ◌∙◌}
@@ -20,9 +20,8 @@ use Rattle.sequence.specs.Field.{channel_ok}
 use Rattle.rules.specs.Rules.Sound.{channels_keep, request_keeps, duration_keeps, slot_keeps, waiting_keeps, owner, owners}
 use Rattle.sequence.proofs.Tests.{both_true}
 use Rattle.rules.specs.Rules.Bytes.{padded}
-use Rattle.requests.specs.Views.{viewed, left, itself, request_of}
-use Rattle.rules.proofs.Payloads.{padded-length}
-use Rattle.requests.proofs.ArrayLaws.{padded-front, padded-snoc, viewed-more, viewed-min, viewed-length, left-all, left-more}
+use Rattle.requests.specs.Views.{viewed, itself, request_of}
+use Rattle.requests.proofs.ArrayLaws.{padded-front, padded-snoc, viewed-more, viewed-min, viewed-length}
 use Rattle.slots.specs.declared.Phase.{Phase}
 use Rattle.slots.specs.declared.Slot.{Slot}
 use Rattle.slots.specs.declared.Waiting.{Waiting}
@@ -50,9 +49,6 @@ filled_more l room c x h f =
       holds = rw (f.holds, f.count) (padded-snoc 0 48 l x h);
       count = let e : length (l ++ (x ∷ [])) ≡ length l + 1 = simp length-append in omega (arith, e, f.count);
     }
-
-pub filled-length : (l room : List ℕ) (c : ℕ) → Filled l room c → length room ≡ 48
-filled-length l room c f = rw f.holds (padded-length 0 48 l)
 
 filled-front : (l room : List ℕ) (c : ℕ) → length l ≤ 48 → Filled l room c → take c room ≡ l
 filled-front l room c h f = rw (f.holds, f.count) (padded-front 0 48 l h)
@@ -82,21 +78,6 @@ ships-front n j a m k b room c e d h f =
     filled-front (ships_of (viewed itself j a) ++ viewed ship_at k b) room c (rw (← f.count) h) f
     ∙ ap (λ l. ships_of l ++ viewed ship_at k b) (rw (← e) at (viewed-min itself n a))
     ∙ ap (λ l. ships_of (viewed itself n a) ++ l) (rw (← d) at (viewed-min ship_at m b))
-
--- ── a test of every record, from the last to the first ──
-
-module _ {A : Type 0} (f : A → Bool) (n : ℕ) (l : List A) (i : ℕ) (d : A) (z : Bool) (p : 0 < i) (h : i ≤ n) (k : i ≤ length l) where
-  down : left itself n l (i - 1) ≡ get_or l (i - 1) d ∷ left itself n l i
-  down = let j : i - 1 + 1 ≡ i = omega arith in rw j at (left-more itself n l (i - 1) d (omega arith) (omega arith))
-
-  pub one_passes : f (get_or l (i - 1) d) ≡ true → {s : Bool} → s ≡ (all f (left itself n l i) && z) → s ≡ (all f (left itself n l (i - 1)) && z)
-  one_passes t e = rw (down, t) e
-
-  pub one-fails : f (get_or l (i - 1) d) ≡ false → false ≡ (all f (left itself n l (i - 1)) && z)
-  one-fails t = rw (down, t)
-
-pub all-passed : {A : Type 0} (f : A → Bool) (n : ℕ) (l : List A) (i : ℕ) (z : Bool) → i ≡ 0 → {s : Bool} → s ≡ (all f (left itself n l i) && z) → s ≡ (all f (viewed itself n l) && z)
-all-passed f n l i z e h = (rw e at h) ∙ ap (λ r. all f r && z) (left-all itself n l)
 
 -- ── the channels of the slots ──
 
