@@ -7,6 +7,7 @@ use native.Mathlib.Omega.{arith}
 use native.Mathlib.Nat.{le_of_suc-le-suc, not-suc-le-zero}
 use lib.ListN.{length, drop, length-map}
 use lib.Seq.{drop_at}
+use Rattle.std.specs.Prelude.{Ok}
 use Rattle.units.specs.declared.Channel.{Channel}
 use Rattle.sequence.specs.Identity.{is_coast}
 use Rattle.rules.specs.Rules.Places.{Each}
@@ -39,7 +40,7 @@ use Rattle.layouts.proofs.RecordLaws.{records-told}
 use Rattle.lent_layout.specs.Layout.{slot_fields, waiting_fields, head_fields, station_fields}
 use Rattle.lent_layout.specs.Numbers.{request_numbers, request_from, slot_numbers, waiting_numbers, station_numbers, slot_from, waiting_from, in_use, station_in}
 use Rattle.lent_layout.specs.Stations.{current, station_bytes, station_from}
-use Rattle.lent_layout.specs.Statement.{FoundAgain, HandedOutIsFoundAgain, OtherLayoutIsNotSound}
+use Rattle.lent_layout.specs.Statement.{FoundAgain, HandedOutIsFoundAgain, BlankIsFoundAgain, OtherLayoutIsNotSound}
 use Rattle.lent_layout.proofs.LayLaws.{sixteen}
 use Rattle.lent_layout.proofs.StationLaws.{slot-numbers, waiting-numbers, used_slots, used_queue, slots16, queue32, slots-numbers, fields-filled, station-numbers, station-sized, station-first}
 
@@ -164,10 +165,15 @@ image-whole c m =
       queue_wide = each-padded (λ x. Wide x.request) blank_waiting blank-wide 32 (map waiting_image m.queue) (queue-wide m.queue);
     }
 
-set-up-found : (c : Config) (v : Option ℕ) → FoundAgain (set_up_for c v).station
+set-up-found : (c : Config) (v : Option ℕ) (s : Station) → set_up_for c v ≡ Ok s → FoundAgain s
+set-up-found c none s e =
+    let same : image_of c (fresh c) ≡ s = cc in
+    rw (← same) (found-again (image_of c (fresh c)) (image-whole c (fresh c)))
+set-up-found c (some n) s e = cc
+
+pub blank-is-found-again : BlankIsFoundAgain
 unfolding blank_station
-set-up-found c none = found-again (image_of c (fresh c)) (image-whole c (fresh c))
-set-up-found c (some n) = found-again blank_station (image-whole (given 0 []) (fresh (given 0 [])))
+blank-is-found-again = found-again blank_station (image-whole (given 0 []) (fresh (given 0 [])))
 
 step-found : (s : Station) (e : Event) → refusal s e ≡ none → FoundAgain (stepped_by s e).station
 unfolding stepped_by

@@ -7,6 +7,7 @@ use native.Mathlib.Omega.{arith}
 use native.Mathlib.Nat.{mul-suc, le_of_suc-le-suc, not-suc-le-zero}
 use native.Mathlib.Numerals.{add-one}
 use lib.ListN.{length, get_or, set, take, drop, replicate, length-take, replicate-append-replicate}
+use Rattle.std.proofs.lemmas.List.{take_min}
 use lib.Seq.{drop-cons, length-take-le, take-suc, take_all}
 use Rattle.sequence.specs.declared.Meaning.{Meaning}
 use Rattle.rules.specs.Rules.Bytes.{padded}
@@ -103,11 +104,6 @@ waiting-laid w room p h =
 
 -- ── the records of an array ──────────────────────────────────────────────────
 
-take-least : {A : Type 0} (n : ℕ) (l : List A) → take (min n (length l)) l ≡ take n l
-take-least zero l = let e : min 0 (length l) ≡ 0 = omega arith in rw e
-take-least (suc n) [] = let e : min (suc n) 0 ≡ 0 = omega arith in rw e
-take-least (suc n) (x ∷ l) = let e : min (suc n) (suc (length l)) ≡ suc (min n (length l)) = omega arith in rw e (ap (λ r. x ∷ r) (take-least n l))
-
 module _ {A : Type 0} (f : A → List ℕ) (n : ℕ) (whole : (x : A) → length (f x) ≡ n) where
   -- one more, laid behind the others
   pub record-laid : (room : List ℕ) (p i : ℕ) (l : List A) (d : A) → i + 1 ≤ length l → p ≤ length room
@@ -139,7 +135,7 @@ module _ {A : Type 0} (f : A → List ℕ) (n : ℕ) (whole : (x : A) → length
         → laid (laid room p (flat_map f (take (min k m) l))) (p + n * min k m) (replicate (n * (m - min k m)) 0) ≡ laid room p (flat_map f (in_use b m k l))
     unfolding in_use
     blanks-laid room p m k l e h =
-        let used : take (min k m) l ≡ take k l = rw (← e) (take-least k l) in
+        let used : take (min k m) l ≡ take k l = rw (← e) (take_min k l) in
         let short : length (take k l) ≡ min k m = length-take k l ∙ (rw e) in
         let size : length (flat_map f (take k l)) ≡ n * min k m = flat_map-length f n whole (take k l) ∙ ap (λ j. n * j) short in
         rw (used, blanks m (take k l) (omega arith), short) (rw size at (laid_next room p (flat_map f (take k l)) (replicate (n * (m - min k m)) 0) h))
