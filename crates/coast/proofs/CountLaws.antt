@@ -1,37 +1,30 @@
 -- How much is written of a transmission, and read.
-use Prim.Native.Nat.{ℕ, ◌≤◌}
-use mathlib.Core.Bool.{cond}
+use Prim.Native.Nat.{ℕ, ◌<◌}
+use mathlib.Core.Path.{◌≡◌, refl}
 use mathlib.Core.List.{List}
 use native.Mathlib.Omega.{arith}
 use lib.ListN.{length, replicate, length-replicate}
-use Rattle.sequence.specs.Figures.{longest}
-use Rattle.sequence.proofs.Tests.{Either, yes!, no!, which}
-use Rattle.transmission.specs.Answers.{is_done}
+use Rattle.std.specs.Prelude.{IfOk, Some, None}
+use Rattle.transmission.specs.Answers.{Answer, done, answered}
 use Rattle.transmission.specs.Layout.{transmission}
+use Rattle.transmission.specs.Copies.{symbols_from}
 use Rattle.transmission.specs.Phasing.{heard, characters_of}
-use Rattle.transmission.specs.Writing.{longest_transmission, writing_answer, transmission_written}
-use Rattle.transmission.specs.Reading.{count_in, reading_answer, transmission_read}
+use Rattle.transmission.specs.Writing.{writing_answer, transmission_written}
+use Rattle.transmission.specs.Reading.{start_in, count_in, transmission_read}
 use Rattle.transmission.proofs.LayoutLaws.{transmission-length}
 use Rattle.transmission.proofs.SymbolLaws.{count_most}
 use Rattle.sending.proofs.Done.{done-fit}
 
--- no more than 74 characters
-pub characters-at-most : (s : List ℕ) (room : ℕ) → (transmission_written s room).count ≤ longest_transmission
-unfolding transmission_written
-characters-at-most s room = go (which (is_done (writing_answer s room)))
-  where
-    go : Either (is_done (writing_answer s room)) → cond (is_done (writing_answer s room)) (length (transmission s)) 0 ≤ longest_transmission
-    go (yes! p) =
-        let fit = done-fit s (replicate room 0) (rw (length-replicate {A = ℕ} room 0) p) in
-        rw (p, transmission-length s) (omega (arith, fit.most))
-    go (no! p) = rw p (omega arith)
+answered-few : (a : Answer) (n : ℕ) → (a ≡ done → n < 256) → IfOk (answered a n) (λ count. count < 256)
+answered-few None n h = h refl
+answered-few (Some r) n h = tt
 
--- no more than 28 symbols
-pub symbols-at-most : (bytes : List ℕ) (room : ℕ) → (transmission_read bytes room).count ≤ longest
+pub characters-few : (s : List ℕ) (room : ℕ) → IfOk (transmission_written s room) (λ count. count < 256)
+unfolding transmission_written
+characters-few s room = answered-few (writing_answer s room) (length (transmission s)) (λ e.
+    let fit = done-fit s (replicate room 0) (rw (length-replicate {A = ℕ} room 0) e) in
+    rw (transmission-length s) (omega (arith, fit.most)))
+
+pub symbols-few : (bytes : List ℕ) (room : ℕ) → IfOk (transmission_read bytes room) (λ count. count < 256)
 unfolding transmission_read count_in
-symbols-at-most bytes room = go (which (is_done (reading_answer (heard (characters_of bytes)) room)))
-  where
-    go : Either (is_done (reading_answer (heard (characters_of bytes)) room))
-        → cond (is_done (reading_answer (heard (characters_of bytes)) room)) (count_in (heard (characters_of bytes))) 0 ≤ longest
-    go (yes! p) = rw p (count_most _)
-    go (no! p) = rw p (omega arith)
+symbols-few bytes room = answered-few _ (count_in (heard (characters_of bytes))) (λ e. omega (arith, count_most (symbols_from (heard (characters_of bytes)) (start_in (heard (characters_of bytes))))))

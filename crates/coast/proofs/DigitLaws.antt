@@ -15,12 +15,11 @@ use Rattle.rules.specs.Rules.Words.{Event}
 use Rattle.rules.specs.Rules.Ashore.{ashore_request}
 use Rattle.rules.specs.Rules.Sound.{number_keeps}
 use Rattle.rules.specs.Rules.Verdict.{refusals}
-use Rattle.rules.specs.Rules.Bytes.{padded}
 use Rattle.rules.specs.Rules.Requests.{Out}
 use Rattle.rules.specs.Rules.Calls.{act}
 use Rattle.rules.proofs.Accepted.{accepted}
 use Rattle.requests.specs.Views.{viewed, itself}
-use Rattle.requests.proofs.ArrayLaws.{padded-front, viewed-length, viewed-min}
+use Rattle.requests.proofs.ArrayLaws.{padded-front, viewed-length}
 use Rattle.station.specs.declared.Station.{Station}
 use Rattle.station.specs.Model.{model_of, config_of}
 use Rattle.station.specs.Step.{event_at, ashore_of, refusal, stepped_for, stepped_by, room_for, room_after}
@@ -28,10 +27,6 @@ use Rattle.station.proofs.GateLaws.{passed}
 use Rattle.coast.specs.Digits.{digit_numbers}
 
 -- ── laid out in numbers ──────────────────────────────────────────────────────
-
-pub all-looked-at : (l : List ℕ) (i : ℕ) → i ≡ min 17 (length l) → padded 0 17 (viewed itself i l) ≡ digit_numbers l
-unfolding digit_numbers
-all-looked-at l i e = rw (e, viewed-min itself 17 l)
 
 map-itself : (l : List ℕ) → map itself l ≡ l
 map-itself [] = refl

@@ -1,17 +1,19 @@
 -- What is found within reach fits one number.
 use Prim.Native.Nat.{ℕ, ◌<◌, ◌≤◌}
-use mathlib.Core.Path.{◌≡◌}
+use mathlib.Core.Path.{◌≡◌, sym}
 use mathlib.Core.List.{List}
 use mathlib.Core.Logic.{◌⊎◌, inl, inr}
 use native.Mathlib.Omega.{arith}
 use lib.ListN.{length, length-take}
 use lib.Seq.{take_all}
+use Rattle.std.specs.Prelude.{Some}
 use Rattle.sequence.specs.Figures.{longest}
 use Rattle.receivers.specs.declared.Stretch.{Stretch}
 use Rattle.receivers.specs.declared.Receiver.{Receiver}
 use Rattle.receivers.specs.declared.Receiver.TheVariants.{First, Second}
-use Rattle.receivers.specs.Finding.{found_in, heard_by}
-use Rattle.receivers.proofs.FoundLaws.{found_within, found-sized}
+use Rattle.receivers.specs.declared.Found.{Found}
+use Rattle.receivers.specs.Finding.{found_in, handed, heard_by}
+use Rattle.receivers.proofs.FoundLaws.{found-inside, found-sized}
 use Rattle.coast.specs.Finding.{reach, in_reach, receiver_number, found_returned}
 use Rattle.coast.specs.Statement.{FoundTakenApart}
 
@@ -27,20 +29,12 @@ either-within : (r : Receiver) (first second : List ℕ) → length (heard_by r 
 either-within First first second = within-reach first
 either-within Second first second = within-reach second
 
-pub found-fits : (first second : List ℕ)
-    → ((found_in (in_reach first) (in_reach second)).stretch.count ≤ longest)
-    × ((found_in (in_reach first) (in_reach second)).stretch.place < reach)
+pub found-fits : (first second : List ℕ) (f : Found) → Some f ≡ found_in (in_reach first) (in_reach second)
+    → (f.stretch.count ≤ longest) × (f.stretch.place < reach)
 unfolding reach
-found-fits first second = go (found-sized (in_reach first) (in_reach second))
-  where
-    w : Stretch
-    w = (found_in (in_reach first) (in_reach second)).stretch
-
-    go : (w ≡ record { place = 0; count = 0 }) ⊎ ((21 ≤ w.count) × (w.count ≤ 28)) → (w.count ≤ 28) × (w.place < 281474976710656)
-    go (inl e) = (rw e (omega arith), rw e (omega arith))
-    go (inr h) =
-        let i = found_within (in_reach first) (in_reach second) in
-        (h.1, omega (arith, h.0, i, either-within (found_in (in_reach first) (in_reach second)).receiver first second))
+found-fits first second f e =
+    let i = found-inside (in_reach first) (in_reach second) f (sym e) in
+    (i.most, omega (arith, i.least, i.within, either-within f.receiver first second))
 
 pub one_bit : (r : Receiver) → receiver_number r ≤ 1
 one_bit First = omega arith
@@ -49,7 +43,7 @@ one_bit Second = omega arith
 pub found-taken-apart : FoundTakenApart
 unfolding found_returned
 found-taken-apart first second =
-    let f = found_in first second in
+    let f = handed (found_in first second) in
     let bit = one_bit f.receiver in
     let few = few_bytes (found-sized first second) in
     (omega (arith, few, bit), omega (arith, few, bit), omega (arith, few, bit))

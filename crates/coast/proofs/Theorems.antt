@@ -7,6 +7,8 @@ use mathlib.Core.Option.{Option, none, some}
 use native.Mathlib.Omega.{arith}
 use lib.Dec.{ltb}
 use borrow.Author.Tests.{le-leb, lt-leb, ltb-true}
+use Rattle.std.specs.Prelude.{Option as Optional, Some, None, Ok}
+use Rattle.units.specs.declared.Tenths.{Tenths}
 use Rattle.sequence.specs.Identity.{is_coast}
 use Rattle.sequence.proofs.Tests.{Either, yes!, no!, which, both_true}
 use Rattle.rules.specs.Rules.Places.{all}
@@ -16,12 +18,10 @@ use Rattle.rules.specs.Rules.Bytes.{padded}
 use Rattle.rules.specs.Rules.Station.{fresh}
 use Rattle.rules.specs.Rules.Sound.{identity_keeps, config_keeps, sound}
 use Rattle.rules.specs.Statement.{ZeroOrOne}
-use Rattle.rules.specs.Rules.Verdict.{verdict, set_up_verdict}
+use Rattle.rules.specs.Rules.Verdict.{verdict}
 use Rattle.rules.proofs.Answered as Rules
 use Rattle.rules.proofs.Answered.{other_numbers, zero-or-one}
 use Rattle.requests.specs.Views.{viewed}
-use Rattle.station.specs.declared.NextDue.{NextDue}
-use Rattle.station.specs.declared.NextDue.TheVariants.{Never, At}
 use Rattle.station.specs.declared.Station.{Station}
 use Rattle.station.specs.Model.{config_of, model_of, image_of}
 use Rattle.station.specs.Step.{records_keep, refusal, stepped_by, room_after, blank_station, set_up_of}
@@ -77,10 +77,10 @@ pub other-layout-tells-nothing : OtherLayoutTellsNothing
 unfolding due_returned clock_returned station_from blank_station records_keep viewed image_of model_of config_of sound config_keeps identity_keeps is_coast fresh padded
 other-layout-tells-nothing b h = (rw h refl, rw h refl)
 
-apart : (a n : ℕ) (d : NextDue) → a < 256 → n < 256
+apart : (a n : ℕ) (d : Optional Tenths) → a < 256 → n < 256
     → ((a + 256 * n + due_number d) % 256 ≡ a) × ((a + 256 * n + due_number d) / 256 % 256 ≡ n) × ((a + 256 * n + due_number d) / 65536 % 2 ≡ waits d) × ((a + 256 * n + due_number d) / 4294967296 ≡ due_time d)
-apart a n Never h k = (omega arith, omega arith, omega arith, omega arith)
-apart a n (At t) h k = (omega arith, omega arith, omega arith, omega arith)
+apart a n None h k = (omega arith, omega arith, omega arith, omega arith)
+apart a n (Some t) h k = (omega arith, omega arith, omega arith, omega arith)
 
 pub taken-apart : TakenApart
 unfolding packed
@@ -111,9 +111,9 @@ along s f (e ∷ es) =
     let more = along (stepped_by s e).station l.1 es in
     (rw (returned-is s f e, l.0, more.0), rw l.0 more.1, rw l.0 more.2)
 
-pub set-up : (c : Config) (lent : List ℕ) → set_up_verdict c ≡ none → sized lent ≡ true → station_set_up c lent ≡ station_bytes (set_up_of c).station
+pub set-up : (c : Config) (begun : Station) (lent : List ℕ) → set_up_of c ≡ Ok begun → sized lent ≡ true → station_set_up c lent ≡ station_bytes begun
 unfolding station_set_up
-set-up c lent h w = rw h (laid-whole _ lent w)
+set-up c begun lent h w = rw h (laid-whole begun lent w)
 
 pub host-hands-on : HostHandsOn
-host-hands-on c lent h w es = rw (set-up c lent h w) (along (set_up_of c).station (handed-out-is-found-again.0 c) es)
+host-hands-on c begun lent h w es = rw (set-up c begun lent h w) (along begun (handed-out-is-found-again.0 c begun h) es)

@@ -1,11 +1,9 @@
 -- What is claimed of the station's entries: of any call, and of a host that hands on what it was left.
-use Rattle.std.specs.Prelude.{ℕ, ◌/◌, ◌%◌, ◌<◌, ◌≡◌, true, false, List, [], ◌∷◌}
+use Rattle.std.specs.Prelude.{ℕ, ◌/◌, ◌%◌, ◌<◌, ◌≡◌, true, false, Option as Optional, Some, None, Ok, List, [], ◌∷◌}
+use Rattle.units.specs.declared.Tenths.{Tenths}
 use Rattle.std.proofs.Math.Option.{none, some}
 use Rattle.rules.specs.Rules.Words.{Config, Event}
-use Rattle.rules.specs.Rules.Verdict.{set_up_verdict}
-use Rattle.receivers.specs.Finding.{found_in}
-use Rattle.station.specs.declared.NextDue.{NextDue}
-use Rattle.station.specs.declared.NextDue.TheVariants.{Never, At}
+use Rattle.receivers.specs.Finding.{found_in, handed}
 use Rattle.station.specs.declared.Station.{Station}
 use Rattle.station.specs.declared.Stepped.{Stepped}
 use Rattle.station.specs.Step.{refusal, stepped_by, room_after, set_up_of}
@@ -31,13 +29,13 @@ abbrev pub OtherLayoutTellsNothing : Type 0
 OtherLayoutTellsNothing = (b : List ℕ) → current b ≡ false → (due_returned (station_from b) ≡ 29) × (clock_returned (station_from b) ≡ 29)
 
 -- the four parts of the number that an event returns, as the header takes it apart
-abbrev pub waits : NextDue → ℕ
-waits Never = 0
-waits (At t) = 1
+abbrev pub waits : Optional Tenths → ℕ
+waits None = 0
+waits (Some t) = 1
 
-abbrev pub due_time : NextDue → ℕ
-due_time Never = 0
-due_time (At t) = t.0
+abbrev pub due_time : Optional Tenths → ℕ
+due_time None = 0
+due_time (Some t) = t.0
 
 abbrev pub TakenApart : Type 0
 TakenApart = (r : Stepped) → r.answer < 256 → r.count < 256
@@ -47,9 +45,9 @@ TakenApart = (r : Stepped) → r.answer < 256 → r.count < 256
 -- the three parts of the number that the finder returns: its length, 0 where nothing was found, its receiver and its place
 abbrev pub FoundTakenApart : Type 0
 FoundTakenApart = (first second : List ℕ)
-    → (found_returned (found_in first second) % 256 ≡ (found_in first second).stretch.count)
-    × (found_returned (found_in first second) / 256 % 2 ≡ receiver_number (found_in first second).receiver)
-    × (found_returned (found_in first second) / 65536 ≡ (found_in first second).stretch.place)
+    → (found_returned (found_in first second) % 256 ≡ (handed (found_in first second)).stretch.count)
+    × (found_returned (found_in first second) / 256 % 2 ≡ receiver_number (handed (found_in first second)).receiver)
+    × (found_returned (found_in first second) / 65536 ≡ (handed (found_in first second)).stretch.place)
 
 -- ── a host that hands on what it was left ────────────────────────────────────
 
@@ -74,8 +72,8 @@ handed_by s (e ∷ es) = handed_by (stepped_by s e).station es
 -- from every set-up that 36 does not refuse, along any list of events: the same answers, counts and due times, the same station, and
 -- in the room of one event more the same actions
 abbrev pub HostHandsOn : Type 0
-HostHandsOn = (c : Config) (lent : List ℕ) → set_up_verdict c ≡ none → sized lent ≡ true → (es : List Event)
-    → (returned_by (station_set_up c lent) es ≡ packed_by (set_up_of c).station es)
-    × (left_by (station_set_up c lent) es ≡ station_bytes (handed_by (set_up_of c).station es))
+HostHandsOn = (c : Config) (begun : Station) (lent : List ℕ) → set_up_of c ≡ Ok begun → sized lent ≡ true → (es : List Event)
+    → (returned_by (station_set_up c lent) es ≡ packed_by begun es)
+    × (left_by (station_set_up c lent) es ≡ station_bytes (handed_by begun es))
     × ((e : Event) (room : List ℕ)
-    → room_left (left_by (station_set_up c lent) es) room e ≡ room_after (handed_by (set_up_of c).station es) room e)
+    → room_left (left_by (station_set_up c lent) es) room e ≡ room_after (handed_by begun es) room e)

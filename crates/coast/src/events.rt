@@ -8,37 +8,34 @@ ghost use Rattle.coast.specs.Events.{due_number, packed, kept, returned, station
 
 use lent_layout::{lay_station, station_from};
 use slots::{Hand, Signal};
-use station::{NextDue, Plain, Stepped};
+use station::{Plain, Stepped};
 use units::{SlotNumber, Tenths};
 
-pub(crate) fn due_number(due: NextDue) -> u64
+pub(crate) fn due_number(due: Option<Tenths>) -> u64
     ensures value { result ≡ due_number due }
     ensures upper_bound { result ≤ 18446744069414649856 }
 {
     match due {
-        NextDue::Never => 0,
-        NextDue::At(time) => 65536 + 4294967296 * (time.0 as u64),
+        Some(time) => 65536 + 4294967296 * u64::from(time.0),
+        None => 0,
     }
 }
 
 // What an event came to, as one number; the next station is laid where it was accepted.
-pub(crate) fn hand_back(stepped: Stepped, station: &mut [u8]) -> u64
-    ensures value { result ≡ packed stepped }
-    ensures station_kept { station.new ≡ kept station.old stepped }
+#[tactic(auto, unfolding(crate::specs::Events::packed, crate::specs::Events::kept))]
+pub(crate) fn hand_back(stepped: &Stepped, station: &mut [u8]) -> u64
+    ensures value { result ≡ packed stepped.now }
+    ensures station_kept { station.new ≡ kept station.old stepped.now }
 {
     let answer = stepped.answer;
-    let count = stepped.count;
-    let due = stepped.due;
-    let next = stepped.station;
-    let number = (answer as u64) + 256 * (count as u64) + due_number(due);
     if answer <= 1 {
-        lay_station(next, station);
-        return number;
+        lay_station(&stepped.station, station);
     }
-    number
+    u64::from(stepped.answer) + 256 * u64::from(stepped.count) + due_number(stepped.due)
 }
 
 // The time has come.
+#[tactic(auto, unfolding(crate::specs::Events::returned, crate::specs::Events::station_after, crate::specs::Events::room_left))]
 pub fn coast_tick(station: &mut [u8], time: u32, room: &mut [u8]) -> u64
     ensures value { result ≡ returned station.old (event_at time tick room.old) }
     ensures station_kept { station.new ≡ station_after station.old (event_at time tick room.old) }
@@ -46,10 +43,11 @@ pub fn coast_tick(station: &mut [u8], time: u32, room: &mut [u8]) -> u64
 {
     let by_value = station_from(station);
     let stepped = by_value.tick(Tenths(time), room);
-    hand_back(stepped, station)
+    hand_back(&stepped, station)
 }
 
 // A sequence was heard on channel 70.
+#[tactic(auto, unfolding(crate::specs::Events::returned, crate::specs::Events::station_after, crate::specs::Events::room_left))]
 pub fn coast_heard_on_channel_70(
     station: &mut [u8],
     time: u32,
@@ -64,10 +62,11 @@ pub fn coast_heard_on_channel_70(
 {
     let by_value = station_from(station);
     let stepped = by_value.heard_on_channel_70(Tenths(time), symbols, room);
-    hand_back(stepped, station)
+    hand_back(&stepped, station)
 }
 
 // A sequence was heard on a slot's working channel.
+#[tactic(auto, unfolding(crate::specs::Events::returned, crate::specs::Events::station_after, crate::specs::Events::room_left))]
 pub fn coast_heard_on_slot(
     station: &mut [u8],
     time: u32,
@@ -83,10 +82,11 @@ pub fn coast_heard_on_slot(
 {
     let by_value = station_from(station);
     let stepped = by_value.heard_on_slot(Tenths(time), SlotNumber(slot), symbols, room);
-    hand_back(stepped, station)
+    hand_back(&stepped, station)
 }
 
 // Whatever happens on a slot and is no sequence.
+#[tactic(auto, unfolding(crate::specs::Events::returned, crate::specs::Events::station_after, crate::specs::Events::room_left))]
 fn plainly(what: Plain, station: &mut [u8], time: u32, slot: u32, room: &mut [u8]) -> u64
     ensures value { result ≡ returned station.old (slot_at time slot (plain_view what) room.old) }
     ensures station_kept { station.new ≡ station_after station.old (slot_at time slot (plain_view what) room.old) }
@@ -94,8 +94,10 @@ fn plainly(what: Plain, station: &mut [u8], time: u32, slot: u32, room: &mut [u8
 {
     let by_value = station_from(station);
     let stepped = by_value.plainly(what, Tenths(time), SlotNumber(slot), room);
-    hand_back(stepped, station)
+    hand_back(&stepped, station)
 }
+
+// From here on one entry for each event, as include/coast.h declares them.
 
 // The ship's carrier comes.
 pub fn coast_carrier_up(station: &mut [u8], time: u32, slot: u32, room: &mut [u8]) -> u64

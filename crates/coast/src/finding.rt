@@ -2,45 +2,38 @@
 ghost use Rattle.std.specs.Prelude.{◌≡◌, ◌≤◌, ◌<◌};
 ghost use Rattle.sequence.specs.Figures.{longest};
 ghost use Rattle.receivers.specs.Finding.{found_in};
-ghost use Rattle.coast.specs.Finding.{reach, receiver_number, in_reach, found_returned};
+ghost use Rattle.coast.specs.Finding.{reach, in_reach, found_number, found_returned};
 
-use receivers::{Found, Receiver, find};
+use receivers::{Found, find};
 
 // As many bytes as the number that is returned has places for.
 const REACH: usize = 281474976710656;
 
+// Nothing found is told as the second receiver's first zero bytes.
+const NOTHING_FOUND: u64 = 256;
+
 fn in_reach(bytes: &[u8]) -> &[u8]
     ensures { result.now ≡ in_reach bytes.now }
 {
-    if REACH < bytes.len() {
-        return &bytes[..REACH];
-    }
-    bytes
+    &bytes[..REACH.min(bytes.len())]
 }
 
-fn receiver_number(receiver: Receiver) -> u64
-    ensures { result ≡ receiver_number receiver }
-{
-    match receiver {
-        Receiver::First => 0,
-        Receiver::Second => 1,
-    }
-}
-
+#[tactic(auto, unfolding(crate::specs::Finding::reach))]
 fn in_one_number(found: Found) -> u64
     requires { (found.stretch.count ≤ longest) × (found.stretch.place < reach) }
-    ensures { result ≡ found_returned found }
+    ensures { result ≡ found_number found }
 {
-    let receiver = found.receiver;
     let stretch = found.stretch;
-    let count = stretch.count;
-    let place = stretch.place;
-    count as u64 + 256 * receiver_number(receiver) + 65536 * (place as u64)
+    stretch.count as u64 + 256 * (found.receiver as u64) + 65536 * (stretch.place as u64)
 }
 
 // Returns the length of the stretch that was found, its receiver and its place, in one number; the length 0 says 54.
+#[tactic(auto, unfolding(crate::specs::Finding::found_returned))]
 pub fn coast_find_sequence(first: &[u8], second: &[u8]) -> u64
     ensures { result ≡ found_returned (found_in (in_reach first.now) (in_reach second.now)) }
 {
-    in_one_number(find(in_reach(first), in_reach(second)))
+    match find(in_reach(first), in_reach(second)) {
+        Some(found) => in_one_number(found),
+        None => NOTHING_FOUND,
+    }
 }

@@ -3,6 +3,7 @@
 
 pub mod events;
 pub mod finding;
+mod rows;
 pub mod sequences;
 pub mod setting;
 pub mod shore_calls;

@@ -1,10 +1,11 @@
 // A call from ashore, on a station in lent bytes.
-ghost use Rattle.std.specs.Prelude.{◌≡◌, min};
+ghost use Rattle.std.specs.Prelude.{◌≡◌};
 ghost use Rattle.station.specs.Step.{event_at, ashore_of};
 ghost use Rattle.coast.specs.Events.{returned, station_after, room_left};
-ghost use Rattle.coast.specs.Digits.{looked_at, digit_numbers};
+ghost use Rattle.coast.specs.Digits.{digit_numbers};
 
 use crate::events::hand_back;
+use crate::rows::row_of;
 use lent_layout::station_from;
 use sequence::DIGITS;
 use units::Tenths;
@@ -12,27 +13,15 @@ use units::Tenths;
 // One digit more than a number may have: enough to see that it is too long.
 const LOOKED_AT: usize = DIGITS + 1;
 
-fn looked_at(count: usize) -> usize
-    ensures { result ≡ min looked_at count }
-{
-    if LOOKED_AT < count { LOOKED_AT } else { count }
-}
-
+#[tactic(auto, unfolding(crate::specs::Digits::digit_numbers))]
 fn numbers_in(digits: &[u8]) -> [u32; LOOKED_AT]
     ensures { result ≡ digit_numbers digits.now }
 {
-    let mut numbers = [0u32; LOOKED_AT];
-    let count = looked_at(digits.len());
-    let mut i = 0;
-    while i < count {
-        let number = digits[i] as u32;
-        numbers[i] = number;
-        i += 1;
-    }
-    numbers
+    row_of(digits, 0, |digit| u32::from(digit))
 }
 
 // Ashore somebody calls a ship, in a mode; the digits, one a byte, are the caller's own number.
+#[tactic(auto, unfolding(crate::specs::Events::returned, crate::specs::Events::station_after, crate::specs::Events::room_left))]
 pub fn coast_call_from_ashore(
     station: &mut [u8],
     time: u32,
@@ -49,7 +38,7 @@ pub fn coast_call_from_ashore(
 {
     let by_value = station_from(station);
     let numbers = numbers_in(digits);
-    let count = looked_at(digits.len());
+    let count = LOOKED_AT.min(digits.len());
     let stepped = by_value.call_from_ashore(Tenths(time), ship, mode, &numbers[..count], room);
-    hand_back(stepped, station)
+    hand_back(&stepped, station)
 }
