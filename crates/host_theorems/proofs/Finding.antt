@@ -5,9 +5,10 @@ use mathlib.Core.Logic.{◌↔◌}
 use mathlib.Core.List.{List, ◌++◌}
 use native.Mathlib.Omega.{arith}
 use lib.ListN.{length, take, drop, replicate}
+use Rattle.std.specs.Prelude.{Option as Optional}
 use Rattle.receivers.specs.declared.Stretch.{Stretch}
 use Rattle.receivers.specs.declared.Found.{Found}
-use Rattle.receivers.specs.Finding.{found_in}
+use Rattle.receivers.specs.Finding.{found_in, handed}
 use Rattle.receivers.specs.Statement as Said
 use Rattle.receivers.specs.Statement.{Stands, IsFirst, Finds, in-the-first, in-the-second, in-neither}
 use Rattle.receivers.proofs.Theorems.{finds-exactly, one-length, not-empty-first, sequences-found}
@@ -58,9 +59,9 @@ data Outcome (x : Find) : Type 0 where
 
 -- the number, taken apart, is what was found
 record Told (x : Find) : Type 0 where
-  length-is : length_of x ≡ (found_in x.first x.second).stretch.count
-  receiver-is : receiver_of x ≡ receiver_number (found_in x.first x.second).receiver
-  place_is : place_of x ≡ (found_in x.first x.second).stretch.place
+  length-is : length_of x ≡ (handed (found_in x.first x.second)).stretch.count
+  receiver-is : receiver_of x ≡ receiver_number (handed (found_in x.first x.second)).receiver
+  place_is : place_of x ≡ (handed (found_in x.first x.second)).stretch.place
 
 told : {x : Find} → ByFinder x → Told x
 told (by-find κs a r s p h k) =
@@ -73,21 +74,21 @@ told (by-find κs a r s p h k) =
 outcome : {x : Find} → ByFinder x → Outcome x
 outcome {x} f = go (found_in x.first x.second) refl ((finds-exactly x.first x.second _).0 refl)
   where
-    go : (g : Found) → found_in x.first x.second ≡ g → Finds x.first x.second g → Outcome x
+    go : (g : Optional Found) → found_in x.first x.second ≡ g → Finds x.first x.second g → Outcome x
     go g e (in-the-first w h) =
         let t = told f in
-        let n = t.length-is ∙ ap (λ (y : Found). y.stretch.count) e in
-        let p = t.place_is ∙ ap (λ (y : Found). y.stretch.place) e in
-        by_first (t.receiver-is ∙ ap (λ (y : Found). receiver_number y.receiver) e) (rw (n, p) h)
+        let n = t.length-is ∙ ap (λ (y : Optional Found). (handed y).stretch.count) e in
+        let p = t.place_is ∙ ap (λ (y : Optional Found). (handed y).stretch.place) e in
+        by_first (t.receiver-is ∙ ap (λ (y : Optional Found). receiver_number (handed y).receiver) e) (rw (n, p) h)
     go g e (in-the-second w none h) =
         let t = told f in
-        let n = t.length-is ∙ ap (λ (y : Found). y.stretch.count) e in
-        let p = t.place_is ∙ ap (λ (y : Found). y.stretch.place) e in
-        by-second (t.receiver-is ∙ ap (λ (y : Found). receiver_number y.receiver) e) none (rw (n, p) h)
+        let n = t.length-is ∙ ap (λ (y : Optional Found). (handed y).stretch.count) e in
+        let p = t.place_is ∙ ap (λ (y : Optional Found). (handed y).stretch.place) e in
+        by-second (t.receiver-is ∙ ap (λ (y : Optional Found). receiver_number (handed y).receiver) e) none (rw (n, p) h)
     go g e (in-neither none other) =
         let t = told f in
-        let n = t.length-is ∙ ap (λ (y : Found). y.stretch.count) e in
-        by-none (t.receiver-is ∙ ap (λ (y : Found). receiver_number y.receiver) e) n none other
+        let n = t.length-is ∙ ap (λ (y : Optional Found). (handed y).stretch.count) e in
+        by-none (t.receiver-is ∙ ap (λ (y : Optional Found). receiver_number (handed y).receiver) e) n none other
 
 -- ── in the bytes of the receiver that is named ───────────────────────────────
 

@@ -11,16 +11,16 @@ use lib.Seq.{take_at}
 use borrow.Author.Tests.{le-leb, leb-true}
 use contract.Lifetimes.{Lfts}
 use denote.Ref.{Bor}
-use Rattle.sequence.specs.declared.Answer.{Answer}
-use Rattle.sequence.specs.declared.Answer.TheVariants.{Done, BadLength, BadSymbol, BadCheck, BadFormat, BadIdentities, BadCategory, BadTelecommands, BadField, BadNumber, BadEnd, ShortRoom}
+use Rattle.std.specs.Prelude.{Some, None, Result, Ok, Err}
+use Rattle.sequence.specs.declared.Refusal.{Refusal}
+use Rattle.sequence.specs.declared.Refusal.TheVariants.{BadLength, BadSymbol, BadCheck, BadFormat, BadIdentities, BadCategory, BadTelecommands, BadField, BadNumber, BadEnd, ShortRoom}
 use Rattle.sequence.specs.declared.Meaning.{Meaning}
-use Rattle.sequence.specs.declared.Reading.{Reading}
-use Rattle.sequence.specs.declared.Written.{Written}
 use Rattle.sequence.specs.Figures.{longest}
-use Rattle.sequence.specs.Answers.{answer_number}
+use Rattle.sequence.specs.Answers.{Answer, done, refusal_number, answer_number}
 use Rattle.sequence.specs.Layout.{valid, layout}
-use Rattle.sequence.specs.Reading.{done_with, reading_of}
+use Rattle.sequence.specs.Reading.{answer_of as answer_to, meaning_read}
 use Rattle.sequence.specs.Writing.{writing_answer, written_of, room_after}
+use Rattle.sequence.proofs.AnswerLaws.{answered-ok, read-ok, read-done}
 use Rattle.sequence.proofs.Tests.{Either, yes!, no!, which}
 use Rattle.sequence.proofs.Paste.{paste-front}
 use Rattle.station_theorems.proofs.Steps.{lent_mut}
@@ -32,20 +32,23 @@ use Rattle.coast.proofs.WriteLaws.{written-le}
 use Rattle.coast.specs.Sequences.{read_answer, meaning_after, answer_and_count, write_answer, room_after_writing}
 use Rattle.host_theorems.specs.Sequences.{Passage, passage, ByReader, by_read, ByWriter, by-write, answer_of, written, telling, InBytes, CReadsWhatWasWritten, CWritesWhatWasRead, COneMeaning, COneSequence, CTakesEveryMeaning, CAnswersEveryInput}
 
--- of all answers Done alone has the number 0
-done-is : (a : Answer) → answer_number a % 256 ≡ 0 → a ≡ Done
-done-is Done e = refl
-done-is BadLength e = absurd (omega (arith, e))
-done-is BadSymbol e = absurd (omega (arith, e))
-done-is BadCheck e = absurd (omega (arith, e))
-done-is BadFormat e = absurd (omega (arith, e))
-done-is BadIdentities e = absurd (omega (arith, e))
-done-is BadCategory e = absurd (omega (arith, e))
-done-is BadTelecommands e = absurd (omega (arith, e))
-done-is BadField e = absurd (omega (arith, e))
-done-is BadNumber e = absurd (omega (arith, e))
-done-is BadEnd e = absurd (omega (arith, e))
-done-is ShortRoom e = absurd (omega (arith, e))
+-- no refusal has the number 0
+not_zero : (r : Refusal) → refusal_number r % 256 ≡ 0 → ⊥
+not_zero BadLength e = omega (arith, e)
+not_zero BadSymbol e = omega (arith, e)
+not_zero BadCheck e = omega (arith, e)
+not_zero BadFormat e = omega (arith, e)
+not_zero BadIdentities e = omega (arith, e)
+not_zero BadCategory e = omega (arith, e)
+not_zero BadTelecommands e = omega (arith, e)
+not_zero BadField e = omega (arith, e)
+not_zero BadNumber e = omega (arith, e)
+not_zero BadEnd e = omega (arith, e)
+not_zero ShortRoom e = omega (arith, e)
+
+done-is : (a : Answer) → answer_number a % 256 ≡ 0 → a ≡ done
+done-is None e = refl
+done-is (Some r) e = absurd (not_zero r e)
 
 size : (m : Meaning) → length (meaning_bytes m) ≡ meaning_size
 size m = (meaning-is-found-again m []).0
@@ -64,15 +67,15 @@ module _ (s room : List ℕ) where
       → (read_answer s (length room) ≡ 0) × (meaning_after s room ≡ meaning_bytes m ++ drop meaning_size room)
   unfolding read_answer meaning_after meaning_laid laid
   reads_as m v e h =
-      let r : reading_of s ≡ done_with m = (reads-exactly s m).1 (v, e) in
-      (rw (le-leb meaning_size (length room) h, r) refl, rw (le-leb meaning_size (length room) h, r, size m) (paste-front room (meaning_bytes m) meaning_size (size m)))
+      let r = read-ok s m ((reads-exactly s m).1 (v, e)) in
+      (rw (le-leb meaning_size (length room) h, r.0) refl, rw (le-leb meaning_size (length room) h, r.0, r.1, size m) (paste-front room (meaning_bytes m) meaning_size (size m)))
 
-  answered : read_answer s (length room) % 256 ≡ 0 → (meaning_size ≤ length room) × ((reading_of s).answer ≡ Done)
+  answered : read_answer s (length room) % 256 ≡ 0 → (meaning_size ≤ length room) × (answer_to s ≡ done)
   unfolding read_answer
   answered e = go (which (leb meaning_size (length room))) e
     where
-      go : Either (leb meaning_size (length room)) → cond (leb meaning_size (length room)) (answer_number (reading_of s).answer) 22 % 256 ≡ 0 → (meaning_size ≤ length room) × ((reading_of s).answer ≡ Done)
-      go (yes! h) f = (leb-true meaning_size (length room) h, done-is (reading_of s).answer (rw h at f))
+      go : Either (leb meaning_size (length room)) → cond (leb meaning_size (length room)) (answer_number (answer_to s)) 22 % 256 ≡ 0 → (meaning_size ≤ length room) × (answer_to s ≡ done)
+      go (yes! h) f = (leb-true meaning_size (length room) h, done-is (answer_to s) (rw h at f))
       go (no! h) f = let q : 22 % 256 ≡ 0 = rw h at f in absurd (omega (arith, q))
 
 read_as : {r : Passage} → ByReader r → (m : Meaning) → valid m ≡ true → r.given ≡ layout m → meaning_size ≤ length r.lent
@@ -80,13 +83,13 @@ read_as : {r : Passage} → ByReader r → (m : Meaning) → valid m ≡ true �
 read_as (by_read κs a n s p) m v e h = let w = reads_as a.0.now a.1.0.now m v e h in (p.0 ∙ w.0, p.1 ∙ w.1)
 
 -- 0 is answered exactly to what the definitions accept, in room enough
-pub read_done : {r : Passage} → ByReader r → answer_of r ≡ 0 → (reading_of r.given).answer ≡ Done
+pub read_done : {r : Passage} → ByReader r → answer_of r ≡ 0 → answer_to r.given ≡ done
 read_done (by_read κs a n s p) e = (answered a.0.now a.1.0.now (rw p.0 at e)).1
 
-pub done-read : {r : Passage} → ByReader r → (reading_of r.given).answer ≡ Done → meaning_size ≤ length r.lent → r.number ≡ 0
+pub done-read : {r : Passage} → ByReader r → answer_to r.given ≡ done → meaning_size ≤ length r.lent → r.number ≡ 0
 done-read {r} reads e h =
-    let m = (reading_of r.given).meaning in
-    let x = (reads-exactly r.given m).0 (ap (λ (d : Answer). record { answer = d; meaning = m }) e) in
+    let m = meaning_read r.given in
+    let x = (reads-exactly r.given m).0 (read-done r.given e) in
     (read_as reads m x.0 x.1 h).0
 
 -- what an answer of 0 says
@@ -102,43 +105,46 @@ front m left rest e = rw e (take_at (meaning_bytes m) rest meaning_size (size m)
 
 was_read : {r : Passage} → ByReader r → answer_of r ≡ 0 → WasRead r
 was_read (by_read κs a n s p) e =
-    let done = answered a.0.now a.1.0.now (rw p.0 at e) in
-    let m = (reading_of a.0.now).meaning in
-    let x = (reads-exactly a.0.now m).0 (ap (λ (d : Answer). record { answer = d; meaning = m }) done.1) in
-    let w = reads_as a.0.now a.1.0.now m x.0 x.1 done.0 in
+    let read = answered a.0.now a.1.0.now (rw p.0 at e) in
+    let m = meaning_read a.0.now in
+    let x = (reads-exactly a.0.now m).0 (read-done a.0.now read.1) in
+    let w = reads_as a.0.now a.1.0.now m x.0 x.1 read.0 in
     record { meaning = m; is-valid = x.0; symbols = x.1; bytes = front m s.1.0.now (drop meaning_size a.1.0.now) (p.1 ∙ w.1) }
 
 -- ── the writer ───────────────────────────────────────────────────────────────
 
-written_is : (m : Meaning) → valid m ≡ true → (room : List ℕ) → longest ≤ length room → written_of m (length room) ≡ record { answer = Done; length = length (layout m) }
-written_is m v room h =
-    let r : reading_of (layout m) ≡ done_with m = (reads-exactly (layout m) m).1 (v, refl) in
-    rw r at (writes-what-was-read (layout m) room (ap (λ (x : Reading). x.answer) r) h).0
+written_is : (m : Meaning) → valid m ≡ true → (room : List ℕ) → longest ≤ length room → written_of m (length room) ≡ Ok (length (layout m))
+written_is m v room h = (writes-what-was-read (layout m) room m ((reads-exactly (layout m) m).1 (v, refl)) h).0
 
 short : (m : Meaning) → valid m ≡ true → length (layout m) ≤ longest
-short m v = rw (written_is m v (replicate longest 0) (omega arith)) at (written-le m longest)
+short m v = written-le m longest (length (layout m)) (sym (written_is m v (replicate longest 0) (omega arith)))
 
 module _ (b room : List ℕ) where
   writes_as : (m : Meaning) → valid m ≡ true → meaning_from b ≡ m → meaning_size ≤ length b → longest ≤ length room
       → (write_answer b (length room) ≡ 256 * length (layout m)) × (room_after_writing b room ≡ layout m ++ drop (length (layout m)) room)
-  unfolding write_answer answer_and_count room_after_writing room_after
+  unfolding write_answer room_after_writing room_after
   writes_as m v e h k =
       let w = written_is m v room k in
-      let done : writing_answer m (length room) ≡ Done = unfold written_of in ap (λ (x : Written). x.answer) w in
-      (rw (le-leb longest (length room) k, le-leb meaning_size (length b) h, e, w) (zero-add (256 * length (layout m))), rw (le-leb longest (length room) k, le-leb meaning_size (length b) h, e, done) refl)
+      let accepted : writing_answer m (length room) ≡ done = unfold written_of in (answered-ok (writing_answer m (length room)) _ _ w).0 in
+      (rw (le-leb longest (length room) k, le-leb meaning_size (length b) h, e, w), rw (le-leb longest (length room) k, le-leb meaning_size (length b) h, e, accepted) refl)
 
-  accepted : write_answer b (length room) % 256 ≡ 0 → (longest ≤ length room) × (meaning_size ≤ length b) × ((written_of (meaning_from b) (length room)).answer ≡ Done)
-  unfolding write_answer answer_and_count
+  -- so many bytes were written
+  abbrev Writes : ℕ → Type 0
+  Writes n = written_of (meaning_from b) (length room) ≡ Ok n
+
+  accepted : write_answer b (length room) % 256 ≡ 0 → (longest ≤ length room) × (meaning_size ≤ length b) × ((n : ℕ) × Writes n)
+  unfolding write_answer
   accepted e = go (which (leb longest (length room))) (which (leb meaning_size (length b))) e
     where
-      w : Written
-      w = written_of (meaning_from b) (length room)
+      written_so : (w : Result ℕ Refusal) → answer_and_count w % 256 ≡ 0 → written_of (meaning_from b) (length room) ≡ w → (n : ℕ) × Writes n
+      written_so (Ok n) f is = (n, is)
+      written_so (Err r) f is = absurd (not_zero r f)
 
       go : Either (leb longest (length room)) → Either (leb meaning_size (length b)) → write_answer b (length room) % 256 ≡ 0
-          → (longest ≤ length room) × (meaning_size ≤ length b) × ((written_of (meaning_from b) (length room)).answer ≡ Done)
+          → (longest ≤ length room) × (meaning_size ≤ length b) × ((n : ℕ) × Writes n)
       go (yes! h) (yes! k) f =
-          let q : (answer_number w.answer + 256 * w.length) % 256 ≡ 0 = rw (h, k) at f in
-          (leb-true longest (length room) h, leb-true meaning_size (length b) k, done-is w.answer (omega (arith, q)))
+          let q : answer_and_count (written_of (meaning_from b) (length room)) % 256 ≡ 0 = rw (h, k) at f in
+          (leb-true longest (length room) h, leb-true meaning_size (length b) k, written_so _ q refl)
       go (yes! h) (no! k) f = let q : 22 % 256 ≡ 0 = rw (h, k) at f in absurd (omega (arith, q))
       go (no! h) k f = let q : 21 % 256 ≡ 0 = rw h at f in absurd (omega (arith, q))
 
@@ -166,10 +172,10 @@ pub was-written : {w : Passage} → ByWriter w → answer_of w ≡ 0 → WasWrit
 was-written (by-write κs a n s p) e =
     let b = a.0.now in
     let room = a.1.0.now in
-    let done = accepted b room (rw p.0 at e) in
+    let wrote = accepted b room (rw p.0 at e) in
     let m = meaning_from b in
-    let x = (reads-exactly _ m).0 (reads-what-was-written m room done.2) in
-    let w = writes_as b room m x.0 refl done.1 done.0 in
+    let x = (reads-exactly _ m).0 (reads-what-was-written m room wrote.2.0 wrote.2.1) in
+    let w = writes_as b room m x.0 refl wrote.1 wrote.0 in
     record {
       meaning = m;
       is-valid = x.0;
@@ -178,10 +184,10 @@ was-written (by-write κs a n s p) e =
     }
 
 -- what was written is read
-pub written-accepted : {w : Passage} → ByWriter w → answer_of w ≡ 0 → (reading_of (written w)).answer ≡ Done
-written-accepted wrote e =
+pub written-accepted : {w : Passage} → ByWriter w → answer_of w ≡ 0 → answer_to (written w) ≡ done
+written-accepted {w} wrote e =
     let x = was-written wrote e in
-    ap (λ (r : Reading). r.answer) ((reads-exactly _ x.meaning).1 (x.is-valid, x.symbols))
+    (read-ok (written w) x.meaning ((reads-exactly _ x.meaning).1 (x.is-valid, x.symbols))).0
 
 -- ── both ─────────────────────────────────────────────────────────────────────
 

@@ -11,10 +11,10 @@ use Rattle.sequence.specs.Figures.{longest}
 use Rattle.reading.proofs.Passed.{long}
 use Rattle.characters.specs.Code.{none}
 use Rattle.station_theorems.proofs.Steps.{lent_mut}
-use Rattle.transmission.specs.declared.Answer.{Answer}
-use Rattle.transmission.specs.declared.Answer.TheVariants.{Done, BadLength, BadSymbol, ShortRoom, NoPhasing, CopiesBad, EndsEarly}
-use Rattle.transmission.specs.declared.Counted.{Counted}
-use Rattle.transmission.specs.Answers.{answer_number, is_done}
+use Rattle.std.specs.Prelude.{Some, None, Result, Ok}
+use Rattle.transmission.specs.declared.Refusal.{Refusal}
+use Rattle.transmission.specs.declared.Refusal.TheVariants.{BadLength, BadSymbol, ShortRoom, NoPhasing, CopiesBad, EndsEarly}
+use Rattle.transmission.specs.Answers.{Answer, done, refusal_number, is_done, answered as answered_with}
 use Rattle.transmission.specs.Layout.{transmission, bytes_of}
 use Rattle.transmission.specs.Phasing.{most_lost, heard}
 use Rattle.transmission.specs.Writing.{transmission_written}
@@ -32,23 +32,22 @@ use Rattle.host_theorems.specs.Transmissions.{CSendsAll, CReadsBack, CSequencesR
 use Rattle.host_theorems.specs.Transmissions.{CWholeRead, CNothingElse, Withstood, spoiled, cut, amid, CMeaningOnAir, CAnswersOnAir}
 use Rattle.host_theorems.proofs.Sequences.{written-accepted, c-reads-what-was-written, lives, slice}
 
--- of all answers Done alone has the number 0
-pub done-is : (a : Answer) (count : ℕ) → (answer_number a + 256 * count) % 256 ≡ 0 → a ≡ Done
-done-is Done n e = refl
-done-is BadLength n e = absurd (omega (arith, e))
-done-is BadSymbol n e = absurd (omega (arith, e))
-done-is ShortRoom n e = absurd (omega (arith, e))
-done-is NoPhasing n e = absurd (omega (arith, e))
-done-is CopiesBad n e = absurd (omega (arith, e))
-done-is EndsEarly n e = absurd (omega (arith, e))
+-- no refusal has the number 0
+not_zero : (r : Refusal) → refusal_number r % 256 ≡ 0 → ⊥
+not_zero BadLength e = omega (arith, e)
+not_zero BadSymbol e = omega (arith, e)
+not_zero ShortRoom e = omega (arith, e)
+not_zero NoPhasing e = omega (arith, e)
+not_zero CopiesBad e = omega (arith, e)
+not_zero EndsEarly e = omega (arith, e)
 
-answered : (c : Counted) → answer_with_count c % 256 ≡ 0 → c.answer ≡ Done
-unfolding answer_with_count
-answered c e = done-is c.answer c.count e
+-- so an answer of 0 refuses nothing
+pub done-is : (a : Answer) (n : ℕ) → answer_with_count (answered_with a n) % 256 ≡ 0 → a ≡ done
+done-is None n e = refl
+done-is (Some r) n e = absurd (not_zero r e)
 
-counted : (c : Counted) (n : ℕ) → c ≡ record { answer = Done; count = n } → answer_with_count c ≡ 256 * n
-unfolding answer_with_count
-counted c n e = rw e (zero-add (256 * n))
+counted : (told : Result ℕ Refusal) (n : ℕ) → told ≡ Ok n → answer_with_count told ≡ 256 * n
+counted told n e = rw e
 
 -- ── the sender ───────────────────────────────────────────────────────────────
 
@@ -60,7 +59,7 @@ c-sends-all _ (by-send κs a r s p) size small wide =
 
 was-sent : {w : Passage} → BySender w → answer_of w ≡ 0 → Writable w.given w.lent
 unfolding transmission_written
-was-sent (by-send κs a r s p) e = done-writable a.0.now a.1.0.now (ap is_done (answered _ (rw p.0 at e)))
+was-sent (by-send κs a r s p) e = done-writable a.0.now a.1.0.now (ap is_done (done-is _ _ (rw p.0 at e)))
 
 module _ {w : Passage} (by : BySender w) (e : answer_of w ≡ 0) where
   sent-as : (w.number ≡ 256 * length (transmission w.given))
@@ -85,17 +84,17 @@ heard_by r = heard (off_air r)
 
 -- what an answer of 0 says
 record WasRead (r : Passage) : Type 0 where
-  done : reading_answer (heard_by r) longest ≡ Done
+  is-done : reading_answer (heard_by r) longest ≡ done
   read : ReadOff r (symbols_in (heard_by r))
 
-was_read : {r : Passage} → ByReceiver r → reading_answer (heard_by r) (length r.lent) ≡ Done → WasRead r
-was_read (by-receive κs a r s p) done =
-    let x = read-in-room a.0.now a.1.0.now done in
-    record { done = done-in-longest a.0.now a.1.0.now done; read = (p.0 ∙ counted _ _ x.0, p.1 ∙ x.1) }
+was_read : {r : Passage} → ByReceiver r → reading_answer (heard_by r) (length r.lent) ≡ done → WasRead r
+was_read (by-receive κs a r s p) e =
+    let x = read-in-room a.0.now a.1.0.now e in
+    record { is-done = done-in-longest a.0.now a.1.0.now e; read = (p.0 ∙ counted _ _ x.0, p.1 ∙ x.1) }
 
 was-answered : {r : Passage} → ByReceiver r → answer_of r ≡ 0 → WasRead r
 unfolding transmission_read
-was-answered (by-receive κs a r s p) e = was_read (by-receive κs a r s p) (answered _ (rw p.0 at e))
+was-answered (by-receive κs a r s p) e = was_read (by-receive κs a r s p) (done-is _ _ (rw p.0 at e))
 
 read_off : {r : Passage} → Received r → (s : List ℕ) → ReadAs (off_air r) s → ReadOff r s
 read_off {r} t s h = rw h.1 at (was_read t.by (answer-in-room r.given r.lent t.room ∙ h.0)).read
@@ -110,7 +109,7 @@ read_as : {r : Passage} → Received r → (s : List ℕ) → length s ≤ longe
 read_as {r} t s h e =
     let x = was-answered t.by (rw e.0 (omega arith)) in
     let same = symbols-are r _ (symbols-at-most (heard_by r)) x.read in
-    (x.done, sym same.1 ∙ (symbols-are r s h e).1)
+    (x.is-done, sym same.1 ∙ (symbols-are r s h e).1)
 
 -- ── both ─────────────────────────────────────────────────────────────────────
 
@@ -165,7 +164,7 @@ c-nothing-else r by e k h =
     let n : count_of r ≡ length symbols = (symbols-are r symbols (symbols-at-most (heard_by r)) x.read).0 in
     let within : k < length symbols = rw (← n) h in
     let there : get_or r.left k none ≡ get_or symbols k none = rw x.read.1 (get_or-append symbols _ none k within) in
-    rw there (nothing-else (off_air r) x.done k within)
+    rw there (nothing-else (off_air r) x.is-done k within)
 
 -- ── a meaning over the air ───────────────────────────────────────────────────
 
