@@ -3,11 +3,10 @@ use Prim.Native.Nat.{ℕ, zero, suc, ◌+◌, ◌-◌, ◌*◌, ◌/◌, ◌≤�
 use mathlib.Core.Path.{◌≡◌, refl, sym, ◌∙◌}
 use mathlib.Core.Bool.{true, false, cond, true≢false}
 use mathlib.Core.List.{List, [], ◌∷◌, map}
-use native.Mathlib.Nat.{zero-add, add-zero}
 use native.Mathlib.Omega.{arith}
 use lib.Count.{ones, ones_in}
 use lib.Dec.{leb, ltb, eqb}
-use lib.ListN.{length, get_or, drop, replicate, get_or-replicate, get_or-append, get_or-eq_default, drop_of_length-le}
+use lib.ListN.{length, get_or, drop, replicate, get_or-replicate, get_or-append, get_or-eq_default}
 use lib.Seq.{get_or-append-add}
 use borrow.Author.Tests.{leb-true, ltb-true, ltb-false, eq-eqb, ne_eqb}
 use Rattle.std.specs.Prelude.{Some, None}
@@ -65,9 +64,6 @@ module _ (bytes : List ℕ) where
 -- ── characters in their places ───────────────────────────────────────────────
 
 module _ (bytes wanted : List ℕ) (place : ℕ) where
-  pub standing-first : 0 + standing bytes wanted (place + 0) ≡ standing bytes wanted place
-  standing-first = rw (zero-add, add-zero place)
-
   standing-turn : (i : ℕ) → i < length wanted
       → standing bytes (drop i wanted) (place + 2 * i)
       ≡ cond (eqb (character_at bytes (place + 2 * i)) (get_or wanted i 0)) 1 0 + standing bytes (drop (i + 1) wanted) (place + 2 * (i + 1))
@@ -85,10 +81,6 @@ module _ (bytes wanted : List ℕ) (place : ℕ) where
       → count + standing bytes (drop i wanted) (place + 2 * i) ≡ standing bytes wanted place
       → count + standing bytes (drop (i + 1) wanted) (place + 2 * (i + 1)) ≡ standing bytes wanted place
   no_more i count h e total = omega (arith, total, rw (ne_eqb _ _ e) at (standing-turn i h))
-
-  pub standing-last : (i count : ℕ) → length wanted ≤ i
-      → count + standing bytes (drop i wanted) (place + 2 * i) ≡ standing bytes wanted place → count ≡ standing bytes wanted place
-  standing-last i count h total = omega (arith, rw (drop_of_length-le wanted h) at total)
 
 pub standing-most : (bytes wanted : List ℕ) (place : ℕ) → standing bytes wanted place ≤ length wanted
 standing-most bytes [] place = omega arith

@@ -24,9 +24,6 @@ unfolding first_in
 from-the-first b = refl
 
 module _ (b : List ℕ) (place : ℕ) (h : place < length b) where
-  pub found_here : (n : ℕ) → length_at (drop place b) ≡ Some n → found_from place b ≡ Some (record { place = place; count = n })
-  found_here n e = let r = rest b place h in rw r (rw (rw r at e))
-
   pub found-later : length_at (drop place b) ≡ None → found_from place b ≡ found_from (place + 1) b
   found-later e = let r = rest b place h in rw r (rw (rw r at e))
 

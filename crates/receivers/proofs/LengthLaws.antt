@@ -93,9 +93,6 @@ one_more n b h =
     let f : 28 - n ≡ 29 - (n + 1) = omega arith in
     rw e (rw f refl)
 
-pub is-here : (n : ℕ) (b : List ℕ) → n ≤ 28 → begins_with n b ≡ true → length_from n b ≡ Some n
-is-here n b h e = one_more n b h ∙ (rw e)
-
 pub is_later : (n : ℕ) (b : List ℕ) → n ≤ 28 → begins_with n b ≡ false → length_from n b ≡ length_from (n + 1) b
 is_later n b h e = one_more n b h ∙ (rw e)
 

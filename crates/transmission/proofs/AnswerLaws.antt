@@ -1,11 +1,10 @@
 -- What an answer says of a result: with a refusal it is refused, and with none it is the value.
-use Prim.Native.Nat.{ℕ}
 use mathlib.Core.Path.{◌≡◌, refl}
 use mathlib.Core.Bool.{true, false}
-use Rattle.std.specs.Prelude.{Some, None, Result, Ok, Err}
+use Rattle.std.specs.Prelude.{Some, None, Ok, Err}
 use Rattle.transmission.specs.declared.Refusal.{Refusal}
 use Rattle.transmission.specs.declared.Refusal.TheVariants.{BadLength, BadSymbol, ShortRoom, NoPhasing, CopiesBad, EndsEarly}
-use Rattle.transmission.specs.Answers.{Answer, done, is_done, answered, answer_told, count_told}
+use Rattle.transmission.specs.Answers.{Answer, done, is_done, answered}
 
 -- a refusal has a number, and done has none
 pub refused : (r : Refusal) → is_done (Some r) ≡ false
@@ -28,12 +27,3 @@ module _ {A : Type 0} where
   pub answered-err : (a : Answer) (x : A) (r : Refusal) → answered a x ≡ Err r → a ≡ Some r
   answered-err None x r e = cc
   answered-err (Some q) x r e = cc
-
--- what was handed back, by the answer in it
-pub told-answer : (a : Answer) (n : ℕ) → answer_told (answered a n) ≡ a
-told-answer None n = refl
-told-answer (Some r) n = refl
-
-pub told-done : (told : Result ℕ Refusal) → answer_told told ≡ done → told ≡ Ok (count_told told)
-told-done (Ok n) e = refl
-told-done (Err r) e = cc
