@@ -21,11 +21,12 @@ pub(crate) fn due_number(due: Option<Tenths>) -> u64
     }
 }
 
-// What an event came to, as one number; the next station is laid where it was accepted.
+// What an event came to, as one number; the next station is laid where it was accepted. It comes by value: a lent one stays beside its
+// copy, 1,888 bytes more of stack in each entry.
 #[tactic(auto, unfolding(crate::specs::Events::packed, crate::specs::Events::kept))]
-pub(crate) fn hand_back(stepped: &Stepped, station: &mut [u8]) -> u64
-    ensures value { result ≡ packed stepped.now }
-    ensures station_kept { station.new ≡ kept station.old stepped.now }
+pub(crate) fn hand_back(stepped: Stepped, station: &mut [u8]) -> u64
+    ensures value { result ≡ packed stepped }
+    ensures station_kept { station.new ≡ kept station.old stepped }
 {
     let answer = stepped.answer;
     if answer <= 1 {
@@ -43,7 +44,7 @@ pub fn coast_tick(station: &mut [u8], time: u32, room: &mut [u8]) -> u64
 {
     let by_value = station_from(station);
     let stepped = by_value.tick(Tenths(time), room);
-    hand_back(&stepped, station)
+    hand_back(stepped, station)
 }
 
 // A sequence was heard on channel 70.
@@ -62,7 +63,7 @@ pub fn coast_heard_on_channel_70(
 {
     let by_value = station_from(station);
     let stepped = by_value.heard_on_channel_70(Tenths(time), symbols, room);
-    hand_back(&stepped, station)
+    hand_back(stepped, station)
 }
 
 // A sequence was heard on a slot's working channel.
@@ -82,7 +83,7 @@ pub fn coast_heard_on_slot(
 {
     let by_value = station_from(station);
     let stepped = by_value.heard_on_slot(Tenths(time), SlotNumber(slot), symbols, room);
-    hand_back(&stepped, station)
+    hand_back(stepped, station)
 }
 
 // Whatever happens on a slot and is no sequence.
@@ -94,7 +95,7 @@ fn plainly(what: Plain, station: &mut [u8], time: u32, slot: u32, room: &mut [u8
 {
     let by_value = station_from(station);
     let stepped = by_value.plainly(what, Tenths(time), SlotNumber(slot), room);
-    hand_back(&stepped, station)
+    hand_back(stepped, station)
 }
 
 // From here on one entry for each event, as include/coast.h declares them.

@@ -40,5 +40,5 @@ pub fn coast_call_from_ashore(
     let numbers = numbers_in(digits);
     let count = LOOKED_AT.min(digits.len());
     let stepped = by_value.call_from_ashore(Tenths(time), ship, mode, &numbers[..count], room);
-    hand_back(&stepped, station)
+    hand_back(stepped, station)
 }
