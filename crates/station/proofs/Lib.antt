@@ -1,4 +1,3 @@
-pub mod Longs
 pub mod PlaceLaws
 pub mod ApplyLaws
 pub mod ChangeLaws

@@ -168,12 +168,12 @@ impl Station {
     }
 
     // c. ".. then d to g apply", to the station that the coast's end leaves.
-    fn go_on(self, now: Now, choice: Choice, request: Request, room: &mut [u8]) -> Stepped
-        requires self_value { sound (config_of self) (model_of self) ≡ true }
+    fn go_on(&self, now: Now, choice: Choice, request: Request, room: &mut [u8]) -> Stepped
+        requires self_value { sound (config_of self.now) (model_of self.now) ≡ true }
         requires outcome_value { goes_on choice.outcome ≡ true }
-        requires request_len_bound { length (chosen_at self now.time choice request).next.queue ≤ queue_room }
-        ensures value { result ≡ handed_back self (chosen_at self now.time choice request) 0 room.old }
-        ensures room_written { room.new ≡ room_laid self (chosen_at self now.time choice request) 0 room.old }
+        requires request_len_bound { length (chosen_at self.now now.time choice request).next.queue ≤ queue_room }
+        ensures value { result ≡ handed_back self.now (chosen_at self.now now.time choice request) 0 room.old }
+        ensures room_written { room.new ≡ room_laid self.now (chosen_at self.now now.time choice request) 0 room.old }
     {
         let ended = self.enact(now, choice.slot, choice.outcome, request, 0, room);
         let next = ended.station;
@@ -188,11 +188,11 @@ impl Station {
         )
     }
 
-    fn enact_whole(self, now: Now, choice: Choice, request: Request, room: &mut [u8]) -> Stepped
-        requires self_value { sound (config_of self) (model_of self) ≡ true }
-        requires request_len_bound { length (chosen_at self now.time choice request).next.queue ≤ queue_room }
-        ensures value { result ≡ handed_back self (chosen_at self now.time choice request) 0 room.old }
-        ensures room_written { room.new ≡ room_laid self (chosen_at self now.time choice request) 0 room.old }
+    fn enact_whole(&self, now: Now, choice: Choice, request: Request, room: &mut [u8]) -> Stepped
+        requires self_value { sound (config_of self.now) (model_of self.now) ≡ true }
+        requires request_len_bound { length (chosen_at self.now now.time choice request).next.queue ≤ queue_room }
+        ensures value { result ≡ handed_back self.now (chosen_at self.now now.time choice request) 0 room.old }
+        ensures room_written { room.new ≡ room_laid self.now (chosen_at self.now now.time choice request) 0 room.old }
     {
         if goes_on(choice.outcome) {
             return self.go_on(now, choice, request, room);

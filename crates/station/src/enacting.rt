@@ -48,7 +48,7 @@ impl Station {
 
     // An outcome of that slot, told from that block on.
     pub(crate) fn enact(
-        mut self,
+        &self,
         now: Now,
         number: SlotNumber,
         outcome: Outcome,
@@ -56,30 +56,31 @@ impl Station {
         block: u8,
         room: &mut [u8],
     ) -> Stepped
-        requires { length (out_at self now.time number (request_of request) outcome).next.queue ≤ queue_room }
-        ensures value { result ≡ handed_back self (out_at self now.time number (request_of request) outcome) block room.old }
-        ensures room_written { room.new ≡ room_laid self (out_at self now.time number (request_of request) outcome) block room.old }
+        requires { length (out_at self.now now.time number (request_of request) outcome).next.queue ≤ queue_room }
+        ensures value { result ≡ handed_back self.now (out_at self.now now.time number (request_of request) outcome) block room.old }
+        ensures room_written { room.new ≡ room_laid self.now (out_at self.now now.time number (request_of request) outcome) block room.old }
     {
         let scene = self.scene(now, number, request);
         let told = scene.tell(outcome, block, room);
+        let mut next = *self;
         let change = queue_change(outcome, now.time, scene.ringable);
         let before = self.queue_length();
-        let waiting = requeued(&mut self.queue, before, change, request);
+        let waiting = requeued(&mut next.queue, before, change, request);
         let turn = turn_of(outcome, now.time, scene.ringable);
         let last = last_after(turn, self.last);
         let count = self.count.min(MOST_SLOTS);
         if number.0 < count as u32 {
-            let slot = self.slots[number.0 as usize];
-            self.slots[number.0 as usize] = slot_turned(slot, turn, scene, last);
+            let slot = next.slots[number.0 as usize];
+            next.slots[number.0 as usize] = slot_turned(slot, turn, scene, last);
         }
-        let slots_first = slots_anew(&mut self.slots, count);
-        let first = queue_anew(&mut self.queue, waiting, slots_first);
-        self.clock = now.time;
-        self.last = last;
-        self.count = count;
-        self.waiting = waiting;
+        let slots_first = slots_anew(&mut next.slots, count);
+        let first = queue_anew(&mut next.queue, waiting, slots_first);
+        next.clock = now.time;
+        next.last = last;
+        next.count = count;
+        next.waiting = waiting;
         Stepped {
-            station: self,
+            station: next,
             due: due_time(first),
             answer: answer_of(outcome),
             count: told,
@@ -87,11 +88,11 @@ impl Station {
     }
 
     // "hands back the station unchanged, clock included"
-    pub(crate) fn refused(self, refusal: Refusal, first: Option<Due>) -> Stepped
-        ensures { result ≡ record { answer = refusal_number refusal; count = 0; due = due_image (due_at (due_view first)); station = self } }
+    pub(crate) fn refused(&self, refusal: Refusal, first: Option<Due>) -> Stepped
+        ensures { result ≡ record { answer = refusal_number refusal; count = 0; due = due_image (due_at (due_view first)); station = self.now } }
     {
         Stepped {
-            station: self,
+            station: *self,
             due: due_time(first),
             answer: refusal.number(),
             count: 0,

@@ -8,7 +8,7 @@ use Rattle.slots.specs.Views.{waiting_view, no_slot}
 use Rattle.outcomes.specs.Does.{last_after}
 use Rattle.station.specs.declared.Station.{Station}
 use Rattle.station.specs.Changes.{slot_turned}
-use Rattle.station.proofs.Longs.{slots-long, queue_long}
+use borrow.Author.Rules.{rules}
 use Rattle.station.proofs.PlaceLaws.{queue-length}
 use Rattle.station.proofs.CarryLaws.{queue-left, queue-out, still-wide, config-kept, moved}
 use Rattle.station.proofs.FinishLaws.{image-is, due-is}
@@ -18,18 +18,19 @@ use Rattle.station.proofs.Station.enact.Goals.{then-number-count, else-number-co
 
 pub requeued-waiting-requires-clause-within : goal.requeued-waiting-requires-clause-within
 requeued-waiting-requires-clause-within c =
-    let s = c.args.self in
-    omega (arith, c.queue_length-before.ensures, queue-length s (queue_long s c.well_formed.0))
+    let s = c.args.self.now in
+    let long : length s.queue ≡ 32 = search rules in
+    omega (arith, c.queue_length-before.ensures, queue-length s long)
 
 pub requeued-waiting-requires-clause-fits : goal.requeued-waiting-requires-clause-fits
 requeued-waiting-requires-clause-fits c =
-    let s = c.args.self in
+    let s = c.args.self.now in
     let x = c.scene-scene in
-    rw (queue-out s c.args.now.time c.args.number c.args.request x.result c.args.outcome c.args.now.within x.ensures _ c.queue_change-change.ensures (queue_long s c.well_formed.0) _ c.queue_length-before.ensures) c.requires
+    rw (queue-out s c.args.now.time c.args.number c.args.request x.result c.args.outcome c.args.now.within x.ensures _ c.queue_change-change.ensures (search rules) _ c.queue_length-before.ensures) c.requires
 
 pub returns : goal.returns
 returns c =
-    let s = c.args.self in
+    let s = c.args.self.now in
     let t = c.args.now.time in
     let i = c.args.number in
     let q = c.args.request in
@@ -42,15 +43,15 @@ returns c =
     let changes = c.queue_change-change.ensures in
     let n = c.min-count.result in
     let few = c.min-count.ensures in
-    let x = c.if-number-count.self in
-    let wide : length s.slots ≡ 16 = slots-long s c.well_formed.0 in
-    let long : length s.queue ≡ 32 = queue_long s c.well_formed.0 in
+    let x = c.if-number-count.next in
+    let wide : length s.slots ≡ 16 = search rules in
+    let long : length s.queue ≡ 32 = search rules in
     let written : ((i.0 < n) × (x.slots ≡ set s.slots i.0 (slot_turned sc (last_after s.last turn) (get_or s.slots i.0 no_slot) turn))) ⊎ ((n ≤ i.0) × (x.slots ≡ s.slots)) = elim c.if-number-count.branch [
-      | then-number-count w ↦ inl (w.if-number-count.true, ap (λ (z : Station). z.slots) w.self-is ∙ ap (set s.slots i.0) (w.slot_turned.ensures ∙ ap (λ z. slot_turned sc z (get_or s.slots i.0 no_slot) turn) c.last_after-last.ensures))
-      | else-number-count w ↦ inr (w.if-number-count.false, ap (λ (z : Station). z.slots) w.self-is)
+      | then-number-count w ↦ inl (w.if-number-count.true, ap (λ (z : Station). z.slots) w.next-is ∙ ap (set s.slots i.0) (w.slot_turned.ensures ∙ ap (λ z. slot_turned sc z (get_or s.slots i.0 no_slot) turn) c.last_after-last.ensures))
+      | else-number-count w ↦ inr (w.if-number-count.false, ap (λ (z : Station). z.slots) w.next-is)
     ] in
-    let mast : x.mast ≡ s.mast = elim c.if-number-count.branch [ then-number-count w ↦ ap (λ (z : Station). z.mast) w.self-is | else-number-count w ↦ ap (λ (z : Station). z.mast) w.self-is ] in
-    let queue : x.queue ≡ c.requeued-waiting.new.queue = elim c.if-number-count.branch [ then-number-count w ↦ ap (λ (z : Station). z.queue) w.self-is | else-number-count w ↦ ap (λ (z : Station). z.queue) w.self-is ] in
+    let mast : x.mast ≡ s.mast = elim c.if-number-count.branch [ then-number-count w ↦ ap (λ (z : Station). z.mast) w.next-is | else-number-count w ↦ ap (λ (z : Station). z.mast) w.next-is ] in
+    let queue : x.queue ≡ c.requeued-waiting.new.queue = elim c.if-number-count.branch [ then-number-count w ↦ ap (λ (z : Station). z.queue) w.next-is | else-number-count w ↦ ap (λ (z : Station). z.queue) w.next-is ] in
     let next : Station = record { clock = t; mast = x.mast; last = c.last_after-last.result; count = n; waiting = c.requeued-waiting.result; slots = x.slots; queue = x.queue } in
     let left = ap (viewed waiting_view c.requeued-waiting.result) queue ∙ c.requeued-waiting.ensures.queue ∙ queue-left s t i q sc o late shown _ changes long _ c.queue_length-before.ensures in
     let still : length x.slots ≡ 16 = still-wide s t i q sc o late shown _ changes turn turns wide n few x.slots written in

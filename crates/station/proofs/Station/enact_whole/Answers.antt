@@ -7,8 +7,8 @@ use Rattle.station.proofs.Station.enact_whole.Goals.{Else-goes_on}
 
 -- nothing goes on
 alone : (b : Else-goes_on)
-    → whole_at b.args.self b.args.now.time b.args.choice.slot (request_of b.args.request) b.args.choice.outcome
-    ≡ out_at b.args.self b.args.now.time b.args.choice.slot (request_of b.args.request) b.args.choice.outcome
+    → whole_at b.args.self.now b.args.now.time b.args.choice.slot (request_of b.args.request) b.args.choice.outcome
+    ≡ out_at b.args.self.now b.args.now.time b.args.choice.slot (request_of b.args.request) b.args.choice.outcome
 alone b = ended _ _ _ _ _ (sym b.goes_on.ensures ∙ b.if-goes_on.false)
 
 pub go_on-requires : goal.go_on-requires
