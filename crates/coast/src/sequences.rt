@@ -40,7 +40,8 @@ pub fn coast_write_sequence(meaning: &[u8], room: &mut [u8]) -> u32
     if meaning.len() < MEANING_SIZE {
         return SHORT_MEANING;
     }
-    match write(meaning_from(meaning), room) {
+    let by_value = meaning_from(meaning);
+    match write(by_value, room) {
         Ok(count) => 256 * (count as u32),
         Err(refusal) => u32::from(refusal.number()),
     }

@@ -28,6 +28,13 @@ found-which first second = go (first_in first) (first_in second) refl refl
     go None (Some w) e f = in-second w e f
     go None None e f = in-none e f
 
+pub found-inside : (first second : List ℕ) (f : Found) → found_in first second ≡ Some f → Inside (heard_by f.receiver first second) f.stretch
+found-inside first second f e = go f (rw e at (found-which first second))
+  where
+    go : (f : Found) → Which first second (Some f) → Inside (heard_by f.receiver first second) f.stretch
+    go _ (in-first w e) = inside first w e
+    go _ (in-second w none e) = inside second w e
+
 -- the stretch that is handed back: within its receiver's bytes, of 21 to 28 bytes or empty
 of-handed : (P : List ℕ → Stretch → Type 0) → ((b : List ℕ) (w : Stretch) → Inside b w → P b w)
     → ((b : List ℕ) → P b (record { place = 0; count = 0 })) → (first second : List ℕ)
