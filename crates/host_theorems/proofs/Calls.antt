@@ -13,7 +13,6 @@ use denote.MutBor.{MutBor}
 use Rattle.sequence.specs.Symbols.{within, all_at_most}
 use Rattle.sequence.specs.Identity.{is_ship}
 use Rattle.sequence.specs.Answers.{is_done}
-use Rattle.sequence.specs.Reading.{reading_of}
 use Rattle.reading.proofs.Passed.{passed}
 use Rattle.rules.specs.Rules.Words.{Happened, heard, signal, operator, line_dialled_out, line_lifted, line_hung, carrier_heard, carrier_lost, hand_takes, hand_gives, dialling_ended, off_hook, on_hook, carrier_up, carrier_down, takes, gives_back, What, tick, on_channel70, on_slot, from_ashore, Config, Event}
 use Rattle.rules.specs.Rules.Ashore.{is_mode}
@@ -112,7 +111,6 @@ in_bytes most few (a ∷ l) h =
     rw (le-leb a 255 (omega (arith, leb-true a most w.0))) (in_bytes most few l w.1)
 
 read-in-bytes : (m : List ℕ) → is_done (reader_says m) ≡ true → InBytes m
-unfolding reading_of
 read-in-bytes m h = in_bytes 127 (omega arith) m (passed m h).symbols
 
 happened-in-c : (h : Happened) → is_done (read_on h) ≡ true → HappenedInC h

@@ -8,8 +8,10 @@ use native.Mathlib.Omega.{arith}
 use lib.ListN.{length}
 use Rattle.units.specs.declared.Channel.{Channel}
 use Rattle.rules.specs.Rules.Words.{Event}
+use Rattle.rules.specs.Rules.Station.{fresh}
 use Rattle.rules.specs.Rules.Verdict.{set_up_verdict}
-use Rattle.station.specs.Step.{channel_number, given, set_up_of}
+use Rattle.station.specs.Model.{image_of}
+use Rattle.station.specs.Step.{channel_number, given}
 use Rattle.lent_layout.specs.Stations.{sized, station_bytes}
 use Rattle.lent_layout.proofs.FoundAgain.{handed-out-is-found-again}
 use Rattle.coast.specs.Events.{set_up_returned, station_set_up}
@@ -59,12 +61,12 @@ unfolding EveryScriptIsHosted
 every-script-is-hosted c set es rooms h =
     let l = map (λ (n : Channel). n.0) c.channels in
     let e : given c.identity l ≡ c = ap (λ (r : List Channel). record { identity = c.identity; channels = r }) (numbers c.channels) in
-    let bytes = station_bytes (set_up_of c).station in
+    let bytes = station_bytes (image_of c (fresh c)) in
     let first = station_set_up c bytes in
     let w = walk es rooms h first in
     record {
       calls = w.calls;
-      run = record { first = first; begun = rw e at (begun c.identity l (rw e set) bytes (handed-out-is-found-again.0 c).0); calls = w.hands };
+      run = record { first = first; begun = rw e at (begun c.identity l (rw e set) bytes (handed-out-is-found-again.0 c (image_of c (fresh c)) (rw set)).0); calls = w.hands };
       script = w.script;
       lent = w.lent-are;
     }

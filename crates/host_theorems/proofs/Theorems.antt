@@ -15,14 +15,16 @@ use Rattle.rules.specs.ListAlone.Repeated.{Answers, SendsSame, DialsNamed, DeedB
 use Rattle.rules.specs.ListAlone.LineWords.{InTurn}
 use Rattle.rules.specs.ListAlone.BeingCalled.{OffersOthers, AsksInVain}
 use Rattle.rules.specs.Rules.Verdict.{set_up_verdict, Entry}
+use Rattle.rules.specs.Rules.Station.{fresh}
+use Rattle.std.specs.Prelude.{Ok}
 use Rattle.station.specs.declared.Station.{Station}
 use Rattle.station.specs.declared.Stepped.{Stepped}
-use Rattle.station.specs.Model.{model_of}
+use Rattle.station.specs.Model.{model_of, image_of}
 use Rattle.station.specs.Step.{given, refusal, stepped_by, room_after, set_up_of}
 use Rattle.lent_layout.specs.Stations.{sized, station_bytes, station_from}
 use Rattle.lent_layout.specs.Statement.{FoundAgain}
 use Rattle.lent_layout.proofs.FoundAgain.{handed-out-is-found-again}
-use Rattle.coast.specs.Events.{room_left, set_up_returned, clock_returned}
+use Rattle.coast.specs.Events.{room_left, set_up_answer, set_up_returned, clock_returned}
 use Rattle.coast.proofs.Theorems.{refusal-leaves-all, accepted-leaves-its-station, left_is, set-up}
 use Rattle.station_theorems.specs.Rooms.{actions_in}
 use Rattle.station_theorems.specs.Steps.{Step, step_of, Allowed, SetUpAs, Trace}
@@ -85,7 +87,7 @@ begun-well : (c : Config) (b : List ℕ) → set_up_returned c b ≡ 0 → (size
 unfolding set_up_returned set_up_verdict
 begun-well c b h = go (which (sized b))
   where
-    judged : (t : Bool) → config_keeps c ≡ t → (set_up_of c).answer ≡ 0 → set_up_verdict c ≡ none
+    judged : (t : Bool) → config_keeps c ≡ t → set_up_answer (set_up_of c) ≡ 0 → set_up_verdict c ≡ none
     judged true e z = rw e
     judged false e z = let q : ◌≡◌ {A = ℕ} 36 0 = rw e at z in absurd (omega (arith, q))
 
@@ -103,11 +105,12 @@ pub begun : (c : Config) (b : List ℕ) → SetUpIn c b → Begun c b
 begun _ _ (Host.by-set-up κs a r s p z) =
     let c = given a.0 a.1.0.now in
     let w = begun-well c a.1.1.0.now (sym p.0 ∙ z) in
+    let out : set_up_of c ≡ Ok (image_of c (fresh c)) = rw w.1 in
     record {
-      station = (set_up_of c).station;
-      found = handed-out-is-found-again.0 c;
-      begins = rw w.1 (beginning c w.1);
-      bytes = p.1 ∙ set-up c a.1.1.0.now w.1 w.0;
+      station = image_of c (fresh c);
+      found = handed-out-is-found-again.0 c (image_of c (fresh c)) out;
+      begins = beginning c w.1;
+      bytes = p.1 ∙ set-up c (image_of c (fresh c)) a.1.1.0.now out w.0;
     }
 
 -- ── what holds of traces holds of hosts ──────────────────────────────────────
