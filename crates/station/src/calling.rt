@@ -149,8 +149,8 @@ impl Station {
     // What was heard, at the time t.
     // Called, not inlined, as `without_slot` is.
     #[inline(never)]
-    fn choice(&self, now: Now, heard: Heard) -> Choice
-        ensures { chosen_at self.now now.time result heard.request ≡ heard_on70 (model_at self.now now.time) (heard_of heard) }
+    fn choice(self, now: Now, heard: Heard) -> Choice
+        ensures { chosen_at self now.time result heard.request ≡ heard_on70 (model_at self now.time) (heard_of heard) }
     {
         let request = heard.request;
         match heard.kind {
@@ -167,16 +167,18 @@ impl Station {
         }
     }
 
-    // c. ".. then d to g apply", to the station that the coast's end leaves.
-    fn go_on(&self, now: Now, choice: Choice, request: Request, room: &mut [u8]) -> Stepped
+    // What is decided, and with c. ".. then d to g apply", to the station that the coast's end leaves.
+    fn enact_whole(&self, now: Now, choice: Choice, request: Request, room: &mut [u8]) -> Stepped
         requires self_value { sound (config_of self.now) (model_of self.now) ≡ true }
-        requires outcome_value { goes_on choice.outcome ≡ true }
         requires request_len_bound { length (chosen_at self.now now.time choice request).next.queue ≤ queue_room }
         ensures value { result ≡ handed_back self.now (chosen_at self.now now.time choice request) 0 room.old }
         ensures room_written { room.new ≡ room_laid self.now (chosen_at self.now now.time choice request) 0 room.old }
     {
         let ended = self.enact(now, choice.slot, choice.outcome, request, 0, room);
-        let next = ended.station;
+        if !goes_on(choice.outcome) {
+            return ended;
+        }
+        let next = &ended.station;
         let further = next.without_slot(request);
         next.enact(
             now,
@@ -186,18 +188,6 @@ impl Station {
             ended.count,
             room,
         )
-    }
-
-    fn enact_whole(&self, now: Now, choice: Choice, request: Request, room: &mut [u8]) -> Stepped
-        requires self_value { sound (config_of self.now) (model_of self.now) ≡ true }
-        requires request_len_bound { length (chosen_at self.now now.time choice request).next.queue ≤ queue_room }
-        ensures value { result ≡ handed_back self.now (chosen_at self.now now.time choice request) 0 room.old }
-        ensures room_written { room.new ≡ room_laid self.now (chosen_at self.now now.time choice request) 0 room.old }
-    {
-        if goes_on(choice.outcome) {
-            return self.go_on(now, choice, request, room);
-        }
-        self.enact(now, choice.slot, choice.outcome, request, 0, room)
     }
 
     // What symbols on channel 70 say, where the event is accepted.
