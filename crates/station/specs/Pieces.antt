@@ -44,6 +44,7 @@ use Rattle.deciding.specs.Decides.{by_signal, by_hand, coast_end_by, working_by,
 use Rattle.station.specs.declared.Station.{Station}
 use Rattle.station.specs.declared.Stepped.{Stepped}
 use Rattle.station.specs.declared.Choice.{Choice}
+use Rattle.station.specs.declared.Told.{Told}
 use Rattle.station.specs.declared.Plain.{Plain}
 use Rattle.station.specs.declared.Plain.TheVariants.{Signal, Hand}
 use Rattle.station.specs.Model.{model_of, config_of, image_of}
@@ -109,6 +110,9 @@ laid_of c acts k room = laid_from (map (sent_block c) acts) k room
 -- what is handed back once the blocks are laid
 unfoldable pub enacted : Config → Laid → Out → Stepped
 enacted c l o = record { answer = o.answer; count = l.next; due = due_image (next_due o.next); station = image_of c o.next }
+
+abbrev pub stepped_with : Station → Told → Stepped
+stepped_with s t = record { answer = t.answer; count = t.count; due = t.due; station = s }
 
 -- an outcome with its actions laid from block number k on: what is handed back, and the room
 abbrev pub handed_back : Station → Out → ℕ → List ℕ → Stepped

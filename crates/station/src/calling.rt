@@ -14,11 +14,11 @@ ghost use Rattle.hearing.specs.Said.{heard_of};
 ghost use Rattle.outcomes.specs.Does.{out_of, goes_on, without_slot};
 ghost use Rattle.station.specs.Model.{model_of, config_of};
 ghost use Rattle.station.specs.Step.{event_at, refusal, stepped_by, room_after};
-ghost use Rattle.station.specs.Pieces.{Sees, Judged, Hears, model_at, chosen_at, handed_back, room_laid};
+ghost use Rattle.station.specs.Pieces.{Sees, Judged, Hears, model_at, chosen_at, stepped_with, handed_back, room_laid};
 
 use crate::now::Now;
 use crate::places::slot_found;
-use crate::{Choice, Station, Stepped};
+use crate::{Choice, Station, Stepped, Told};
 use gate::{Look, Refusal};
 use hearing::{Heard, HeardKind};
 use outcomes::Outcome;
@@ -149,8 +149,8 @@ impl Station {
     // What was heard, at the time t.
     // Called, not inlined, as `without_slot` is.
     #[inline(never)]
-    fn choice(self, now: Now, heard: Heard) -> Choice
-        ensures { chosen_at self now.time result heard.request ≡ heard_on70 (model_at self now.time) (heard_of heard) }
+    fn choice(&self, now: Now, heard: Heard) -> Choice
+        ensures { chosen_at self.now now.time result heard.request ≡ heard_on70 (model_at self.now now.time) (heard_of heard) }
     {
         let request = heard.request;
         match heard.kind {
@@ -168,19 +168,18 @@ impl Station {
     }
 
     // What is decided, and with c. ".. then d to g apply", to the station that the coast's end leaves.
-    fn enact_whole(&self, now: Now, choice: Choice, request: Request, room: &mut [u8]) -> Stepped
-        requires self_value { sound (config_of self.now) (model_of self.now) ≡ true }
-        requires request_len_bound { length (chosen_at self.now now.time choice request).next.queue ≤ queue_room }
-        ensures value { result ≡ handed_back self.now (chosen_at self.now now.time choice request) 0 room.old }
-        ensures room_written { room.new ≡ room_laid self.now (chosen_at self.now now.time choice request) 0 room.old }
+    fn enact_whole(&mut self, now: Now, choice: Choice, request: Request, room: &mut [u8]) -> Told
+        requires self_value { sound (config_of self.old) (model_of self.old) ≡ true }
+        requires request_len_bound { length (chosen_at self.old now.time choice request).next.queue ≤ queue_room }
+        ensures value { stepped_with self.new result ≡ handed_back self.old (chosen_at self.old now.time choice request) 0 room.old }
+        ensures room_written { room.new ≡ room_laid self.old (chosen_at self.old now.time choice request) 0 room.old }
     {
         let ended = self.enact(now, choice.slot, choice.outcome, request, 0, room);
         if !goes_on(choice.outcome) {
             return ended;
         }
-        let next = &ended.station;
-        let further = next.without_slot(request);
-        next.enact(
+        let further = self.without_slot(request);
+        self.enact(
             now,
             further.slot,
             further.outcome,
@@ -206,7 +205,7 @@ impl Station {
     }
 
     // Symbols heard on channel 70.
-    pub fn heard_on_channel_70(self, time: Tenths, symbols: &[u8], room: &mut [u8]) -> Stepped
+    pub fn heard_on_channel_70(mut self, time: Tenths, symbols: &[u8], room: &mut [u8]) -> Stepped
         ensures value { result ≡ stepped_by self (event_at time.0 (on_channel70 symbols.now) room.old) }
         ensures room_written { room.new
             ≡ room_after self room.old (event_at time.0 (on_channel70 symbols.now) room.old) }
@@ -217,7 +216,8 @@ impl Station {
             Ok(heard) => {
                 let now = Now { time };
                 let choice = self.choice(now, heard);
-                self.enact_whole(now, choice, heard.request, room)
+                let told = self.enact_whole(now, choice, heard.request, room);
+                told.beside(self)
             }
         }
     }

@@ -6,13 +6,13 @@ ghost use Rattle.requests.specs.Views.{request_of};
 ghost use Rattle.slots.specs.Views.{due_view};
 ghost use Rattle.gate.specs.Asked.{refusal_number};
 ghost use Rattle.station.specs.Step.{due_image};
-ghost use Rattle.station.specs.Pieces.{Shows, out_at, handed_back, room_laid};
+ghost use Rattle.station.specs.Pieces.{Shows, stepped_with, out_at, handed_back, room_laid};
 
 use crate::applying::{requeued, slot_turned};
 use crate::look::due_time;
 use crate::now::Now;
 use crate::tidying::{queue_anew, slots_anew};
-use crate::{Station, Stepped};
+use crate::{Station, Stepped, Told};
 use gate::Refusal;
 use outcomes::Outcome;
 use outcomes::parts::{answer_of, last_after, queue_change, ringable, turn_of};
@@ -21,6 +21,19 @@ use slots::laying::blank_waiting;
 use slots::{Due, MOST_SLOTS};
 use telling::Scene;
 use units::SlotNumber;
+
+impl Told {
+    pub(crate) fn beside(self, station: Station) -> Stepped
+        ensures { result ≡ stepped_with station self }
+    {
+        Stepped {
+            station,
+            due: self.due,
+            answer: self.answer,
+            count: self.count,
+        }
+    }
+}
 
 impl Station {
     // What an outcome of that slot is told and applied by.
@@ -48,39 +61,37 @@ impl Station {
 
     // An outcome of that slot, told from that block on.
     pub(crate) fn enact(
-        &self,
+        &mut self,
         now: Now,
         number: SlotNumber,
         outcome: Outcome,
         request: Request,
         block: u8,
         room: &mut [u8],
-    ) -> Stepped
-        requires { length (out_at self.now now.time number (request_of request) outcome).next.queue ≤ queue_room }
-        ensures value { result ≡ handed_back self.now (out_at self.now now.time number (request_of request) outcome) block room.old }
-        ensures room_written { room.new ≡ room_laid self.now (out_at self.now now.time number (request_of request) outcome) block room.old }
+    ) -> Told
+        requires { length (out_at self.old now.time number (request_of request) outcome).next.queue ≤ queue_room }
+        ensures value { stepped_with self.new result ≡ handed_back self.old (out_at self.old now.time number (request_of request) outcome) block room.old }
+        ensures room_written { room.new ≡ room_laid self.old (out_at self.old now.time number (request_of request) outcome) block room.old }
     {
         let scene = self.scene(now, number, request);
         let told = scene.tell(outcome, block, room);
-        let mut next = *self;
         let change = queue_change(outcome, now.time, scene.ringable);
         let before = self.queue_length();
-        let waiting = requeued(&mut next.queue, before, change, request);
+        let waiting = requeued(&mut self.queue, before, change, request);
         let turn = turn_of(outcome, now.time, scene.ringable);
         let last = last_after(turn, self.last);
         let count = self.count.min(MOST_SLOTS);
         if number.0 < count as u32 {
-            let slot = next.slots[number.0 as usize];
-            next.slots[number.0 as usize] = slot_turned(slot, turn, scene, last);
+            let slot = self.slots[number.0 as usize];
+            self.slots[number.0 as usize] = slot_turned(slot, turn, scene, last);
         }
-        let slots_first = slots_anew(&mut next.slots, count);
-        let first = queue_anew(&mut next.queue, waiting, slots_first);
-        next.clock = now.time;
-        next.last = last;
-        next.count = count;
-        next.waiting = waiting;
-        Stepped {
-            station: next,
+        let slots_first = slots_anew(&mut self.slots, count);
+        let first = queue_anew(&mut self.queue, waiting, slots_first);
+        self.clock = now.time;
+        self.last = last;
+        self.count = count;
+        self.waiting = waiting;
+        Told {
             due: due_time(first),
             answer: answer_of(outcome),
             count: told,

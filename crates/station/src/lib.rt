@@ -49,6 +49,14 @@ pub enum Plain {
     Hand(Hand),
 }
 
+// What an event hands back beside the next station.
+#[derive(Clone, Copy)]
+struct Told {
+    due: Option<Tenths>,
+    answer: u8,
+    count: u8,
+}
+
 // What is done, and to which slot.
 #[derive(Clone, Copy)]
 struct Choice {

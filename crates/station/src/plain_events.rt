@@ -64,7 +64,13 @@ impl Station {
     }
 
     // Any of them.
-    pub fn plainly(self, what: Plain, time: Tenths, slot: SlotNumber, room: &mut [u8]) -> Stepped
+    pub fn plainly(
+        mut self,
+        what: Plain,
+        time: Tenths,
+        slot: SlotNumber,
+        room: &mut [u8],
+    ) -> Stepped
         ensures value { result ≡ stepped_by self (slot_at time.0 slot.0 (plain_view what) room.old) }
         ensures room_written { room.new ≡ room_after self room.old (slot_at time.0 slot.0 (plain_view what) room.old) }
     {
@@ -74,7 +80,8 @@ impl Station {
             Ok(the_slot) => {
                 let request = the_slot.request;
                 let outcome = by_plain(what, time, request.mode, the_slot.phase);
-                self.enact(Now { time }, slot, outcome, request, 0, room)
+                let told = self.enact(Now { time }, slot, outcome, request, 0, room);
+                told.beside(self)
             }
         }
     }

@@ -63,7 +63,7 @@ impl Station {
 
     // Ashore somebody calls a ship, in a mode; the digits are the caller's own number.
     pub fn call_from_ashore(
-        self,
+        mut self,
         time: Tenths,
         ship: u32,
         mode: u32,
@@ -79,7 +79,8 @@ impl Station {
             Err(refusal) => self.refused(refusal, look.due),
             Ok(slot) => {
                 let request = request_from(self.mast, ship, mode, digits);
-                self.enact(Now { time }, slot, Outcome::Calls, request, 0, room)
+                let told = self.enact(Now { time }, slot, Outcome::Calls, request, 0, room);
+                told.beside(self)
             }
         }
     }

@@ -62,7 +62,7 @@ fn by_due(due: Option<Due>, phase: Phase) -> Outcome
 
 impl Station {
     // Time passes: "the earliest wait due at or before t, one only".
-    pub fn tick(self, time: Tenths, room: &mut [u8]) -> Stepped
+    pub fn tick(mut self, time: Tenths, room: &mut [u8]) -> Stepped
         ensures value { result ≡ stepped_by self (event_at time.0 tick room.old) }
         ensures room_written { room.new ≡ room_after self room.old (event_at time.0 tick room.old) }
     {
@@ -77,7 +77,8 @@ impl Station {
                 let slot = due_slot(due);
                 let the_slot = self.slot_there(slot);
                 let outcome = by_due(due, the_slot.phase);
-                self.enact(now, slot, outcome, the_slot.request, 0, room)
+                let told = self.enact(now, slot, outcome, the_slot.request, 0, room);
+                told.beside(self)
             }
         }
     }

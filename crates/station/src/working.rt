@@ -55,7 +55,7 @@ impl Station {
 
     // Symbols heard on a slot's working channel.
     pub fn heard_on_slot(
-        self,
+        mut self,
         time: Tenths,
         slot: SlotNumber,
         symbols: &[u8],
@@ -73,7 +73,8 @@ impl Station {
                 let the_slot = self.slot_there(slot);
                 let own = is_by(the_slot.request, request.ship, request.station);
                 let outcome = by_kind(heard.kind, own, the_slot.phase);
-                self.enact(Now { time }, slot, outcome, request, 0, room)
+                let told = self.enact(Now { time }, slot, outcome, request, 0, room);
+                told.beside(self)
             }
         }
     }

@@ -21,10 +21,10 @@ pub returns-in-DataRequest : goal.returns-in-DataRequest
 unfolding whole_at heard_on70
 returns-in-DataRequest c = let x = c.args in
     let q = request_of x.heard.request in
-    let st : R.Station = set_clock x.now.time.0 (model_of x.self) in
+    let st : R.Station = set_clock x.now.time.0 (model_of x.self.now) in
     rw (c.in-DataRequest.is, c.of_none.ensures, c.data_asked.ensures)
     (ends_there 0 _ q _ st (data-ends c.is_being_called-called.result)
-    ∙ data_is 0 st (own_of x.self 0) q c.is_being_called-called.result
+    ∙ data_is 0 st (own_of x.self.now 0) q c.is_being_called-called.result
     ∙ ap (λ b. cond b (ignored st) (rule_a st q.who q.number)) (c.is_being_called-called.ensures x.now.time.0))
 
 pub returns-in-Bq : goal.returns-in-Bq

@@ -43,15 +43,15 @@ returns c =
     let changes = c.queue_change-change.ensures in
     let n = c.min-count.result in
     let few = c.min-count.ensures in
-    let x = c.if-number-count.next in
+    let x = c.if-number-count.self in
     let wide : length s.slots ≡ 16 = search rules in
     let long : length s.queue ≡ 32 = search rules in
     let written : ((i.0 < n) × (x.slots ≡ set s.slots i.0 (slot_turned sc (last_after s.last turn) (get_or s.slots i.0 no_slot) turn))) ⊎ ((n ≤ i.0) × (x.slots ≡ s.slots)) = elim c.if-number-count.branch [
-      | then-number-count w ↦ inl (w.if-number-count.true, ap (λ (z : Station). z.slots) w.next-is ∙ ap (set s.slots i.0) (w.slot_turned.ensures ∙ ap (λ z. slot_turned sc z (get_or s.slots i.0 no_slot) turn) c.last_after-last.ensures))
-      | else-number-count w ↦ inr (w.if-number-count.false, ap (λ (z : Station). z.slots) w.next-is)
+      | then-number-count w ↦ inl (w.if-number-count.true, ap (λ (z : Station). z.slots) w.self-is ∙ ap (set s.slots i.0) (w.slot_turned.ensures ∙ ap (λ z. slot_turned sc z (get_or s.slots i.0 no_slot) turn) c.last_after-last.ensures))
+      | else-number-count w ↦ inr (w.if-number-count.false, ap (λ (z : Station). z.slots) w.self-is)
     ] in
-    let mast : x.mast ≡ s.mast = elim c.if-number-count.branch [ then-number-count w ↦ ap (λ (z : Station). z.mast) w.next-is | else-number-count w ↦ ap (λ (z : Station). z.mast) w.next-is ] in
-    let queue : x.queue ≡ c.requeued-waiting.new.queue = elim c.if-number-count.branch [ then-number-count w ↦ ap (λ (z : Station). z.queue) w.next-is | else-number-count w ↦ ap (λ (z : Station). z.queue) w.next-is ] in
+    let mast : x.mast ≡ s.mast = elim c.if-number-count.branch [ then-number-count w ↦ ap (λ (z : Station). z.mast) w.self-is | else-number-count w ↦ ap (λ (z : Station). z.mast) w.self-is ] in
+    let queue : x.queue ≡ c.requeued-waiting.new.queue = elim c.if-number-count.branch [ then-number-count w ↦ ap (λ (z : Station). z.queue) w.self-is | else-number-count w ↦ ap (λ (z : Station). z.queue) w.self-is ] in
     let next : Station = record { clock = t; mast = x.mast; last = c.last_after-last.result; count = n; waiting = c.requeued-waiting.result; slots = x.slots; queue = x.queue } in
     let left = ap (viewed waiting_view c.requeued-waiting.result) queue ∙ c.requeued-waiting.ensures.queue ∙ queue-left s t i q sc o late shown _ changes long _ c.queue_length-before.ensures in
     let still : length x.slots ≡ 16 = still-wide s t i q sc o late shown _ changes turn turns wide n few x.slots written in

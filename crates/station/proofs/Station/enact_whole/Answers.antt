@@ -15,7 +15,7 @@ on : (m : Else-not-goes_on) → goes_on m.args.choice.outcome ≡ true
 on m = sym m.goes_on.ensures ∙ m.if-not-goes_on.false
 
 left : (m : Else-not-goes_on)
-    → model_of m.enact-ended.result.station ≡ (out_at m.args.self.now m.args.now.time m.args.choice.slot (request_of m.args.request) m.args.choice.outcome).next
+    → model_of m.enact-ended.new.self ≡ (out_at m.args.self.now m.args.now.time m.args.choice.slot (request_of m.args.request) m.args.choice.outcome).next
 left m =
     let x = m.args in
     half-model x.self.now x.now.time x.choice.slot (request_of x.request) x.choice.outcome (on m) m.requires.self_value _ _ m.enact-ended.ensures.value
@@ -37,7 +37,7 @@ pub enact-requires : goal.enact-requires
 enact-requires c = let m = (goal.at.enact-requires c).Else-not-goes_on in
     let x = c.args in
     let d = c.without_slot-further in
-    whole-fits x.self.now x.now.time x.choice.slot (request_of x.request) x.choice.outcome (on m) c.enact-ended.result.station (left m) (half-clock x.self.now x.now.time x.choice.slot (request_of x.request) x.choice.outcome (on m)) d.result.slot d.result.outcome d.ensures c.requires.request_len_bound
+    whole-fits x.self.now x.now.time x.choice.slot (request_of x.request) x.choice.outcome (on m) c.enact-ended.new.self (left m) (half-clock x.self.now x.now.time x.choice.slot (request_of x.request) x.choice.outcome (on m)) d.result.slot d.result.outcome d.ensures c.requires.request_len_bound
 
 pub returns : goal.returns
 returns c = let m = (goal.at.returns c).Else-not-goes_on in
@@ -45,7 +45,7 @@ returns c = let m = (goal.at.returns c).Else-not-goes_on in
     let d = c.without_slot-further in
     let kept = c.requires.self_value in
     let e = c.enact-ended.ensures in
-    let r = goes_on_lem x.self.now x.now.time x.choice.slot (request_of x.request) x.choice.outcome (on m) c.enact-ended.result.station (left m) (half-clock x.self.now x.now.time x.choice.slot (request_of x.request) x.choice.outcome (on m)) d.result.slot d.result.outcome d.ensures
+    let r = goes_on_lem x.self.now x.now.time x.choice.slot (request_of x.request) x.choice.outcome (on m) c.enact-ended.new.self (left m) (half-clock x.self.now x.now.time x.choice.slot (request_of x.request) x.choice.outcome (on m)) d.result.slot d.result.outcome d.ensures
     (half-config x.self.now x.now.time x.choice.slot (request_of x.request) x.choice.outcome (on m) kept _ _ e.value) _ x.room.now _ _
     (half_count x.self.now x.now.time x.choice.slot (request_of x.request) x.choice.outcome (on m) kept _ _ e.value) e.room_written _ (c.enact.ensures.value, c.enact.ensures.room_written) in
     record { value = r.0; room_written = r.1 }

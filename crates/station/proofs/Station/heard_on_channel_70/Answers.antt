@@ -26,9 +26,9 @@ decided c =
 pub invariant_of-now : goal.invariant_of-now
 invariant_of-now c = let x = c.args in record { within = (passed x.self (event_at x.time.0 (on_channel70 x.symbols.now) x.room.now) c.in-Ok.ensures.0).time }
 
-pub enact_whole-requires : goal.enact_whole-requires
-enact_whole-requires c = let x = c.args in
-    let b = (goal.at.enact_whole-requires c).After-choice-choice in
+pub enact_whole-told-requires : goal.enact_whole-told-requires
+enact_whole-told-requires c = let x = c.args in
+    let b = (goal.at.enact_whole-told-requires c).After-choice-choice in
     let a = c.in-Ok.ensures.0 in
     record { self_value = (passed x.self (event b) a).sounds; request_len_bound = queue-fits x.self x.room.now (event b) refl a _ (decided b) }
 
@@ -41,4 +41,4 @@ pub returns-in-Ok : goal.returns-in-Ok
 returns-in-Ok c = let x = c.args in
     let b = (goal.at.returns-in-Ok c).After-choice-choice in
     let p = accepted-is x.self x.room.now (event b) refl c.in-Ok.ensures.0 _ (decided b) in
-    record { value = c.enact_whole.ensures.value ∙ p.0; room_written = c.enact_whole.ensures.room_written ∙ p.1 }
+    record { value = c.beside.ensures ∙ (c.enact_whole-told.ensures.value ∙ p.0); room_written = c.enact_whole-told.ensures.room_written ∙ p.1 }

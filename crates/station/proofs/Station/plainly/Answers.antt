@@ -25,8 +25,8 @@ decided b =
 pub invariant_of-enact : goal.invariant_of-enact
 invariant_of-enact c = let x = c.args in record { within = (passed x.self (slot_at x.time.0 x.slot.0 (plain_view x.what) x.room.now) c.in-Ok.ensures.0).time }
 
-pub enact-requires : goal.enact-requires
-enact-requires c = let b = (goal.at.enact-requires c).After-by_plain-outcome in
+pub enact-told-requires : goal.enact-told-requires
+enact-told-requires c = let b = (goal.at.enact-told-requires c).After-by_plain-outcome in
     let x = c.args in
     queue-fits x.self x.room.now (event b) refl c.in-Ok.ensures.0 _ (decided b)
 
@@ -38,6 +38,6 @@ returns-in-Err c = let x = c.args in
 pub returns-in-Ok : goal.returns-in-Ok
 returns-in-Ok c = let b = (goal.at.returns-in-Ok c).After-by_plain-outcome in
     let x = c.args in
-    let e = c.enact.ensures in
+    let e = c.enact-told.ensures in
     let p = accepted-is x.self x.room.now (event b) refl c.in-Ok.ensures.0 _ (decided b) in
-    record { value = e.value ∙ p.0; room_written = e.room_written ∙ p.1 }
+    record { value = c.beside.ensures ∙ (e.value ∙ p.0); room_written = e.room_written ∙ p.1 }

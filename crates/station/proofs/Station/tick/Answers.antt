@@ -90,8 +90,8 @@ invariant_of-now c = let x = c.args in
     let a = c.in-Ok.ensures ∙ asked-always _ _ c.looked-look.ensures _ _ tick refl in
     record { within = rw c.moment.ensures (omega (arith, moment-due c.due_by-due.result x.time (due_view c.looked-look.result.due) c.due_by-due.ensures, (passed x.self (event_at x.time.0 tick x.room.now) a).time)) }
 
-pub enact-requires : goal.enact-requires
-enact-requires c = let b = (goal.at.enact-requires c).After-by_due-outcome in
+pub enact-told-requires : goal.enact-told-requires
+enact-told-requires c = let b = (goal.at.enact-told-requires c).After-by_due-outcome in
     let x = c.args in queue-fits x.self x.room.now (event b) refl (accepted b) _ (decided b)
 
 pub returns-in-Err : goal.returns-in-Err
@@ -102,6 +102,6 @@ returns-in-Err c = let sees = c.looked-look.ensures in
 pub returns-in-Ok : goal.returns-in-Ok
 returns-in-Ok c = let b = (goal.at.returns-in-Ok c).After-by_due-outcome in
     let x = c.args in
-    let e = c.enact.ensures in
+    let e = c.enact-told.ensures in
     let p = accepted-is x.self x.room.now (event b) refl (accepted b) _ (decided b) in
-    record { value = e.value ∙ p.0; room_written = e.room_written ∙ p.1 }
+    record { value = c.beside.ensures ∙ (e.value ∙ p.0); room_written = e.room_written ∙ p.1 }
