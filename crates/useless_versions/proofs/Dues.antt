@@ -9,8 +9,8 @@ use Rattle.rules.specs.Rules.Station.{next_due, fresh}
 use Rattle.rules.specs.Rules.Verdict.{final}
 use Rattle.rules.specs.Statement.{station_after}
 use Rattle.soundness.proofs.FitLaws.{sound-fits}
-use Rattle.station.specs.declared.NextDue.{NextDue}
-use Rattle.station.specs.declared.NextDue.TheVariants.{Never, At}
+use Rattle.std.specs.Prelude.{Option as Optional, Some, None}
+use Rattle.units.specs.declared.Tenths.{Tenths}
 use Rattle.station.specs.declared.Station.{Station}
 use Rattle.station.specs.Model.{model_of, image_of}
 use Rattle.station.specs.Step.{due_image}
@@ -28,26 +28,26 @@ use Rattle.useless_versions.proofs.Hosted.{bytes_after, stands}
 
 -- ── the method ───────────────────────────────────────────────────────────────
 
-due-is : (s : Station) (y : NextDue) → DueBy s y → y ≡ due_image (next_due (model_of s))
+due-is : (s : Station) (y : Optional Tenths) → DueBy s y → y ≡ due_image (next_due (model_of s))
 due-is _ _ (by-next-due κs a r s p) = p
 
 model_is : (es : List Event) → model_of (reached es) ≡ station_after house es
 model_is es = ap model_of (reached-is es) ∙ model-back house (station_after house es) (sound-fits house (station_after house es) (good es))
 
-reached-due : (es : List Event) (y : NextDue) → DueBy (reached es) y → y ≡ due_image (next_due (station_after house es))
+reached-due : (es : List Event) (y : Optional Tenths) → DueBy (reached es) y → y ≡ due_image (next_due (station_after house es))
 reached-due es y m = due-is (reached es) y m ∙ ap (λ m. due_image (next_due m)) (model_is es)
 
 handed : (past : List Station) (es : List Event) → HandedOut past (reached es)
 handed past es = record { config = house; steps = (leads es).steps; trace = (leads es).trace; handed = refl }
 
-differ : (y z : NextDue) → y ≡ Never → z ≡ At (record { 0 = 261 }) → y ≡ z → ⊥
+differ : (y z : Optional Tenths) → y ≡ None → z ≡ Some (record { 0 = 261 }) → y ≡ z → ⊥
 differ y z p q e = let r : ◌≡◌ {A = ℕ} 0 1 = cc in omega (arith, r)
 
-module _ (f : List Station → Station → NextDue) (m : (past : List Station) (s : Station) → DueBy s (f past s)) where
-  never : (past : List Station) → f past (reached []) ≡ Never
+module _ (f : List Station → Station → Optional Tenths) (m : (past : List Station) (s : Station) → DueBy s (f past s)) where
+  never : (past : List Station) → f past (reached []) ≡ None
   never past = reached-due [] (f past (reached [])) (m past (reached [])) ∙ ap due_image nothing-due
 
-  at-261 : (past : List Station) → f past (reached asked) ≡ At (record { 0 = 261 })
+  at-261 : (past : List Station) → f past (reached asked) ≡ Some (record { 0 = 261 })
   at-261 past = reached-due asked (f past (reached asked)) (m past (reached asked)) ∙ ap due_image due-261
 
 pub no-useless-next-due : NoUselessNextDue
@@ -56,7 +56,7 @@ no-useless-next-due f m = (
   λ d h. differ _ _ (never f m []) (at-261 f m []) (h [] (reached []) (handed [] []) ∙ sym (h [] (reached asked) (handed [] asked))),
   λ h.
       let past : List Station = reached [] ∷ [] in
-      differ Never _ refl (at-261 f m past) (sym (h past (reached asked) one (handed past asked))),
+      differ None _ refl (at-261 f m past) (sym (h past (reached asked) one (handed past asked))),
 )
 
 -- ── the entries in C ─────────────────────────────────────────────────────────

@@ -14,9 +14,9 @@ use Rattle.rules.specs.Rules.Places.{all}
 use Rattle.rules.specs.Rules.Words.{Event}
 use Rattle.rules.specs.Statement.{AtMostEight}
 use Rattle.rules.proofs.Eight.{at-most-eight}
-use Rattle.station.specs.declared.NextDue.{NextDue}
-use Rattle.station.specs.declared.NextDue.TheVariants.{Never, At}
-use Rattle.station.specs.declared.SetUp.{SetUp}
+use Rattle.std.specs.Prelude.{Option as Optional, Some, None, Result, Ok, Err}
+use Rattle.units.specs.declared.Tenths.{Tenths}
+use Rattle.gate.specs.declared.Refusal.{Refusal}
 use Rattle.station.specs.declared.Station.{Station}
 use Rattle.station.specs.Model.{config_of, model_of}
 use Rattle.station.specs.Step.{event_at, refusal, stepped_by, set_up_of}
@@ -26,11 +26,10 @@ use Rattle.lines.specs.Lines.{Said, sets_up, happens, command_of, set_up_said, s
 use Rattle.lines.specs.Readable.{scan, reads_as}
 use Rattle.printing.specs.Texts.{ten_digits, shortened, decimal, numbers_text, put_at}
 use Rattle.printing.specs.Replies.{line_feed, due_text, head_text, payload_in, action_text, block_at, action_texts, reply_text, put_text, put_length}
-use Rattle.script.specs.declared.Desk.{Desk}
 use Rattle.script.specs.declared.Fed.{Fed}
 use Rattle.script.specs.declared.Session.{Session}
 use Rattle.script.specs.declared.Text.{Text}
-use Rattle.script.specs.Answering.{unchanged, after_set_up, after_event, asked_for, handled_for, blocks_for, clock_of, due_of, no_blocks, desk_after, reply_to}
+use Rattle.script.specs.Answering.{Desk, after_set_up, asked_for, set_up_on, event_on, handled_for, blocks_for, clock_of, due_of, no_blocks, desk_after, reply_to}
 use Rattle.script.specs.Session.{no_text, add_byte, add_bytes, says_text, before_feed, begun, answered, text_with, fed_with, room_with}
 use Rattle.station_theorems.proofs.Steps.{lives, lent, lent_mut}
 use Rattle.useless_versions.specs.Feeds.{Feeding, Answered, FedBy, by-feed, Talked, begins, goes_on, Ends, Comes, printed_by, number_from, behind_space, line_feeds, signs, NoUselessFeed}
@@ -46,7 +45,7 @@ abbrev said_in : Feeding → Option Said
 said_in x = says_text (text_with x.session x.bytes)
 
 abbrev answering : Feeding → Fed
-answering x = answered (before_feed x.bytes + 1) x.session.desk.stands x.session.desk.station (text_with x.session x.bytes) x.room
+answering x = answered (before_feed x.bytes + 1) x.session.desk (text_with x.session x.bytes) x.room
 
 module _ (x : Feeding) (e : Ends x) where
   fed-whole : fed_with x.session x.bytes x.room ≡ answering x
@@ -98,14 +97,14 @@ read-s : says_text (add_bytes no_text (take (before_feed letter_s) letter_s)) �
 unfolding add_byte says_text reads_as scan command_of is_digit
 read-s = refl
 
-stands-s : (d : Desk) → d.stands ≡ false → (handled_for d no_blocks said_s).desk.stands ≡ true
-stands-s d f = rw (f, set-up) refl
+stands-s : (handled_for None no_blocks said_s).desk ≡ None → ⊥
+stands-s e = let f = rw set-up at e in cc
 
-told-0 : (t n : ℕ) (d : NextDue) (blocks : List ℕ) → number_from 0 (reply_text 0 t n d blocks) ≡ 0
+told-0 : (t n : ℕ) (d : Optional Tenths) (blocks : List ℕ) → number_from 0 (reply_text 0 t n d blocks) ≡ 0
 unfolding reply_text head_text decimal shortened ten_digits is_digit
 told-0 t n d blocks = refl
 
-told-40 : (t n : ℕ) (d : NextDue) (blocks : List ℕ) → number_from 0 (reply_text 40 t n d blocks) ≡ 40
+told-40 : (t n : ℕ) (d : Optional Tenths) (blocks : List ℕ) → number_from 0 (reply_text 40 t n d blocks) ≡ 40
 unfolding reply_text head_text decimal shortened ten_digits is_digit
 told-40 t n d blocks = refl
 
@@ -117,14 +116,14 @@ module _ (s : Session) (fresh : s.text ≡ no_text) where
   unfolding reply_to says_text reads_as
   empty-answered = rw fresh (told-40 _ _ _ _)
 
-  module _ (none-stands : s.desk.stands ≡ false) where
+  module _ (none-stands : s.desk ≡ None) where
     s-answered : number_from 0 (reply_to s.desk (said_in (feeding s letter_s))) ≡ 0
     unfolding reply_to
     s-answered = rw (says-s, none-stands, set-up) (told-0 _ _ _ _)
 
-    s-stands : (desk_after s.desk (said_in (feeding s letter_s))).stands ≡ true
+    s-stands : desk_after s.desk (said_in (feeding s letter_s)) ≡ None → ⊥
     unfolding desk_after
-    s-stands = ap (λ (o : Option Said). (desk_after s.desk o).stands) says-s ∙ stands-s s.desk none-stands
+    s-stands e = stands-s (rw (says-s, none-stands) at e)
 
 -- ── the count ────────────────────────────────────────────────────────────────
 
@@ -186,9 +185,9 @@ feeds-actions (suc k) room r =
     let e : line_feeds ((action_texts k room ++ last) ++ r) ≡ k + line_feeds (last ++ r) = rw (append_assoc (action_texts k room) last r) (feeds-actions k room (last ++ r)) in
     omega (arith, e, feeds-action (block_at k room) r)
 
-feeds-due : (d : NextDue) (r : List ℕ) → line_feeds (due_text d ++ r) ≡ line_feeds r
-feeds-due Never r = refl
-feeds-due (At t) r = feeds-plain (decimal t.0) r (decimal-plain t.0)
+feeds-due : (d : Optional Tenths) (r : List ℕ) → line_feeds (due_text d ++ r) ≡ line_feeds r
+feeds-due None r = refl
+feeds-due (Some t) r = feeds-plain (decimal t.0) r (decimal-plain t.0)
 
 -- a count of at most eight is one digit
 single : (n : ℕ) → n ≤ 8 → decimal n ≡ (48 + n) ∷ []
@@ -206,12 +205,12 @@ single n h =
     let k : n % 10 ≡ n = omega arith in
     rw (a, b, c, d, e, f, g, i, j, k) refl
 
-one-digit : (n : ℕ) → n ≤ 8 → (d : NextDue) (r : List ℕ) → number_from 0 ((48 + n) ∷ (due_text d ++ r)) ≡ n
+one-digit : (n : ℕ) → n ≤ 8 → (d : Optional Tenths) (r : List ℕ) → number_from 0 ((48 + n) ∷ (due_text d ++ r)) ≡ n
 unfolding is_digit
-one-digit n h Never r = rw (le-leb 48 (48 + n) (omega arith), le-leb (48 + n) 57 (omega arith)) (omega arith)
-one-digit n h (At t) r = rw (le-leb 48 (48 + n) (omega arith), le-leb (48 + n) 57 (omega arith)) (omega arith)
+one-digit n h None r = rw (le-leb 48 (48 + n) (omega arith), le-leb (48 + n) 57 (omega arith)) (omega arith)
+one-digit n h (Some t) r = rw (le-leb 48 (48 + n) (omega arith), le-leb (48 + n) 57 (omega arith)) (omega arith)
 
-module _ (a t n : ℕ) (d : NextDue) (blocks : List ℕ) (h : n ≤ 8) where
+module _ (a t n : ℕ) (d : Optional Tenths) (blocks : List ℕ) (h : n ≤ 8) where
   abbrev rest : List ℕ
   rest = action_texts (min n 8) blocks
 
@@ -252,20 +251,20 @@ stepped-few s e = go (refusal s e) refl
 
 few : (d : Desk) (said : Option Said) → (handled_for d no_blocks said).count ≤ 8
 few d none = omega arith
-few d (some (sets_up a)) = go d.stands (set_up_of (asked_for a))
+few d (some (sets_up a)) = set d
   where
-    tried : (u : SetUp) → Either (eqb u.answer 0) → (after_set_up d u).count ≤ 8
-    tried u (yes! p) = rw p (omega arith)
-    tried u (no! p) = rw p (omega arith)
+    told : (u : Result Station Refusal) → (after_set_up u).count ≤ 8
+    told (Ok s) = omega arith
+    told (Err r) = omega arith
 
-    go : (b : Bool) (u : SetUp) → (cond b (unchanged d 41) (after_set_up d u)).count ≤ 8
-    go true u = omega arith
-    go false u = tried u (which (eqb u.answer 0))
-few d (some (happens time what)) = go d.stands
+    set : (d : Desk) → (set_up_on d a).count ≤ 8
+    set None = told (set_up_of (asked_for a))
+    set (Some s) = omega arith
+few d (some (happens time what)) = go d
   where
-    go : (b : Bool) → (cond b (after_event (stepped_by d.station (event_at time what no_blocks))) (unchanged d 41)).count ≤ 8
-    go true = stepped-few d.station (event_at time what no_blocks)
-    go false = omega arith
+    go : (d : Desk) → (event_on d (event_at time what no_blocks)).count ≤ 8
+    go None = omega arith
+    go (Some s) = stepped-few s (event_at time what no_blocks)
 
 counted : (x : Feeding) (y : Answered) → FedBy x y → Ends x → suc (number_from 0 (behind_space (behind_space (printed_by y)))) ≡ line_feeds (printed_by y)
 unfolding reply_to
@@ -301,9 +300,9 @@ next-is = ap (λ (f : Fed). f.session) (fed-whole first (empty-ends begun))
 no_text_lem : next.text ≡ no_text
 no_text_lem = ap (λ (s : Session). s.text) next-is
 
-none-stands : next.desk.stands ≡ false
+none-stands : next.desk ≡ None
 unfolding begun desk_after says_text reads_as
-none-stands = ap (λ (s : Session). s.desk.stands) next-is
+none-stands = ap (λ (s : Session). s.desk) next-is
 
 pub no-useless-feed : NoUselessFeed
 unfolding NoUselessFeed
@@ -314,7 +313,7 @@ no-useless-feed =
       doable = feeding next letter_s;
       doable-comes = record { talked = talked; line = s-ends next };
       done = λ y m. ap (number_from 0) (printed-as (feeding next letter_s) (s-ends next) y m) ∙ s-answered next no_text_lem none-stands;
-      busy = λ y m i. true≢false (sym (s-stands next no_text_lem none-stands) ∙ ap (λ (d : Desk). d.stands) (sym (desk-as (feeding next letter_s) (s-ends next) y m) ∙ i) ∙ none-stands);
+      busy = λ y m i. s-stands next no_text_lem none-stands (sym (desk-as (feeding next letter_s) (s-ends next) y m) ∙ i ∙ none-stands);
       later = first ∷ [];
       begun-later = one;
       bad = feeding next (10 ∷ []);

@@ -4,7 +4,8 @@ use mathlib.Core.Path.{◌≡◌, refl, ap}
 use mathlib.Core.List.{List, []}
 use native.Mathlib.Omega.{arith}
 use lib.ListN.{length, get_or}
-use Rattle.receivers.specs.declared.Receiver.TheVariants.{First, Second}
+use Rattle.std.specs.Prelude.{None}
+use Rattle.receivers.specs.declared.Receiver.TheVariants.{First}
 use Rattle.receivers.specs.Finding.{first_in, found_in, bytes_of, stretch_found}
 use Rattle.receivers.specs.Cases.{p1, at, finds_none}
 use Rattle.receivers.proofs.Computed.{finding-computed}
@@ -23,7 +24,7 @@ silence = record { first = []; second = [] }
 request-found : found_in p1 [] ≡ at First 0 24
 request-found = ap (λ l. (get_or l 0 (finds_none [] [])).found) finding-computed
 
-silence-found : found_in [] [] ≡ at Second 0 0
+silence-found : found_in [] [] ≡ None
 unfolding found_in first_in
 silence-found = refl
 

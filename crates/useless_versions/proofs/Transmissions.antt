@@ -1,27 +1,27 @@
 -- The transmission of P1 is written and read, an empty room is refused; 0 has a character, 128 has none.
 use Prim.Native.Nat.{ℕ, zero, suc, ◌+◌, ◌*◌, ◌/◌, ◌%◌, ◌<◌, ◌≤◌}
 use mathlib.Core.Path.{◌≡◌, refl, sym, ap, ◌∙◌}
-use mathlib.Core.Bool.{true}
+use mathlib.Core.Bool.{true, false, true≢false}
 use mathlib.Core.List.{List, [], ◌∷◌, ◌++◌, map}
 use native.Mathlib.Omega.{arith}
 use lib.Count.{ones, ones_in}
 use lib.Dec.{leb, ltb}
 use lib.ListN.{length, get_or, drop, replicate, length-map, length-replicate, get_or-eq_default}
 use borrow.Author.Tests.{leb-true, eqb-true, ltb-true, ltb-false}
-use Rattle.sequence.specs.declared.Reading.{Reading}
+use Rattle.std.specs.Prelude.{Some, None, Result, Ok, Err}
 use Rattle.sequence.specs.Figures.{longest}
 use Rattle.sequence.specs.Symbols.{all_at_most}
 use Rattle.sequence.specs.Layout.{front, body, layout}
 use Rattle.sequence.proofs.Tests.{both_true, Either, yes!, no!, which}
 use Rattle.reading.proofs.Passed.{passed}
 use Rattle.sequence_theorems.proofs.NumberLaws.{all_from}
-use Rattle.sequence_theorems.proofs.Theorems.{answered}
 use Rattle.characters.specs.Code.{none, zeros, ten_units, character_of, symbol_of}
 use Rattle.characters.proofs.CodeLaws.{symbol-of-its-own}
-use Rattle.transmission.specs.declared.Answer.{Answer}
-use Rattle.transmission.specs.declared.Answer.TheVariants.{Done, BadLength, BadSymbol, ShortRoom, NoPhasing, CopiesBad, EndsEarly}
-use Rattle.transmission.specs.declared.Counted.{Counted}
-use Rattle.transmission.specs.Answers.{answer_number, is_done}
+use Rattle.transmission.specs.declared.Refusal.{Refusal}
+use Rattle.transmission.specs.declared.Refusal.TheVariants.{BadLength, BadSymbol, ShortRoom, NoPhasing, CopiesBad, EndsEarly}
+use Rattle.transmission.specs.Answers.{Answer, done, refusal_number, answer_number, is_done, answered, answer_told, count_told}
+use Rattle.transmission.proofs.AnswerLaws.{done-is}
+use Rattle.sequence.specs.Answers as SequenceAnswers
 use Rattle.transmission.specs.Layout.{dx_phasing, rx_phasing, dx, rx, sent, transmission, bytes_of}
 use Rattle.transmission.specs.Writing.{longest_transmission, writing_refusals, writing_answer, transmission_written, room_after_writing}
 use Rattle.transmission.specs.Phasing.{characters_of, heard}
@@ -34,7 +34,6 @@ use Rattle.transmission_theorems.proofs.SentLaws.{sent-small}
 use Rattle.transmission_theorems.proofs.InRoom.{written-in-room, answer-in-room, done-in-longest, read-in-room}
 use Rattle.transmission_theorems.proofs.Theorems.{bytes-read-back, sequences-read-back, nothing-else}
 use Rattle.coast.specs.Transmissions.{answer_with_count}
-use Rattle.host_theorems.proofs.Transmissions.{done-is}
 use Rattle.useless_versions.specs.Versions.{Anything, NoUselessVersion}
 use Rattle.useless_versions.specs.Sequences.{symbols_in, Lent}
 use Rattle.useless_versions.specs.Transmissions.{Seen, seen, seen_in_c, signs, characters_in}
@@ -48,12 +47,11 @@ use Rattle.useless_versions.specs.Transmissions.{SymbolBy, by-symbol-of, NoUsele
 use Rattle.useless_versions.specs.Transmissions.{SymbolInC, by-coast-read-character, NoUselessSymbolInC}
 use Rattle.useless_versions.proofs.ShutOut.{one, shut_out, no-fixed-reply}
 use Rattle.useless_versions.proofs.Events.{blank-behind}
-use Rattle.useless_versions.proofs.Sequences.{asked, read_asked, no-symbols, symbols-laid, long, not_zeros}
+use Rattle.useless_versions.proofs.Sequences.{asked, asked-accepted, no-symbols, symbols-laid, long, not_zeros}
 
 -- ── what is seen of a call, for Rattle and for C ─────────────────────────────
 
-in-byte : (a : Answer) → answer_number a < 256
-in-byte Done = omega arith
+in-byte : (r : Refusal) → refusal_number r < 256
 in-byte BadLength = omega arith
 in-byte BadSymbol = omega arith
 in-byte ShortRoom = omega arith
@@ -61,19 +59,24 @@ in-byte NoPhasing = omega arith
 in-byte CopiesBad = omega arith
 in-byte EndsEarly = omega arith
 
-same_seen : (told : Counted) (left : List ℕ) → seen_in_c (answer_with_count told) left ≡ seen told left
-unfolding answer_with_count
-same_seen told left =
-    let a : (answer_number told.answer + 256 * told.count) % 256 ≡ answer_number told.answer = omega (arith, in-byte told.answer) in
-    let n : (answer_number told.answer + 256 * told.count) / 256 ≡ told.count = omega (arith, in-byte told.answer) in
-    rw (a, n)
+same_seen : (told : Result ℕ Refusal) (left : List ℕ) → seen_in_c (answer_with_count told) left ≡ seen told left
+same_seen (Ok n) left =
+    let a : 256 * n % 256 ≡ 0 = omega arith in
+    let c : 256 * n / 256 ≡ n = omega arith in
+    rw (a, c)
+same_seen (Err r) left =
+    let a : refusal_number r % 256 ≡ refusal_number r = omega (arith, in-byte r) in
+    let c : refusal_number r / 256 ≡ 0 = omega (arith, in-byte r) in
+    rw (a, c)
 
-done-told : (a : Answer) → is_done a ≡ true → a ≡ Done
-done-told a d = done-is a 0 (omega (arith, eqb-true (answer_number a) 0 d))
+-- beside a refusal no count is told
+no-count : (a : Answer) (n : ℕ) → is_done a ≡ false → count_told (answered a n) ≡ 0
+no-count None n e = absurd (true≢false e)
+no-count (Some r) n e = refl
 
 -- told in so much room, and left in it
 abbrev Telling : Type 0
-Telling = List ℕ → ℕ → Counted
+Telling = List ℕ → ℕ → Result ℕ Refusal
 
 abbrev Leaving : Type 0
 Leaving = List ℕ → List ℕ → List ℕ
@@ -86,14 +89,14 @@ Names meets told left =
 -- in a room of 255s the count told is that of what is laid
 abbrev Counts : Telling → Leaving → (List ℕ → ℕ) → Type 0
 Counts told left laid_in =
-    (given room : List ℕ) (size : ℕ) → room ≡ replicate size 255 → (told given (length room)).count ≡ laid_in (left given room)
+    (given room : List ℕ) (size : ℕ) → room ≡ replicate size 255 → count_told (told given (length room)) ≡ laid_in (left given room)
 
 behind : (room : List ℕ) (size n : ℕ) → room ≡ replicate size 255 → (m : ℕ) × (drop n room ≡ replicate m 255)
 behind room size n e = rw e (blank-behind 255 n size)
 
 -- it is done in this room and changes it, and is refused in an empty one
 module _ (told : Telling) (left : Leaving) (laid_in : List ℕ → ℕ) (counts : Counts told left laid_in) (given room : List ℕ)
-    (done : (told given (length room)).answer ≡ Done) (changes : left given room ≡ room → ⊥) (short : (told given 0).answer ≡ ShortRoom)
+    (is_told : answer_told (told given (length room)) ≡ done) (changes : left given room ≡ room → ⊥) (short : answer_told (told given 0) ≡ Some ShortRoom)
     (meets : Lent → Seen → Type 0) (names : Names meets told left) where
   no-useless : NoUselessVersion Anything (signs laid_in) meets
   no-useless =
@@ -103,7 +106,7 @@ module _ (told : Telling) (left : Leaving) (laid_in : List ℕ → ℕ) (counts 
         begun = one;
         doable = lend room;
         doable-comes = tt;
-        done = λ y m. ap (λ (s : Seen). s.answer) (names (lend room) y m) ∙ ap answer_number done;
+        done = λ y m. ap (λ (s : Seen). s.answer) (names (lend room) y m) ∙ ap answer_number is_told;
         busy = λ y m i. changes (sym (ap (λ (s : Seen). s.left) (names (lend room) y m)) ∙ i);
         later = lend room ∷ [];
         begun-later = one;
@@ -117,7 +120,7 @@ abbrev p1 : List ℕ
 p1 = layout asked
 
 accepted : Accepted p1
-accepted = ap (λ (r : Reading). r.answer) read_asked
+accepted = asked-accepted
 
 -- ── writing one ──────────────────────────────────────────────────────────────
 
@@ -126,7 +129,7 @@ zeros_to_send = replicate (2 * longest_transmission) 0
 
 writable : Writable p1 zeros_to_send
 writable =
-    let p = passed p1 (answered p1 accepted) in
+    let p = passed p1 (ap SequenceAnswers.is_done accepted) in
     record { size = p.long; small = p.symbols; wide = rw (length-replicate {A = ℕ} (2 * longest_transmission) 0) (omega arith) }
 
 -- the low byte of 125's character
@@ -140,7 +143,7 @@ sending-changes e =
     let q : ◌≡◌ {A = ℕ} 125 0 = sym (first-sent p1 _) ∙ ap (λ (l : List ℕ). get_or l 0 0) same in
     omega (arith, q)
 
-sending-short : (transmission_written p1 0).answer ≡ ShortRoom
+sending-short : answer_told (transmission_written p1 0) ≡ Some ShortRoom
 unfolding transmission_written writing_answer writing_refusals
 sending-short = refl
 
@@ -164,21 +167,21 @@ unfolding transmission_written room_after_writing transmission
 sending-counts s room size e = go (which (is_done (writing_answer s (length room))))
   where
     go : Either (is_done (writing_answer s (length room)))
-        → (transmission_written s (length room)).count ≡ characters_in (room_after_writing s room)
+        → count_told (transmission_written s (length room)) ≡ characters_in (room_after_writing s room)
     go (yes! d) =
         let w = done-writable s room d in
         let x = written-in-room s room w in
         let rest = behind room size (2 * length (transmission s)) e in
         let laid = x.1 ∙ ap (◌++◌ (bytes_of (transmission s))) rest.1 in
-        ap (λ (c : Counted). c.count) x.0 ∙ length-map (sent s) character_of
+        ap count_told x.0 ∙ length-map (sent s) character_of
         ∙ sym (ap characters_in laid ∙ characters-laid (sent s) rest.0 (sent-small s w.small))
-    go (no! d) = rw d (sym (ap characters_in e ∙ no-characters size))
+    go (no! d) = no-count _ _ d ∙ rw d (sym (ap characters_in e ∙ no-characters size))
 
 no-useless-sending : (meets : Lent → Seen → Type 0) → Names meets transmission_written room_after_writing
     → NoUselessVersion Anything (signs characters_in) meets
 no-useless-sending =
-    let done = ap (λ (c : Counted). c.answer) (written-in-room p1 zeros_to_send writable).0 in
-    no-useless transmission_written room_after_writing characters_in sending-counts p1 zeros_to_send done sending-changes sending-short
+    let is_told = ap answer_told (written-in-room p1 zeros_to_send writable).0 in
+    no-useless transmission_written room_after_writing characters_in sending-counts p1 zeros_to_send is_told sending-changes sending-short
 
 sent_is : Names SentBy transmission_written room_after_writing
 sent_is _ _ (by-write-transmission κs a r s p) = rw (p.0, p.1)
@@ -203,14 +206,14 @@ abbrev on_air : List ℕ
 on_air = bytes_of (transmission p1)
 
 record ReadOff : Type 0 where
-  done : (transmission_read on_air (length zeros_to_receive)).answer ≡ Done
+  is_told : answer_told (transmission_read on_air (length zeros_to_receive)) ≡ done
   left : room_after_reading on_air zeros_to_receive ≡ p1 ++ drop (length p1) zeros_to_receive
 
 read_off : ReadOff
 read_off =
     let back = rw (← bytes-read-back p1) at (sequences-read-back p1 accepted) in
     let x = read-in-room on_air zeros_to_receive (answer-in-room on_air zeros_to_receive long ∙ back.0) in
-    record { done = ap (λ (c : Counted). c.answer) x.0; left = rw back.1 at x.1 }
+    record { is_told = ap answer_told x.0; left = rw back.1 at x.1 }
 
 first_read : (rest : List ℕ) → get_or (p1 ++ rest) 0 0 ≡ 123
 unfolding layout body front
@@ -219,12 +222,12 @@ first_read rest = refl
 receiving-changes : room_after_reading on_air zeros_to_receive ≡ zeros_to_receive → ⊥
 receiving-changes e = not_zeros zeros_to_receive (ap (λ (l : List ℕ). get_or l 0 0) (sym e ∙ read_off.left) ∙ first_read _) refl
 
-receiving-short : (transmission_read on_air 0).answer ≡ ShortRoom
+receiving-short : answer_told (transmission_read on_air 0) ≡ Some ShortRoom
 unfolding transmission_read reading_answer reading_refusals
 receiving-short = refl
 
 -- what is read is symbols
-module _ (characters : List ℕ) (done : reading_answer (heard characters) longest ≡ Done) where
+module _ (characters : List ℕ) (is_read : reading_answer (heard characters) longest ≡ done) where
   abbrev symbols : List ℕ
   symbols = Reader.symbols_in (heard characters)
 
@@ -234,7 +237,7 @@ module _ (characters : List ℕ) (done : reading_answer (heard characters) longe
       go : (k : ℕ) → Either (ltb k (length symbols)) → get_or symbols k 0 ≤ 127
       go k (yes! l) =
           let within = ltb-true k (length symbols) l in
-          rw (any-default symbols k 0 none within) (nothing-else characters done k within).is-symbol
+          rw (any-default symbols k 0 none within) (nothing-else characters is_read k within).is-symbol
       go k (no! l) = rw (get_or-eq_default symbols 0 (ltb-false k (length symbols) l)) (omega arith)
 
 receiving-counts : Counts transmission_read room_after_reading symbols_in
@@ -242,21 +245,21 @@ unfolding transmission_read room_after_reading
 receiving-counts bytes room size e = go (which (is_done (reading_answer (heard (characters_of bytes)) (length room))))
   where
     go : Either (is_done (reading_answer (heard (characters_of bytes)) (length room)))
-        → (transmission_read bytes (length room)).count ≡ symbols_in (room_after_reading bytes room)
+        → count_told (transmission_read bytes (length room)) ≡ symbols_in (room_after_reading bytes room)
     go (yes! d) =
-        let done = done-told _ d in
-        let x = read-in-room bytes room done in
+        let is_read = done-is _ d in
+        let x = read-in-room bytes room is_read in
         let read : List ℕ = Reader.symbols_in (heard (characters_of bytes)) in
         let rest = behind room size (length read) e in
         let laid = x.1 ∙ ap (◌++◌ read) rest.1 in
-        let small = read_small (characters_of bytes) (done-in-longest bytes room done) in
-        ap (λ (c : Counted). c.count) x.0 ∙ sym (ap symbols_in laid ∙ symbols-laid read rest.0 small)
-    go (no! d) = rw d (sym (ap symbols_in e ∙ no-symbols size))
+        let small = read_small (characters_of bytes) (done-in-longest bytes room is_read) in
+        ap count_told x.0 ∙ sym (ap symbols_in laid ∙ symbols-laid read rest.0 small)
+    go (no! d) = no-count _ _ d ∙ rw d (sym (ap symbols_in e ∙ no-symbols size))
 
 no-useless-receiving : (meets : Lent → Seen → Type 0) → Names meets transmission_read room_after_reading
     → NoUselessVersion Anything (signs symbols_in) meets
 no-useless-receiving =
-    no-useless transmission_read room_after_reading symbols_in receiving-counts on_air zeros_to_receive read_off.done receiving-changes
+    no-useless transmission_read room_after_reading symbols_in receiving-counts on_air zeros_to_receive read_off.is_told receiving-changes
     receiving-short
 
 received_is : Names ReceivedBy transmission_read room_after_reading

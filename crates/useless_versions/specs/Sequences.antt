@@ -1,10 +1,9 @@
 -- The reader and the writer of sequences, for Rattle and for C: none of the four has a useless version.
-use Rattle.std.specs.Prelude.{ℕ, suc, ◌/◌, ◌%◌, ◌≡◌, cond, List, [], ◌∷◌, leb, replicate}
+use Rattle.std.specs.Prelude.{ℕ, suc, ◌/◌, ◌%◌, ◌≡◌, cond, List, [], ◌∷◌, leb, replicate, Result, Ok, Err}
 use contract.Lifetimes.{Lfts}
 use Rattle.sequence.specs.declared.Meaning.{Meaning}
-use Rattle.sequence.specs.declared.Reading.{Reading}
-use Rattle.sequence.specs.declared.Written.{Written}
-use Rattle.sequence.specs.Answers.{answer_number}
+use Rattle.sequence.specs.declared.Refusal.{Refusal}
+use Rattle.sequence.specs.Answers.{refusal_number}
 use Rattle.sequence.specs.Reading.{blank_meaning}
 use Rattle.reading.proofs.read.Reads as read
 use Rattle.writing.proofs.write.Reads as write
@@ -12,14 +11,24 @@ use Rattle.coast.proofs.sequences.coast_read_sequence.Reads as coast_read_sequen
 use Rattle.coast.proofs.sequences.coast_write_sequence.Reads as coast_write_sequence
 use Rattle.useless_versions.specs.Versions.{Signs, NoUselessVersion, Anything}
 
+-- the answer's number: a refusal's own, and 0 beside a value
+abbrev pub number_told : {A : Type 0} → Result A Refusal → ℕ
+number_told (Ok a) = 0
+number_told (Err r) = refusal_number r
+
 -- ── reading ──────────────────────────────────────────────────────────────────
 
-pub data ReadBy : List ℕ → Reading → Type 0 where
+pub data ReadBy : List ℕ → Result Meaning Refusal → Type 0 where
   by_read : (κs : Lfts 1) (a : _) (r : _) (s : _) → read.Post κs a r s → ReadBy a.0.now r
 
+-- beside a refusal no meaning, a blank one in its place
+abbrev pub meaning_told : Result Meaning Refusal → Meaning
+meaning_told (Ok m) = m
+meaning_told (Err r) = blank_meaning
+
 -- nothing done: the blank meaning handed back; no count is told
-abbrev pub reader_signs : Signs (List ℕ) Reading
-reader_signs = record { answer = λ y. answer_number y.answer; idle = λ s y. y.meaning ≡ blank_meaning; miscounted = λ s y. ⊥ }
+abbrev pub reader_signs : Signs (List ℕ) (Result Meaning Refusal)
+reader_signs = record { answer = number_told; idle = λ s y. meaning_told y ≡ blank_meaning; miscounted = λ s y. ⊥ }
 
 unfoldable pub NoUselessReader : Type 0
 NoUselessReader = NoUselessVersion Anything reader_signs ReadBy
@@ -31,12 +40,17 @@ pub record ToWrite : Type 0 where
   pub room : List ℕ
 
 pub record Wrote : Type 0 where
-  pub written : Written
+  pub written : Result ℕ Refusal
   pub left : List ℕ  -- what the room then holds
 
 pub data WrittenBy : ToWrite → Wrote → Type 0 where
   by-write : (κs : Lfts 1) (a : _) (r : _) (s : _) → write.Post κs a r s
       → WrittenBy (record { meaning = a.0; room = a.1.0.now }) (record { written = r; left = s.1.0.now })
+
+-- beside a refusal no count
+abbrev pub length_told : Result ℕ Refusal → ℕ
+length_told (Ok n) = n
+length_told (Err r) = 0
 
 -- the bytes at the front of a room that may be symbols: "Each symbol is one byte, 0 to 127"
 abbrev pub symbols_in : List ℕ → ℕ
@@ -51,9 +65,9 @@ pub record Miscounted (laid_in : List ℕ → ℕ) (room : List ℕ) (count : �
 
 abbrev pub writer_signs : Signs ToWrite Wrote
 writer_signs = record {
-  answer = λ y. answer_number y.written.answer;
+  answer = λ y. number_told y.written;
   idle = λ x y. y.left ≡ x.room;
-  miscounted = λ x y. Miscounted symbols_in x.room y.written.length y.left;
+  miscounted = λ x y. Miscounted symbols_in x.room (length_told y.written) y.left;
 }
 
 unfoldable pub NoUselessWriter : Type 0

@@ -1,8 +1,10 @@
 -- Set-up, for Rattle and for C: neither has a useless version. No count is told.
-use Rattle.std.specs.Prelude.{ℕ, ◌≡◌, List}
+use Rattle.std.specs.Prelude.{ℕ, ◌≡◌, List, Result, Ok, Err}
 use contract.Lifetimes.{Lfts}
 use Rattle.units.specs.declared.Channel.{Channel}
-use Rattle.station.specs.declared.SetUp.{SetUp}
+use Rattle.gate.specs.declared.Refusal.{Refusal}
+use Rattle.gate.specs.Asked.{refusal_number}
+use Rattle.station.specs.declared.Station.{Station}
 use Rattle.station.specs.Step.{blank_station}
 use Rattle.station.proofs.Station.set_up.Reads as Station-set_up
 use Rattle.coast.proofs.setting.coast_set_up.Reads as coast_set_up
@@ -13,13 +15,22 @@ pub record Wanted : Type 0 where
   pub channels : List Channel
   pub count : ℕ
 
-pub data SetUpBy : Wanted → SetUp → Type 0 where
-  by-set-up : (κs : Lfts 0) (a : _) (r : _) (s : _) → Station-set_up.Post κs a r s
-      → SetUpBy (record { identity = a.0; channels = a.1.0; count = a.1.1.0 }) r
+pub data SetUpBy : Wanted → Result Station Refusal → Type 0 where
+  by-set-up : (κs : Lfts 1) (a : _) (r : _) (s : _) → Station-set_up.Post κs a r s
+      → SetUpBy (record { identity = a.0; channels = a.1.0.now; count = a.1.1.0 }) r
+
+abbrev pub number_told : Result Station Refusal → ℕ
+number_told (Ok s) = 0
+number_told (Err r) = refusal_number r
+
+-- beside a refusal no station, a blank one in its place
+abbrev pub station_told : Result Station Refusal → Station
+station_told (Ok s) = s
+station_told (Err r) = blank_station
 
 -- nothing done: the blank station handed back
-abbrev pub set_up_signs : Signs Wanted SetUp
-set_up_signs = record { answer = λ y. y.answer; idle = λ x y. y.station ≡ blank_station; miscounted = λ x y. ⊥ }
+abbrev pub set_up_signs : Signs Wanted (Result Station Refusal)
+set_up_signs = record { answer = number_told; idle = λ x y. station_told y ≡ blank_station; miscounted = λ x y. ⊥ }
 
 unfoldable pub NoUselessSetUp : Type 0
 NoUselessSetUp = NoUselessVersion Anything set_up_signs SetUpBy

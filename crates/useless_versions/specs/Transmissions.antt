@@ -1,11 +1,11 @@
 -- The writer and the reader of a transmission, and those of one character, for Rattle and for C: none of the eight has a useless version.
-use Rattle.std.specs.Prelude.{ℕ, ◌/◌, ◌%◌, ◌≡◌, List, map}
+use Rattle.std.specs.Prelude.{ℕ, ◌/◌, ◌%◌, ◌≡◌, List, map, Result}
 use contract.Lifetimes.{Lfts}
 use Rattle.characters.specs.Code.{symbol_of}
 use Rattle.characters.proofs.character_of.Reads as character_of
 use Rattle.characters.proofs.symbol_of.Reads as symbol_of
-use Rattle.transmission.specs.declared.Counted.{Counted}
-use Rattle.transmission.specs.Answers.{answer_number}
+use Rattle.transmission.specs.declared.Refusal.{Refusal}
+use Rattle.transmission.specs.Answers.{answer_number, answer_told, count_told}
 use Rattle.transmission.specs.Phasing.{characters_of}
 use Rattle.sending.proofs.write_transmission.Reads as write_transmission
 use Rattle.receiving.proofs.read_transmission.Reads as read_transmission
@@ -24,8 +24,8 @@ pub record Seen : Type 0 where
   pub count : ℕ
   pub left : List ℕ  -- what the room then holds
 
-abbrev pub seen : Counted → List ℕ → Seen
-seen told left = record { answer = answer_number told.answer; count = told.count; left = left }
+abbrev pub seen : Result ℕ Refusal → List ℕ → Seen
+seen told left = record { answer = answer_number (answer_told told); count = count_told told; left = left }
 
 -- answer and count as the header takes them
 abbrev pub seen_in_c : ℕ → List ℕ → Seen
