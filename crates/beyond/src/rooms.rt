@@ -1,4 +1,4 @@
-// 30: a room under 320 bytes; and which bytes of a room stay as they were.
+// 30: a room under 320 bytes; and which bytes of a room stay as they were. Refusals stand as document 01's numbers, which are expected.
 use crate::answered;
 use crate::stations::{busy, named};
 use station::Station;

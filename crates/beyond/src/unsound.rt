@@ -1,4 +1,4 @@
-// 29: stations that no event leads to, each sound but for one thing, judged at their own clock.
+// 29: stations that no event leads to, each sound but for one thing, judged at their own clock. 29 is the number expected.
 use crate::answered;
 use crate::rooms::judged;
 use crate::stations::{

@@ -1,4 +1,4 @@
-// The writer's refusals, alone and in their order; no event makes a meaning that it refuses.
+// The writer's refusals, alone and in their order; no event makes a meaning that it refuses. They stand as document 01's numbers.
 use crate::answered;
 use crate::rooms::untouched_from;
 use crate::stations::{no_number, number_of};

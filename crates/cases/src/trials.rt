@@ -5,7 +5,8 @@ use std::io;
 
 const ANSWER_ROOM: usize = 4096;
 
-// A case in progress: the answer to the last line handed in, and how much of it the table has named.
+// A case in progress: the answer to the last line handed in, an array with a count since memory is fixed, and how much of it the table has
+// named.
 #[derive(Clone, Copy)]
 pub(crate) struct Trial {
     right: bool,

@@ -16,6 +16,7 @@ pub struct FieldBytes {
     pub third: u8,
 }
 
+// A channel has one byte in the layout.
 pub fn field_bytes(field: Field) -> FieldBytes
     ensures { result ≡ field_bytes field }
 {

@@ -18,6 +18,7 @@ fn in_reach(bytes: &[u8]) -> &[u8]
     &bytes[..REACH.min(bytes.len())]
 }
 
+// C takes the number apart again (include/coast.h).
 #[tactic(auto, unfolding(crate::specs::Finding::reach))]
 fn in_one_number(found: Found) -> u64
     requires { (found.stretch.count ≤ longest) × (found.stretch.place < reach) }

@@ -31,6 +31,7 @@ pub fn coast_read_character(character: u32) -> u32
     symbol_of(character as u16) as u32
 }
 
+// C takes the number apart again (include/coast.h).
 fn in_one_number(told: Result<usize, Refusal>) -> u32
     requires { IfOk told (λ count. count < 256) }
     ensures { result ≡ answer_with_count told }

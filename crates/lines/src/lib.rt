@@ -15,7 +15,7 @@ use slots::{Hand, Signal};
 // "one over 200 characters .. : 40"
 pub const LONGEST_LINE: usize = 200;
 
-// What the letter of a line names.
+// What the letter of a line names; `None` would not say that it sets a station up.
 #[derive(Clone, Copy)]
 pub enum Command {
     SetUp,
@@ -33,7 +33,7 @@ pub enum Form {
     Alone,
 }
 
-// Numbers one space apart.
+// Numbers one space apart: an array with a count, since memory is fixed.
 #[derive(Clone, Copy)]
 struct Numbers {
     count: usize,

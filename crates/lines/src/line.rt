@@ -3,7 +3,7 @@ ghost use Rattle.std.specs.Prelude.{◌≤◌};
 
 use crate::Command;
 
-// Its command, and so many numbers behind the letter.
+// Its command, and so many numbers behind the letter: an array with a count, since memory is fixed.
 #[derive(Clone, Copy)]
 pub struct Line {
     pub command: Command,

@@ -63,6 +63,7 @@ fn with_digits(station: Station, line: &Line, room: &mut [u8]) -> Stepped
     )
 }
 
+// The form is told as a value, so a `match` chooses the event.
 fn happening(station: Station, form: Form, line: &Line, room: &mut [u8]) -> Stepped
     ensures value { result ≡ stepped_by station (line_event form line.now room.old) }
     ensures room_written { room.new ≡ room_after station room.old (line_event form line.now room.old) }

@@ -11,7 +11,7 @@ use station::Station;
 // "one over 200 characters": so many bytes of a line tell whether it is, and no further one is kept.
 pub const KEPT_BYTES: usize = LONGEST_LINE + 1;
 
-// The line so far, as much of it as is kept.
+// The line so far, as much of it as is kept: an array with a length, since memory is fixed.
 #[derive(Clone, Copy)]
 pub struct Text {
     pub length: usize,
@@ -33,7 +33,7 @@ pub struct Fed {
     pub session: Session,
 }
 
-// What became of a line.
+// What became of a line; the answer's number is printed.
 #[derive(Clone, Copy)]
 struct Handled {
     answer: u8,

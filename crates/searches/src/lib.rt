@@ -14,7 +14,8 @@ use requests::sameness::is_by;
 use slots::{QUEUE_ROOM, QueuePlace, SLOTS, Slot, Standing, Waiting, has_ship, is_free, stores};
 use units::{Channel, SlotNumber};
 
-// The lowest free slot of so many.
+// The lowest free slot of so many. Each search is a chain of its own: through one closure that holds the test it stays open that this one is
+// as it was.
 pub fn first_free(slots: &[Slot; SLOTS], count: u8) -> Option<SlotNumber>
     ensures { found_view result ≡ lowest is_free (viewed slot_view count slots.now) }
 {

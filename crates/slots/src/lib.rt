@@ -44,7 +44,7 @@ pub const RINGING_WAIT: Tenths = Tenths(600);
 // "hold for 40"
 pub const HOLD_WAIT: Tenths = Tenths(40);
 
-// The carrier of a call, and when its absence falls due.
+// The carrier of a call, and when its absence falls due; `None` would not say that it is present.
 #[derive(Clone, Copy)]
 pub enum Carrier {
     Present,

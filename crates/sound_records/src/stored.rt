@@ -20,8 +20,8 @@ fn most_at(place: usize, count: u8) -> u8
 }
 
 // Each digit at most what may stand at its place: all sixteen are looked at, so that the compiler does so at once.
-fn digits_fit(digits: [u8; DIGITS], count: u8) -> bool
-    ensures { result ≡ digits_fit count 0 digits }
+fn digits_fit(digits: &[u8; DIGITS], count: u8) -> bool
+    ensures { result ≡ digits_fit count 0 digits.now }
 {
     let mut fit = true;
     for (place, digit) in digits.iter().enumerate() {
@@ -36,7 +36,7 @@ fn number_stored(number: Number) -> bool
     ensures { result ≡ (number_keeps (digits_of number) && number_exact number) }
 {
     let count = number.count;
-    1 <= count && count <= MOST_DIGITS && digits_fit(number.digits, count)
+    1 <= count && count <= MOST_DIGITS && digits_fit(&number.digits, count)
 }
 
 // From a ship, to this station, the second telecommand 100 to 126.

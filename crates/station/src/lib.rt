@@ -21,7 +21,8 @@ use slots::mast::Mast;
 use slots::{Hand, QUEUE_ROOM, SLOTS, Signal, Slot, Waiting};
 use units::{CallNumber, SlotNumber, Tenths};
 
-// One slot for each of `count` channels, and `waiting` ships, oldest first. As its fields stand here, the compiler copies a station less.
+// One slot for each of `count` channels, and `waiting` ships, oldest first: arrays with their counts, since memory is fixed. As its fields
+// stand here, the compiler copies a station less.
 #[derive(Clone, Copy)]
 pub struct Station {
     pub clock: Tenths,
@@ -33,7 +34,8 @@ pub struct Station {
     pub waiting: u8,
 }
 
-// What an event hands back: the next station, the next due time, the answer's number, the count of actions.
+// What an event hands back: the next station, the next due time, the answer's number, the count of actions. A number, as C's `packed` and the
+// script hand it out.
 #[derive(Clone, Copy)]
 pub struct Stepped {
     pub station: Station,
