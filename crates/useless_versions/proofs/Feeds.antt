@@ -251,15 +251,15 @@ stepped-few s e = go (refusal s e) refl
 
 few : (d : Desk) (said : Option Said) → (handled_for d no_blocks said).count ≤ 8
 few d none = omega arith
-few d (some (sets_up a)) = set d
+few d (some (sets_up a)) = at_desk d
   where
     told : (u : Result Station Refusal) → (after_set_up u).count ≤ 8
     told (Ok s) = omega arith
     told (Err r) = omega arith
 
-    set : (d : Desk) → (set_up_on d a).count ≤ 8
-    set None = told (set_up_of (asked_for a))
-    set (Some s) = omega arith
+    at_desk : (d : Desk) → (set_up_on d a).count ≤ 8
+    at_desk None = told (set_up_of (asked_for a))
+    at_desk (Some s) = omega arith
 few d (some (happens time what)) = go d
   where
     go : (d : Desk) → (event_on d (event_at time what no_blocks)).count ≤ 8
