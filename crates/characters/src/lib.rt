@@ -10,7 +10,7 @@ mod table;
 use crate::table::SYMBOLS;
 use sequence::LAST_SYMBOL;
 
-// What is no character's symbol, and no symbol's character.
+// What is no character's symbol, and no symbol's character: numbers, since C is handed them and the table has a byte for each.
 pub const NONE: u8 = 128;
 
 pub const NO_CHARACTER: u16 = 1024;

@@ -52,7 +52,7 @@ fn slots_seen(slots: &[Slot], mast: Mast, clock: Tenths) -> (bool, Option<Due>)
     (sound, first)
 }
 
-// The same of the queue, whose waits come before those in `first` that fall due with them.
+// The same of the queue, whose waits come before those in `first` that fall due with them; a loop of its own, as in tidying.
 fn queue_seen(
     queue: &[Waiting],
     mast: Mast,

@@ -32,7 +32,8 @@ pub(crate) fn slots_anew(slots: &mut [Slot; SLOTS], count: u8) -> Option<Due>
     first
 }
 
-// The same of the queue, whose waits come before those in `first` that fall due with them.
+// The same of the queue, whose waits come before those in `first` that fall due with them. A loop of its own: a slot has two waits, another
+// blank and another test, and one function would take four closures.
 pub(crate) fn queue_anew(
     queue: &mut [Waiting; QUEUE_ROOM],
     waiting: u8,
