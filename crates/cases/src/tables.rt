@@ -31,13 +31,14 @@ impl Progress {
     fn take(&mut self, rt: &impl Print, number: u64, mark: u8, row: &[u8]) -> io::Result<()> {
         let mut trial = self.trial.unwrap_or(Trial::fresh());
         match (mark, row.get(2..)) {
-            (b'>', Some(line)) => {
-                self.session = trial.hand_in(rt, number, self.session, line)?;
-            }
+            (b'>', line) => self.session = trial.hand_in(rt, number, self.session, line)?,
             (b'<', Some(text)) => trial.name(rt, number, text)?,
             (_, _) => trial.fault(rt, number)?,
         }
-        self.trial = Some(trial);
+        // A text that is named before any line is handed in begins no case.
+        if self.trial.is_some() || mark != b'<' || trial.is_wrong() {
+            self.trial = Some(trial);
+        }
         Ok(())
     }
 

@@ -25,6 +25,10 @@ impl Trial {
         }
     }
 
+    pub(crate) fn is_wrong(&self) -> bool {
+        !self.right
+    }
+
     // The first fault of a case is printed, with the whole answer that was given.
     pub(crate) fn fault(&mut self, rt: &impl Print, number: u64) -> io::Result<()> {
         self.named = self.count;
@@ -44,19 +48,23 @@ impl Trial {
         self.fault(rt, number)
     }
 
-    // A line of the script is handed to the session.
+    // A line of the script is handed to the session; where a row has none, nothing is, and nothing is answered.
     pub(crate) fn hand_in(
         &mut self,
         rt: &impl Print,
         number: u64,
         session: Session,
-        line: &[u8],
+        line: Option<&[u8]>,
     ) -> io::Result<Session> {
         self.all_named(rt, number)?;
         self.answer = [0; ANSWER_ROOM];
+        self.count = 0;
+        self.named = 0;
+        let Some(line) = line else {
+            return Ok(session);
+        };
         let fed = session.feed(line, &mut self.answer);
         self.count = fed.count;
-        self.named = 0;
         Ok(fed.session)
     }
 
