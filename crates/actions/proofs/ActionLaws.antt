@@ -1,10 +1,11 @@
 -- An action as it is laid out shows the block of its payload; what the writer leaves in a payload of zeros.
-use Prim.Native.Nat.{ℕ, zero, suc, ◌≤◌, min}
+use Prim.Native.Nat.{ℕ, zero, suc, ◌+◌, ◌≤◌, min}
 use mathlib.Core.Path.{◌≡◌, refl, ap, ◌∙◌}
 use mathlib.Core.Bool.{Bool, true, false, cond}
 use mathlib.Core.List.{List, [], ◌∷◌, ◌++◌}
 use native.Mathlib.Omega.{arith}
 use native.Mathlib.Nat.{le_of_suc-le-suc, not-suc-le-zero}
+use denote.Enum.Declared.{tag_of}
 use lib.ListN.{length, take, drop, replicate}
 use Rattle.sequence.specs.declared.Meaning.{Meaning}
 use Rattle.sequence.specs.declared.Number.{Number}
@@ -21,20 +22,36 @@ use Rattle.rules.specs.Rules.Bytes.{padded, block}
 use Rattle.requests.specs.Views.{itself, digits_of}
 use Rattle.requests.proofs.ArrayLaws.{padded-front, viewed-length}
 use Rattle.requests.proofs.NumberLaws.{digits-front}
+use Rattle.actions.specs.contracts.Kind.{the_type}
 use Rattle.actions.specs.declared.Kind.{Kind}
+use Rattle.actions.specs.declared.Kind.TheVariants.{CarrierOn, CarrierOff, SendOnChannel70, SendOnWorking, Dial, ReleaseLine, Charge}
+use Rattle.actions.specs.declared.Kind.TheVariants.{RingingOn, RingingOff, BusyTone}
 use Rattle.actions.specs.declared.Action.{Action}
 use Rattle.actions.specs.Blocks.{number_of_kind, action_of, action_block}
 use Rattle.actions.specs.Sent.{sent}
 
-pub shown : (kind : Kind) (slot : ℕ) (p : List ℕ) → length p ≤ 36 → action_block (action_of kind slot p) ≡ block (number_of_kind kind) slot p
+-- the byte of a kind
+pub kind-number : (k : Kind) → tag_of the_type k + 1 ≡ number_of_kind k
+kind-number CarrierOn = refl
+kind-number CarrierOff = refl
+kind-number SendOnChannel70 = refl
+kind-number SendOnWorking = refl
+kind-number Dial = refl
+kind-number ReleaseLine = refl
+kind-number Charge = refl
+kind-number RingingOn = refl
+kind-number RingingOff = refl
+kind-number BusyTone = refl
+
+pub shown : (kind slot : ℕ) (p : List ℕ) → length p ≤ 36 → action_block (action_of kind slot p) ≡ block kind slot p
 unfolding action_of action_block
-shown kind slot p h = ap (block (number_of_kind kind) slot) (padded-front 0 36 p h)
+shown kind slot p h = ap (block kind slot) (padded-front 0 36 p h)
 
 -- the two clauses of an action: what it is, and the block that it shows
-pub both : (kind : Kind) (slot : ℕ) (p : List ℕ) (a : Action) → length p ≤ 36 → a ≡ action_of kind slot p → (a ≡ action_of kind slot p) × (action_block a ≡ block (number_of_kind kind) slot p)
+pub both : (kind slot : ℕ) (p : List ℕ) (a : Action) → length p ≤ 36 → a ≡ action_of kind slot p → (a ≡ action_of kind slot p) × (action_block a ≡ block kind slot p)
 both kind slot p a h e = (e, ap action_block e ∙ shown kind slot p h)
 
-pub made : (kind : Kind) (slot n : ℕ) (p payload : List ℕ) → n ≡ length p → payload ≡ padded 0 36 p
+pub made : (kind slot n : ℕ) (p payload : List ℕ) → n ≡ length p → payload ≡ padded 0 36 p
     → ◌≡◌ {A = Action} (record { kind = kind; slot = record { 0 = slot }; length = n; payload = payload }) (action_of kind slot p)
 unfolding action_of
 made kind slot n p payload e f = rw (e, f)

@@ -24,7 +24,7 @@ number_of_kind RingingOff = 9
 number_of_kind BusyTone = 10
 
 -- an action as it is laid out: its payload, and zeros
-unfoldable pub action_of : Kind → ℕ → List ℕ → Action
+unfoldable pub action_of : ℕ → ℕ → List ℕ → Action
 action_of kind slot payload =
     record {
       kind = kind;
@@ -34,7 +34,7 @@ action_of kind slot payload =
     }
 
 unfoldable pub action_block : Action → List ℕ
-action_block a = block (number_of_kind a.kind) a.slot.0 (take a.length a.payload)
+action_block a = block a.kind a.slot.0 (take a.length a.payload)
 
 -- from a start to a stop, in tenths
 abbrev pub span : Tenths → Tenths → Tenths

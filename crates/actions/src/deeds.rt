@@ -3,7 +3,6 @@ ghost use Rattle.std.specs.Prelude.{◌≡◌, [], ◌-◌};
 ghost use Rattle.units.specs.Units.{whole_seconds, duration_of};
 ghost use Rattle.rules.specs.Rules.Bytes.{block};
 ghost use Rattle.requests.specs.Views.{digits_of};
-ghost use Rattle.actions.specs.declared.Kind.TheVariants.{CarrierOn, CarrierOff, Dial, ReleaseLine, Charge, RingingOn, RingingOff, BusyTone};
 ghost use Rattle.actions.specs.Blocks.{number_of_kind, action_of, action_block, charge_bytes, span};
 
 use crate::numbers::front;
@@ -13,11 +12,11 @@ use units::{CallNumber, Duration, SlotNumber, Tenths};
 
 #[tactic(auto, unfolding(crate::specs::Blocks::action_of, crate::specs::Blocks::action_block, rules::specs::Rules::Bytes::padded))]
 fn plain(kind: Kind, slot: SlotNumber) -> Action
-    ensures value { result ≡ action_of kind slot.0 [] }
+    ensures value { result ≡ action_of (number_of_kind kind) slot.0 [] }
     ensures result_value { action_block result ≡ block (number_of_kind kind) slot.0 [] }
 {
     Action {
-        kind,
+        kind: kind as u8,
         slot,
         length: 0,
         payload: [0u8; PAYLOAD],
@@ -26,21 +25,21 @@ fn plain(kind: Kind, slot: SlotNumber) -> Action
 
 // Six makers of one body: each names its deed where it is called, and its contract has the number of its block.
 pub fn carrier_on(slot: SlotNumber) -> Action
-    ensures value { result ≡ action_of CarrierOn slot.0 [] }
+    ensures value { result ≡ action_of 1 slot.0 [] }
     ensures result_value { action_block result ≡ block 1 slot.0 [] }
 {
     plain(Kind::CarrierOn, slot)
 }
 
 pub fn carrier_off(slot: SlotNumber) -> Action
-    ensures value { result ≡ action_of CarrierOff slot.0 [] }
+    ensures value { result ≡ action_of 2 slot.0 [] }
     ensures result_value { action_block result ≡ block 2 slot.0 [] }
 {
     plain(Kind::CarrierOff, slot)
 }
 
 pub fn release_line(slot: SlotNumber) -> Action
-    ensures value { result ≡ action_of ReleaseLine slot.0 [] }
+    ensures value { result ≡ action_of 6 slot.0 [] }
     ensures result_value { action_block result ≡ block 6 slot.0 [] }
 {
     plain(Kind::ReleaseLine, slot)
@@ -48,7 +47,7 @@ pub fn release_line(slot: SlotNumber) -> Action
 
 // Document 02, no. 2: "8 ringing on"
 pub fn ringing_on(slot: SlotNumber) -> Action
-    ensures value { result ≡ action_of RingingOn slot.0 [] }
+    ensures value { result ≡ action_of 8 slot.0 [] }
     ensures result_value { action_block result ≡ block 8 slot.0 [] }
 {
     plain(Kind::RingingOn, slot)
@@ -56,7 +55,7 @@ pub fn ringing_on(slot: SlotNumber) -> Action
 
 // "9 ringing off"
 pub fn ringing_off(slot: SlotNumber) -> Action
-    ensures value { result ≡ action_of RingingOff slot.0 [] }
+    ensures value { result ≡ action_of 9 slot.0 [] }
     ensures result_value { action_block result ≡ block 9 slot.0 [] }
 {
     plain(Kind::RingingOff, slot)
@@ -64,7 +63,7 @@ pub fn ringing_off(slot: SlotNumber) -> Action
 
 // "10 five seconds of busy tone"
 pub fn busy_tone(slot: SlotNumber) -> Action
-    ensures value { result ≡ action_of BusyTone slot.0 [] }
+    ensures value { result ≡ action_of 10 slot.0 [] }
     ensures result_value { action_block result ≡ block 10 slot.0 [] }
 {
     plain(Kind::BusyTone, slot)
@@ -72,11 +71,11 @@ pub fn busy_tone(slot: SlotNumber) -> Action
 
 // "digits, one a byte"
 pub fn dial(slot: SlotNumber, number: Number) -> Action
-    ensures value { result ≡ action_of Dial slot.0 (digits_of number) }
+    ensures value { result ≡ action_of 5 slot.0 (digits_of number) }
     ensures result_value { action_block result ≡ block 5 slot.0 (digits_of number) }
 {
     Action {
-        kind: Kind::Dial,
+        kind: Kind::Dial as u8,
         slot,
         length: number.count.min(MOST_DIGITS),
         payload: front(number),
@@ -99,7 +98,7 @@ pub fn lasted(start: Tenths, stop: Tenths) -> Option<Duration>
 
 // "ship, start, stop, seconds; four bytes each, low first"; document 02, no. 4: the call number, "as a fifth field"
 pub fn charge(slot: SlotNumber, ship: u32, start: Tenths, stop: Tenths, call: CallNumber) -> Action
-    ensures value { result ≡ action_of Charge slot.0 (charge_bytes ship start stop call) }
+    ensures value { result ≡ action_of 7 slot.0 (charge_bytes ship start stop call) }
     ensures result_value { action_block result ≡ block 7 slot.0 (charge_bytes ship start stop call) }
 {
     let seconds = span_of(start, stop).whole_seconds().count();
@@ -110,7 +109,7 @@ pub fn charge(slot: SlotNumber, ship: u32, start: Tenths, stop: Tenths, call: Ca
     payload[12..16].copy_from_slice(&seconds.to_le_bytes());
     payload[16..20].copy_from_slice(&call.0.to_le_bytes());
     Action {
-        kind: Kind::Charge,
+        kind: Kind::Charge as u8,
         slot,
         length: 20,
         payload,

@@ -36,10 +36,11 @@ pub enum Kind {
     BusyTone = 10,
 }
 
-// One action: its kind, its slot, how much of its payload counts, and the payload. No heap: an array with its length beside it.
+// One action: its kind's number, which may be any byte, its slot, how much of its payload counts, and the payload. No heap: an array with
+// its length beside it.
 #[derive(Clone, Copy)]
 pub struct Action {
-    pub kind: Kind,
+    pub kind: u8,
     pub slot: SlotNumber,
     pub length: u8,
     pub payload: [u8; PAYLOAD],

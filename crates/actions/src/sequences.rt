@@ -4,7 +4,6 @@ ghost use Rattle.sequence.specs.Figures.{end_rq, end_bq};
 ghost use Rattle.rules.specs.Rules.Words.{mode_number};
 ghost use Rattle.rules.specs.Rules.Bytes.{block, number_of, able_said, unable_said, over_said, end_symbol, unable_slot};
 ghost use Rattle.requests.specs.Views.{digits_of, request_of, mode_of};
-ghost use Rattle.actions.specs.declared.Kind.TheVariants.{SendOnChannel70, SendOnWorking};
 ghost use Rattle.actions.specs.Blocks.{number_of_kind, action_of, action_block};
 ghost use Rattle.actions.specs.Sent.{sent, party, ender_of};
 
@@ -30,13 +29,13 @@ fn tidied(number: Number) -> Number
 
 // The sequence of a valid meaning; nothing for another.
 fn send(kind: Kind, slot: SlotNumber, meaning: Meaning) -> Action
-    ensures value { result ≡ action_of kind slot.0 (sent meaning) }
+    ensures value { result ≡ action_of (number_of_kind kind) slot.0 (sent meaning) }
     ensures result_value { action_block result ≡ block (number_of_kind kind) slot.0 (sent meaning) }
 {
     let mut payload = [0u8; PAYLOAD];
     let length = write(meaning, &mut payload).unwrap_or(0) as u8;
     Action {
-        kind,
+        kind: kind as u8,
         slot,
         length,
         payload,
@@ -55,7 +54,7 @@ fn first_of(mode: Mode) -> u8
 // "Answers repeat the request with identities exchanged", here with the channel of its slot.
 #[tactic(auto, unfolding(requests::specs::Views::request_of, rules::specs::Rules::Bytes::able_said, rules::specs::Rules::Bytes::answer_to))]
 fn able(slot: SlotNumber, channel: Channel, end: u8, request: Request) -> Action
-    ensures value { result ≡ action_of SendOnChannel70 slot.0 (sent (able_said channel end (request_of request))) }
+    ensures value { result ≡ action_of 3 slot.0 (sent (able_said channel end (request_of request))) }
     ensures result_value { action_block result ≡ block 3 slot.0 (sent (able_said channel end (request_of request))) }
 {
     let meaning = Meaning {
@@ -72,7 +71,7 @@ fn able(slot: SlotNumber, channel: Channel, end: u8, request: Request) -> Action
 
 // "acknowledgement with the channel and BQ"
 pub fn acknowledgement(slot: SlotNumber, channel: Channel, request: Request) -> Action
-    ensures value { result ≡ action_of SendOnChannel70 slot.0 (sent (able_said channel end_bq (request_of request))) }
+    ensures value { result ≡ action_of 3 slot.0 (sent (able_said channel end_bq (request_of request))) }
     ensures result_value { action_block result ≡ block 3 slot.0 (sent (able_said channel end_bq (request_of request))) }
 {
     able(slot, channel, END_BQ, request)
@@ -80,7 +79,7 @@ pub fn acknowledgement(slot: SlotNumber, channel: Channel, request: Request) -> 
 
 // "the able answer but with RQ": a ring-back, or a call from ashore
 pub fn call_ship(slot: SlotNumber, channel: Channel, request: Request) -> Action
-    ensures value { result ≡ action_of SendOnChannel70 slot.0 (sent (able_said channel end_rq (request_of request))) }
+    ensures value { result ≡ action_of 3 slot.0 (sent (able_said channel end_rq (request_of request))) }
     ensures result_value { action_block result ≡ block 3 slot.0 (sent (able_said channel end_rq (request_of request))) }
 {
     able(slot, channel, END_RQ, request)
@@ -89,7 +88,7 @@ pub fn call_ship(slot: SlotNumber, channel: Channel, request: Request) -> Action
 // "for 104 the field 126s", and 255 in the slot's place
 #[tactic(auto, unfolding(rules::specs::Rules::Bytes::unable_said, rules::specs::Rules::Bytes::answer_to))]
 pub fn unable(second: u8, ship: u32, station: u32, number: Number) -> Action
-    ensures value { result ≡ action_of SendOnChannel70 unable_slot (sent (unable_said second (party ship station) (digits_of number))) }
+    ensures value { result ≡ action_of 3 unable_slot (sent (unable_said second (party ship station) (digits_of number))) }
     ensures result_value { action_block result ≡ block 3 unable_slot (sent (unable_said second (party ship station) (digits_of number))) }
 {
     let meaning = Meaning {
@@ -107,7 +106,7 @@ pub fn unable(second: u8, ship: u32, station: u32, number: Number) -> Action
 // The same answer to a stored request.
 #[tactic(auto, unfolding(requests::specs::Views::request_of))]
 pub fn unable_to(second: u8, request: Request) -> Action
-    ensures value { result ≡ action_of SendOnChannel70 unable_slot (sent (unable_said second (request_of request).who (request_of request).number)) }
+    ensures value { result ≡ action_of 3 unable_slot (sent (unable_said second (request_of request).who (request_of request).number)) }
     ensures result_value { action_block result ≡ block 3 unable_slot (sent (unable_said second (request_of request).who (request_of request).number)) }
 {
     unable(second, request.ship, request.station, request.number)
@@ -126,7 +125,7 @@ fn end_of(by: Ender) -> u8
 // "send 105/126 .. and the duration"; "the number sent is the stored request's"
 #[tactic(auto, unfolding(requests::specs::Views::request_of, rules::specs::Rules::Bytes::over_said, rules::specs::Rules::Bytes::answer_to))]
 pub fn over(slot: SlotNumber, by: Ender, request: Request, lasted: Option<Duration>) -> Action
-    ensures value { result ≡ action_of SendOnWorking slot.0 (sent (over_said (ender_of by) (request_of request).who (request_of request).number lasted)) }
+    ensures value { result ≡ action_of 4 slot.0 (sent (over_said (ender_of by) (request_of request).who (request_of request).number lasted)) }
     ensures result_value { action_block result
         ≡ block 4 slot.0 (sent (over_said (ender_of by) (request_of request).who (request_of request).number lasted)) }
 {

@@ -1,34 +1,17 @@
 -- The bytes of a block by their places.
 use Prim.Native.Nat.{ℕ, ◌+◌, ◌<◌, min}
-use mathlib.Core.Path.{◌≡◌, refl}
+use mathlib.Core.Path.{◌≡◌}
 use mathlib.Core.List.{List, ◌++◌}
 use native.Mathlib.Omega.{arith}
-use denote.Enum.Declared.{tag_of}
 use lib.ListN.{length, take, drop, replicate, length-take}
 use Rattle.std.specs.Prelude.{Result, Ok, Err}
 use Rattle.std.specs.Result.{OkIff, result_unwrap_or}
 use Rattle.std.proofs.lemmas.List.{take_min}
 use Rattle.rules.specs.Rules.Bytes.{padded, block}
 use Rattle.rules.proofs.Payloads.{padded-length}
-use Rattle.actions.specs.contracts.Kind.{the_type}
-use Rattle.actions.specs.declared.Kind.{Kind}
-use Rattle.actions.specs.declared.Kind.TheVariants.{CarrierOn, CarrierOff, SendOnChannel70, SendOnWorking, Dial, ReleaseLine, Charge}
-use Rattle.actions.specs.declared.Kind.TheVariants.{RingingOn, RingingOff, BusyTone}
 use Rattle.actions.specs.declared.Action.{Action}
-use Rattle.actions.specs.Blocks.{number_of_kind, action_block, in_bytes}
+use Rattle.actions.specs.Blocks.{action_block, in_bytes}
 use Rattle.actions.proofs.ActionLaws.{padded-over}
-
-pub kind-number : (k : Kind) → tag_of the_type k + 1 ≡ number_of_kind k
-kind-number CarrierOn = refl
-kind-number CarrierOff = refl
-kind-number SendOnChannel70 = refl
-kind-number SendOnWorking = refl
-kind-number Dial = refl
-kind-number ReleaseLine = refl
-kind-number Charge = refl
-kind-number RingingOn = refl
-kind-number RingingOff = refl
-kind-number BusyTone = refl
 
 -- a slot's number past a byte
 pub slot-byte : {E : Type 0} (s : ℕ) (r : Result ℕ E) → OkIff r (s < 256) s → result_unwrap_or r 255 ≡ min s 255

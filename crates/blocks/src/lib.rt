@@ -16,7 +16,7 @@ fn bytes_of(action: Action) -> [u8; BLOCK]
     let length = action.length.min(MOST_BYTES);
     let used = length as usize;
     let mut bytes = [0u8; BLOCK];
-    bytes[0] = action.kind as u8;
+    bytes[0] = action.kind;
     bytes[1] = u8::try_from(action.slot.0).unwrap_or(255);
     bytes[2] = length;
     bytes[4..4 + used].copy_from_slice(&action.payload[..used]);
