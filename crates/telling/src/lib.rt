@@ -121,7 +121,8 @@ impl Scene {
     fn free(&self, told: &mut Told)
         ensures { Tells self.now (free_acts (scene_view self.now)) told.old told.new }
     {
-        if self.ringable != 0 {
+        let ringable = self.ringable;
+        if ringable != 0 {
             told.lay(carrier_on(self.slot));
             told.lay(self.call(self.oldest));
         }

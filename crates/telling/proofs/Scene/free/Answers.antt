@@ -6,13 +6,13 @@ use Rattle.telling.specs.Tells.{scene_view}
 use Rattle.telling.proofs.TellLaws.{tells_none, tells-one, tells_more, oldest-acts}
 use Rattle.telling.proofs.Scene.free.Goals as goal
 
-pub returns-then-self-ne0 : goal.returns-then-self-ne0
+pub returns-then-ringable-ne0 : goal.returns-then-ringable-ne0
 unfolding scene_view sent_on sent_payload request_of
-returns-then-self-ne0 c = let s = c.args.self.now in
-    rw (oldest-acts s.slot.0 (request_of s.oldest) s.ringable c.if-self-ne0.true)
+returns-then-ringable-ne0 c = let s = c.args.self.now in
+    rw (oldest-acts s.slot.0 (request_of s.oldest) s.ringable c.if-ringable-ne0.true)
     (tells_more s (does (carrier_on s.slot.0)) c.carrier_on.ensures.result_value c.lay.ensures
-    (tells-one s (does (call_ship s.slot.0 (request_of s.oldest))) c.call.ensures c.lay-then-self-ne0.ensures))
+    (tells-one s (does (call_ship s.slot.0 (request_of s.oldest))) c.call.ensures c.lay-then-ringable-ne0.ensures))
 
-pub returns-else-self-ne0 : goal.returns-else-self-ne0
+pub returns-else-ringable-ne0 : goal.returns-else-ringable-ne0
 unfolding scene_view
-returns-else-self-ne0 c = rw c.if-self-ne0.false (tells_none _ _)
+returns-else-ringable-ne0 c = rw c.if-ringable-ne0.false (tells_none _ _)
