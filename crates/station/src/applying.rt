@@ -6,6 +6,7 @@ ghost use Rattle.requests.specs.Views.{viewed, request_of};
 ghost use Rattle.slots.specs.Views.{waiting_view};
 ghost use Rattle.station.specs.Changes.{slot_turned, queue_after};
 
+use outcomes::parts::entered;
 use outcomes::{QueueChange, Turn};
 use requests::Request;
 use slots::{QUEUE_ROOM, Slot, Waiting};
@@ -70,13 +71,15 @@ pub(crate) fn requeued(
     match change {
         QueueChange::Same => waiting,
         QueueChange::Leaves(place) => moved_up(queue, waiting, place.0),
-        QueueChange::Joins(due) => {
-            queue[waiting as usize] = Waiting { request, due };
+        QueueChange::Joins(_) => {
+            let entry = queue[waiting as usize];
+            queue[waiting as usize] = entered(change, entry, request);
             waiting + 1
         }
         QueueChange::Replaces(place) => {
             if place.0 < waiting {
-                queue[place.0 as usize].request = request;
+                let entry = queue[place.0 as usize];
+                queue[place.0 as usize] = entered(change, entry, request);
             }
             waiting
         }
