@@ -49,7 +49,7 @@ pub fn sooner_of(due: Due, first: Option<Due>) -> Option<Due>
     ensures { due_view result ≡ sooner (record { what = wait_view due.wait; at = due.at.0 }) (due_view first) }
 {
     match first {
-        Some(earlier) if earlier.at < due.at => Some(earlier),
+        Some(earlier) if earlier.at < due.at => anew(first),
         _ => Some(due),
     }
 }

@@ -36,7 +36,8 @@ fn number_stored(number: Number) -> bool
     ensures { result ≡ (number_keeps (digits_of number) && number_exact number) }
 {
     let count = number.count;
-    1 <= count && count <= MOST_DIGITS && digits_fit(&number.digits, count)
+    let fit = digits_fit(&number.digits, count);
+    fit && 1 <= count && count <= MOST_DIGITS
 }
 
 // From a ship, to this station, the second telecommand 100 to 126.
