@@ -15,6 +15,7 @@ use Rattle.std.specs.List.{list_all}
 use Rattle.rules.specs.Rules.Ashore.{ashore_request}
 use Rattle.rules.specs.Rules.Sound.{number_keeps}
 use Rattle.requests.specs.Views.{viewed, request_of}
+use Rattle.requests.specs.Images.{request_image, tidy_request}
 use Rattle.requests.proofs.ArrayLaws.{viewed-length}
 use Rattle.slots.specs.declared.mast.Mast.{Mast}
 use Rattle.slots.specs.Views.{named}
@@ -52,3 +53,8 @@ module _ (mast : Mast) (ship mode : ℕ) (l : List ℕ) where
   -- the request that the rules have of a call from ashore
   pub request-asked : number_keeps l ≡ true → request_of (request_from mast ship mode l) ≡ ashore_request (named mast) (record { ship = ship; mode = mode; digits = l })
   request-asked e = there ∙ ap (λ d. ashore_request (named mast) (record { ship = ship; mode = mode; digits = d })) (digits-kept l e)
+
+  -- and laid out anew it is the same record
+  pub request-tidy : tidy_request (request_from mast ship mode l) ≡ request_from mast ship mode l
+  unfolding tidy_request request_from
+  request-tidy = ap request_image there

@@ -1,3 +1,4 @@
 pub mod WaitLaws
+pub mod ArmLaws
 pub mod PartLaws
 pub mod Settled

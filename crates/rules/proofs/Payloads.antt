@@ -3,7 +3,7 @@ use mathlib.Core.Path.{◌≡◌, refl, ap}
 use mathlib.Core.Option.{Option, none, some}
 use mathlib.Core.List.{List, [], ◌∷◌}
 use mathlib.Core.Bool.{Bool, true, false, cond}
-use Prim.Native.Nat.{ℕ, zero, suc, ◌/◌, ◌%◌, ◌≤◌}
+use Prim.Native.Nat.{ℕ, zero, suc, ◌*◌, ◌/◌, ◌%◌, ◌≤◌}
 use native.Mathlib.Omega.{arith}
 use lib.Dec.{eqb, leb}
 use borrow.Author.Tests.{leb-true}
@@ -21,7 +21,7 @@ use Rattle.rules.specs.Rules.Actions.{Ender, Action, does, over}
 use Rattle.rules.specs.Rules.Sound.{number_keeps, request_keeps}
 use Rattle.rules.specs.Rules.Station.{Dealing}
 use Rattle.rules.specs.Rules.Requests.{bill}
-use Rattle.rules.specs.Rules.Bytes.{padded, number_of, answer_to, able_said, unable_said, over_said, block, channel_at, payload_of, block_of, block_size}
+use Rattle.rules.specs.Rules.Bytes.{padded, number_of, answer_to, able_said, unable_said, over_said, block, channel_at, payload_of, block_of, blocks, block_size}
 use Rattle.sequence.proofs.Tests.{both_true}
 
 pub padded-length : {A : Type 0} (b : A) (n : ℕ) (l : List A) → length (padded b n l) ≡ n
@@ -58,6 +58,10 @@ sent-length m l e =
 pub block-length : (cfg : Config) (a : Action) → length (block_of cfg a) ≡ block_size
 unfolding block_of block
 block-length cfg a = let h = padded-length 0 36 (payload_of cfg a) in omega arith
+
+pub blocks-length : (cfg : Config) (l : List Action) → length (blocks cfg l) ≡ block_size * length l
+blocks-length cfg [] = refl
+blocks-length cfg (a ∷ l) = simp (length-append, block-length, blocks-length cfg l) (omega arith)
 
 -- ── a deed at a time ─────────────────────────────────────────────────────────
 

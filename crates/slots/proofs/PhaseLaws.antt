@@ -5,6 +5,9 @@ use mathlib.Core.Bool.{Bool, true, false, cond, ◌&&◌}
 use mathlib.Core.List.{List, ◌∷◌}
 use mathlib.Core.Option.{Option, none, some}
 use mathlib.Core.Path.{◌≡◌, refl, ap}
+use mir.Val.{has_key}
+use types.Run.{OneOf, miss}
+use denote.Enum.Declared.{tag_of}
 use Rattle.std.proofs.Math.Bool.{and_comm}
 use Rattle.units.specs.declared.Tenths.{Tenths}
 use Rattle.units.specs.declared.Duration.{Duration}
@@ -22,6 +25,7 @@ use Rattle.slots.specs.declared.Phase.{Phase}
 use Rattle.slots.specs.declared.Phase.TheVariants.{Free, Offered, RingBack, RingBackAgain, Acknowledged, Dialling, Answered, Hold, Taken, DialledOut, Called, CalledAgain, Ringing}
 use Rattle.slots.specs.Phases.{carrier_of, phase_view, carrier_image, phase_image, kept_in, stored, owned, called_in, answered_since, lasted_in, span_of, span_fits, carrier_in}
 use Rattle.slots.specs.Images.{image_or, stored_image, Short, ShortSlot}
+use Rattle.slots.specs.contracts.Phase as phase
 
 -- what is so in each phase is so
 pub by-phase : (P : Phase → Type 0)
@@ -52,6 +56,52 @@ by-phase P a b c d e x y z w v f g h (DialledOut t l) = v t l
 by-phase P a b c d e x y z w v f g h (Called t) = f t
 by-phase P a b c d e x y z w v f g h (CalledAgain t) = g t
 by-phase P a b c d e x y z w v f g h (Ringing t) = h t
+
+-- ── an arm for several variants, or for all that are left: it is right where it is right for each of them ──
+
+-- a claim, made where the test holds
+abbrev pub Where : Bool → Type 0 → Type 0
+Where true C = C
+Where false C = Unit {0}
+
+pub where-held : (ks : List ℕ) (n : ℕ) {C : Type 0} → OneOf ks n → Where (has_key ks n) C → C
+where-held ks n {C} h = go (has_key ks n) refl
+  where
+    go : (b : Bool) → has_key ks n ≡ b → Where b C → C
+    go true e c = c
+    go false e c = absurd (miss ks n (rw e tt) h)
+
+-- the thirteen phases by their numbers
+abbrev pub EachPhase : {A : Type 0} → List ℕ → A → (Phase → A) → Type 0
+EachPhase ks a f =
+    Where (has_key ks 0) (a ≡ f Free)
+    × ((t : Tenths) → Where (has_key ks 1) (a ≡ f (Offered t)))
+    × ((t : Tenths) → Where (has_key ks 2) (a ≡ f (RingBack t)))
+    × ((t : Tenths) → Where (has_key ks 3) (a ≡ f (RingBackAgain t)))
+    × ((t : Tenths) → Where (has_key ks 4) (a ≡ f (Acknowledged t)))
+    × ((t : Tenths) (c : Carrier) → Where (has_key ks 5) (a ≡ f (Dialling t c)))
+    × ((t : Tenths) (c : Carrier) → Where (has_key ks 6) (a ≡ f (Answered t c)))
+    × ((t : Tenths) (n : Optional Duration) → Where (has_key ks 7) (a ≡ f (Hold t n)))
+    × Where (has_key ks 8) (a ≡ f Taken)
+    × ((t : Tenths) (c : Carrier) → Where (has_key ks 9) (a ≡ f (DialledOut t c)))
+    × ((t : Tenths) → Where (has_key ks 10) (a ≡ f (Called t)))
+    × ((t : Tenths) → Where (has_key ks 11) (a ≡ f (CalledAgain t)))
+    × ((t : Tenths) → Where (has_key ks 12) (a ≡ f (Ringing t)))
+
+pub phase-arm : {A : Type 0} (ks : List ℕ) (a : A) (f : Phase → A) → EachPhase ks a f → (p : Phase) → OneOf ks (tag_of phase.the_type p) → a ≡ f p
+phase-arm ks a f e Free h = where-held ks 0 h e.0
+phase-arm ks a f e (Offered t) h = where-held ks 1 h (e.1 t)
+phase-arm ks a f e (RingBack t) h = where-held ks 2 h (e.2 t)
+phase-arm ks a f e (RingBackAgain t) h = where-held ks 3 h (e.3 t)
+phase-arm ks a f e (Acknowledged t) h = where-held ks 4 h (e.4 t)
+phase-arm ks a f e (Dialling t c) h = where-held ks 5 h (e.5 t c)
+phase-arm ks a f e (Answered t c) h = where-held ks 6 h (e.6 t c)
+phase-arm ks a f e (Hold t n) h = where-held ks 7 h (e.7 t n)
+phase-arm ks a f e Taken h = where-held ks 8 h e.8
+phase-arm ks a f e (DialledOut t c) h = where-held ks 9 h (e.9 t c)
+phase-arm ks a f e (Called t) h = where-held ks 10 h (e.10 t)
+phase-arm ks a f e (CalledAgain t) h = where-held ks 11 h (e.11 t)
+phase-arm ks a f e (Ringing t) h = where-held ks 12 h (e.12 t)
 
 -- ── laid out again it is the phase, and what was laid out is found again ──
 

@@ -1,11 +1,12 @@
 -- A symbol by its copies, the symbols in a row, and where they end.
 use Prim.Native.Nat.{ℕ, zero, suc, ◌+◌, ◌-◌, ◌*◌, ◌≤◌, ◌<◌}
-use mathlib.Core.Path.{◌≡◌, refl}
+use mathlib.Core.Path.{◌≡◌, refl, sym}
 use mathlib.Core.Bool.{Bool, true, false, cond}
 use mathlib.Core.List.{List, [], ◌∷◌, ◌++◌}
 use native.Mathlib.Omega.{arith}
 use lib.Dec.{eqb}
 use lib.ListN.{length, get_or, take, drop, length-take}
+use borrow.Author.Tests.{eqb-true}
 use Rattle.sequence.specs.Figures.{longest}
 use Rattle.sequence.specs.Layout.{end_ok}
 use Rattle.sequence.proofs.Tests.{Either, yes!, no!, which}
@@ -29,6 +30,13 @@ good-of-both t (place ∷ places) others = go (which (eqb (heard_at t place) non
         ≡ cond (eqb (first_good t (place ∷ places)) none) (first_good t others) (first_good t (place ∷ places))
     go (yes! e) later = rw e later
     go (no! e) later = rw (e, e)
+
+pub one_place : (t : List ℕ) (place : ℕ) → first_good t (place ∷ []) ≡ heard_at t place
+one_place t place = go (which (eqb (heard_at t place) none))
+  where
+    go : Either (eqb (heard_at t place) none) → first_good t (place ∷ []) ≡ heard_at t place
+    go (yes! e) = rw e (sym (eqb-true _ _ e))
+    go (no! e) = rw e
 
 -- a symbol behind the format has two
 pub behind-format : (t : List ℕ) (start k : ℕ) → 1 ≤ k
@@ -68,6 +76,9 @@ module _ (symbols : List ℕ) where
 
     pub ends-later : end_ok (get_or symbols place 0) ≡ false → ends_from place ≡ ends_from (place + 1)
     ends-later e = rw (left, rest symbols place l, e) (omega arith)
+
+  pub ends-at-last : ends_from 26 ≡ longest
+  ends-at-last = refl
 
 -- at most 28
 before-within : (s : List ℕ) → before_end s ≤ length s
