@@ -5,9 +5,12 @@ use station::Station;
 use std::io;
 use units::Tenths;
 
-// Whether a room of 165s is still so from a place on.
+// Whether a room of 165s, 320 of them at most, is still so from a place on; a place behind its end is none.
 pub(crate) fn untouched_from(room: &[u8], from: usize) -> bool {
-    room.iter().skip(from).all(|byte| *byte == 165)
+    match room.get(from..) {
+        Some(rest) => room.len() <= 320 && rest.iter().all(|byte| *byte == 165),
+        None => false,
+    }
 }
 
 // The answer to a tick in a room of that length. A refusal has no action.
