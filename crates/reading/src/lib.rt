@@ -52,7 +52,7 @@ fn meaning_of(symbols: &[u8]) -> Meaning
     }
 }
 
-// The meaning that comes with a refusal.
+// The meaning of lent bytes that are too short.
 #[tactic(auto, unfolding(sequence::specs::Reading::blank_meaning))]
 pub fn blank_meaning() -> Meaning
     ensures { result ≡ blank_meaning }

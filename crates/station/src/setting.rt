@@ -27,7 +27,7 @@ fn listed(channels: &[Channel; SLOTS], count: u8) -> [Slot; SLOTS]
 }
 
 impl Station {
-    // The station that stands beside a refused set-up: no value.
+    // No value: the station of lent bytes that are of another size or version. It is not sound.
     pub fn blank() -> Station
         ensures { result ≡ blank_station }
     {
