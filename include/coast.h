@@ -31,13 +31,13 @@ extern "C" {
  * a fault is mended or time is saved. It is no version of the lent layout: COAST_LAYOUT_VERSION is that. A new layout moves MINOR
  * at least: a host need not be changed, but the stations that it kept are refused. So does a field that is added behind the
  * others of an action's payload: a host reads those that it knows, and does not mind a payload that is longer. */
-#define COAST_VERSION "1.6.1"
+#define COAST_VERSION "1.6.2"
 #define COAST_VERSION_MAJOR 1
 #define COAST_VERSION_MINOR 6
-#define COAST_VERSION_PATCH 1
+#define COAST_VERSION_PATCH 2
 
 /* The deepest that any entry reaches into the stack, as measured. */
-#define COAST_STACK_SIZE 13056
+#define COAST_STACK_SIZE 10992
 
 /* A sequence has 21 to 28 symbols, one a byte. */
 #define COAST_SHORTEST_SEQUENCE 21
