@@ -27,16 +27,16 @@ extern "C" {
 /* Names: COAST_ANSWER_.. is an answer, COAST_ACTION_.. the kind of an action, COAST_AT_.. a place in lent bytes,
  * COAST_.._SIZE a count of bytes. */
 
-/* The library's version: MAJOR moves where a host has to be changed, MINOR where only something is added for it, PATCH where only
- * a fault is mended or time is saved. It is no version of the lent layout: COAST_LAYOUT_VERSION is that. A new layout moves MINOR
- * at least: a host need not be changed, but the stations that it kept are refused. So does a field that is added behind the
- * others of an action's payload: a host reads those that it knows, and does not mind a payload that is longer. */
+/* The library's version: MAJOR moves where a host has to be changed, MINOR where only something is added for it, PATCH where
+ * only a fault is mended, or time or stack is saved. It is no version of the lent layout: COAST_LAYOUT_VERSION is that. A new
+ * layout moves MINOR at least: a host need not be changed, but the stations that it kept are refused. So does a field that is
+ * added behind the others of an action's payload: a host reads those that it knows, and does not mind a payload that is longer. */
 #define COAST_VERSION "1.6.2"
 #define COAST_VERSION_MAJOR 1
 #define COAST_VERSION_MINOR 6
 #define COAST_VERSION_PATCH 2
 
-/* The deepest that any entry reaches into the stack, as measured. */
+/* The deepest that any entry reaches into the stack, as measured, and 56 bytes more. */
 #define COAST_STACK_SIZE 10992
 
 /* A sequence has 21 to 28 symbols, one a byte. */
